@@ -1,0 +1,119 @@
+-- What every public call promises: `Called`, which the contracts cite and the histories are made of.
+-- Assumes nothing.
+use mathlib.Core.Path.{_≡_}
+use mathlib.Core.Logic.{_⊎_}
+use mathlib.Core.Bool.{Bool, true, false}
+use mathlib.Core.List.{List, [], _∷_, _++_}
+use Prim.Native.Nat.{ℕ, zero, suc, _+_, _≤_}
+use lib.ListN.{length, replicate, set}
+use lib.Seq.{slice}
+use Rattle.spec.specs.Words.{wordsOf}
+use Rattle.spec.specs.Calls.{Call, Format, Open, Put, Delete, Commit, Abandon, LookUp, Choose, Clean, Step, State, Closed, Rest, Busy, Formatting, answer, next, refusals, stepsLeft}
+use Rattle.spec.specs.declared.Session.{Session}
+use Rattle.spec.specs.declared.Refusal.{Refusal}
+use Rattle.spec.specs.declared.Report.{Report}
+use Rattle.spec.specs.declared.Report.the-variants as R
+
+-- a value of the type `Session`: antt's list has no length, the array has so many words
+abbrev pub bufferWords : ℕ
+bufferWords = 1152
+
+abbrev pub Proper : Session → Type 0
+Proper s = length (s .buffer) ≡ bufferWords
+
+abbrev pub MemRefusal : Refusal → List Refusal → Type 0
+MemRefusal x [] = ⊥
+MemRefusal x (y ∷ ys) = (x ≡ y) ⊎ MemRefusal x ys
+
+-- The report is the image's whole change.
+abbrev pub Changed : Report → List ℕ → List ℕ → Type 0
+Changed (R.Refused n) bytes bytes′ = bytes′ ≡ bytes
+Changed (R.Begun a) bytes bytes′ = bytes′ ≡ bytes
+Changed (R.Store w v) bytes bytes′ = (wordsOf bytes′ ≡ set (wordsOf bytes) w v) × (length bytes′ ≡ length bytes)
+Changed (R.Flush l) bytes bytes′ = bytes′ ≡ bytes
+Changed R.Fence bytes bytes′ = bytes′ ≡ bytes
+Changed (R.End n) bytes bytes′ = bytes′ ≡ bytes
+Changed R.Idle bytes bytes′ = bytes′ ≡ bytes
+Changed R.Opened bytes bytes′ = bytes′ ≡ bytes
+Changed R.Abandoned bytes bytes′ = bytes′ ≡ bytes
+Changed (R.Chosen c) bytes bytes′ = bytes′ ≡ bytes
+Changed (R.Part a n) bytes bytes′ = bytes′ ≡ bytes
+
+-- the bytes that a look-up hands out
+abbrev pub partBytes : Report → List ℕ → List ℕ
+partBytes (R.Refused n) bytes = []
+partBytes (R.Begun a) bytes = []
+partBytes (R.Store w v) bytes = []
+partBytes (R.Flush l) bytes = []
+partBytes R.Fence bytes = []
+partBytes (R.End n) bytes = []
+partBytes R.Idle bytes = []
+partBytes R.Opened bytes = []
+partBytes R.Abandoned bytes = []
+partBytes (R.Chosen c) bytes = []
+partBytes (R.Part a n) bytes = slice a (a + n) bytes
+
+-- An implementation reads its record as a state, and keeps record and table fitting the image's words: "memory as our calls
+-- left it". Nothing is to be believed of either: an opening and a formatting need no more of the record than its type.
+module _ (stateOf : Session → State) (Fits : Session → List ℕ → List ℕ → Type 0) (p limit : ℕ) where
+  abbrev pub Ready : Call → Session → List ℕ → List ℕ → Type 0
+  Ready (Format a b) s ws table = Proper s
+  Ready Open s ws table = Proper s
+  Ready (Put k v) s ws table = Fits s ws table
+  Ready (Delete k) s ws table = Fits s ws table
+  Ready Commit s ws table = Fits s ws table
+  Ready Abandon s ws table = Fits s ws table
+  Ready (LookUp k) s ws table = Fits s ws table
+  Ready Choose s ws table = Fits s ws table
+  Ready (Clean c) s ws table = Fits s ws table
+  Ready Step s ws table = Fits s ws table
+
+  -- on memory as our calls left it: the definition's answer, the definition's state, and memory fits again
+  pub record Exact (k : Call) (s s′ : Session) (bytes bytes′ table table′ : List ℕ) (r : Report) : Type 0 where
+    pub answered : r ≡ answer p limit k (stateOf s) (wordsOf bytes) (length bytes) (length table)
+    pub became : stateOf s′ ≡ next p limit k (stateOf s) (wordsOf bytes) (length bytes) (length table)
+    pub fits : Fits s′ (wordsOf bytes′) table′
+
+  -- a refusal leaves record and table as they were; a refused opening leaves a record with nothing open and a table of zeros
+  abbrev pub Kept : Call → Session → Session → List ℕ → List ℕ → Type 0
+  Kept (Format a b) s s′ table table′ = (s′ ≡ s) × (table′ ≡ table)
+  Kept Open s s′ table table′ = (stateOf s′ ≡ Closed) × (table′ ≡ replicate (length table) 0)
+  Kept (Put k v) s s′ table table′ = (s′ ≡ s) × (table′ ≡ table)
+  Kept (Delete k) s s′ table table′ = (s′ ≡ s) × (table′ ≡ table)
+  Kept Commit s s′ table table′ = (s′ ≡ s) × (table′ ≡ table)
+  Kept Abandon s s′ table table′ = (s′ ≡ s) × (table′ ≡ table)
+  Kept (LookUp k) s s′ table table′ = (s′ ≡ s) × (table′ ≡ table)
+  Kept Choose s s′ table table′ = (s′ ≡ s) × (table′ ≡ table)
+  Kept (Clean c) s s′ table table′ = (s′ ≡ s) × (table′ ≡ table)
+  Kept Step s s′ table table′ = (s′ ≡ s) × (table′ ≡ table)
+
+  -- an action's step: one step fewer is left; while a formatting is unfinished the table is as it was
+  abbrev pub TableKept : State → List ℕ → List ℕ → Type 0
+  TableKept Closed table table′ = table′ ≡ table
+  TableKept (Rest b t items) table table′ = table′ ≡ table
+  TableKept (Busy b t items task rest) table table′ = Unit {0}
+  TableKept (Formatting o b t rest) table table′ = table′ ≡ table
+
+  abbrev pub Counted : Session → Session → List ℕ → List ℕ → Type 0
+  Counted s s′ table table′ = (stepsLeft (stateOf s) ≡ suc (stepsLeft (stateOf s′))) × TableKept (stateOf s) table table′
+
+  -- what holds of an answer for any memory at all
+  abbrev pub Outcome : Call → Session → Session → List ℕ → List ℕ → Report → Type 0
+  Outcome k s s′ table table′ (R.Refused n) = MemRefusal n (refusals k) × Kept k s s′ table table′
+  Outcome k s s′ table table′ (R.Begun a) = (stepsLeft (stateOf s′) ≡ suc a) × (table′ ≡ table)
+  Outcome k s s′ table table′ (R.Store w v) = Counted s s′ table table′
+  Outcome k s s′ table table′ (R.Flush l) = Counted s s′ table table′
+  Outcome k s s′ table table′ R.Fence = Counted s s′ table table′
+  Outcome k s s′ table table′ (R.End n) = Counted s s′ table table′ × (stepsLeft (stateOf s′) ≡ 0)
+  Outcome k s s′ table table′ R.Idle = (s′ ≡ s) × (table′ ≡ table)
+  Outcome k s s′ table table′ R.Opened = stepsLeft (stateOf s′) ≡ 0
+  Outcome k s s′ table table′ R.Abandoned = (stepsLeft (stateOf s′) ≡ 0) × (table′ ≡ table)
+  Outcome k s s′ table table′ (R.Chosen c) = (s′ ≡ s) × (table′ ≡ table)
+  Outcome k s s′ table table′ (R.Part a n) = (s′ ≡ s) × (table′ ≡ table)
+
+  -- what a call did: the record, the image's bytes and the table before and after, and the report
+  pub record Called (k : Call) (s s′ : Session) (bytes bytes′ table table′ : List ℕ) (r : Report) : Type 0 where
+    pub exact : Ready k s (wordsOf bytes) table → Exact k s s′ bytes bytes′ table table′ r
+    pub image : Changed r bytes bytes′
+    pub sized : length table′ ≡ length table
+    pub outcome : Outcome k s s′ table table′ r

@@ -1,0 +1,15 @@
+pub mod Basics
+pub mod Words
+pub mod Places
+pub mod Medium
+pub mod Header
+pub mod Directory
+pub mod Log
+pub mod Blocks
+pub mod Contents
+pub mod Opening
+pub mod Actions
+pub mod Calls
+pub mod Book
+pub mod Contract
+pub mod History

@@ -1,0 +1,115 @@
+// The declared types that the definitions and the contracts speak of: what words say, what calls answer, and the station record.
+
+// What a directory word says of its chunk: free, a log chunk with its committed lines, a data chunk with its block size in units.
+pub enum Role {
+    Free,
+    Log(u64),
+    Data(u64),
+    Wrong,
+}
+
+// What the first word of an entry says: `field` is the value's length or the pointer.
+pub enum FirstWord {
+    Padding,
+    Wrong,
+    Entry {
+        op: u64,
+        placement: u64,
+        version: u64,
+        field: u64,
+    },
+}
+
+// What stands at a place of the log: `words` is how many words follow the key.
+pub enum LogStep {
+    End,
+    Padding,
+    Wrong,
+    Entry {
+        op: u64,
+        placement: u64,
+        version: u64,
+        field: u64,
+        key: u64,
+        words: usize,
+    },
+}
+
+// A number that a formatting is told, or not.
+pub enum Given {
+    Number(u64),
+    Absent,
+}
+
+// Why a call is turned down, 1 to 16 in the order of document 01's table.
+pub enum Refusal {
+    ImageLength,
+    NotOpen,
+    DirectoryWrong,
+    EntryWrong,
+    BlockWrong,
+    TopsDisagree,
+    TableFull,
+    Unfinished,
+    TooLong,
+    BatchFull,
+    KeyAbsent,
+    VersionSpent,
+    NoSpace,
+    NothingStaged,
+    BatchStaged,
+    NotCleanable,
+}
+
+// What a call answers. `Begun` has the number of actions, `End` the entries copied (0 but for a cleaning),
+// `Part` the first byte and the length of the part of the image that holds a value.
+pub enum Report {
+    Refused(Refusal),
+    Begun(usize),
+    Store { word: usize, value: u64 },
+    Flush(usize),
+    Fence,
+    End(usize),
+    Idle,
+    Opened,
+    Abandoned,
+    Chosen(usize),
+    Part { start: usize, length: usize },
+}
+
+// The numbers that change at each step: what is begun, its next action, the staged items and their words.
+pub struct Control {
+    pub phase: u64,
+    pub next: usize,
+    pub items: usize,
+    pub words: usize,
+    pub keys: usize,
+}
+
+// The numbers that a step only reads: the lengths at the opening, the lengths at a formatting's begin,
+// and what the begun call does and where.
+pub struct Setup {
+    pub image_length: usize,
+    pub table_length: usize,
+    pub begun_image_length: usize,
+    pub begun_table_length: usize,
+    pub actions: usize,
+    pub chunk: usize,
+    pub lines: usize,
+    pub size: usize,
+    pub unit: usize,
+    pub freed: usize,
+    pub copied: usize,
+    pub length: usize,
+    pub station: u64,
+    pub centre: u64,
+    pub fields: u64,
+}
+
+// The station record. Its buffer has the staged entries (512 words), a large value on its way or the entries that
+// a cleaning keeps (512 words), and a bit for each unit that starts a block in use (126 words).
+pub struct Session {
+    pub control: Control,
+    pub setup: Setup,
+    pub buffer: [u64; 1152],
+}
