@@ -1,0 +1,14 @@
+pub mod Parse
+pub mod Walk
+pub mod Batch
+pub mod Contents
+pub mod Directory
+pub mod Fold
+pub mod Image
+pub mod Places
+pub mod Stands
+pub mod Clean
+pub mod Agree
+pub mod Tops
+pub mod Keys
+pub mod Kept
