@@ -1,4 +1,5 @@
 pub mod Lists
 pub mod Places
+pub mod Sizes
 pub mod Words
 pub mod Through
