@@ -463,6 +463,29 @@ answer p limit Choose σ ws bytes table = gated (gate σ bytes table) (chosenOr 
 answer p limit (Clean c) σ ws bytes table = gated (gate σ bytes table) (planAnswer (planOf p limit (Clean c) (itemsOf σ) ws bytes table))
 answer p limit Step σ ws bytes table = stepAnswer σ bytes table
 
+-- the part of the answer that the state and the lengths alone decide: 2, 1 and 8; of a step, idle and 1
+abbrev pub refusedBy : Option Refusal → Option Report
+refusedBy none = none
+refusedBy (some n) = some (R.Refused n)
+
+abbrev pub stepBarred : State → ℕ → ℕ → Option Report
+stepBarred Closed bytes table = some R.Idle
+stepBarred (Rest b t items) bytes table = some R.Idle
+stepBarred (Busy b t items task rest) bytes table = pick (both (eqb b bytes) (eqb t table)) none (some (R.Refused N.ImageLength))
+stepBarred (Formatting o b t rest) bytes table = pick (both (eqb b bytes) (eqb t table)) none (some (R.Refused N.ImageLength))
+
+abbrev pub barred : Call → State → ℕ → ℕ → Option Report
+barred (Format s c) σ bytes table = none
+barred Open σ bytes table = none
+barred (Put k v) σ bytes table = refusedBy (gate σ bytes table)
+barred (Delete k) σ bytes table = refusedBy (gate σ bytes table)
+barred Commit σ bytes table = refusedBy (gate σ bytes table)
+barred Abandon σ bytes table = refusedBy (gate σ bytes table)
+barred (LookUp k) σ bytes table = refusedBy (gate σ bytes table)
+barred Choose σ bytes table = refusedBy (gate σ bytes table)
+barred (Clean c) σ bytes table = refusedBy (gate σ bytes table)
+barred Step σ bytes table = stepBarred σ bytes table
+
 -- THE STATE that a call leaves: a refused call, but for an opening, leaves the state as it was
 abbrev pub emptied : State → State
 emptied Closed = Closed

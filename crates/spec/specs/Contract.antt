@@ -3,12 +3,13 @@
 use mathlib.Core.Path.{_≡_}
 use mathlib.Core.Logic.{_⊎_}
 use mathlib.Core.Bool.{Bool, true, false}
+use mathlib.Core.Option.{some}
 use mathlib.Core.List.{List, [], _∷_, _++_}
 use Prim.Native.Nat.{ℕ, zero, suc, _+_, _≤_}
 use lib.ListN.{length, replicate, set}
 use lib.Seq.{slice}
 use Rattle.spec.specs.Words.{wordsOf}
-use Rattle.spec.specs.Calls.{Call, Format, Open, Put, Delete, Commit, Abandon, LookUp, Choose, Clean, Step, State, Closed, Rest, Busy, Formatting, answer, next, refusals, stepsLeft}
+use Rattle.spec.specs.Calls.{Call, Format, Open, Put, Delete, Commit, Abandon, LookUp, Choose, Clean, Step, State, Closed, Rest, Busy, Formatting, answer, next, barred, refusals, stepsLeft}
 use Rattle.spec.specs.declared.Session.{Session}
 use Rattle.spec.specs.declared.Refusal.{Refusal}
 use Rattle.spec.specs.declared.Report.{Report}
@@ -111,9 +112,14 @@ module _ (stateOf : Session → State) (Fits : Session → List ℕ → List ℕ
   Outcome k s s′ table table′ (R.Chosen c) = (s′ ≡ s) × (table′ ≡ table)
   Outcome k s s′ table table′ (R.Part a n) = (s′ ≡ s) × (table′ ≡ table)
 
+  -- what the record and the lengths alone decide, whatever the image and the table hold
+  abbrev pub Barred : Call → Session → List ℕ → List ℕ → Report → Type 0
+  Barred k s bytes table r = (r′ : Report) → barred k (stateOf s) (length bytes) (length table) ≡ some r′ → r ≡ r′
+
   -- what a call did: the record, the image's bytes and the table before and after, and the report
   pub record Called (k : Call) (s s′ : Session) (bytes bytes′ table table′ : List ℕ) (r : Report) : Type 0 where
     pub exact : Ready k s (wordsOf bytes) table → Exact k s s′ bytes bytes′ table table′ r
+    pub first : Barred k s bytes table r
     pub image : Changed r bytes bytes′
     pub sized : length table′ ≡ length table
     pub outcome : Outcome k s s′ table table′ r

@@ -77,33 +77,31 @@ pub enum Report {
     Part { start: usize, length: usize },
 }
 
-// The numbers that change at each step: what is begun, its next action, the staged items and their words.
+// The numbers that change from call to call: what is begun (0 nothing open, 1 open and at rest, 2 a staging, 3 a commit,
+// 4 a formatting begun with nothing open, 5 one begun on an open register), the number of its next action, the staged
+// items, their words, the known keys, and the staged keys that are not known.
 pub struct Control {
     pub phase: u64,
     pub next: usize,
     pub items: usize,
     pub words: usize,
     pub keys: usize,
+    pub fresh: usize,
 }
 
-// The numbers that a step only reads: the lengths at the opening, the lengths at a formatting's begin,
-// and what the begun call does and where.
+// The numbers that a step only reads: the lengths at the opening, the lengths at a formatting's begin, where the begun call
+// writes (chunk, its directory word, its committed lines), and what a formatting was told.
 pub struct Setup {
     pub image_length: usize,
     pub table_length: usize,
     pub begun_image_length: usize,
     pub begun_table_length: usize,
-    pub actions: usize,
     pub chunk: usize,
+    pub old: u64,
     pub lines: usize,
-    pub size: usize,
-    pub unit: usize,
-    pub freed: usize,
-    pub copied: usize,
-    pub length: usize,
+    pub fields: u64,
     pub station: u64,
     pub centre: u64,
-    pub fields: u64,
 }
 
 // The station record. Its buffer has the staged entries (512 words), a large value on its way or the entries that
