@@ -89,13 +89,12 @@ pub struct Control {
     pub fresh: usize,
 }
 
-// The numbers that a step only reads: the lengths at the opening, the lengths at a formatting's begin, where the begun call
-// writes (chunk, its directory word, its committed lines), and what a formatting was told.
+// The numbers that a step only reads: the image's bytes and the table's words at the opening (at a formatting's begin, once
+// that is begun), where the begun call writes (chunk, its directory word, its committed lines), and what a formatting was told
+// (the header's map of fields, station and centre number).
 pub struct Setup {
-    pub image_length: usize,
-    pub table_length: usize,
-    pub begun_image_length: usize,
-    pub begun_table_length: usize,
+    pub image: usize,
+    pub table: usize,
     pub chunk: usize,
     pub old: u64,
     pub lines: usize,
