@@ -76,11 +76,11 @@ Lends Choose w s table = SameLent (w .lent) s table
 Lends (Clean c) w s table = SameLent (w .lent) s table
 Lends Step w s table = SameLent (w .lent) s table
 
--- a formatting stands in the list only if refused
+-- a formatting stands in the list only if refused; a value is bytes
 abbrev pub Stands : Call → Report → Type 0
 Stands (Format a b) r = isRefused r ≡ true
 Stands Open r = Unit {0}
-Stands (Put k v) r = Unit {0}
+Stands (Put k v) r = AreBytes v
 Stands (Delete k) r = Unit {0}
 Stands Commit r = Unit {0}
 Stands Abandon r = Unit {0}

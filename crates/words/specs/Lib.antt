@@ -1,0 +1,5 @@
+pub mod Overlay
+pub mod Store
+pub mod Image
+pub mod Values
+pub mod Parts
