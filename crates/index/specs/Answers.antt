@@ -8,7 +8,8 @@ use Rattle.index.specs.declared.Put.the-variants.{New, Old, Full}
 use Rattle.index.specs.Index.{putOf, slots, infoAt, stopOf, get, put, room, insert}
 use Rattle.index.specs.Slots.{get-out, insert-room, insert-full, fits-room}
 
-module _ (t : List ℕ) (k v s : ℕ) (e : s ≡ stopOf t k) where
+-- s is where the probing for the key stopped
+module _ (t : List ℕ) (k s : ℕ) (e : s ≡ stopOf t k) where
   pub look-in : infoAt t s ≡ get t k
   unfolding get
   look-in = ap (infoAt t) e
@@ -16,12 +17,12 @@ module _ (t : List ℕ) (k v s : ℕ) (e : s ≡ stopOf t k) where
   pub look-out : slots t ≤ s → 0 ≡ get t k
   look-out l = sym (get-out t k (omega arith))
 
-  pub insert-in : s < slots t → put t s k v ≡ insert t k v
-  insert-in l = rw (insert-room t k v (fits-room t k (omega arith)), e)
+  pub insert-in : (v : ℕ) → s < slots t → put t s k v ≡ insert t k v
+  insert-in v l = rw (insert-room t k v (fits-room t k (omega arith)), e)
 
-  pub insert-out : slots t ≤ s → t ≡ insert t k v
+  pub insert-out : (v : ℕ) → slots t ≤ s → t ≡ insert t k v
   unfolding room
-  insert-out l = sym (insert-full t k v (le-ltb (stopOf t k) (slots t) (omega arith)))
+  insert-out v l = sym (insert-full t k v (le-ltb (stopOf t k) (slots t) (omega arith)))
 
   pub answer-new : s < slots t → infoAt t s ≡ 0 → New ≡ putOf t k
   answer-new l z = rw (fits-room t k (omega arith), eq-eqb (get t k) 0 (sym look-in ∙ z))

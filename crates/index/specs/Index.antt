@@ -25,7 +25,7 @@ infoAt t s = getD t (2 * s + 1) 0
 
 -- the slot at which a key's probing starts: below n, where n is not 0
 unfoldable pub mixOf : ℕ → ℕ
-mixOf key = (key % 0x1_0000_0000 * 0x9E37_79B1 % 0x1_0000_0000 + key / 0x1_0000_0000 * 0x85EB_CA77 % 0x1_0000_0000) % 0x1_0000_0000
+mixOf key = (key % 0x1_0000_0000 * 0x9E37_79B9 % 0x1_0000_0000 + key / 0x1_0000_0000 * 0xC2B2_AE3D % 0x1_0000_0000) % 0x1_0000_0000
 
 unfoldable pub hashOf : ℕ → ℕ → ℕ
 hashOf key n = pick (ltb n 0x1_0000_0000) (mixOf key * n / 0x1_0000_0000) (mixOf key % n)
@@ -80,6 +80,24 @@ capacity words = min (words / 4) 65536
 -- each key that is stored is where its probing stops: nothing empty before it, and it is stored once
 pub record Probed (t : List ℕ) : Type 0 where
   pub reached : (s : ℕ) → s < slots t → (infoAt t s ≡ 0 → ⊥) → stopOf t (keyAt t s) ≡ s
+
+-- a slot is left empty, where there are keys at all
+abbrev pub Spare : List ℕ → Type 0
+Spare t = 0 < used t → used t < slots t
+
+-- u is t without the key
+pub record Removed (t u : List ℕ) (key : ℕ) : Type 0 where
+  pub probed : Probed u
+  pub gone : get u key ≡ 0
+  pub others : (x : ℕ) → (x ≡ key → ⊥) → get u x ≡ get t x
+  pub fewer : (get t key ≡ 0 → ⊥) → used u + 1 ≡ used t
+
+-- what a removal did, and whether it was done; it always is where a slot is left empty
+pub record Removal (t u : List ℕ) (key : ℕ) (done : Bool) : Type 0 where
+  pub sized : length u ≡ length t
+  pub absent : get t key ≡ 0 → u ≡ t
+  pub answers : Spare t → done ≡ true
+  pub removed : done ≡ true → Probed t → Removed t u key
 
 -- the answers
 abbrev pub foundOf : ℕ → Found

@@ -2,7 +2,8 @@
 ghost use mathlib.Core.Path.{_≡_};
 ghost use Prim.Native.Nat.{_<_};
 ghost use lib.ListN.{length};
-ghost use Rattle.index.specs.Index.{mixOf, hashOf, stopOf, get, insert, foundOf, putOf, zeros, used, capacity};
+ghost use Rattle.index.specs.Index.{mixOf, hashOf, next, stopOf, get, insert, foundOf, putOf, zeros, used, capacity, Removal};
+ghost use Rattle.index.specs.Distance.{dist};
 ghost use Rattle.index.specs.Packed.{packOf, unpackOf};
 
 // What a look-up finds.
@@ -21,8 +22,9 @@ pub enum Put {
 // What the map holds of a key, packed into one word.
 pub struct Info {
     pub place: u64,
+    pub version: u64,
     pub entries: u64,
-    pub flags: u64,
+    pub several: u64,
 }
 
 // How many keys a table of so many words may hold: one for four words, so that at most half of the slots are used.
@@ -48,8 +50,8 @@ pub fn clear(table: &mut [u64])
 fn mix(key: u64) -> u64
     ensures { λ r. ⌜ r ≡ mixOf key ⌝ }
 {
-    let low = key % 0x1_0000_0000 * 0x9E37_79B1 % 0x1_0000_0000;
-    let high = key / 0x1_0000_0000 * 0x85EB_CA77 % 0x1_0000_0000;
+    let low = key % 0x1_0000_0000 * 0x9E37_79B9 % 0x1_0000_0000;
+    let high = key / 0x1_0000_0000 * 0xC2B2_AE3D % 0x1_0000_0000;
     (low + high) % 0x1_0000_0000
 }
 
@@ -64,6 +66,14 @@ fn hash(key: u64, n: usize) -> usize
     } else {
         m % n
     }
+}
+
+// The slot after s, round n slots.
+fn after(s: usize, n: usize) -> usize
+    requires { ⌜ s < n ⌝ }
+    ensures { λ r. ⌜ r ≡ next n s ⌝ }
+{
+    if s + 1 < n { s + 1 } else { 0 }
 }
 
 // The slot at which the probing for a key stops, or the number of slots.
@@ -83,25 +93,34 @@ fn stop(table: &[u64], key: u64) -> usize
         if table[2 * s] == key {
             return s;
         }
-        s += 1;
-        if s == n {
-            s = 0;
-        }
+        s = after(s, n);
         left -= 1;
     }
     n
 }
 
-// The word of a key, 0 where it has none.
+// The word of a key, 0 where it has none. It probes as `stop` does, and answers with the word that it has read.
 pub fn look(table: &[u64], key: u64) -> u64
     ensures { λ r. ⌜ r ≡ get (now (table .entry)) key ⌝ }
 {
-    let s = stop(table, key);
-    if s < table.len() / 2 {
-        table[2 * s + 1]
-    } else {
-        0
+    let n = table.len() / 2;
+    if n == 0 {
+        return 0;
     }
+    let mut slot = hash(key, n);
+    let mut turns = n;
+    while 0 < turns {
+        let info = table[2 * slot + 1];
+        if info == 0 {
+            return 0;
+        }
+        if table[2 * slot] == key {
+            return info;
+        }
+        slot = after(slot, n);
+        turns -= 1;
+    }
+    0
 }
 
 pub fn find(table: &[u64], key: u64) -> Found
@@ -118,15 +137,61 @@ pub fn find(table: &[u64], key: u64) -> Found
 pub fn insert_or_update(table: &mut [u64], key: u64, info: u64) -> Put
     ensures { λ r. ⌜ (r ≡ putOf (now (table .entry)) key) × (now (table .exit) ≡ insert (now (table .entry)) key info) ⌝ }
 {
-    let s = stop(table, key);
-    if s < table.len() / 2 {
-        let old = table[2 * s + 1];
-        table[2 * s] = key;
-        table[2 * s + 1] = info;
+    let slot = stop(table, key);
+    if slot < table.len() / 2 {
+        let old = table[2 * slot + 1];
+        table[2 * slot] = key;
+        table[2 * slot + 1] = info;
         if old == 0 { Put::New } else { Put::Old }
     } else {
         Put::Full
     }
+}
+
+// How far slot y is from slot x, round n slots.
+fn distance(x: usize, y: usize, n: usize) -> usize
+    requires { ⌜ (x < n) × (y < n) ⌝ }
+    ensures { λ r. ⌜ r ≡ dist n x y ⌝ }
+{
+    if y < x { n - x + y } else { y - x }
+}
+
+// A key is taken out, and keys behind it move up, so that no probing meets an empty slot before its key. False where no slot is empty.
+pub fn remove(table: &mut [u64], key: u64) -> bool
+    ensures { λ r. ⌜ Removal (now (table .entry)) (now (table .exit)) key r ⌝ }
+{
+    let n = table.len() / 2;
+    let at = stop(table, key);
+    if n <= at {
+        return true;
+    }
+    if table[2 * at + 1] == 0 {
+        return true;
+    }
+    let mut hole = at;
+    let mut j = after(at, n);
+    let mut steps = n;
+    while 0 < steps {
+        if j == hole {
+            return false;
+        }
+        let info = table[2 * j + 1];
+        let k = table[2 * j];
+        if info == 0 {
+            table[2 * hole] = 0;
+            table[2 * hole + 1] = 0;
+            return true;
+        }
+        let h = hash(k, n);
+        if distance(h, hole, n) < distance(h, j, n) {
+            table[2 * hole] = k;
+            table[2 * hole + 1] = info;
+            hole = j;
+        }
+        j = after(j, n);
+        steps -= 1;
+    }
+    false
 }
 
 // The number of keys.
@@ -149,18 +214,20 @@ pub fn count(table: &[u64]) -> usize
 pub fn pack(info: Info) -> u64
     ensures { λ r. ⌜ r ≡ packOf info ⌝ }
 {
-    let place = info.place % 0x1_0000_0000;
-    let entries = info.entries % 0x100_0000;
-    let flags = info.flags % 0x100;
-    place + entries * 0x1_0000_0000 + flags * 0x100_0000_0000_0000
+    let place = info.place % 0x40_0000;
+    let version = info.version % 0x10_0000;
+    let entries = info.entries % 0x20_0000;
+    let several = info.several % 2;
+    place + version * 0x40_0000 + entries * 0x400_0000_0000 + several * 0x8000_0000_0000_0000
 }
 
 pub fn unpack(word: u64) -> Info
     ensures { λ r. ⌜ r ≡ unpackOf word ⌝ }
 {
     Info {
-        place: word % 0x1_0000_0000,
-        entries: word / 0x1_0000_0000 % 0x100_0000,
-        flags: word / 0x100_0000_0000_0000,
+        place: word % 0x40_0000,
+        version: word / 0x40_0000 % 0x10_0000,
+        entries: word / 0x400_0000_0000 % 0x20_0000,
+        several: word / 0x8000_0000_0000_0000,
     }
 }

@@ -1,0 +1,5 @@
+pub mod Table
+pub mod Sizes
+pub mod Roles
+pub mod Firsts
+pub mod Headers

@@ -1,0 +1,303 @@
+// Encoding and decoding of words: the header line, directory words, first words of entries, unit numbers and block sizes.
+ghost use mathlib.Core.Path.{_≡_};
+ghost use Prim.Native.Nat.{_+_, _-_, _*_, _%_, _^_, _<_, _≤_, min};
+ghost use lib.Dec.{eqb, leb};
+ghost use lib.ListN.{getD};
+ghost use Rattle.spec.specs.Basics.{pick, both, either};
+ghost use Rattle.spec.specs.Places.{unitChunk, unitIn, unitWord};
+ghost use Rattle.spec.specs.Header.{wordValues, headerTest, checkWord, headerWords};
+ghost use Rattle.spec.specs.Directory.{roleOf, logWord, dataWord, freedWord, sizeFor};
+ghost use Rattle.spec.specs.Log.{firstOf};
+ghost use Rattle.spec.specs.Blocks.{blockSize};
+ghost use Rattle.codec.specs.Headers.{mapOf, firstGiven, secondGiven};
+ghost use Rattle.codec.specs.Firsts.{headWord};
+use spec::FirstWord;
+use spec::Given;
+use spec::Role;
+
+// THE HEADER
+// The sum of eight words, modulo 2^64.
+fn sum_of(a: u64, b: u64, c: u64, d: u64, e: u64, f: u64, g: u64, h: u64) -> u64
+    ensures { λ r. ⌜ r ≡ (a + b + c + d + e + f + g + h) % wordValues ⌝ }
+{
+    let s1 = std::num::wrapping_add_u64(a, b);
+    let s2 = std::num::wrapping_add_u64(s1, c);
+    let s3 = std::num::wrapping_add_u64(s2, d);
+    let s4 = std::num::wrapping_add_u64(s3, e);
+    let s5 = std::num::wrapping_add_u64(s4, f);
+    let s6 = std::num::wrapping_add_u64(s5, g);
+    std::num::wrapping_add_u64(s6, h)
+}
+
+// The unused words of a header are 0.
+fn unused(e: u64, f: u64, g: u64) -> bool
+    ensures { λ r. ⌜ r ≡ eqb (e + f + g) 0 ⌝ }
+{
+    if e == 0 {
+        if f == 0 {
+            return g == 0;
+        }
+    }
+    false
+}
+
+// The words behind the count, by the bit map.
+fn fields_right(map: u64, c: u64, d: u64) -> bool
+    ensures { λ r. ⌜ r ≡ pick (eqb map 1) (eqb (c + d) 0) (pick (either (eqb map 3) (eqb map 5)) (eqb d 0) (eqb map 7)) ⌝ }
+{
+    match map {
+        1 => unused(c, d, 0),
+        3 => d == 0,
+        5 => d == 0,
+        7 => true,
+        _ => false,
+    }
+}
+
+// The eight words are a right header of so many chunks.
+pub fn header_right(words: [u64; 8], count: u64) -> bool
+    ensures { λ r. ⌜ r ≡ headerTest count (getD words 0 0) (getD words 1 0) (getD words 2 0) (getD words 3 0) (getD words 4 0) (getD words 5 0) (getD words 6 0) (getD words 7 0) ⌝ }
+{
+    let a = words[0];
+    let b = words[1];
+    let c = words[2];
+    let d = words[3];
+    let e = words[4];
+    let f = words[5];
+    let g = words[6];
+    let h = words[7];
+    if sum_of(a, b, c, d, e, f, g, h) == 0 {
+        if b == count {
+            if unused(e, f, g) {
+                return fields_right(a, c, d);
+            }
+        }
+    }
+    false
+}
+
+// The word that makes a sum 0, modulo 2^64.
+pub fn header_check_word(sum: u64) -> u64
+    ensures { λ r. ⌜ r ≡ checkWord sum ⌝ }
+{
+    std::num::wrapping_sub_u64(0, sum)
+}
+
+fn header_map(station: Given, centre: Given) -> u64
+    ensures { λ r. ⌜ r ≡ mapOf station centre ⌝ }
+{
+    match station {
+        Given::Number(_) => match centre {
+            Given::Number(_) => 7,
+            Given::Absent => 3,
+        },
+        Given::Absent => match centre {
+            Given::Number(_) => 5,
+            Given::Absent => 1,
+        },
+    }
+}
+
+fn first_given(station: Given, centre: Given) -> u64
+    ensures { λ r. ⌜ r ≡ firstGiven station centre ⌝ }
+{
+    match station {
+        Given::Number(s) => s,
+        Given::Absent => match centre {
+            Given::Number(c) => c,
+            Given::Absent => 0,
+        },
+    }
+}
+
+fn second_given(station: Given, centre: Given) -> u64
+    ensures { λ r. ⌜ r ≡ secondGiven station centre ⌝ }
+{
+    match station {
+        Given::Number(_) => match centre {
+            Given::Number(c) => c,
+            Given::Absent => 0,
+        },
+        Given::Absent => 0,
+    }
+}
+
+// Word i of the header that a formatting writes, 0 past the eight.
+pub fn header_word(count: u64, station: Given, centre: Given, i: usize) -> u64
+    ensures { λ r. ⌜ r ≡ getD (headerWords count station centre) i 0 ⌝ }
+{
+    let map = header_map(station, centre);
+    let first = first_given(station, centre);
+    let second = second_given(station, centre);
+    match i {
+        0 => map,
+        1 => count,
+        2 => first,
+        3 => second,
+        7 => header_check_word(sum_of(map, count, first, second, 0, 0, 0, 0)),
+        _ => 0,
+    }
+}
+
+// THE DIRECTORY
+// What a directory word says.
+pub fn role_of(word: u64) -> Role
+    ensures { λ r. ⌜ r ≡ roleOf 12 word ⌝ }
+{
+    let role = word % 256;
+    let field = word / 256;
+    match role {
+        0 => match field {
+            0 => Role::Free,
+            _ => Role::Wrong,
+        },
+        1 => match field {
+            1..=64 => Role::Log(field),
+            _ => Role::Wrong,
+        },
+        2 => match field {
+            2..=5 => Role::Data(field),
+            8 => Role::Data(field),
+            16 => Role::Data(field),
+            _ => Role::Wrong,
+        },
+        _ => Role::Wrong,
+    }
+}
+
+// The new word of a chunk, from the old; lines and size modulo 2^56.
+pub fn log_word(old: u64, lines: u64) -> u64
+    ensures { λ r. ⌜ r ≡ logWord old (lines % 2 ^ 56) ⌝ }
+{
+    1 + 256 * (lines % 0x100_0000_0000_0000)
+}
+
+pub fn data_word(old: u64, size: u64) -> u64
+    ensures { λ r. ⌜ r ≡ dataWord old (size % 2 ^ 56) ⌝ }
+{
+    2 + 256 * (size % 0x100_0000_0000_0000)
+}
+
+pub fn freed_word(old: u64) -> u64
+    ensures { λ r. ⌜ r ≡ freedWord old ⌝ }
+{
+    0
+}
+
+// FIRST WORDS
+// What the first word of an entry says.
+pub fn first_of(word: u64) -> FirstWord
+    ensures { λ r. ⌜ r ≡ firstOf word ⌝ }
+{
+    let op = word % 4;
+    let placement = word / 4 % 4;
+    let version = word / 16 % 1048576;
+    let field = word / 16777216;
+    if word == 0 {
+        return FirstWord::Padding;
+    }
+    if version == 0 {
+        return FirstWord::Wrong;
+    }
+    match op {
+        1 => match placement {
+            0 => match field {
+                0..=256 => FirstWord::Entry {
+                    op: 1,
+                    placement: 0,
+                    version,
+                    field,
+                },
+                _ => FirstWord::Wrong,
+            },
+            1 => FirstWord::Entry {
+                op: 1,
+                placement: 1,
+                version,
+                field,
+            },
+            _ => FirstWord::Wrong,
+        },
+        2 => match placement {
+            0 => match field {
+                0 => FirstWord::Entry {
+                    op: 2,
+                    placement: 0,
+                    version,
+                    field: 0,
+                },
+                _ => FirstWord::Wrong,
+            },
+            _ => FirstWord::Wrong,
+        },
+        _ => FirstWord::Wrong,
+    }
+}
+
+// The first word with these parts, each modulo the numbers that its bits have.
+pub fn first_word(op: u64, placement: u64, version: u64, field: u64) -> u64
+    ensures { λ r. ⌜ r ≡ headWord (op % 4) (placement % 4) (version % 1048576) (field % 2 ^ 40) ⌝ }
+{
+    op % 4 + 4 * (placement % 4) + 16 * (version % 1048576) + 16777216 * (field % 0x100_0000_0000)
+}
+
+// UNITS
+// A number of a unit of 256 bytes, counted from the image's start.
+pub struct Unit(pub u64);
+
+impl Unit {
+    // The unit's first byte; a number too large for that gives the largest.
+    pub fn byte_offset(self) -> usize
+        ensures { λ r. ⌜ r ≡ min (256 * self .0) (2 ^ 64 - 1) ⌝ }
+    {
+        if self.0 < 0x100_0000_0000_0000 {
+            (self.0 * 256) as usize
+        } else {
+            0xffff_ffff_ffff_ffff
+        }
+    }
+
+    // The unit's first word.
+    pub fn word_offset(self) -> usize
+        ensures { λ r. ⌜ r ≡ min (unitWord (self .0)) (2 ^ 61 - 1) ⌝ }
+    {
+        self.byte_offset() / 8
+    }
+
+    // The unit's chunk, and its place there.
+    pub fn chunk(self) -> u64
+        ensures { λ r. ⌜ r ≡ unitChunk 12 (self .0) ⌝ }
+    {
+        self.0 / 16
+    }
+
+    pub fn place(self) -> u64
+        ensures { λ r. ⌜ r ≡ unitIn 12 (self .0) ⌝ }
+    {
+        self.0 % 16
+    }
+}
+
+// BLOCK SIZES
+// The block size for so many units.
+const BLOCK_SIZES: [u64; 17] = [0, 0, 2, 3, 4, 5, 8, 8, 8, 16, 16, 16, 16, 16, 16, 16, 16];
+
+// The smallest block size that holds so many units, 0 below 2 and past 16.
+pub fn block_size_for_units(units: usize) -> u64
+    ensures { λ r. ⌜ r ≡ pick (both (leb 2 units) (leb units 16)) (sizeFor 12 units) 0 ⌝ }
+{
+    if units < 17 { BLOCK_SIZES[units] } else { 0 }
+}
+
+// The block size of a value of so many bytes, 0 if it goes to no block.
+pub fn block_size(bytes: usize) -> u64
+    ensures { λ r. ⌜ r ≡ pick (both (leb 257 bytes) (leb bytes 4088)) (blockSize 12 bytes) 0 ⌝ }
+{
+    if bytes < 257 {
+        return 0;
+    }
+    if 4088 < bytes {
+        return 0;
+    }
+    block_size_for_units((bytes + 263) / 256)
+}

@@ -1,0 +1,86 @@
+-- Memory as the calls left it: what record and key table hold of the image's words. They are what a fresh opening of the same image
+-- would build, and the staged items beside.
+-- Assumes nothing.
+use mathlib.Core.Path.{_≡_}
+use mathlib.Core.Bool.{Bool, true, false}
+use mathlib.Core.List.{List, [], _∷_, _++_, map}
+use Prim.Native.Nat.{ℕ, _+_, _*_, _/_, _≤_}
+use lib.Dec.{eqb}
+use lib.ListN.{length}
+use Rattle.spec.specs.Basics.{isIn, distinct}
+use Rattle.spec.specs.Places.{basePower, base}
+use Rattle.spec.specs.Medium.{Action}
+use Rattle.spec.specs.Log.{Entry, encodeAll, placed}
+use Rattle.spec.specs.Contents.{capacity, liveBlocks}
+use Rattle.spec.specs.Opening.{Accepted, opening}
+use Rattle.spec.specs.Calls.{Task, Staging, Committing, Cleaning, State, Closed, Rest, Busy, Formatting, maxItems, runWords}
+use Rattle.spec.specs.Contract.{Proper}
+use Rattle.spec.specs.declared.Control.{Control}
+use Rattle.spec.specs.declared.Setup.{Setup}
+use Rattle.spec.specs.declared.Session.{Session}
+use Rattle.theory_log.specs.Batch.{AllRight}
+use Rattle.theory_log.specs.Contents.{CountsOn, Mem}
+use Rattle.bits.specs.Bits.{hasBit}
+use Rattle.volatile.specs.Known.{Indexed}
+use Rattle.session.specs.State.{batchRoom, batchWords, stateOf}
+
+abbrev pub keyList : List Entry → List ℕ
+keyList es = map (λ (e : Entry). e .key) es
+
+-- the staged items among the entries es: the words are theirs, versions count on, all values are in the log, and the staged keys that are not known are counted
+pub record BatchFits (c : Control) (buffer : List ℕ) (es items : List Entry) : Type 0 where
+  pub room : c .words ≤ batchRoom
+  pub written : batchWords c buffer ≡ encodeAll items
+  pub count : c .items ≡ length items
+  pub few : length items ≤ maxItems
+  pub right : AllRight items
+  pub counts : CountsOn es items
+  pub in-log : (e : Entry) → Mem e items → e .placement ≡ 0
+  pub keys : c .keys + c .fresh ≡ length (distinct (keyList items ++ keyList es))
+
+-- the table and the block bits are those of the entries es
+pub record Built (c : Control) (buffer table : List ℕ) (es : List Entry) : Type 0 where
+  pub indexed : Indexed table (c .keys) es
+  pub blocks : (u : ℕ) → hasBit buffer u ≡ isIn u (liveBlocks es)
+
+-- at rest
+pub record RestFits (s : Session) (ws table : List ℕ) (items : List Entry) : Type 0 where
+  pub entries : List Entry
+  pub accepted : opening basePower (s .setup .image) ws (s .setup .table) ≡ Accepted entries
+  pub long : length ws ≡ s .setup .image / 8
+  pub lent : length table ≡ s .setup .table
+  pub built : Built (s .control) (s .buffer) table entries
+  pub batch : BatchFits (s .control) (s .buffer) entries items
+  pub table-room : s .control .keys + s .control .fresh ≤ capacity (s .setup .table)
+
+-- In a commit, looking forward: with the actions still to come done on these words, the image is accepted, and its entries are those
+-- before (front and back) with the batch placed between. Until the last fence table and bits are those of the entries before.
+abbrev pub BuiltBy : List Action → Session → List ℕ → List Entry → List Entry → Type 0
+BuiltBy [] s table before after = Built (s .control) (s .buffer) table after
+BuiltBy (a ∷ rest) s table before after = Built (s .control) (s .buffer) table before
+
+abbrev pub batchPlace : Setup → ℕ
+batchPlace k = base basePower (k .chunk) + 8 * k .lines
+
+pub record CommitFits (s : Session) (ws table : List ℕ) (items : List Entry) (rest : List Action) : Type 0 where
+  pub front : List Entry
+  pub back : List Entry
+  pub chunk : s .setup .chunk ≤ 503
+  pub lines : s .setup .lines ≤ 64
+  pub accepted : opening basePower (s .setup .image) (runWords rest ws) (s .setup .table) ≡ Accepted (front ++ (placed (batchPlace (s .setup)) items ++ back))
+  pub long : length ws ≡ s .setup .image / 8
+  pub lent : length table ≡ s .setup .table
+  pub batch : BatchFits (s .control) (s .buffer) (front ++ back) items
+  pub built : BuiltBy rest s table (front ++ back) (front ++ (placed (batchPlace (s .setup)) items ++ back))
+  pub table-room : s .control .keys + s .control .fresh ≤ capacity (s .setup .table)
+
+abbrev pub FitsAt : State → Session → List ℕ → List ℕ → Type 0
+FitsAt Closed s ws table = Unit {0}
+FitsAt (Rest b t items) s ws table = RestFits s ws table items
+FitsAt (Busy b t items Staging rest) s ws table = RestFits s ws table items
+FitsAt (Busy b t items Committing rest) s ws table = CommitFits s ws table items rest
+FitsAt (Busy b t items (Cleaning n) rest) s ws table = ⊥
+FitsAt (Formatting o b t rest) s ws table = Unit {0}
+
+abbrev pub Fits : Session → List ℕ → List ℕ → Type 0
+Fits s ws table = Proper s × FitsAt (stateOf s) s ws table

@@ -1,0 +1,17 @@
+pub mod Directory
+pub mod Blocks
+pub mod Frame
+pub mod Opening
+pub mod Rest
+pub mod Switch
+pub mod Cells
+pub mod Body
+pub mod Publish
+pub mod Effects
+pub mod Commit
+pub mod Format
+pub mod Stage
+pub mod Staged
+pub mod Free
+pub mod Covers
+pub mod Clean

@@ -1,0 +1,5 @@
+pub mod Accepted
+pub mod Rest
+pub mod Batch
+pub mod Stage
+pub mod Clean

@@ -1,0 +1,6 @@
+pub mod Info
+pub mod Grow
+pub mod Fill
+pub mod Image
+pub mod Marks
+pub mod Check
