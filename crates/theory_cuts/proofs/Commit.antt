@@ -253,7 +253,7 @@ module _ (p : ℕ) (lo : 12 ≤ p) (hi : p ≤ 16) (n d old l b z keys : ℕ) (C
     pub seal-through : Through (Cuts p n keys C D) Ended (sealOf d (logWord old (l + b))) m1
     seal-through =
         through-map (Cuts p n keys C D) (Cuts p n keys C D) (AtRest p n vs gs) Ended (sealOf d (logWord old (l + b))) m1 (λ m′ t. t) end
-        (switch p lo hi n d vs gs ok1 d-in keys C D ws1 es (logWord old (l + b)) m1 r1 few-old few-new h1 new refl ready)
+        (switch p lo hi n d ws1 es vs gs d-in keys C D few-old few-new h1 new (logWord old (l + b)) m1 r1 ok1 ready refl)
       where
         sh : (xs : List Entry) × (ys : List Entry) × (es ≡ xs ++ ys) × (imageEntries p n vs ≡ Entries (xs ++ (batch ++ ys)))
         sh = P.shape p lo hi n d old l b z ws1 es fs E (r1 .ok) bt1 here

@@ -47,7 +47,7 @@ module _ (p : ℕ) (lo : 12 ≤ p) (hi : p ≤ 16) where
   pub support-in : (n : ℕ) (ws : List ℕ) (es : List Entry) → Ok p n ws es → (k : ℕ) → Support p n ws es k → k < length ws
   support-in n ws es ok k (inl s) = let d = directory-in n ws es ok 0 (omega arith) in omega arith
   support-in n ws es ok k (inr (inl (c, a, b, l, e))) = let m = ok .most in rw e (directory-in n ws es ok c (omega arith))
-  support-in n ws es ok k (inr (inr (inl (c, a, b, l, u)))) = chunk-in n ws es ok c k b (line-in p lo hi c (linesOf p ws c) k (lines-most p ws c) u)
+  support-in n ws es ok k (inr (inr (inl (c, a, b, l, u)))) = chunk-in n ws es ok c k b (line-in p lo hi c (linesOf p ws c) k (lines-most p ws c) (omega arith))
   support-in n ws es ok k (inr (inr (inr (e, t, (q, d))))) = go d
     where
       x : Fits p n (e .field) (sizeOf p ws (unitChunk p (e .field))) (getD ws (unitWord (e .field)) 0)

@@ -166,7 +166,7 @@ module _ (p : ℕ) (lo : 12 ≤ p) (hi : p ≤ 16) (n d old : ℕ) (ws : List �
         → Through (Cuts p n keys C C) (Rests p n keys C) (freeOf d old) m
     free-through keys C m r h few fl =
         through-map (Cuts p n keys C C) (Cuts p n keys C C) (AtRest p n freed gs) (Rests p n keys C) (freeOf d old) m (λ m′ t. t) end
-        (switch p lo hi n d freed gs free-ok d-in keys C C ws es (freedWord old) m r few few′ h now refl ready)
+        (switch p lo hi n d ws es freed gs d-in keys C C few few′ h now (freedWord old) m r free-ok ready refl)
       where
         few′ : length (keysOf gs) ≤ keys
         few′ = let q = keys-from gs es (λ e t. (e, was e t, refl)) in omega arith

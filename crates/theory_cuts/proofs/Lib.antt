@@ -15,3 +15,5 @@ pub mod Staged
 pub mod Free
 pub mod Covers
 pub mod Clean
+pub mod Append
+pub mod Crash

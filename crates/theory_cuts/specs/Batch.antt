@@ -26,6 +26,13 @@ pub record Effect (es batch : List Entry) (E : (Entry → Held) → (ℕ → Hel
       → (k : ℕ) → contentsBy mean (xs ++ (batch ++ ys)) k ≡ E mean (contentsBy mean es) k
   pub extends : (mean mean′ : Entry → Held) (c c′ : ℕ → Held) → ((e : Entry) → Mem e batch → mean′ e ≡ mean e) → ((k : ℕ) → c′ k ≡ c k) → (k : ℕ) → E mean′ c′ k ≡ E mean c k
 
+-- b lines have space behind the committed lines of chunk d, which is a log chunk or free
+pub record Place (p n d b : ℕ) (ws : List ℕ) : Type 0 where
+  pub low : 1 ≤ d
+  pub high : d < n
+  pub no-data : sizeOf p ws d ≡ 0
+  pub fit : linesOf p ws d + b ≤ chunkLines p
+
 -- fs, padded with z words to b lines, may be committed behind the l committed lines of chunk d of the image ws:
 -- chunk d is a log chunk, or free with l = 0; the blocks that fs point to stand, and are nobody else's
 pub record Batch (p n d l b z : ℕ) (ws : List ℕ) (es fs : List Entry) (E : (Entry → Held) → (ℕ → Held) → ℕ → Held) : Type 0 where

@@ -22,11 +22,24 @@ pub record AtRest (p n : ℕ) (ws : List ℕ) (es : List Entry) (m : Medium) : T
   pub settled : (k : ℕ) → Support p n ws es k → cellAt m k ≡ fresh (getD ws k 0)
   pub calm : (c : ℕ) → c < maxChunks → linesOf p ws c ≡ 0 → (x : ℕ) → Among x (values (cellAt m (directoryWord c))) → Calm p n c x
 
--- all that vs needs is settled, but for the directory word of chunk d: what a switch of that word needs
+-- all that vs needs is settled, but for the directory word of chunk d
 pub record Ready (p n d : ℕ) (vs : List ℕ) (gs : List Entry) (m : Medium) : Type 0 where
   pub long : length m ≡ length vs
   pub settled : (k : ℕ) → Support p n vs gs k → (k ≡ directoryWord d → ⊥) → cellAt m k ≡ fresh (getD vs k 0)
   pub calm : (c : ℕ) → c < maxChunks → (c ≡ d → ⊥) → linesOf p vs c ≡ 0 → (x : ℕ) → Among x (values (cellAt m (directoryWord c))) → Calm p n c x
+
+-- with x as the directory word of chunk d, an image that else agrees with ws says what ws says
+abbrev pub Allowed : ℕ → ℕ → ℕ → List ℕ → List Entry → ℕ → Type 0
+Allowed p n d ws es x = (Support p n ws es (directoryWord d) → x ≡ getD ws (directoryWord d) 0) × (linesOf p ws d ≡ 0 → Calm p n d x)
+
+-- SWITCHING from the image ws to vs by the directory word of chunk d: all that either needs is settled, but for that word,
+-- each possible value of which belongs to one of the two.
+pub record Switching (p n d : ℕ) (ws : List ℕ) (es : List Entry) (vs : List ℕ) (gs : List Entry) (m : Medium) : Type 0 where
+  pub old-ok : Ok p n ws es
+  pub new-ok : Ok p n vs gs
+  pub old-ready : Ready p n d ws es m
+  pub new-ready : Ready p n d vs gs m
+  pub word : (x : ℕ) → Among x (values (cellAt m (directoryWord d))) → Allowed p n d ws es x ⊎ Allowed p n d vs gs x
 
 -- the word of every data chunk was flushed since it was stored, so that the next fence settles it
 abbrev pub Flushed : ℕ → ℕ → Medium → Type 0

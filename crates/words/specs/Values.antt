@@ -6,11 +6,12 @@ use mathlib.Core.List.{List, [], _∷_, _++_}
 use Prim.Native.Nat.{ℕ, zero, suc, _+_, _-_, _*_, _/_, _%_, _^_, _<_, _≤_}
 use native.Mathlib.Omega.{arith}
 use native.Mathlib.Nat.{div-eq-of-lt}
-use borrow.Author.Tests.{eq-eqb, eqb-true}
-use lib.Dec.{T, eqb, eqb→eq}
+use native.Mathlib.Decide.{ℕ-discrete}
+use borrow.Author.Tests.{eq-eqb, ne-eqb, eqb-true, ltb-true, lt-ltb}
+use lib.Dec.{T, eqb, ltb, eqb→eq}
 use lib.ListN.{length, getD, take, drop, List·getD-eq-default}
 use lib.Seq.{getD-drop, length-take-le}
-use Rattle.spec.specs.Basics.{both, sameList}
+use Rattle.spec.specs.Basics.{pick, both, sameList}
 use Rattle.spec.specs.Words.{AreBytes, joined, wordAt, packed, eightBytes, bytesOf, valueBytes}
 use Rattle.words.specs.Store.{joined-bytes}
 use Rattle.words.specs.Image.{wordAt-fits}
@@ -117,6 +118,17 @@ bytes-packed (a ∷ b ∷ c ∷ d ∷ e ∷ f ∷ g ∷ h ∷ rest) s =
     ap (λ (l : List ℕ). take (length (a ∷ b ∷ c ∷ d ∷ e ∷ f ∷ g ∷ h ∷ rest)) (l ++ bytesOf (packed rest)))
     (bytes-joined a b c d e f g h (s 0) (s 1) (s 2) (s 3) (s 4) (s 5) (s 6) (s 7))
     ∙ ap (λ (l : List ℕ). a ∷ b ∷ c ∷ d ∷ e ∷ f ∷ g ∷ h ∷ l) (bytes-packed rest (tail a b c d e f g h rest s))
+
+-- the same as a test: of a last word that is not whole, the bytes behind the value are 0
+pub filled-of : (n : ℕ) (ws : List ℕ) → pick (eqb (n % 8) 0) true (ltb (getD ws (n / 8) 0) (256 ^ (n % 8))) ≡ true → Filled n ws
+filled-of n ws t ne = ltb-true (getD ws (n / 8) 0) (256 ^ (n % 8)) (rw (ne-eqb (n % 8) 0 ne) at t)
+
+pub filled-test : (n : ℕ) (ws : List ℕ) → Filled n ws → pick (eqb (n % 8) 0) true (ltb (getD ws (n / 8) 0) (256 ^ (n % 8))) ≡ true
+filled-test n ws f = go (ℕ-discrete (n % 8) 0)
+  where
+    go : Dec (n % 8 ≡ 0) → pick (eqb (n % 8) 0) true (ltb (getD ws (n / 8) 0) (256 ^ (n % 8))) ≡ true
+    go (yes e) = rw (eq-eqb (n % 8) 0 e)
+    go (no ne) = rw (ne-eqb (n % 8) 0 ne, lt-ltb (getD ws (n / 8) 0) (256 ^ (n % 8)) (f ne))
 
 -- the words of a value of n bytes: so many, each a word, the last one zero-filled
 pub record Encoded (n : ℕ) (ws : List ℕ) : Type 0 where

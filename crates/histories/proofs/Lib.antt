@@ -1,0 +1,5 @@
+pub mod Kept
+pub mod Invariant
+pub mod Events
+pub mod Starts
+pub mod Theorem

@@ -1,0 +1,4 @@
+pub mod Roles
+pub mod Stands
+pub mod Walk
+pub mod Scan

@@ -1,0 +1,6 @@
+pub mod Stated
+pub mod Counts
+pub mod FromFormatToCleaning
+pub mod Refusals
+pub mod CallRefusals
+pub mod Cuts

@@ -1,0 +1,4 @@
+pub mod Shown
+pub mod Script
+pub mod Images
+pub mod Cut
