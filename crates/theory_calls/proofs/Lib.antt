@@ -1,3 +1,6 @@
 pub mod Between
 pub mod Formatted
 pub mod Looking
+pub mod LogPlace
+pub mod Committing
+pub mod Cleaning
