@@ -3,3 +3,4 @@ pub mod Invariant
 pub mod Events
 pub mod Starts
 pub mod Theorem
+pub mod Every

@@ -9,13 +9,12 @@ use lib.ListN.{length}
 use Rattle.spec.specs.Places.{base, chunksIn}
 use Rattle.spec.specs.Medium.{Medium, latest, cut, settledAt}
 use Rattle.spec.specs.Log.{Entry}
-use Rattle.spec.specs.Contents.{Held, keysOf, capacity, contents, contentsBy, meaning, entriesIn, listed}
+use Rattle.spec.specs.Contents.{Held, keysOf, capacity, contents, entriesIn, listed}
 use Rattle.spec.specs.Opening.{Accepted, opening}
 use Rattle.spec.specs.Book.{Item}
 use Rattle.theory_medium.proofs.Lists.{number-r, distinct-fewer}
 use Rattle.theory_medium.proofs.Words.{can-cut}
 use Rattle.theory_medium.proofs.Places.{chunks-bytes}
-use Rattle.theory_cuts.specs.Accepted.{Ok}
 use Rattle.theory_cuts.specs.Rest.{Holds, Rests, Cuts}
 use Rattle.theory_cuts.proofs.Opening.{capacity-rises, fits-keys, keys-fit, ok-opens, opens-ok, ok-contents}
 use Rattle.theory_cuts.proofs.Rest.{rest-long, stays-old}

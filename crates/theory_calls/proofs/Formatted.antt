@@ -1,14 +1,13 @@
 -- A formatting to its end, begun on any medium, leaves an empty register between calls.
 -- Assumes nothing.
-use mathlib.Core.Path.{_≡_, _∙_}
+use mathlib.Core.Path.{_≡_}
 use mathlib.Core.Bool.{true}
-use mathlib.Core.List.{List, []}
+use mathlib.Core.List.{[]}
 use Prim.Native.Nat.{ℕ, _*_, _/_, _≤_}
 use native.Mathlib.Omega.{arith}
 use lib.ListN.{length}
 use Rattle.spec.specs.Places.{base, chunksIn, lengthAllowed}
 use Rattle.spec.specs.Medium.{Medium}
-use Rattle.spec.specs.Contents.{capacity}
 use Rattle.spec.specs.Actions.{formatOf}
 use Rattle.spec.specs.Book.{nothing}
 use Rattle.spec.specs.declared.Given.{Given}

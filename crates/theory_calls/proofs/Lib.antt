@@ -1,6 +1,11 @@
 pub mod Between
-pub mod Formatted
 pub mod Looking
+pub mod Formatted
 pub mod LogPlace
 pub mod Committing
 pub mod Cleaning
+pub mod Slots
+pub mod Item
+pub mod Large
+pub mod Staging
+pub mod Hold

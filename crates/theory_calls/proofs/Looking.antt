@@ -27,7 +27,6 @@ use Rattle.words.specs.Image.{length-wordsOf}
 use Rattle.words.specs.Parts.{value-part}
 use Rattle.theory_medium.proofs.Lists.{both-l, not-both}
 use Rattle.theory_log.specs.Batch.{Kind, put, block, delete, Right}
-use Rattle.theory_log.specs.Contents.{Mem, Top}
 use Rattle.theory_log.proofs.Contents.{chosen-is}
 use Rattle.theory_log.proofs.Places.{right-in, all-sound}
 use Rattle.theory_log.proofs.Stands.{all-stands}

@@ -1,0 +1,26 @@
+-- DEMAND 3 holds at every level: for chunks of 2^12 to 2^16 bytes, for any largest value up to the block's limit, and for any
+-- implementation whose calls meet `Called`. Nothing is asked of how it reads its record, or of what record and table hold.
+-- Assumes nothing.
+use Prim.Native.Nat.{ℕ, _≤_}
+use mathlib.Core.List.{List}
+use native.Mathlib.Omega.{arith}
+use Rattle.spec.specs.Places.{basePower, chunkUnits}
+use Rattle.spec.specs.Blocks.{blockLimit}
+use Rattle.spec.specs.Calls.{State}
+use Rattle.spec.specs.History.{Demand3}
+use Rattle.spec.specs.declared.Session.{Session}
+use Rattle.theory_calls.proofs.Hold.{laws-hold}
+use Rattle.histories.proofs.Theorem.{demand3}
+
+pub every-list : (p : ℕ) → 12 ≤ p → p ≤ 16 → (limit : ℕ) → limit ≤ blockLimit p → (stateOf : Session → State) (Fits : Session → List ℕ → List ℕ → Type 0)
+    → Demand3 stateOf Fits p limit
+every-list p low high limit fits stateOf Fits = demand3 p limit (laws-hold p low high limit fits) stateOf Fits
+
+-- at the counter and the centre, whose largest value is 256 bytes
+pub at-the-counter : (stateOf : Session → State) (Fits : Session → List ℕ → List ℕ → Type 0) → Demand3 stateOf Fits basePower 256
+unfolding blockLimit chunkUnits
+at-the-counter = every-list basePower (omega arith) (omega arith) 256 (omega arith)
+
+-- at the archive, whose largest value is a block's limit
+pub at-the-archive : (stateOf : Session → State) (Fits : Session → List ℕ → List ℕ → Type 0) → Demand3 stateOf Fits basePower (blockLimit basePower)
+at-the-archive = every-list basePower (omega arith) (omega arith) (blockLimit basePower) (omega arith)
