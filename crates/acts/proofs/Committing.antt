@@ -1,0 +1,133 @@
+-- A commit's actions, by number: how many there are, which is last, and what the code shows of each.
+-- Assumes nothing.
+use mathlib.Core.Path.{_≡_, refl, sym, _∙_, ap}
+use mathlib.Core.List.{List, [], _∷_}
+use Prim.Native.Nat.{ℕ, zero, suc, _+_, _-_, _*_, _/_, _<_, _≤_, min}
+use native.Mathlib.Nat.{le-of-suc-le-suc, not-suc-le-zero}
+use native.Mathlib.Decide.{decLt, ℕ-discrete}
+use native.Mathlib.Omega.{arith}
+use lib.ListN.{length, getD, drop, List·getD-eq-default}
+use Rattle.spec.specs.Places.{basePower, chunkWords, chunkLines, base, firstLine, directoryWord, lineOf}
+use Rattle.spec.specs.Medium.{Store, Flush, Fence}
+use Rattle.spec.specs.Directory.{logWord}
+use Rattle.spec.specs.Actions.{linesFor, padded}
+use Rattle.spec.specs.Calls.{asReport, runWords}
+use Rattle.spec.specs.declared.Control.{Control}
+use Rattle.spec.specs.declared.Setup.{Setup}
+use Rattle.spec.specs.declared.Report.the-variants as R
+use Rattle.session.specs.State.{bufferPart, batchRoom, batchWords, commitActions}
+use Rattle.theory_cuts.proofs.Append.{append-count}
+use Rattle.acts.specs.Nth.{nth, nthReport, commitCount}
+use Rattle.acts.proofs.Nth.{drop-nth, drop-past}
+use Rattle.acts.proofs.Append.{padded-word, nth-store, nth-flush, nth-fence, nth-seal, nth-seal-flush, nth-last}
+
+-- THE BATCH
+pub length-part : (b : List ℕ) (i n : ℕ) → length (bufferPart b i n) ≡ n
+length-part b i zero = refl
+length-part b i (suc n) = ap suc (length-part b (suc i) n)
+
+pub part-word : (b : List ℕ) (i n j k : ℕ) → j < n → k ≡ i + j → getD (bufferPart b i n) j 0 ≡ getD b k 0
+part-word b i zero j k h e = absurd (not-suc-le-zero h)
+part-word b i (suc n) zero k h e = ap (λ (x : ℕ). getD b x 0) (let q : i ≡ k = omega arith in q)
+part-word b i (suc n) (suc j) k h e = part-word b (suc i) n j k (le-of-suc-le-suc h) (omega arith)
+
+-- word i of the padded batch, among the staged words and behind them
+pub batch-in : (b : List ℕ) (n i : ℕ) → i < n → getD b i 0 ≡ getD (padded (bufferPart b 0 n)) i 0
+batch-in b n i h = sym (padded-word (bufferPart b 0 n) i ∙ part-word b 0 n i i h (omega arith))
+
+pub batch-behind : (b : List ℕ) (n i : ℕ) → n ≤ i → 0 ≡ getD (padded (bufferPart b 0 n)) i 0
+batch-behind b n i h = sym (padded-word (bufferPart b 0 n) i ∙ List·getD-eq-default (bufferPart b 0 n) 0 (rw length-part h))
+
+-- THE COUNT
+module _ (c : Control) (k : Setup) (b : List ℕ) where
+  abbrev pub batchLines : ℕ
+  batchLines = linesFor (min (c .words) batchRoom)
+
+  size : length (batchWords c b) ≡ min (c .words) batchRoom
+  unfolding batchWords
+  size = length-part b 0 (min (c .words) batchRoom)
+
+  pub length-commit : length (commitActions c k b) ≡ commitCount (c .words)
+  unfolding commitActions
+  length-commit =
+      append-count basePower (min (k .chunk) 503) (k .old) (min (k .lines) 64) (batchWords c b) ∙ rw size
+
+  pub commit-done : (at : ℕ) → commitCount (c .words) ≤ at → drop at (commitActions c k b) ≡ []
+  commit-done at h = drop-past (commitActions c k b) at (rw length-commit h)
+
+  pub commit-next : (at : ℕ) → at < commitCount (c .words) → drop at (commitActions c k b) ≡ nth (commitActions c k b) at ∷ drop (at + 1) (commitActions c k b)
+  commit-next at h = drop-nth (commitActions c k b) at (rw length-commit h)
+
+  -- EACH ACTION
+  pub commit-store : (at w : ℕ) → at < 8 * batchLines → w ≡ 512 * min (k .chunk) 503 + 8 * min (k .lines) 64 + at
+      → nth (commitActions c k b) at ≡ Store w (getD (padded (batchWords c b)) at 0)
+  unfolding commitActions base chunkWords
+  commit-store at w h e = nth-store basePower (min (k .chunk) 503) (k .old) (min (k .lines) 64) (batchWords c b) at w (rw size h) (omega arith)
+
+  pub commit-flush : (at i line : ℕ) → at ≡ 8 * batchLines + i → i < batchLines → line ≡ 64 * min (k .chunk) 503 + min (k .lines) 64 + i
+      → nth (commitActions c k b) at ≡ Flush line
+  unfolding commitActions firstLine chunkLines
+  commit-flush at i line e h q =
+      nth-flush basePower (min (k .chunk) 503) (k .old) (min (k .lines) 64) (batchWords c b) at i line (rw size e) (rw size h) (omega arith)
+
+  pub commit-fence : (at : ℕ) → at ≡ 9 * batchLines → nth (commitActions c k b) at ≡ Fence
+  unfolding commitActions
+  commit-fence at e = nth-fence basePower (min (k .chunk) 503) (k .old) (min (k .lines) 64) (batchWords c b) at (rw size e)
+
+  -- the directory word is the last but two, its line's flush the last but one, and a fence the last
+  pub commit-seal : (at : ℕ) → at + 3 ≡ commitCount (c .words)
+      → nth (commitActions c k b) at ≡ Store (directoryWord (min (k .chunk) 503)) (logWord (k .old) (min (k .lines) 64 + batchLines))
+  unfolding commitActions
+  commit-seal at e =
+      rw size at (nth-seal basePower (min (k .chunk) 503) (k .old) (min (k .lines) 64) (batchWords c b) at (rw size (omega arith)))
+
+  pub commit-seal-flush : (at : ℕ) → at + 2 ≡ commitCount (c .words) → nth (commitActions c k b) at ≡ Flush (lineOf (directoryWord (min (k .chunk) 503)))
+  unfolding commitActions
+  commit-seal-flush at e =
+      nth-seal-flush basePower (min (k .chunk) 503) (k .old) (min (k .lines) 64) (batchWords c b) at (rw size (omega arith))
+
+  pub commit-last : (at : ℕ) → commitCount (c .words) ≤ at + 1 → nth (commitActions c k b) at ≡ Fence
+  unfolding commitActions
+  commit-last at h = nth-last basePower (min (k .chunk) 503) (k .old) (min (k .lines) 64) (batchWords c b) at (rw size (omega arith))
+
+  -- behind the store of the directory word no word changes
+  pub commit-sealed : (at : ℕ) → commitCount (c .words) ≤ at + 2 → (ws : List ℕ) → runWords (drop at (commitActions c k b)) ws ≡ ws
+  commit-sealed at h ws = go (decLt at (commitCount (c .words))) (ℕ-discrete (at + 2) (commitCount (c .words)))
+    where
+      done : (i : ℕ) → commitCount (c .words) ≤ i → runWords (drop i (commitActions c k b)) ws ≡ ws
+      done i q = rw (commit-done i q)
+
+      last : (i : ℕ) → i + 1 ≡ commitCount (c .words) → runWords (drop i (commitActions c k b)) ws ≡ ws
+      last i e = rw (commit-next i (omega arith), commit-last i (omega arith)) (done (i + 1) (omega arith))
+
+      go : Dec (at < commitCount (c .words)) → Dec (at + 2 ≡ commitCount (c .words)) → runWords (drop at (commitActions c k b)) ws ≡ ws
+      go (no n) d = done at (omega arith)
+      go (yes q) (yes e) = rw (commit-next at q, commit-seal-flush at e) (last (at + 1) (omega arith))
+      go (yes q) (no n) = last at (omega arith)
+
+  -- WHAT THE CODE SHOWS at each return, with its number of staged words, chunk and committed lines
+  module _ (at staged chunk committed : ℕ) (es : staged ≡ min (c .words) batchRoom) (ec : chunk ≡ min (k .chunk) 503) (em : committed ≡ min (k .lines) 64) where
+    pub shows-store : (w v : ℕ) → at < 8 * linesFor staged → w ≡ 512 * chunk + 8 * committed + at → v ≡ getD (padded (bufferPart b 0 (min (c .words) batchRoom))) at 0
+        → R.Store w v ≡ nthReport (commitActions c k b) at
+    unfolding batchWords
+    shows-store w v h e q = rw q (sym (ap asReport (commit-store at w (omega arith) (omega arith))))
+
+    pub shows-flush : (line : ℕ) → 8 * linesFor staged ≤ at → at < 9 * linesFor staged → line ≡ 64 * chunk + committed + (at - 8 * linesFor staged)
+        → R.Flush line ≡ nthReport (commitActions c k b) at
+    shows-flush line h q e = sym (ap asReport (commit-flush at (at - 8 * linesFor staged) line (omega arith) (omega arith) (omega arith)))
+
+    pub shows-fence : at ≡ 9 * linesFor staged → R.Fence ≡ nthReport (commitActions c k b) at
+    shows-fence e = sym (ap asReport (commit-fence at (omega arith)))
+
+    pub shows-seal : (w v n : ℕ) → at ≡ 9 * linesFor staged + 1 → w ≡ 8 + chunk → n ≡ committed + linesFor staged → v ≡ logWord (k .old) n
+        → R.Store w v ≡ nthReport (commitActions c k b) at
+    shows-seal w v n e q r s =
+        let x : w ≡ directoryWord (min (k .chunk) 503) = omega arith in
+        let y : n ≡ min (k .lines) 64 + batchLines = omega arith in
+        rw (s, x, y) (sym (ap asReport (commit-seal at (omega arith))))
+
+    pub shows-seal-flush : (line : ℕ) → at ≡ 9 * linesFor staged + 2 → line ≡ (8 + chunk) / 8 → R.Flush line ≡ nthReport (commitActions c k b) at
+    shows-seal-flush line e q = ap R.Flush (let z : line ≡ lineOf (directoryWord (min (k .chunk) 503)) = omega arith in z) ∙ sym (ap asReport (commit-seal-flush at (omega arith)))
+
+    pub shows-last : 9 * linesFor staged + 3 ≤ at → R.Fence ≡ nthReport (commitActions c k b) at
+    shows-last h = sym (ap asReport (commit-last at (omega arith)))

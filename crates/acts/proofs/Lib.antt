@@ -1,0 +1,5 @@
+pub mod Nth
+pub mod Append
+pub mod Committing
+pub mod Formatting
+pub mod Performed

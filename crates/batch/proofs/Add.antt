@@ -1,0 +1,92 @@
+-- One more item written behind the staged ones: the code's stores lay its words over the buffer.
+-- Assumes nothing.
+use mathlib.Core.Path.{_≡_, refl, sym, _∙_, ap}
+use mathlib.Core.List.{List, [], _∷_, _++_, append-nil, append-assoc}
+use Prim.Native.Nat.{ℕ, suc, _+_, _-_, _/_, _%_, _^_, _≤_, _<_}
+use native.Mathlib.Omega.{arith}
+use lib.Dec.{eqb, ltb}
+use lib.ListN.{length, getD, set, take}
+use lib.Seq.{take-all}
+use Rattle.spec.specs.Basics.{both}
+use Rattle.spec.specs.Log.{Entry, headOf, encode, encodeAll}
+use Rattle.spec.specs.Calls.{entry}
+use Rattle.theory_log.specs.Batch.{Kind, put, block, delete}
+use Rattle.codec.specs.Firsts.{headWord}
+use Rattle.words.specs.Overlay.{overlay, length-overlay, getD-overlay-outside}
+use Rattle.bits.specs.Bits.{wordOf, hasBit}
+use Rattle.session.specs.State.{bufferPart}
+use Rattle.batch.specs.Added.{Added}
+use Rattle.batch.proofs.Part.{part-overlay}
+
+pub encode-append : (xs ys : List Entry) → encodeAll (xs ++ ys) ≡ encodeAll xs ++ encodeAll ys
+encode-append [] ys = refl
+encode-append (x ∷ xs) ys = ap (λ (l : List ℕ). encode x ++ l) (encode-append xs ys) ∙ sym (append-assoc (encode x) (encodeAll xs) (encodeAll ys))
+
+-- the first word holds the parts of a right entry
+small : (op pl x : ℕ) → Kind op pl x → (op < 4) × (pl < 4)
+small op pl x (put h) = (omega arith, omega arith)
+small op pl x block = (omega arith, omega arith)
+small op pl x delete = (omega arith, omega arith)
+
+head-same : (op pl v x : ℕ) → Kind op pl x → v < 1048576 → x < 2 ^ 40 → headWord (op % 4) (pl % 4) (v % 1048576) (x % 2 ^ 40) ≡ headWord op pl v x
+head-same op pl v x k h l =
+    let s = small op pl x k in
+    let a : op % 4 ≡ op = omega arith in
+    let b : pl % 4 ≡ pl = omega arith in
+    let c : v % 1048576 ≡ v = omega arith in
+    let d : x % 2 ^ 40 ≡ x = omega arith in
+    rw (a, b, c, d)
+
+-- the bits lie above the batch
+bits-kept : (b d : List ℕ) → ((i : ℕ) → 512 ≤ i → getD d i 0 ≡ getD b i 0) → (u : ℕ) → hasBit d u ≡ hasBit b u
+unfolding hasBit
+bits-kept b d h u = ap (λ (w : ℕ). both (ltb u 8064) (eqb (w / 2 ^ (u % 64) % 2) 1)) (h (wordOf u) (omega arith))
+
+-- no room
+pub add-none : (b : List ℕ) (words : ℕ) (e : Entry) → length b ≡ 1152 → 512 < words + (2 + length (e .value)) → Added b b words words e
+add-none b words e n h =
+    record {
+      size = n;
+      long = refl;
+      above = λ i l. refl;
+      bits = λ u. refl;
+      full = λ l. (refl, refl);
+      count = λ l. absurd (omega arith);
+      written = λ l. absurd (omega arith);
+    }
+
+module _ (b d : List ℕ) (words next op pl v x key head : ℕ) (vs : List ℕ) (n : length b ≡ 1152) (room : words + (2 + length vs) ≤ 512)
+    (counted : next ≡ words + (2 + length vs))
+    (told : head ≡ headWord (op % 4) (pl % 4) (v % 1048576) (x % 2 ^ 40))
+    (stored : d ≡ overlay (set (set b words head) (words + 1) key) (words + 2) (take (1152 - (words + 2)) vs)) where
+  laid : d ≡ overlay b words (head ∷ key ∷ vs)
+  laid =
+      let one : words + 1 ≡ suc words = omega arith in
+      let two : words + 2 ≡ suc (suc words) = omega arith in
+      stored ∙ rw (take-all (1152 - (words + 2)) vs (omega arith), one, two)
+
+  above-kept : (i : ℕ) → 512 ≤ i → getD d i 0 ≡ getD b i 0
+  above-kept i l = ap (λ (xs : List ℕ). getD xs i 0) laid ∙ getD-overlay-outside (head ∷ key ∷ vs) b words i (λ p q. omega arith)
+
+  written-behind : bufferPart d 0 next ≡ bufferPart b 0 words ++ (head ∷ key ∷ vs)
+  written-behind =
+      let s : next ≡ words + suc (suc (length vs)) = omega arith in
+      rw (laid, s) (part-overlay b (head ∷ key ∷ vs) words (omega arith))
+
+  pub add-more : Added b d words next (entry op pl v x key vs)
+  add-more =
+      record {
+        size = n;
+        long = ap length laid ∙ length-overlay b words (head ∷ key ∷ vs);
+        above = above-kept;
+        bits = bits-kept b d above-kept;
+        full = λ l. absurd (omega arith);
+        count = λ l. counted;
+        written = λ l r f items w.
+            let e = entry op pl v x key vs in
+            let h : head ≡ headOf e = told ∙ head-same op pl v x (r .kind) (r .high) f in
+            written-behind
+            ∙ ap (λ (xs : List ℕ). xs ++ (head ∷ key ∷ vs)) w
+            ∙ ap (λ (k : ℕ). encodeAll items ++ (k ∷ key ∷ vs)) h
+            ∙ sym (encode-append items (e ∷ []) ∙ ap (λ (xs : List ℕ). encodeAll items ++ xs) (append-nil (encode e)));
+      }

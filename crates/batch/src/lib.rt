@@ -1,0 +1,144 @@
+// The staged entries, kept in words 0 to 511 of the station record's buffer as the very words that a commit writes.
+ghost use mathlib.Core.Path.{_≡_};
+ghost use Prim.Native.Nat.{_+_, _^_, _<_, _≤_, min};
+ghost use lib.ListN.{getD};
+ghost use Rattle.spec.specs.Words.{packed};
+ghost use Rattle.spec.specs.Log.{firstOf};
+ghost use Rattle.spec.specs.Calls.{entry};
+ghost use Rattle.session.specs.State.{batchRoom};
+ghost use Rattle.batch.specs.Items.{itemBy, laterOf, LastStaged, OnlyDeletes};
+ghost use Rattle.batch.specs.Added.{Added};
+use bits::buffer_length;
+use codec::first_of;
+use codec::first_word;
+use log::words_for;
+use spec::FirstWord;
+use words::pack_into;
+
+// What the last staged item of a key says, 0 and 0 where there is none.
+pub struct Latest {
+    pub op: u64,
+    pub version: u64,
+}
+
+// What stands at a word of the batch: `size` is the number of words to the next item. A word that begins no item counts as one.
+pub struct Item {
+    pub op: u64,
+    pub version: u64,
+    pub key: u64,
+    pub size: usize,
+}
+
+// How many words of the buffer the batch fills.
+fn batch_end(words: usize) -> usize
+    ensures { λ r. ⌜ r ≡ min words batchRoom ⌝ }
+{
+    if words < 512 { words } else { 512 }
+}
+
+fn item_at(buffer: &[u64; 1152], at: usize) -> Item
+    requires { ⌜ at < 512 ⌝ }
+    ensures { λ r. ⌜ (r ≡ itemBy (firstOf (getD (now (buffer .entry)) at 0)) (getD (now (buffer .entry)) (at + 1) 0)) × (1 ≤ r .size) × (r .size < 2 ^ 62) ⌝ }
+{
+    let f = first_of(buffer[at]);
+    match f {
+        FirstWord::Padding => Item {
+            op: 0,
+            version: 0,
+            key: 0,
+            size: 1,
+        },
+        FirstWord::Wrong => Item {
+            op: 0,
+            version: 0,
+            key: 0,
+            size: 1,
+        },
+        FirstWord::Entry {
+            op,
+            placement,
+            version,
+            field,
+        } => {
+            let key = buffer[at + 1];
+            let size = 2 + words_for(placement, field);
+            Item {
+                op,
+                version,
+                key,
+                size,
+            }
+        }
+    }
+}
+
+fn later(latest: Latest, key: u64, item: Item) -> Latest
+    ensures { λ r. ⌜ r ≡ laterOf key latest (item .key) (item .op) (item .version) ⌝ }
+{
+    if item.key == key {
+        return Latest {
+            op: item.op,
+            version: item.version,
+        };
+    }
+    latest
+}
+
+// The last staged item of a key.
+pub fn last_staged(buffer: &[u64; 1152], words: usize, key: u64) -> Latest
+    ensures { λ r. ⌜ LastStaged (now (buffer .entry)) words key r ⌝ }
+{
+    let end = batch_end(words);
+    let mut latest = Latest { op: 0, version: 0 };
+    let mut at = 0;
+    while at < end {
+        let item = item_at(buffer, at);
+        latest = later(latest, key, item);
+        at += item.size;
+    }
+    latest
+}
+
+// Whether all staged items are deletes.
+pub fn only_deletes(buffer: &[u64; 1152], words: usize) -> bool
+    ensures { λ r. ⌜ OnlyDeletes (now (buffer .entry)) words r ⌝ }
+{
+    let end = batch_end(words);
+    let mut at = 0;
+    while at < end {
+        let item = item_at(buffer, at);
+        if item.op == 2 {
+            at += item.size;
+        } else {
+            return false;
+        }
+    }
+    true
+}
+
+// One more staged item, if it fits: its words behind the others. The answer is the number of words then.
+pub fn add_entry(
+    buffer: &mut [u64; 1152],
+    words: usize,
+    op: u64,
+    placement: u64,
+    version: u64,
+    field: u64,
+    key: u64,
+    value: &[u8],
+) -> usize
+    ensures { λ r. ⌜ Added (now (buffer .entry)) (now (buffer .exit)) words r (entry op placement version field key (packed (now (value .entry)))) ⌝ }
+{
+    buffer_length(buffer);
+    let more = 2 + (value.len() + 7) / 8;
+    if 512 < words {
+        return words;
+    }
+    if 512 - words < more {
+        return words;
+    }
+    buffer[words] = first_word(op, placement, version, field);
+    buffer[words + 1] = key;
+    pack_into(value, buffer, words + 2);
+    words + more
+}

@@ -1,0 +1,84 @@
+-- `joining::join` meets its contract. The loop's invariant: what was left of the batch at the beginning says what is left of it now.
+-- Assumes nothing.
+use Prim.Native.Nat.{_-_}
+use mathlib.Core.Path.{refl}
+use native.Mathlib.Omega.{arith}
+use borrow.Author.Needs.{needs}
+use Rattle.spec.specs.Words.{wordsOf}
+use Rattle.joining.proofs.Staging.{told-fits}
+use Rattle.joining.proofs.Batch.{Going, going-start, going-next, going-joins}
+use Rattle.joining.proofs.join.Statement.{statement}
+use Rattle.joining.proofs.join.Tie as tie
+
+abbrev Inv-loop : tie.InvT-loop
+Inv-loop buffer₀ image table₀ count place end keys₀ at₀ buffer table keys at = Going count (wordsOf image) buffer₀ table₀ keys₀ place at₀ end buffer table keys at
+
+abbrev μ-loop : tie.MeasureT-loop
+μ-loop buffer₀ image table₀ count place end keys₀ at₀ buffer table keys at = end - at
+
+buffer-length-requires : tie.Need-buffer-length-requires Inv-loop μ-loop
+buffer-length-requires c κs = search needs
+
+batch-place-requires : tie.Need-batch-place-requires Inv-loop μ-loop
+batch-place-requires c κs = search needs
+
+lesser-requires : tie.Need-lesser-requires Inv-loop μ-loop
+lesser-requires c κs = search needs
+
+loop-holds : tie.Need-loop-holds Inv-loop μ-loop
+loop-holds c = going-start _ _ _ _ _ _ _ _ (c .before .before .before .buffer-length .ensures .1)
+
+item-at-requires : tie.Need-item-at-requires Inv-loop μ-loop
+item-at-requires c κs = omega arith
+
+enum-told : tie.Need-enum-told Inv-loop μ-loop
+enum-told c = search needs
+
+same-length : tie.Need-same-length Inv-loop μ-loop
+same-length c = c .before .before .before .before .loop .inv .sized
+
+returns : tie.Need-returns Inv-loop μ-loop
+returns c = going-joins _ _ _ _ _ _ _ _ _ _ _ _ _ _ (c .before .before .before .before .loop .inv) _ (c .before .before .item-at .ensures) (c .enum-told .given .1) refl refl (c .before .before .before .before .before .before .batch-place .ensures .0) refl (c .before .before .before .before .before .lesser .ensures)
+
+enum-known-item : tie.Need-enum-known-item Inv-loop μ-loop
+enum-known-item c = search needs
+
+add-join-one : tie.Need-add-join-one Inv-loop μ-loop
+add-join-one c = let f = told-fits _ _ _ _ (c .before .before .before .before .before .item-at .ensures) _ _ _ (c .before .before .before .item .given .1) in omega arith
+
+join-one-requires : tie.Need-join-one-requires Inv-loop μ-loop
+join-one-requires c κs = search needs
+
+add-at : tie.Need-add-at Inv-loop μ-loop
+add-at c = let f = told-fits _ _ _ _ (c .before .before .before .before .before .before .before .before .item-at .ensures) _ _ _ (c .before .before .before .before .before .before .item .given .1) in omega arith
+
+add-at-2 : tie.Need-add-at-2 Inv-loop μ-loop
+add-at-2 c = let f = told-fits _ _ _ _ (c .before .before .before .before .before .before .before .before .item-at .ensures) _ _ _ (c .before .before .before .before .before .before .item .given .1) in omega arith
+
+loop-less : tie.Need-loop-less Inv-loop μ-loop
+loop-less c = let f = told-fits _ _ _ _ (c .before .before .before .before .before .before .before .before .item-at .ensures) _ _ _ (c .before .before .before .before .before .before .item .given .1) in omega arith
+
+loop-again : tie.Need-loop-again Inv-loop μ-loop
+loop-again c = going-next _ _ _ _ _ _ _ _ _ _ _ _ (c .before .before .before .before .before .before .before .before .before .before .loop .inv) _ (c .before .before .before .before .before .before .before .before .item-at .ensures) _ _ _ (c .before .before .before .before .before .before .item .given .1) (omega arith) _ _ _ (c .before .before .join-one .ensures)
+
+pub join-spec : {M : Type 1} → statement M
+join-spec =
+    tie.close
+    (tie.spec
+    Inv-loop
+    μ-loop
+    buffer-length-requires
+    batch-place-requires
+    lesser-requires
+    loop-holds
+    item-at-requires
+    enum-told
+    same-length
+    returns
+    enum-known-item
+    add-join-one
+    join-one-requires
+    add-at
+    add-at-2
+    loop-less
+    loop-again)

@@ -1,0 +1,272 @@
+// A commit's items join the key table, and the blocks of the entries that they supersede leave the bits.
+ghost use mathlib.Core.Path.{_≡_};
+ghost use Prim.Native.Nat.{_≤_, _<_, min};
+ghost use Rattle.spec.specs.Words.{wordsOf};
+ghost use Rattle.spec.specs.Log.{firstOf};
+ghost use lib.ListN.{getD};
+ghost use Rattle.volatile.specs.Known.{raised, noted};
+ghost use Rattle.joining.specs.Blocks.{blockAt, namedBy, twinBlock, Freed};
+ghost use Rattle.joining.specs.Joining.{Scanned, Superseded, OneJoined, Staged, placeOf, Joining};
+use index::Info;
+use log::Next;
+use spec::Control;
+use spec::FirstWord;
+use spec::Setup;
+
+// THE BLOCKS OF SUPERSEDED ENTRIES
+// The block of an entry with these parts, if it is a put in one, leaves the bits.
+fn release(buffer: &mut [u64; 1152], op: u64, placement: u64, field: u64)
+    ensures { λ _. ⌜ Freed (now (buffer .entry)) (now (buffer .exit)) (blockAt op placement field) ⌝ }
+{
+    bits::buffer_length(buffer);
+    if op == 1 {
+        if placement == 1 {
+            bits::unset_bit(buffer, field as usize);
+        }
+    }
+}
+
+// The block of the entry that stands at word `place`.
+fn release_at(buffer: &mut [u64; 1152], image: &[u8], place: usize)
+    ensures { λ _. ⌜ Freed (now (buffer .entry)) (now (buffer .exit)) (namedBy (firstOf (getD (wordsOf (now (image .entry))) place 0))) ⌝ }
+{
+    bits::buffer_length(buffer);
+    let first = codec::first_of(words::load(image, place));
+    match first {
+        FirstWord::Padding => {}
+        FirstWord::Wrong => {}
+        FirstWord::Entry {
+            op,
+            placement,
+            version: _,
+            field,
+        } => {
+            release(buffer, op, placement, field);
+        }
+    }
+}
+
+// An entry of the log, if it is of this key and version.
+fn release_twin(
+    buffer: &mut [u64; 1152],
+    key: u64,
+    version: u64,
+    k: u64,
+    v: u64,
+    op: u64,
+    placement: u64,
+    field: u64,
+)
+    ensures { λ _. ⌜ Freed (now (buffer .entry)) (now (buffer .exit)) (twinBlock key version k v op placement field) ⌝ }
+{
+    bits::buffer_length(buffer);
+    if k == key {
+        if v == version {
+            release(buffer, op, placement, field);
+        }
+    }
+}
+
+// All entries of this key and version, by a scan of the log of an image of `count` chunks.
+fn release_twins(buffer: &mut [u64; 1152], image: &[u8], count: usize, key: u64, version: u64)
+    ensures { λ _. ⌜ Scanned count (wordsOf (now (image .entry))) (now (buffer .entry)) (now (buffer .exit)) key version ⌝ }
+{
+    bits::buffer_length(buffer);
+    let mut cursor = log::first_cursor();
+    loop {
+        let n = log::next_in_log(image, count, cursor);
+        match n {
+            Next::Done => {
+                return;
+            }
+            Next::Wrong => {
+                return;
+            }
+            Next::Entry {
+                op,
+                placement,
+                version: v,
+                field,
+                key: k,
+                words: _,
+                place: _,
+                cursor: behind,
+            } => {
+                release_twin(buffer, key, version, k, v, op, placement, field);
+                cursor = behind;
+            }
+        }
+    }
+}
+
+// The top entries of a key, of which the table says so much: one, or several.
+fn release_tops(buffer: &mut [u64; 1152], image: &[u8], count: usize, key: u64, info: Info)
+    ensures { λ _. ⌜ Superseded count (wordsOf (now (image .entry))) (now (buffer .entry)) (now (buffer .exit)) key info ⌝ }
+{
+    if info.several == 0 {
+        release_at(buffer, image, info.place as usize);
+        return;
+    }
+    release_twins(buffer, image, count, key, info.version);
+}
+
+// ONE ITEM
+// One more entry of a key, of which the table holds `info`.
+fn raised(info: Info, place: usize, version: u64) -> Info
+    requires { ⌜ info .entries < 0x20_0000 ⌝ }
+    ensures { λ r. ⌜ r ≡ raised info place version ⌝ }
+{
+    if info.version < version {
+        return Info {
+            place: place as u64,
+            version,
+            entries: info.entries + 1,
+            several: 0,
+        };
+    }
+    if info.version == version {
+        return Info {
+            place: info.place,
+            version: info.version,
+            entries: info.entries + 1,
+            several: 1,
+        };
+    }
+    Info {
+        place: info.place,
+        version: info.version,
+        entries: info.entries + 1,
+        several: info.several,
+    }
+}
+
+// What the table is to hold of a key, of which it holds `word`, with one more entry.
+fn noted(word: u64, place: usize, version: u64) -> u64
+    ensures { λ r. ⌜ r ≡ noted word place version ⌝ }
+{
+    if word == 0 {
+        return index::pack(Info {
+            place: place as u64,
+            version,
+            entries: 1,
+            several: 0,
+        });
+    }
+    index::pack(raised(index::unpack(word), place, version))
+}
+
+// An entry at word `place` joins the table, which has so many keys: how many it has then.
+fn join_one(
+    image: &[u8],
+    count: usize,
+    buffer: &mut [u64; 1152],
+    table: &mut [u64],
+    keys: usize,
+    key: u64,
+    version: u64,
+    place: usize,
+) -> usize
+    ensures { λ r. ⌜ OneJoined count (wordsOf (now (image .entry))) (now (buffer .entry)) (now (buffer .exit)) (now (table .entry)) (now (table .exit)) keys key version place r ⌝ }
+{
+    bits::buffer_length(buffer);
+    let old = index::look(table, key);
+    let info = noted(old, place, version);
+    if old == 0 {
+        if keys < index::capacity(table.len()) {
+            index::insert_or_update(table, key, info);
+            return keys + 1;
+        }
+        return keys;
+    }
+    release_tops(buffer, image, count, key, index::unpack(old));
+    index::insert_or_update(table, key, info);
+    keys
+}
+
+// THE BATCH
+// What stands at a place of the staged words.
+enum Item {
+    Nothing,
+    Entry {
+        key: u64,
+        version: u64,
+        words: usize,
+    },
+}
+
+fn item_at(buffer: &[u64; 1152], at: usize, end: usize) -> Item
+    requires { ⌜ end ≤ 512 ⌝ }
+    ensures { λ r. ⌜ Staged (now (buffer .entry)) at end r ⌝ }
+{
+    if end <= at {
+        return Item::Nothing;
+    }
+    let first = codec::first_of(buffer[at]);
+    match first {
+        FirstWord::Padding => Item::Nothing,
+        FirstWord::Wrong => Item::Nothing,
+        FirstWord::Entry {
+            op: _,
+            placement,
+            version,
+            field,
+        } => {
+            let words = log::words_for(placement, field);
+            if end - at < 2 + words {
+                return Item::Nothing;
+            }
+            Item::Entry {
+                key: buffer[at + 1],
+                version,
+                words,
+            }
+        }
+    }
+}
+
+fn lesser(a: usize, b: usize) -> usize
+    ensures { λ r. ⌜ r ≡ min a b ⌝ }
+{
+    if a < b { a } else { b }
+}
+
+// The word at which the batch begins; chunk and lines out of range count as the highest.
+fn batch_place(setup: Setup) -> usize
+    ensures { λ r. ⌜ (r ≡ placeOf setup) × (r ≤ 0x4_0000) ⌝ }
+{
+    512 * lesser(setup.chunk, 503) + 8 * lesser(setup.lines, 64)
+}
+
+// At a commit's last fence the staged items join: how many keys the table has then.
+pub fn join(
+    control: Control,
+    setup: Setup,
+    buffer: &mut [u64; 1152],
+    image: &[u8],
+    table: &mut [u64],
+) -> usize
+    ensures { λ r. ⌜ Joining control setup (now (buffer .entry)) (now (buffer .exit)) (wordsOf (now (image .entry))) (now (table .entry)) (now (table .exit)) r ⌝ }
+{
+    bits::buffer_length(buffer);
+    let count = setup.image / 4096;
+    let place = batch_place(setup);
+    let end = lesser(control.words, 512);
+    let mut keys = control.keys;
+    let mut at: usize = 0;
+    loop {
+        let item = item_at(buffer, at, end);
+        match item {
+            Item::Nothing => {
+                return keys;
+            }
+            Item::Entry {
+                key,
+                version,
+                words,
+            } => {
+                keys = join_one(image, count, buffer, table, keys, key, version, place + at);
+                at += 2 + words;
+            }
+        }
+    }
+}

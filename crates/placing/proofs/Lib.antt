@@ -1,0 +1,4 @@
+pub mod Search
+pub mod Several
+pub mod Space
+pub mod Answer

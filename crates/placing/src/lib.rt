@@ -1,0 +1,136 @@
+// Where a commit writes: the first log chunk with space, else the first free chunk if enough are free.
+ghost use mathlib.Core.Path.{_≡_};
+ghost use Prim.Native.Nat.{_-_, _≤_};
+ghost use lib.ListN.{getD};
+ghost use mathlib.Core.Option.{some};
+ghost use Rattle.spec.specs.Basics.{upFrom, filter, first};
+ghost use Rattle.spec.specs.Words.{wordsOf};
+ghost use Rattle.spec.specs.Places.{directoryWord};
+ghost use Rattle.spec.specs.Directory.{roleAt, isFree};
+ghost use Rattle.spec.specs.Calls.{hasSpace, freeChunk, logPlace};
+ghost use Rattle.placing.specs.Found.{foundOf, placeOf};
+use log::lines_of;
+use log::role_at;
+use spec::Role;
+use words::load;
+
+// A chunk that was looked for.
+pub enum Found {
+    At(usize),
+    Nothing,
+}
+
+// Where the lines go: `committed` is the chunk's committed lines, `old` its directory word; all 0 where nothing was found.
+pub struct Place {
+    pub found: bool,
+    pub chunk: usize,
+    pub committed: usize,
+    pub old: u64,
+}
+
+// The directory word of chunk c, 0 past the image.
+pub fn directory_word(image: &[u8], c: usize) -> u64
+    ensures { λ r. ⌜ r ≡ getD (wordsOf (now (image .entry))) (directoryWord c) 0 ⌝ }
+{
+    let n = image.len() / 8;
+    if c < n {
+        return load(image, 8 + c);
+    }
+    0
+}
+
+pub fn is_free(image: &[u8], c: usize) -> bool
+    ensures { λ r. ⌜ r ≡ isFree (roleAt 12 (wordsOf (now (image .entry))) c) ⌝ }
+{
+    let role = role_at(image, c);
+    match role {
+        Role::Free => true,
+        Role::Log(_) => false,
+        Role::Data(_) => false,
+        Role::Wrong => false,
+    }
+}
+
+// Whether c is a log chunk with space for so many lines behind its committed ones.
+fn has_space(image: &[u8], c: usize, lines: usize) -> bool
+    requires { ⌜ 1 ≤ c ⌝ }
+    ensures { λ r. ⌜ r ≡ hasSpace 12 (wordsOf (now (image .entry))) lines 0 c ⌝ }
+{
+    let committed = lines_of(image, c);
+    if committed == 0 {
+        return false;
+    }
+    if 64 < lines {
+        return false;
+    }
+    committed + lines <= 64
+}
+
+// The first log chunk with space.
+fn log_chunk(image: &[u8], count: usize, lines: usize) -> Found
+    ensures { λ r. ⌜ r ≡ foundOf (first (filter (hasSpace 12 (wordsOf (now (image .entry))) lines 0) (upFrom 1 (count - 1)))) ⌝ }
+{
+    let mut c = 1;
+    while c < count {
+        if has_space(image, c, lines) {
+            return Found::At(c);
+        }
+        c += 1;
+    }
+    Found::Nothing
+}
+
+// The first free chunk, if at least `needed` are free.
+fn free_chunk(image: &[u8], count: usize, needed: usize) -> Found
+    ensures { λ r. ⌜ r ≡ foundOf (freeChunk 12 count (wordsOf (now (image .entry))) needed) ⌝ }
+{
+    let mut lowest = 0;
+    let mut seen: usize = 0;
+    let mut c = 1;
+    while c < count {
+        if is_free(image, c) {
+            if seen == 0 {
+                lowest = c;
+            }
+            seen += 1;
+            if needed <= seen {
+                return Found::At(lowest);
+            }
+        }
+        c += 1;
+    }
+    Found::Nothing
+}
+
+fn place_at(image: &[u8], c: usize) -> Place
+    ensures { λ r. ⌜ r ≡ placeOf (wordsOf (now (image .entry))) (some c) ⌝ }
+{
+    Place {
+        found: true,
+        chunk: c,
+        committed: lines_of(image, c),
+        old: directory_word(image, c),
+    }
+}
+
+// The place for so many lines in an image of `count` chunks.
+pub fn log_place(image: &[u8], count: usize, lines: usize, needed: usize) -> Place
+    ensures { λ r. ⌜ r ≡ placeOf (wordsOf (now (image .entry))) (logPlace 12 count (wordsOf (now (image .entry))) lines 0 needed) ⌝ }
+{
+    let log = log_chunk(image, count, lines);
+    match log {
+        Found::At(c) => place_at(image, c),
+        Found::Nothing => {
+            let free = free_chunk(image, count, needed);
+            match free {
+                Found::At(c) => place_at(image, c),
+                Found::Nothing => Place {
+                    found: false,
+                    chunk: 0,
+                    committed: 0,
+                    old: 0,
+                },
+            }
+        }
+    }
+}
