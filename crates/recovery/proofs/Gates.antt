@@ -1,0 +1,169 @@
+-- The gate of a call on an open register, read off the record; what a refusal at the gate shows, once for all calls that ask there;
+-- and what is known behind the gate.
+-- Assumes nothing.
+use mathlib.Core.Path.{_≡_, refl, sym}
+use mathlib.Core.Logic.{_⊎_, inl, inr}
+use mathlib.Core.Bool.{Bool, true, false}
+use mathlib.Core.Option.{none, some}
+use mathlib.Core.List.{List, []}
+use Prim.Native.Nat.{ℕ}
+use native.Mathlib.Omega.{arith}
+use lib.Dec.{eqb}
+use lib.ListN.{length}
+use borrow.Author.Tests.{eqb-true, ne-eqb}
+use Rattle.spec.specs.Basics.{pick, both, either}
+use Rattle.spec.specs.Words.{wordsOf}
+use Rattle.spec.specs.Medium.{Action}
+use Rattle.spec.specs.Log.{Entry}
+use Rattle.spec.specs.Calls.{Call, Format, Open, Put, Delete, Commit, Abandon, LookUp, Choose, Clean, Step, State, Closed, Rest, Busy, Formatting, Staging, Committing, gate, answer, next, refusals, refusedBy, isOpening}
+use Rattle.spec.specs.Contract.{MemRefusal, Ready, Kept, Barred, Called}
+use Rattle.spec.specs.declared.Control.{Control}
+use Rattle.spec.specs.declared.Setup.{Setup}
+use Rattle.spec.specs.declared.Session.{Session}
+use Rattle.spec.specs.declared.Refusal.{Refusal}
+use Rattle.spec.specs.declared.Refusal.the-variants as N
+use Rattle.spec.specs.declared.Report.{Report}
+use Rattle.spec.specs.declared.Report.the-variants as R
+use Rattle.theory_medium.proofs.Lists.{both-l, both-r}
+use Rattle.session.specs.State.{stateAt, stateOf}
+use Rattle.session.specs.Fits.{RestFits, FitsAt, Fits}
+use Rattle.recovery.specs.Asks.{gateFor, sameLengths}
+
+-- ## The record's gate
+
+pub gate-state : (c : Control) (k : Setup) (b : List ℕ) (bytes words : ℕ) → gate (stateAt c k b) bytes words ≡ gateFor (c .phase) (sameLengths k bytes words)
+unfolding stateAt
+gate-state c k b bytes words = go (eqb (c .phase) 1) (eqb (c .phase) 2) (eqb (c .phase) 3) (eqb (c .phase) 4) (eqb (c .phase) 5) apart _ _ _ _
+  where
+    apart : eqb (c .phase) 4 ≡ true → eqb (c .phase) 5 ≡ false
+    apart h = let e = eqb-true (c .phase) 4 h in ne-eqb (c .phase) 5 (λ q. omega arith)
+
+    go : (b1 b2 b3 b4 b5 : Bool) → (b4 ≡ true → b5 ≡ false) → (items : List Entry) (a3 a4 a5 : List Action)
+        → gate (pick b1 (Rest (k .image) (k .table) items) (pick b2 (Busy (k .image) (k .table) items Staging []) (pick b3 (Busy (k .image) (k .table) items Committing a3)
+        (pick b4 (Formatting false (k .image) (k .table) a4) (pick b5 (Formatting true (k .image) (k .table) a5) Closed))))) bytes words
+        ≡ pick b1 (pick (sameLengths k bytes words) none (some N.ImageLength))
+        (pick (either b2 (either b3 b5)) (pick (sameLengths k bytes words) (some N.Unfinished) (some N.ImageLength)) (some N.NotOpen))
+    go true b2 b3 b4 b5 h items a3 a4 a5 = refl
+    go false true b3 b4 b5 h items a3 a4 a5 = refl
+    go false false true b4 b5 h items a3 a4 a5 = refl
+    go false false false true b5 h items a3 a4 a5 = rw (h refl)
+    go false false false false true h items a3 a4 a5 = refl
+    go false false false false false h items a3 a4 a5 = refl
+
+-- ## A refusal at the gate
+
+other : (x : Refusal) (b : Bool) (n : Refusal) → pick b (some x) (some N.ImageLength) ≡ some n → (n ≡ x) ⊎ (n ≡ N.ImageLength)
+other x true n h = inl cc
+other x false n h = inr cc
+
+-- it is the first, second or third of the call's numbers
+abbrev Early : Refusal → Type 0 → Type 0
+Early n A = (n ≡ N.NotOpen) ⊎ ((n ≡ N.ImageLength) ⊎ ((n ≡ N.Unfinished) ⊎ A))
+
+late : {A : Type 0} (n : Refusal) (b : Bool) → pick b (some N.Unfinished) (some N.ImageLength) ≡ some n → Early n A
+late n true h = inr (inr (inl cc))
+late n false h = inr (inl cc)
+
+gate-number : {A : Type 0} (σ : State) (bytes words : ℕ) (n : Refusal) → gate σ bytes words ≡ some n → Early n A
+gate-number Closed bytes words n h = inl cc
+gate-number {A} (Rest b t items) bytes words n h = go (both (eqb b bytes) (eqb t words)) h
+  where
+    go : (s : Bool) → pick s none (some N.ImageLength) ≡ some n → Early n A
+    go true q = absurd (let z : _≡_ {A = ℕ} 0 1 = cc in omega arith)
+    go false q = inr (inl cc)
+gate-number (Busy b t items task acts) bytes words n h = late n (both (eqb b bytes) (eqb t words)) h
+gate-number (Formatting false b t acts) bytes words n h = inl cc
+gate-number (Formatting true b t acts) bytes words n h = late n (both (eqb b bytes) (eqb t words)) h
+
+module _ (p limit : ℕ) (s : Session) (bytes table : List ℕ) (n : Refusal) where
+  -- a refused call that leaves all as it was
+  pub refused : (k : Call) → isOpening k ≡ false → (Ready stateOf Fits p limit k s (wordsOf bytes) table → Fits s (wordsOf bytes) table)
+      → (Ready stateOf Fits p limit k s (wordsOf bytes) table → R.Refused n ≡ answer p limit k (stateOf s) (wordsOf bytes) (length bytes) (length table))
+      → Barred stateOf Fits p limit k s bytes table (R.Refused n) → MemRefusal n (refusals k) → Kept stateOf Fits p limit k s s table table
+      → Called stateOf Fits p limit k s s bytes bytes table table (R.Refused n)
+  unfolding next
+  refused k o f a b m kept = record {
+    exact = λ r. record { answered = a r; became = sym (rw (sym (a r), o)); fits = f r };
+    first = b;
+    image = refl;
+    sized = refl;
+    outcome = (m, kept);
+  }
+
+-- the calls that ask at the gate
+abbrev pub Gating : Call → Type 0
+Gating (Format a b) = ⊥
+Gating Open = ⊥
+Gating (Put k v) = Unit {0}
+Gating (Delete k) = Unit {0}
+Gating Commit = Unit {0}
+Gating Abandon = Unit {0}
+Gating (LookUp k) = Unit {0}
+Gating Choose = Unit {0}
+Gating (Clean c) = Unit {0}
+Gating Step = ⊥
+
+module _ (p limit : ℕ) (s : Session) (bytes table : List ℕ) (n : Refusal) (g : gate (stateOf s) (length bytes) (length table) ≡ some n) where
+  only : (r : Report) → refusedBy (gate (stateOf s) (length bytes) (length table)) ≡ some r → R.Refused n ≡ r
+  only r h = let q : some (R.Refused n) ≡ some r = rw g at h in cc
+
+  member : {A : Type 0} → Early n A
+  member = gate-number (stateOf s) (length bytes) (length table) n g
+
+  pub turned-down : (k : Call) → Gating k → Called stateOf Fits p limit k s s bytes bytes table table (R.Refused n)
+  turned-down (Format a b) t = absurd t
+  turned-down Open t = absurd t
+  turned-down (Put k v) t = refused p limit s bytes table n (Put k v) refl (λ f. f) (λ f. sym (rw g)) only member (refl, refl)
+  turned-down (Delete k) t = refused p limit s bytes table n (Delete k) refl (λ f. f) (λ f. sym (rw g)) only member (refl, refl)
+  turned-down Commit t = refused p limit s bytes table n Commit refl (λ f. f) (λ f. sym (rw g)) only member (refl, refl)
+  turned-down Abandon t = refused p limit s bytes table n Abandon refl (λ f. f) (λ f. sym (rw g)) only member (refl, refl)
+  turned-down (LookUp k) t = refused p limit s bytes table n (LookUp k) refl (λ f. f) (λ f. sym (rw g)) only member (refl, refl)
+  turned-down Choose t = refused p limit s bytes table n Choose refl (λ f. f) (λ f. sym (rw g)) only member (refl, refl)
+  turned-down (Clean c) t = refused p limit s bytes table n (Clean c) refl (λ f. f) (λ f. sym (rw g)) only member (refl, refl)
+  turned-down Step t = absurd t
+
+-- ## Behind the gate
+
+-- a register is open and at rest, with the lent lengths
+pub record AtRest (s : Session) (bytes words : ℕ) (ws table : List ℕ) : Type 0 where
+  pub items : List Entry
+  pub state : stateOf s ≡ Rest (s .setup .image) (s .setup .table) items
+  pub fits : RestFits s ws table items
+  pub same-bytes : s .setup .image ≡ bytes
+  pub same-words : s .setup .table ≡ words
+
+unfinished : (b : Bool) → pick b (some N.Unfinished) (some N.ImageLength) ≡ none → ⊥
+unfinished true h = let z : _≡_ {A = ℕ} 0 1 = cc in omega arith
+unfinished false h = let z : _≡_ {A = ℕ} 0 1 = cc in omega arith
+
+pub at-rest : (s : Session) (bytes words : ℕ) (ws table : List ℕ) → gate (stateOf s) bytes words ≡ none → Fits s ws table → AtRest s bytes words ws table
+unfolding stateAt
+at-rest s bytes words ws table g f = go (eqb phase 1) (eqb phase 2) (eqb phase 3) (eqb phase 4) (eqb phase 5) _ _ _ _ refl g (f .1)
+  where
+    phase : ℕ
+    phase = s .control .phase
+
+    k : Setup
+    k = s .setup
+
+    go : (b1 b2 b3 b4 b5 : Bool) (items : List Entry) (a3 a4 a5 : List Action)
+        → stateOf s ≡ pick b1 (Rest (k .image) (k .table) items) (pick b2 (Busy (k .image) (k .table) items Staging []) (pick b3 (Busy (k .image) (k .table) items Committing a3)
+        (pick b4 (Formatting false (k .image) (k .table) a4) (pick b5 (Formatting true (k .image) (k .table) a5) Closed))))
+        → gate (pick b1 (Rest (k .image) (k .table) items) (pick b2 (Busy (k .image) (k .table) items Staging []) (pick b3 (Busy (k .image) (k .table) items Committing a3)
+        (pick b4 (Formatting false (k .image) (k .table) a4) (pick b5 (Formatting true (k .image) (k .table) a5) Closed))))) bytes words ≡ none
+        → FitsAt (pick b1 (Rest (k .image) (k .table) items) (pick b2 (Busy (k .image) (k .table) items Staging []) (pick b3 (Busy (k .image) (k .table) items Committing a3)
+        (pick b4 (Formatting false (k .image) (k .table) a4) (pick b5 (Formatting true (k .image) (k .table) a5) Closed))))) s ws table
+        → AtRest s bytes words ws table
+    go true b2 b3 b4 b5 items a3 a4 a5 e q r = rest (sameLengths k bytes words) refl q
+      where
+        rest : (t : Bool) → sameLengths k bytes words ≡ t → pick t none (some N.ImageLength) ≡ none → AtRest s bytes words ws table
+        rest true h p =
+            let x : k .image ≡ bytes = eqb-true (k .image) bytes (both-l (eqb (k .image) bytes) (eqb (k .table) words) h) in
+            let y : k .table ≡ words = eqb-true (k .table) words (both-r (eqb (k .image) bytes) (eqb (k .table) words) h) in
+            record { items = items; state = e; fits = r; same-bytes = x; same-words = y }
+        rest false h p = absurd (let z : _≡_ {A = ℕ} 0 1 = cc in omega arith)
+    go false true b3 b4 b5 items a3 a4 a5 e q r = absurd (unfinished (sameLengths k bytes words) q)
+    go false false true b4 b5 items a3 a4 a5 e q r = absurd (unfinished (sameLengths k bytes words) q)
+    go false false false true b5 items a3 a4 a5 e q r = absurd (let z : _≡_ {A = ℕ} 0 1 = cc in omega arith)
+    go false false false false true items a3 a4 a5 e q r = absurd (unfinished (sameLengths k bytes words) q)
+    go false false false false false items a3 a4 a5 e q r = absurd (let z : _≡_ {A = ℕ} 0 1 = cc in omega arith)

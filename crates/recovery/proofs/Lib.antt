@@ -1,0 +1,5 @@
+pub mod Tests
+pub mod Pass
+pub mod Opens
+pub mod Gates
+pub mod Looks

@@ -1,0 +1,238 @@
+-- What the code shows of a look-up: the part of the entry that the table names is the definition's answer.
+-- Assumes nothing.
+use mathlib.Core.Path.{_≡_, refl, sym, _∙_, ap}
+use mathlib.Core.Logic.{inl, inr}
+use mathlib.Core.Bool.{Bool, true, false}
+use mathlib.Core.Option.{none, some}
+use mathlib.Core.List.{List, []}
+use Prim.Native.Nat.{ℕ, _+_, _-_, _*_, _^_, _≤_, _<_}
+use native.Mathlib.Omega.{arith}
+use lib.Dec.{eqb, leb}
+use lib.ListN.{length, getD, take, drop}
+use borrow.Author.Tests.{le-leb, lt-leb, leb-true, eq-eqb, ne-eqb}
+use Rattle.spec.specs.Basics.{pick, both}
+use Rattle.spec.specs.Words.{wordsOf}
+use Rattle.spec.specs.Places.{unitChunk, unitWord, chunksIn}
+use Rattle.spec.specs.Directory.{sizeOf}
+use Rattle.spec.specs.Log.{Entry, Entries, firstOf, wordsFor, imageEntries}
+use Rattle.spec.specs.Blocks.{pointed}
+use Rattle.spec.specs.Contents.{chosen}
+use Rattle.spec.specs.Calls.{LookUp, State, isRefused, gate, answer, next, partOr, lookUp, number}
+use Rattle.spec.specs.Contract.{Changed, Outcome, Called}
+use Rattle.spec.specs.declared.Control.{Control}
+use Rattle.spec.specs.declared.Setup.{Setup}
+use Rattle.spec.specs.declared.Session.{Session}
+use Rattle.spec.specs.declared.FirstWord.{FirstWord}
+use Rattle.spec.specs.declared.FirstWord.the-variants as F
+use Rattle.spec.specs.declared.Refusal.{Refusal}
+use Rattle.spec.specs.declared.Refusal.the-variants as N
+use Rattle.spec.specs.declared.Report.the-variants as R
+use Rattle.words.specs.Image.{length-wordsOf}
+use Rattle.theory_medium.proofs.Lists.{pick-e, pick-same}
+use Rattle.theory_medium.proofs.Places.{base-apart, unit-place, units-words}
+use Rattle.theory_log.specs.Batch.{Kind, put, block, delete}
+use Rattle.theory_log.proofs.Contents.{chosen-is}
+use Rattle.theory_log.proofs.Tops.{chosen-top}
+use Rattle.theory_log.proofs.Stands.{head-first}
+use Rattle.theory_cuts.specs.Accepted.{Ok}
+use Rattle.theory_cuts.proofs.Opening.{opens-ok}
+use Rattle.theory_cuts.proofs.Blocks as Blocks
+use Rattle.log.specs.Stands.{StandsIn}
+use Rattle.log.proofs.Stands.{take-drop, image-stands}
+use Rattle.index.specs.declared.Info.{Info}
+use Rattle.index.specs.Index.{get}
+use Rattle.index.specs.Packed.{unpackOf}
+use Rattle.volatile.specs.Known.{Bounded}
+use Rattle.volatile.proofs.Image.{image-bounded}
+use Rattle.volatile.proofs.Grow.{found-none, found-chosen}
+use Rattle.session.specs.State.{stateOf}
+use Rattle.session.specs.Fits.{Fits}
+use Rattle.recovery.specs.declared.Located.{Located}
+use Rattle.recovery.specs.declared.Located.the-variants as L
+use Rattle.recovery.specs.declared.Gated.{Gated}
+use Rattle.recovery.specs.declared.Gated.the-variants as G
+use Rattle.recovery.specs.Asks.{gateOf, Asking}
+use Rattle.recovery.specs.Look.{reportOf, within, blockPart, partBy, partAt, PartIn, InImage, Looking, sessionOf, Locating, Showing}
+use Rattle.recovery.proofs.Gates.{turned-down, at-rest}
+
+-- ## Any memory: 11, or a part of the image
+
+within-in : (bytes a n : ℕ) → PartIn bytes (within bytes a n)
+within-in bytes a n = go (leb (a + n) bytes) (leb-true (a + n) bytes)
+  where
+    go : (t : Bool) → (t ≡ true → a + n ≤ bytes) → PartIn bytes (pick t (L.Part a n) (L.Refused N.KeyAbsent))
+    go true h = h refl
+    go false h = refl
+
+pick-in : (bytes : ℕ) (t : Bool) (x y : Located) → PartIn bytes x → PartIn bytes y → PartIn bytes (pick t x y)
+pick-in bytes true x y p q = p
+pick-in bytes false x y p q = q
+
+part-in : (bytes : ℕ) (ws : List ℕ) (place : ℕ) (f : FirstWord) → PartIn bytes (partBy bytes ws place f)
+part-in bytes ws place F.Padding = refl
+part-in bytes ws place F.Wrong = refl
+part-in bytes ws place (F.Entry op placement version field) =
+    pick-in bytes (eqb op 1) _ (L.Refused N.KeyAbsent)
+    (pick-in bytes (eqb placement 1) _ _ (within-in bytes (8 * (unitWord field + 1)) (getD ws (unitWord field) 0)) (within-in bytes (8 * (place + 2)) field)) refl
+
+in-image : (bytes : ℕ) (r : Located) → PartIn bytes r → InImage bytes r
+in-image bytes (L.Refused n) h = tt
+in-image bytes (L.Part a n) h = h
+
+-- ## An accepted image: the part of its chosen entry
+
+-- the entry's own words say where its value is, in the log or in a block
+entry-part : (bytes : ℕ) (ws : List ℕ) (e : Entry) (f : FirstWord) → f ≡ F.Entry (e .op) (e .placement) (e .version) (e .field)
+    → (pointed e ≡ true → 8 * (unitWord (e .field) + 1) + getD ws (unitWord (e .field)) 0 ≤ bytes)
+    → (eqb (e .op) 1 ≡ true → eqb (e .placement) 1 ≡ false → 8 * (e .at + 2) + e .field ≤ bytes)
+    → reportOf (partBy bytes ws (e .at) f) ≡ partOr ws (some e)
+entry-part bytes ws e f is blocks logs = rw is (go (eqb (e .op) 1) (eqb (e .placement) 1) blocks logs)
+  where
+    go : (b1 b2 : Bool) → (both b1 b2 ≡ true → 8 * (unitWord (e .field) + 1) + getD ws (unitWord (e .field)) 0 ≤ bytes) → (b1 ≡ true → b2 ≡ false → 8 * (e .at + 2) + e .field ≤ bytes)
+        → reportOf (pick b1 (pick b2 (within bytes (8 * (unitWord (e .field) + 1)) (getD ws (unitWord (e .field)) 0)) (within bytes (8 * (e .at + 2)) (e .field))) (L.Refused N.KeyAbsent))
+        ≡ pick b1 (pick (both b1 b2) (R.Part (8 * (unitWord (e .field) + 1)) (getD ws (unitWord (e .field)) 0)) (R.Part (8 * (e .at + 2)) (e .field))) (R.Refused N.KeyAbsent)
+    go false b2 x y = refl
+    go true true x y = rw (le-leb _ _ (x refl))
+    go true false x y = rw (le-leb _ _ (y refl refl))
+
+log-words : (op pl x : ℕ) → Kind op pl x → eqb pl 1 ≡ false → x ≤ 8 * wordsFor pl x
+log-words op pl x (put l) h = omega arith
+log-words op pl x block h = absurd (let z : _≡_ {A = ℕ} 0 1 = cc in omega arith)
+log-words op pl x delete h = omega arith
+
+module _ (n : ℕ) (bytes : List ℕ) (es : List Entry) (ok : Ok 12 n (wordsOf bytes) es) where
+  abbrev ws : List ℕ
+  ws = wordsOf bytes
+
+  small : Bounded es
+  small = image-bounded 12 (omega arith) (omega arith) n ws es (ok .parsed) (ok .most)
+
+  -- the words of the image lie in its bytes
+  long : 8 * length ws ≤ length bytes
+  long = let l = length-wordsOf bytes in omega arith
+
+  chosen-part : (k : ℕ) (e : Entry) → chosen k es ≡ some e → reportOf (partAt (length bytes) ws (e .at)) ≡ lookUp ws es k
+  unfolding lookUp
+  chosen-part k e h = rw h (entry-part (length bytes) ws e _ (stands .first) in-block in-log)
+    where
+      stands : StandsIn ws e
+      stands = image-stands 12 (omega arith) (omega arith) n ws es (ok .parsed) e (chosen-is k es e h .in-list)
+
+      in-log : eqb (e .op) 1 ≡ true → eqb (e .placement) 1 ≡ false → 8 * (e .at + 2) + e .field ≤ length bytes
+      in-log o l =
+          let a = log-words (e .op) (e .placement) (e .field) (stands .right .kind) l in
+          let b = stands .fits in
+          let c = long in
+          omega arith
+
+      in-block : pointed e ≡ true → 8 * (unitWord (e .field) + 1) + getD ws (unitWord (e .field)) 0 ≤ length bytes
+      in-block q =
+          let f = Blocks.block-fits 12 n (e .field) (sizeOf 12 ws (unitChunk 12 (e .field))) (getD ws (unitWord (e .field)) 0) _ (pick-e (pointed e) _ (ok .blocks e (chosen-top k es e h)) q) in
+          let a = f .ends in
+          let r = f .room in
+          let u = unit-place 12 (omega arith) (omega arith) (e .field) in
+          let b = base-apart 12 (omega arith) (omega arith) (unitChunk 12 (e .field)) n (f .high) in
+          let w = units-words 12 (omega arith) (omega arith) in
+          let l = ok .long in
+          let c = long in
+          omega arith
+
+-- ## What the code shows
+
+module _ (bytes a n : ℕ) where
+  pub within-yes : a ≤ bytes → n ≤ bytes - a → L.Part a n ≡ within bytes a n
+  within-yes h l = sym (rw (le-leb (a + n) bytes (omega arith)))
+
+  pub within-no : bytes < a + n → L.Refused N.KeyAbsent ≡ within bytes a n
+  within-no h = sym (rw (lt-leb (a + n) bytes h))
+
+module _ (bytes : ℕ) (ws : List ℕ) (place word : ℕ) (f : FirstWord) (is-word : word ≡ getD ws place 0) (is-first : f ≡ firstOf word) where
+  says : (g : FirstWord) → f ≡ g → partBy bytes ws place g ≡ partAt bytes ws place
+  says g e = sym (ap (partBy bytes ws place) (ap firstOf (sym is-word) ∙ sym is-first ∙ e))
+
+  pub part-padding : f ≡ F.Padding → L.Refused N.KeyAbsent ≡ partAt bytes ws place
+  part-padding e = says F.Padding e
+
+  pub part-wrong : f ≡ F.Wrong → L.Refused N.KeyAbsent ≡ partAt bytes ws place
+  part-wrong e = says F.Wrong e
+
+  module _ (op placement version field : ℕ) (e : f ≡ F.Entry op placement version field) where
+    pub field-small : word < 2 ^ 64 → field < 2 ^ 40
+    field-small l = let h = head-first word op placement version field (sym is-first ∙ e) in omega arith
+
+    pub part-none : (op ≡ 1 → ⊥) → L.Refused N.KeyAbsent ≡ partAt bytes ws place
+    part-none o = sym (rw (ne-eqb op 1 o)) ∙ says (F.Entry op placement version field) e
+
+    pub part-block : (r : Located) → op ≡ 1 → placement ≡ 1 → r ≡ blockPart bytes ws field → r ≡ partAt bytes ws place
+    part-block r o p h = h ∙ sym (rw (eq-eqb op 1 o, eq-eqb placement 1 p)) ∙ says (F.Entry op placement version field) e
+
+    pub part-log : (r : Located) → op ≡ 1 → (placement ≡ 1 → ⊥) → r ≡ within bytes (8 * (place + 2)) field → r ≡ partAt bytes ws place
+    part-log r o p h = h ∙ sym (rw (eq-eqb op 1 o, ne-eqb placement 1 p)) ∙ says (F.Entry op placement version field) e
+
+module _ (key : ℕ) (bytes table : List ℕ) (word : ℕ) (is : word ≡ get table key) where
+  pub looking-none : word ≡ 0 → Looking key bytes table (L.Refused N.KeyAbsent)
+  unfolding lookUp
+  looking-none z = record { inside = refl; exact = λ n keys es ok ix. sym (rw (found-none table keys es ix (small n bytes es ok) key word is z)) }
+
+  pub looking-part : (info : Info) (r : Located) → (word ≡ 0 → ⊥) → info ≡ unpackOf word → r ≡ partAt (length bytes) (wordsOf bytes) (info .place) → Looking key bytes table r
+  looking-part info r nz i e = record {
+    inside = rw e (part-in (length bytes) (wordsOf bytes) (info .place) (firstOf (getD (wordsOf bytes) (info .place) 0)));
+    exact = λ n keys es ok ix.
+        let f = found-chosen table keys es ix (small n bytes es ok) key word is nz in
+        let place : info .place ≡ f .0 .at = ap (λ (j : Info). j .place) (i ∙ f .2) in
+        ap reportOf (e ∙ ap (partAt (length bytes) (wordsOf bytes)) place) ∙ chosen-part n bytes es ok key (f .0) (f .1);
+  }
+
+-- ## The call
+
+-- a look-up leaves the state as it was
+next-same : (σ : State) (key : ℕ) (ws : List ℕ) (bytes words : ℕ) → σ ≡ next 12 256 (LookUp key) σ ws bytes words
+unfolding next
+next-same σ key ws bytes words = sym (pick-same (both (isRefused (answer 12 256 (LookUp key) σ ws bytes words)) true) σ)
+
+module _ (s : Session) (key : ℕ) (bytes table : List ℕ) where
+  outcome : (r : Located) → PartIn (length bytes) r → Outcome stateOf Fits 12 256 (LookUp key) s s table table (reportOf r)
+  outcome (L.Refused n) h = (inr (inr (inr (inl h))), (refl, refl))
+  outcome (L.Part a n) h = (refl, refl)
+
+  unchanged : (r : Located) → Changed (reportOf r) bytes bytes
+  unchanged (L.Refused n) = refl
+  unchanged (L.Part a n) = refl
+
+  looked : (r : Located) → gate (stateOf s) (length bytes) (length table) ≡ none → Looking key bytes table r → Called stateOf Fits 12 256 (LookUp key) s s bytes bytes table table (reportOf r)
+  looked r g l = record {
+    exact = λ f. record { answered = exact f; became = next-same (stateOf s) key (wordsOf bytes) (length bytes) (length table); fits = f };
+    first = λ r′ h. absurd (let q : none ≡ some r′ = rw g at h in let z : _≡_ {A = ℕ} 0 1 = cc in omega arith);
+    image = unchanged r;
+    sized = refl;
+    outcome = outcome r (l .inside);
+  }
+    where
+      exact : Fits s (wordsOf bytes) table → reportOf r ≡ answer 12 256 (LookUp key) (stateOf s) (wordsOf bytes) (length bytes) (length table)
+      exact f =
+          let a = at-rest s (length bytes) (length table) (wordsOf bytes) table g f in
+          let rest = a .fits in
+          let o = opens-ok 12 (omega arith) (omega arith) (s .setup .image) (s .setup .table) (wordsOf bytes) (rest .entries) (rest .long) (rest .accepted) in
+          let n : chunksIn 12 (s .setup .image) ≡ chunksIn 12 (length bytes) = ap (chunksIn 12) (a .same-bytes) in
+          let p : imageEntries 12 (chunksIn 12 (length bytes)) (wordsOf bytes) ≡ Entries (rest .entries) = rw n at (o .0 .parsed) in
+          rw (g, p) (l .exact (chunksIn 12 (s .setup .image)) (s .control .keys) (rest .entries) (o .0) (rest .built .indexed))
+
+module _ (c : Control) (k : Setup) (key : ℕ) (bytes table : List ℕ) (g : Gated) (asks : Asking c k (length bytes) (length table) g) where
+  pub locate-refused : (n : Refusal) → g ≡ G.Refused n → Locating c k key bytes table (L.Refused n)
+  locate-refused n e = record { called = λ b. turned-down 12 256 (sessionOf c k b) bytes table n (asks .asked b ∙ ap gateOf e) (LookUp key) tt; inside = tt }
+
+  pub locate-open : (r : Located) → g ≡ G.Open → Looking key bytes table r → Locating c k key bytes table r
+  locate-open r e l = record { called = λ b. looked (sessionOf c k b) key bytes table r (asks .asked b ∙ ap gateOf e) l; inside = in-image (length bytes) r (l .inside) }
+
+-- the part itself
+module _ (c : Control) (k : Setup) (key : ℕ) (bytes table : List ℕ) (r : Located) (found : Locating c k key bytes table r) where
+  pub part-inside : (a n : ℕ) → r ≡ L.Part a n → a + n ≤ length bytes
+  part-inside a n e = rw e at (found .inside)
+
+  pub show-part : (a n : ℕ) → r ≡ L.Part a n → Showing c k key bytes table (take (a + n - a) (drop a bytes)) 0
+  show-part a n e =
+      let d : a + n - a ≡ n = omega arith in
+      record { located = L.Part a n; called = rw e at (found .called); inside = rw e at (found .inside); is-part = rw d (take-drop a n bytes); is-number = refl }
+
+  pub show-refused : (n : Refusal) (answer : ℕ) → r ≡ L.Refused n → answer ≡ number n → Showing c k key bytes table [] answer
+  show-refused n answer e m = record { located = L.Refused n; called = rw e at (found .called); inside = tt; is-part = refl; is-number = m }

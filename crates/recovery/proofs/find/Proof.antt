@@ -1,0 +1,23 @@
+-- `recovery::find` meets its contract.
+-- Assumes nothing.
+use borrow.Author.Needs.{needs}
+use Rattle.recovery.proofs.find.Statement.{statement}
+use Rattle.recovery.proofs.find.Tie as tie
+
+locate-requires : tie.Need-locate-requires
+locate-requires c κs = search needs
+
+enum-known-r : tie.Need-enum-known-r
+enum-known-r c = search needs
+
+enum-known-r-2 : tie.Need-enum-known-r-2
+enum-known-r-2 c = search needs
+
+returns : tie.Need-returns
+returns c = rw (c .before .r .given .1) at (c .before .before .before .locate .ensures .called)
+
+returns-2 : tie.Need-returns-2
+returns-2 c = rw (c .before .r2 .given .1) at (c .before .before .before .locate .ensures .called)
+
+pub find-spec : {M : Type 1} → statement M
+find-spec = tie.close (tie.spec locate-requires enum-known-r enum-known-r-2 returns returns-2)

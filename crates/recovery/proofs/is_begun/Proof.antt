@@ -1,0 +1,17 @@
+-- `recovery::is_begun` meets its contract.
+-- Assumes nothing.
+use borrow.Author.Tests.{eq-eqb, ne-eqb}
+use Rattle.recovery.proofs.is_begun.Statement.{statement}
+use Rattle.recovery.proofs.is_begun.Tie as tie
+
+returns : tie.Need-returns
+returns c = rw (eq-eqb _ 2 (c .if1 .taken))
+
+returns-2 : tie.Need-returns-2
+returns-2 c = rw (ne-eqb _ 2 (c .before .if1 .left), eq-eqb _ 3 (c .if2 .taken))
+
+returns-3 : tie.Need-returns-3
+returns-3 c = rw (ne-eqb _ 2 (c .before .if1 .left), ne-eqb _ 3 (c .if2 .left))
+
+pub is-begun-spec : {M : Type 1} → statement M
+is-begun-spec = tie.close (tie.spec returns returns-2 returns-3)

@@ -1,0 +1,35 @@
+-- What every call on an open register asks first: 2, 1, 8, by the record's phase and the lent lengths.
+-- Assumes nothing.
+use mathlib.Core.Path.{_≡_}
+use mathlib.Core.Bool.{Bool}
+use mathlib.Core.Option.{Option, none, some}
+use mathlib.Core.List.{List}
+use Prim.Native.Nat.{ℕ}
+use lib.Dec.{eqb}
+use Rattle.spec.specs.Basics.{pick, both, either}
+use Rattle.spec.specs.Calls.{gate}
+use Rattle.spec.specs.declared.Control.{Control}
+use Rattle.spec.specs.declared.Setup.{Setup}
+use Rattle.spec.specs.declared.Refusal.{Refusal}
+use Rattle.spec.specs.declared.Refusal.the-variants as N
+use Rattle.session.specs.State.{stateAt}
+use Rattle.recovery.specs.declared.Gated.{Gated}
+use Rattle.recovery.specs.declared.Gated.the-variants as G
+
+-- by the phase, and whether the lengths are those at the opening
+abbrev pub gateFor : ℕ → Bool → Option Refusal
+gateFor phase same =
+    pick (eqb phase 1) (pick same none (some N.ImageLength))
+    (pick (either (eqb phase 2) (either (eqb phase 3) (eqb phase 5))) (pick same (some N.Unfinished) (some N.ImageLength))
+    (some N.NotOpen))
+
+abbrev pub sameLengths : Setup → ℕ → ℕ → Bool
+sameLengths k bytes words = both (eqb (k .image) bytes) (eqb (k .table) words)
+
+abbrev pub gateOf : Gated → Option Refusal
+gateOf G.Open = none
+gateOf (G.Refused n) = some n
+
+-- the answer is the definition's, whatever the buffer holds
+pub record Asking (c : Control) (k : Setup) (bytes words : ℕ) (r : Gated) : Type 0 where
+  pub asked : (b : List ℕ) → gate (stateAt c k b) bytes words ≡ gateOf r

@@ -1,0 +1,4 @@
+pub mod Pass
+pub mod Judged
+pub mod Asks
+pub mod Look

@@ -1,0 +1,89 @@
+-- What a look-up answers, for any memory and on memory as our calls left it.
+-- Assumes nothing.
+use mathlib.Core.Path.{_≡_}
+use mathlib.Core.List.{List}
+use Prim.Native.Nat.{ℕ, _+_, _*_, _≤_}
+use lib.Dec.{eqb, leb}
+use lib.ListN.{length, getD}
+use Rattle.spec.specs.Basics.{pick}
+use Rattle.spec.specs.Words.{wordsOf}
+use Rattle.spec.specs.Places.{unitWord}
+use Rattle.spec.specs.Log.{Entry, firstOf}
+use Rattle.spec.specs.Calls.{LookUp, lookUp, number}
+use Rattle.spec.specs.Contract.{Called, partBytes}
+use Rattle.spec.specs.declared.Control.{Control}
+use Rattle.spec.specs.declared.Setup.{Setup}
+use Rattle.spec.specs.declared.Session.{Session}
+use Rattle.spec.specs.declared.FirstWord.{FirstWord}
+use Rattle.spec.specs.declared.FirstWord.the-variants as F
+use Rattle.spec.specs.declared.Refusal.the-variants as N
+use Rattle.spec.specs.declared.Report.{Report}
+use Rattle.spec.specs.declared.Report.the-variants as R
+use Rattle.theory_cuts.specs.Accepted.{Ok}
+use Rattle.volatile.specs.Known.{Indexed}
+use Rattle.session.specs.State.{stateOf}
+use Rattle.session.specs.Fits.{Fits}
+use Rattle.recovery.specs.declared.Located.{Located}
+use Rattle.recovery.specs.declared.Located.the-variants as L
+
+abbrev pub reportOf : Located → Report
+reportOf (L.Refused n) = R.Refused n
+reportOf (L.Part a n) = R.Part a n
+
+-- the part from byte a, of n bytes, where an image of so many bytes has it
+abbrev pub within : (bytes a n : ℕ) → Located
+within bytes a n = pick (leb (a + n) bytes) (L.Part a n) (L.Refused N.KeyAbsent)
+
+-- the part that holds the value of the block at a unit: its length is the block's first word
+abbrev pub blockPart : ℕ → List ℕ → ℕ → Located
+blockPart bytes ws unit = within bytes (8 * (unitWord unit + 1)) (getD ws (unitWord unit) 0)
+
+-- the part that holds the value of the entry whose first word, at word `place`, says this
+abbrev pub partBy : ℕ → List ℕ → ℕ → FirstWord → Located
+partBy bytes ws place F.Padding = L.Refused N.KeyAbsent
+partBy bytes ws place F.Wrong = L.Refused N.KeyAbsent
+partBy bytes ws place (F.Entry op placement version field) =
+    pick (eqb op 1)
+    (pick (eqb placement 1) (blockPart bytes ws field) (within bytes (8 * (place + 2)) field))
+    (L.Refused N.KeyAbsent)
+
+abbrev pub partAt : ℕ → List ℕ → ℕ → Located
+partAt bytes ws place = partBy bytes ws place (firstOf (getD ws place 0))
+
+-- 11, or a part of an image of so many bytes
+abbrev pub PartIn : ℕ → Located → Type 0
+PartIn bytes (L.Refused n) = n ≡ N.KeyAbsent
+PartIn bytes (L.Part a n) = a + n ≤ bytes
+
+-- behind the gate: for any memory, and with the table of an accepted image
+pub record Looking (key : ℕ) (bytes table : List ℕ) (r : Located) : Type 0 where
+  pub inside : PartIn (length bytes) r
+  pub exact : (n keys : ℕ) (es : List Entry) → Ok 12 n (wordsOf bytes) es → Indexed table keys es → reportOf r ≡ lookUp (wordsOf bytes) es key
+
+-- a part that is answered lies in the image
+abbrev pub InImage : ℕ → Located → Type 0
+InImage bytes (L.Refused n) = Unit {0}
+InImage bytes (L.Part a n) = a + n ≤ bytes
+
+abbrev pub sessionOf : Control → Setup → List ℕ → Session
+sessionOf c k b = record { control = c; setup = k; buffer = b }
+
+-- THE CALL, whatever the buffer holds: record, image and table stay
+abbrev pub LookedUp : Control → Setup → ℕ → List ℕ → List ℕ → Report → Type 0
+LookedUp c k key bytes table r = (b : List ℕ) → Called stateOf Fits 12 256 (LookUp key) (sessionOf c k b) (sessionOf c k b) bytes bytes table table r
+
+pub record Locating (c : Control) (k : Setup) (key : ℕ) (bytes table : List ℕ) (r : Located) : Type 0 where
+  pub called : LookedUp c k key bytes table (reportOf r)
+  pub inside : InImage (length bytes) r
+
+-- the call with the part itself, and 0 or the refusal's number: `located` is what it answers
+abbrev pub numberOf : Located → ℕ
+numberOf (L.Refused n) = number n
+numberOf (L.Part a n) = 0
+
+pub record Showing (c : Control) (k : Setup) (key : ℕ) (bytes table part : List ℕ) (answer : ℕ) : Type 0 where
+  pub located : Located
+  pub called : LookedUp c k key bytes table (reportOf located)
+  pub inside : InImage (length bytes) located
+  pub is-part : part ≡ partBytes (reportOf located) bytes
+  pub is-number : answer ≡ numberOf located

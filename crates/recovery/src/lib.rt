@@ -1,0 +1,565 @@
+// Opening: what an image means, or why it is refused; the key table and the block bits, built anew; and look-up.
+ghost use mathlib.Core.Path.{_≡_};
+ghost use Prim.Native.Nat.{_+_, _^_, _<_};
+ghost use lib.Dec.{eqb};
+ghost use lib.ListN.{length, getD};
+ghost use Rattle.spec.specs.Basics.{both, either};
+ghost use Rattle.spec.specs.Words.{wordsOf};
+ghost use Rattle.spec.specs.Places.{lengthAllowed};
+ghost use Rattle.spec.specs.Header.{headerRight};
+ghost use Rattle.spec.specs.Directory.{isRole, directoryRight};
+ghost use Rattle.spec.specs.Opening.{directoryTest};
+ghost use Rattle.spec.specs.Calls.{Open, number};
+ghost use Rattle.spec.specs.Contract.{Called};
+ghost use Rattle.index.specs.Index.{zeros};
+ghost use Rattle.volatile.specs.Known.{raised, noted};
+ghost use Rattle.session.specs.State.{stateOf};
+ghost use Rattle.session.specs.Fits.{Fits};
+ghost use Rattle.recovery.specs.Pass.{Entering, Filling};
+ghost use Rattle.recovery.specs.Judged.{firstRefusal, JudgingLog, Judging};
+ghost use Rattle.recovery.specs.Asks.{gateFor, sameLengths, gateOf, Asking};
+ghost use Rattle.recovery.specs.Look.{within, blockPart, partAt, Looking, Locating, LookedUp, Showing};
+use index::Info;
+use log::Next;
+use spec::Control;
+use spec::FirstWord;
+use spec::Refusal;
+use spec::Report;
+use spec::Role;
+use spec::Setup;
+
+// THE TESTS OF AN IMAGE
+// 1: the length is that of 4 to 504 whole chunks.
+pub fn length_allowed(bytes: usize) -> bool
+    ensures { λ r. ⌜ r ≡ lengthAllowed 12 bytes ⌝ }
+{
+    if bytes % 4096 == 0 {
+        let n = bytes / 4096;
+        if 4 <= n {
+            return n <= 504;
+        }
+    }
+    false
+}
+
+// 2: the header line is right, of an image of `count` chunks.
+pub fn header_fits(image: &[u8], count: usize) -> bool
+    ensures { λ r. ⌜ r ≡ headerRight count (wordsOf (now (image .entry))) ⌝ }
+{
+    let words = [
+        words::load(image, 0),
+        words::load(image, 1),
+        words::load(image, 2),
+        words::load(image, 3),
+        words::load(image, 4),
+        words::load(image, 5),
+        words::load(image, 6),
+        words::load(image, 7),
+    ];
+    codec::header_right(words, count as u64)
+}
+
+fn is_role(role: Role) -> bool
+    ensures { λ r. ⌜ r ≡ isRole role ⌝ }
+{
+    match role {
+        Role::Free => true,
+        Role::Log(_) => true,
+        Role::Data(_) => true,
+        Role::Wrong => false,
+    }
+}
+
+// The directory word of chunk c is right.
+fn directory_word_fits(image: &[u8], count: usize, c: usize) -> bool
+    requires { ⌜ c < 504 ⌝ }
+    ensures { λ r. ⌜ r ≡ directoryRight 12 count c (getD (wordsOf (now (image .entry))) (8 + c) 0) ⌝ }
+{
+    let word = words::load(image, 8 + c);
+    if 1 <= c {
+        if c < count {
+            return is_role(codec::role_of(word));
+        }
+    }
+    word == 0
+}
+
+// 3: every word of the directory is right.
+pub fn directory_fits(image: &[u8], count: usize) -> bool
+    ensures { λ r. ⌜ r ≡ directoryTest 12 count (wordsOf (now (image .entry))) ⌝ }
+{
+    let mut c: usize = 0;
+    while c < 504 {
+        if directory_word_fits(image, count, c) {
+            c += 1;
+        } else {
+            return false;
+        }
+    }
+    true
+}
+
+// THE FIRST PASS: every entry goes into the key table
+// One more entry of a key, of which the table holds `info`.
+fn raised(info: Info, place: usize, version: u64) -> Info
+    requires { ⌜ info .entries < 0x20_0000 ⌝ }
+    ensures { λ r. ⌜ r ≡ raised info place version ⌝ }
+{
+    if info.version < version {
+        return Info {
+            place: place as u64,
+            version,
+            entries: info.entries + 1,
+            several: 0,
+        };
+    }
+    if info.version == version {
+        return Info {
+            place: info.place,
+            version: info.version,
+            entries: info.entries + 1,
+            several: 1,
+        };
+    }
+    Info {
+        place: info.place,
+        version: info.version,
+        entries: info.entries + 1,
+        several: info.several,
+    }
+}
+
+// What the table is to hold of a key, of which it holds `word`, with one more entry.
+pub fn noted(word: u64, place: usize, version: u64) -> u64
+    ensures { λ r. ⌜ r ≡ noted word place version ⌝ }
+{
+    if word == 0 {
+        return index::pack(Info {
+            place: place as u64,
+            version,
+            entries: 1,
+            several: 0,
+        });
+    }
+    index::pack(raised(index::unpack(word), place, version))
+}
+
+// The table's keys, and whether those of all entries so far fit.
+struct Entered {
+    keys: usize,
+    fits: bool,
+}
+
+// One more entry in the table. Once the keys do not fit the table stays.
+fn enter(
+    table: &mut [u64],
+    keys: usize,
+    fits: bool,
+    key: u64,
+    version: u64,
+    place: usize,
+) -> Entered
+    ensures { λ r. ⌜ Entering (now (table .entry)) (now (table .exit)) keys fits key version place (r .keys) (r .fits) ⌝ }
+{
+    if fits {
+        let old = index::look(table, key);
+        if old == 0 {
+            if keys < index::capacity(table.len()) {
+                let info = noted(0, place, version);
+                index::insert_or_update(table, key, info);
+                return Entered {
+                    keys: keys + 1,
+                    fits: true,
+                };
+            }
+            return Entered { keys, fits: false };
+        }
+        let info = noted(old, place, version);
+        index::insert_or_update(table, key, info);
+        return Entered { keys, fits: true };
+    }
+    Entered { keys, fits: false }
+}
+
+// What the pass finds: whether every entry is right, whether the keys fit, and how many the table has.
+struct Filled {
+    right: bool,
+    fits: bool,
+    keys: usize,
+}
+
+// The pass over the log of an image of `count` chunks, from an empty table.
+fn fill(image: &[u8], count: usize, table: &mut [u64]) -> Filled
+    ensures { λ r. ⌜ Filling count (wordsOf (now (image .entry))) (now (table .entry)) (now (table .exit)) (r .right) (r .fits) (r .keys) ⌝ }
+{
+    index::clear(table);
+    let mut keys: usize = 0;
+    let mut fits = true;
+    let mut cursor = log::first_cursor();
+    loop {
+        let n = log::next_in_log(image, count, cursor);
+        match n {
+            Next::Done => {
+                return Filled {
+                    right: true,
+                    fits,
+                    keys,
+                };
+            }
+            Next::Wrong => {
+                return Filled {
+                    right: false,
+                    fits,
+                    keys,
+                };
+            }
+            Next::Entry {
+                op: _,
+                placement: _,
+                version,
+                field: _,
+                key,
+                words: _,
+                place,
+                cursor: behind,
+            } => {
+                let e = enter(table, keys, fits, key, version, place);
+                keys = e.keys;
+                fits = e.fits;
+                cursor = behind;
+            }
+        }
+    }
+}
+
+// OPENING
+// Why an image is refused, or how many keys it has.
+enum Verdict {
+    Refused(Refusal),
+    Accepted(usize),
+}
+
+fn both(a: bool, b: bool) -> bool
+    ensures { λ r. ⌜ r ≡ both a b ⌝ }
+{
+    if a {
+        return b;
+    }
+    false
+}
+
+// Accepted unless a test fails: the first that does gives the refusal.
+fn first_refusal(first: bool, a: Refusal, second: bool, b: Refusal, keys: usize) -> Verdict
+    ensures { λ r. ⌜ r ≡ firstRefusal first a second b keys ⌝ }
+{
+    if first {
+        if second {
+            return Verdict::Accepted(keys);
+        }
+        return Verdict::Refused(b);
+    }
+    Verdict::Refused(a)
+}
+
+// 4 to 7, of an image of `count` chunks: key table and block bits are built anew.
+fn judge_log(image: &[u8], count: usize, table: &mut [u64], buffer: &mut [u64; 1152]) -> Verdict
+    ensures { λ r. ⌜ JudgingLog count (wordsOf (now (image .entry))) (now (table .entry)) (now (table .exit)) (now (buffer .entry)) (now (buffer .exit)) r ⌝ }
+{
+    let filled = fill(image, count, table);
+    if filled.right {
+        let checked = tops::check(image, count, table, filled.fits, buffer);
+        if checked.blocks {
+            let agreed = both(checked.agreeing, checked.apart);
+            let room = filled.fits;
+            let keys = filled.keys;
+            return first_refusal(
+                agreed,
+                Refusal::TopsDisagree,
+                room,
+                Refusal::TableFull,
+                keys,
+            );
+        }
+        return Verdict::Refused(Refusal::BlockWrong);
+    }
+    Verdict::Refused(Refusal::EntryWrong)
+}
+
+// 1 to 7.
+fn judge(image: &[u8], table: &mut [u64], buffer: &mut [u64; 1152]) -> Verdict
+    ensures { λ r. ⌜ Judging (now (image .entry)) (now (table .entry)) (now (table .exit)) (now (buffer .entry)) (now (buffer .exit)) r ⌝ }
+{
+    let bytes = image.len();
+    if length_allowed(bytes) {
+        let count = bytes / 4096;
+        if header_fits(image, count) {
+            if directory_fits(image, count) {
+                return judge_log(image, count, table, buffer);
+            }
+            return Verdict::Refused(Refusal::DirectoryWrong);
+        }
+        return Verdict::Refused(Refusal::NotOpen);
+    }
+    Verdict::Refused(Refusal::ImageLength)
+}
+
+// What an opening leaves: the record's numbers and the answer.
+pub struct Opened {
+    pub control: Control,
+    pub setup: Setup,
+    pub report: Report,
+}
+
+// A refused opening leaves nothing in the table.
+fn empty(lent: &mut [u64])
+    ensures { λ _. ⌜ now (lent .exit) ≡ zeros (length (now (lent .entry))) ⌝ }
+{
+    index::clear(lent);
+}
+
+// Opening, on any record. A refused one leaves a record with nothing open, and a table of zeros.
+pub fn open_core(
+    control: Control,
+    setup: Setup,
+    buffer: &mut [u64; 1152],
+    image: &[u8],
+    table: &mut [u64],
+) -> Opened
+    ensures { λ r. ⌜ Called stateOf Fits 12 256 Open (record { control = control; setup = setup; buffer = now (buffer .entry) }) (record { control = r .control; setup = r .setup; buffer = now (buffer .exit) }) (now (image .entry)) (now (image .entry)) (now (table .entry)) (now (table .exit)) (r .report) ⌝ }
+{
+    let bytes = image.len();
+    let words = table.len();
+    let verdict = judge(image, table, buffer);
+    match verdict {
+        Verdict::Refused(n) => {
+            empty(table);
+            Opened {
+                control: Control {
+                    phase: 0,
+                    next: 0,
+                    items: 0,
+                    words: 0,
+                    keys: 0,
+                    fresh: 0,
+                },
+                setup,
+                report: Report::Refused(n),
+            }
+        }
+        Verdict::Accepted(keys) => Opened {
+            control: Control {
+                phase: 1,
+                next: 0,
+                items: 0,
+                words: 0,
+                keys,
+                fresh: 0,
+            },
+            setup: Setup {
+                image: bytes,
+                table: words,
+                chunk: 0,
+                old: 0,
+                lines: 0,
+                fields: 0,
+                station: 0,
+                centre: 0,
+            },
+            report: Report::Opened,
+        },
+    }
+}
+
+// LOOK-UP
+// What a call on an open register finds at first: a refusal, or none.
+pub enum Gated {
+    Open,
+    Refused(Refusal),
+}
+
+fn same_lengths(setup: Setup, bytes: usize, words: usize) -> bool
+    ensures { λ r. ⌜ r ≡ sameLengths setup bytes words ⌝ }
+{
+    if setup.image == bytes {
+        return setup.table == words;
+    }
+    false
+}
+
+// A staging, a commit, or a formatting begun on an open register.
+fn is_begun(phase: u64) -> bool
+    ensures { λ r. ⌜ r ≡ either (eqb phase 2) (either (eqb phase 3) (eqb phase 5)) ⌝ }
+{
+    if phase == 2 {
+        return true;
+    }
+    if phase == 3 {
+        return true;
+    }
+    phase == 5
+}
+
+fn gate_for(phase: u64, same: bool) -> Gated
+    ensures { λ r. ⌜ gateOf r ≡ gateFor phase same ⌝ }
+{
+    if phase == 1 {
+        if same {
+            return Gated::Open;
+        }
+        return Gated::Refused(Refusal::ImageLength);
+    }
+    if is_begun(phase) {
+        if same {
+            return Gated::Refused(Refusal::Unfinished);
+        }
+        return Gated::Refused(Refusal::ImageLength);
+    }
+    Gated::Refused(Refusal::NotOpen)
+}
+
+// 2, 1, 8: nothing open, lengths unlike those at the opening, a call unfinished.
+pub fn gate(control: Control, setup: Setup, bytes: usize, words: usize) -> Gated
+    ensures { λ r. ⌜ Asking control setup bytes words r ⌝ }
+{
+    let same = same_lengths(setup, bytes, words);
+    gate_for(control.phase, same)
+}
+
+// What a look-up finds: a refusal, or the part of the image that holds the value.
+pub enum Located {
+    Refused(Refusal),
+    Part { start: usize, length: usize },
+}
+
+// The part from byte `start`, where an image of so many bytes has it.
+fn within(bytes: usize, start: usize, length: u64) -> Located
+    ensures { λ r. ⌜ r ≡ within bytes start length ⌝ }
+{
+    if start <= bytes {
+        let n = length as usize;
+        if n <= bytes - start {
+            return Located::Part { start, length: n };
+        }
+    }
+    Located::Refused(Refusal::KeyAbsent)
+}
+
+// The part that holds the value of the block at a unit.
+fn block_part(image: &[u8], unit: u64) -> Located
+    requires { ⌜ unit < 2 ^ 40 ⌝ }
+    ensures { λ r. ⌜ r ≡ blockPart (length (now (image .entry))) (wordsOf (now (image .entry))) unit ⌝ }
+{
+    let start = 32 * unit as usize;
+    within(image.len(), 8 * (start + 1), words::load(image, start))
+}
+
+// The part that holds the value of the entry at word `place`.
+fn part_at(image: &[u8], place: usize) -> Located
+    requires { ⌜ place < 0x40_0000 ⌝ }
+    ensures { λ r. ⌜ r ≡ partAt (length (now (image .entry))) (wordsOf (now (image .entry))) place ⌝ }
+{
+    let first = codec::first_of(words::load(image, place));
+    match first {
+        FirstWord::Padding => Located::Refused(Refusal::KeyAbsent),
+        FirstWord::Wrong => Located::Refused(Refusal::KeyAbsent),
+        FirstWord::Entry {
+            op,
+            placement,
+            version: _,
+            field,
+        } => {
+            if op == 1 {
+                if placement == 1 {
+                    block_part(image, field)
+                } else {
+                    within(image.len(), 8 * (place + 2), field)
+                }
+            } else {
+                Located::Refused(Refusal::KeyAbsent)
+            }
+        }
+    }
+}
+
+// The value of a key, by one probe of the table and one read of the entry that it names.
+fn value_of(image: &[u8], table: &[u64], key: u64) -> Located
+    ensures { λ r. ⌜ Looking key (now (image .entry)) (now (table .entry)) r ⌝ }
+{
+    let held = index::look(table, key);
+    if held == 0 {
+        return Located::Refused(Refusal::KeyAbsent);
+    }
+    let info = index::unpack(held);
+    part_at(image, info.place as usize)
+}
+
+// 2, 1, 8, 11, or the part of the image that holds the value of a key.
+pub fn locate(control: Control, setup: Setup, image: &[u8], table: &[u64], key: u64) -> Located
+    ensures { λ r. ⌜ Locating control setup key (now (image .entry)) (now (table .entry)) r ⌝ }
+{
+    let g = gate(control, setup, image.len(), table.len());
+    match g {
+        Gated::Refused(n) => Located::Refused(n),
+        Gated::Open => value_of(image, table, key),
+    }
+}
+
+// Look-up, with its report.
+pub fn find(control: Control, setup: Setup, image: &[u8], table: &[u64], key: u64) -> Report
+    ensures { λ r. ⌜ LookedUp control setup key (now (image .entry)) (now (table .entry)) r ⌝ }
+{
+    let r = locate(control, setup, image, table, key);
+    match r {
+        Located::Refused(n) => Report::Refused(n),
+        Located::Part { start, length } => Report::Part { start, length },
+    }
+}
+
+// A refusal's number in the table of document 01.
+pub fn number(refusal: Refusal) -> u64
+    ensures { λ r. ⌜ r ≡ number refusal ⌝ }
+{
+    match refusal {
+        Refusal::ImageLength => 1,
+        Refusal::NotOpen => 2,
+        Refusal::DirectoryWrong => 3,
+        Refusal::EntryWrong => 4,
+        Refusal::BlockWrong => 5,
+        Refusal::TopsDisagree => 6,
+        Refusal::TableFull => 7,
+        Refusal::Unfinished => 8,
+        Refusal::TooLong => 9,
+        Refusal::BatchFull => 10,
+        Refusal::KeyAbsent => 11,
+        Refusal::VersionSpent => 12,
+        Refusal::NoSpace => 13,
+        Refusal::NothingStaged => 14,
+        Refusal::BatchStaged => 15,
+        Refusal::NotCleanable => 16,
+    }
+}
+
+// Look-up: the part itself, the empty part on a refusal; `answer` gets 0 or the refusal's number.
+pub fn look_up_core<'a>(
+    control: Control,
+    setup: Setup,
+    image: &'a [u8],
+    table: &[u64],
+    key: u64,
+    answer: &mut u64,
+) -> &'a [u8]
+    ensures { λ r. ⌜ Showing control setup key (now (image .entry)) (now (table .entry)) (now r) (now (answer .exit)) ⌝ }
+{
+    let found = locate(control, setup, image, table, key);
+    match found {
+        Located::Part { start, length } => {
+            let end = start + length;
+            *answer = 0;
+            &image[start..end]
+        }
+        Located::Refused(n) => {
+            *answer = number(n);
+            &image[0..0]
+        }
+    }
+}
