@@ -1,11 +1,12 @@
 """Compares the definitions of crates/spec with the model of document 01 (tests/model): the prover computes the one, Python the other.
 
-python3 tests/definitions.py SEED COUNT [--keep] [--show N] [--spec FOLDER]
+python3 tests/definitions.py SEED COUNT [--only PATTERN] [--show N] [--keep] [--spec FOLDER]
 
 Makes COUNT images (whole, damaged in each clause, foreign, after power cuts) with calls and histories of calls, and beside them numbers,
 logs, media and desk books; writes what the model says of each as a fact of a throw-away crate over a copy of crates/spec; has `rt check`
 compute them. A fact that does not hold is named, the first N (2) with both values, and the exit status is 1.
---keep leaves the throw-away repository behind and says where it is; --spec takes another copy of crates/spec.
+--only checks the facts whose names have the pattern; --keep leaves the throw-away repository behind and says where it is; --spec takes
+another copy of crates/spec.
 """
 import argparse
 import os
@@ -136,23 +137,28 @@ def main():
     args = argparse.ArgumentParser(description=__doc__.split('\n')[0])
     args.add_argument('seed', type=int)
     args.add_argument('count', type=int)
+    args.add_argument('--only', default='')
     args.add_argument('--keep', action='store_true')
     args.add_argument('--show', type=int, default=2)
     args.add_argument('--spec', default=os.path.join(os.path.dirname(TESTS), 'crates', 'spec'))
     args = args.parse_args()
     seed, count = args.seed, args.count
-    sheets = [cases.example_sheet(), cases.number_sheet(seed), cases.log_sheet(seed, count // 2), cases.medium_sheet(seed, count // 2), cases.book_sheet(seed, count)]
+    sheets = [cases.example_sheet(), cases.order_sheet(), cases.number_sheet(seed), cases.log_sheet(seed, count // 2), cases.medium_sheet(seed, count // 2), cases.book_sheet(seed, count)]
     sheets += [cases.image_sheet(seed, i) for i in range(count)]
-    sheet_of = {f: s for s in sheets for f in s.facts}
+    sheet_of = {f: s for s in sheets for f in s.facts if re.search(args.only, f.name)}
+    if not sheet_of:
+        sys.exit(f'no fact has {args.only} in its name')
     folder = tempfile.mkdtemp(prefix='definitions-')
     try:
         repository = Repository(args.spec, os.path.join(folder, 'repository'))
-        status, failed, said = repository.check([(s, [(f, test_of(f)) for f in s.facts]) for s in sheets])
+        status, failed, said = repository.check([(s, [(f, test_of(f)) for f in s.facts if f in sheet_of]) for s in sheets if s in sheet_of.values()])
         if status and not failed:
             print(f'{said[-6000:]}\ndefinitions: the prover refused something else than a fact (rt check: {status})')
             return 1
         for f in failed:
             print(f'{f.name}: not what the model says{f.note}. {sheet_of[f].kind}')
+        if failed[:args.show]:
+            print('what the numbers below say is told in tests/facts/codes.py')
         for f in failed[:args.show]:
             print(f'{f.name}:\n    {f.text[:1500]}', flush=True)
             try:

@@ -7,8 +7,8 @@ from register_model import (Book, Image, Item, MAX_VERSION, Medium, Refused, SIZ
 
 from facts.codes import (Fact, actions_code, actions_text, call_text, entries_code, given_text, held_code, items_text, listed, of_entry, of_item, opening_code,
                          poked_text, refused, report_code, report_text, sum_of, words_text)
-from facts.images import (LARGE, LENGTHS, accepted, crowded, cut_short, foreign, fresh, large_length, old_versions, ours, pattern, pick_keys, put_words,
-                          some_damages)
+from facts.images import (LARGE, LENGTHS, accepted, crowded, cut_short, foreign, fresh, has_block_twins, has_live, has_twins, large_length, old_versions, ours,
+                          pattern, pick_keys, put_words, some_damages, spare_sizes)
 
 LIMITS = (256, 4088)
 UNKNOWN = 12345                 # a key of no image
@@ -237,9 +237,11 @@ def kind_calls(rng, index):
 
 def kind_blocks(rng, index):
     count, keys = rng.choice([5, 6]), pick_keys(rng, 4)
-    m = Machine(ours(rng, count, keys, 25, large=True), 64, 4088)
+    ws = accepted(lambda: ours(rng, count, keys, 25, large=True), lambda v: has_live(v) and spare_sizes(v))
+    size = rng.choice(spare_sizes(View(ws, len(ws) * 8, 64)))
+    m = Machine(ws, 64, 4088)
     m.do('open')
-    for n in (large_length(rng), rng.choice(LARGE[:4])):
+    for n in [n for n in LARGE if block_size(n) == size][:2] + [rng.choice(LARGE[:4])]:
         m.do('put', rng.choice(keys), 9, n)
         begun(rng, m, keys, count)
     m.do(rng.choice(['commit', 'commit', 'abandon']))
@@ -260,7 +262,7 @@ def kind_cut(rng, index):
 
 def kind_twins(rng, index):
     count, keys = rng.choice([4, 5, 6]), pick_keys(rng, 3)
-    m = Machine(accepted(lambda: foreign(rng, count, keys, False)), 48, 4088)
+    m = Machine(accepted(lambda: foreign(rng, count, keys, False), has_twins), 48, 4088)
     m.do('open')
     if m.do('choose')[0] == 'chosen':
         m.do('clean', m.last[1])
@@ -273,7 +275,7 @@ def kind_twins(rng, index):
 
 def kind_block_twins(rng, index):
     count, keys = rng.choice([4, 5, 6]), pick_keys(rng, 3)
-    m = Machine(accepted(lambda: foreign(rng, count, keys, True)), 48, 4088)
+    m = Machine(accepted(lambda: foreign(rng, count, keys, True), rng.choice([has_live, has_block_twins])), 48, 4088)
     m.do('open')
     m.do('put', rng.choice(keys), 3, large_length(rng))
     begun(rng, m, keys, count)
@@ -326,7 +328,7 @@ def kind_small_table(rng, index):
     keys = pick_keys(rng, 5)
     ws = ours(rng, 4, keys[:3], 10)
     known = len(View(ws, len(ws) * 8, 400).by_key)
-    m = Machine(ws, 4 * known + rng.choice([0, 3, 4, 7]), 4088)
+    m = Machine(ws, 4 * known + rng.choice([4, 7] if index // len(KINDS) % 2 == 0 else [0, 3]), 4088)
     m.do('open')
     m.done('put', keys[3], 1, rng.choice([3, 300]))
     m.done('put', keys[4], 1, rng.choice([3, 300]))
@@ -339,15 +341,13 @@ def kind_small_table(rng, index):
 
 
 def kind_crowded(rng, index):
-    """Few free chunks: none of the places exists, or just one does."""
-    count, keys = rng.choice([4, 5, 6]), pick_keys(rng, 4)
-    m = Machine(crowded(rng, count, keys, index // len(KINDS) % 4, rng.choice([0, 0, 1, 2, 5])), 64, 4088)
+    """Few free chunks: none of the places exists, or just one does. Commits come with this image (`place_facts`)."""
+    count, keys, free = rng.choice([4, 5, 6]), pick_keys(rng, 4), [2, 3, 1, 0][index // len(KINDS) % 4]
+    m = Machine(crowded(rng, count, keys, free, rng.choice([0, 1, 2, 5]) if free % 3 == 0 else 0), 64, 4088)
     m.do('open')
     m.done('put', rng.choice(keys), 1, large_length(rng))
     m.done('put', rng.choice(keys), 1, rng.choice([0, 30, 256]))
     m.done('commit')
-    m.do('clean', rng.randrange(1, count))
-    m.finish()
     m.do('open')
     m.done('delete', rng.choice(keys))
     m.done('commit')
@@ -374,7 +374,7 @@ def kind_many_chunks(rng, index):
 def kind_formatting(rng, index):
     keys = pick_keys(rng, 3)
     m = Machine(ours(rng, 4, keys, 10), 32, 4088)
-    if rng.random() < .7:
+    if index // len(KINDS) % 3 != 2:
         m.do('open')
         if rng.random() < .5:
             m.do('put', keys[0], 1, 4)
@@ -405,7 +405,7 @@ def kind_lengths(rng, index):
 
 
 KINDS = [('as formatting leaves it', kind_fresh), ('made by calls', kind_calls), ('with blocks', kind_blocks), ('after a power cut', kind_cut),
-         ('foreign, with twins in the log', kind_twins), ('foreign, with twins in blocks', kind_block_twins), ('foreign, as it comes', kind_foreign),
+         ('foreign, with twins in the log', kind_twins), ('foreign, with blocks', kind_block_twins), ('foreign, as it comes', kind_foreign),
          ('at the last versions', kind_versions), ('with a full batch', kind_batch), ('with a small table', kind_small_table),
          ('with few chunks free', kind_crowded), ('with many chunks', kind_many_chunks), ('in a formatting', kind_formatting),
          ('with other lengths lent', kind_lengths)]
@@ -416,7 +416,7 @@ def image_sheet(seed, index):
     kind, make = KINDS[index % len(KINDS)]
     keys, m = make(rng, index)
     ws, table = m.words, m.start[1]
-    sheet = Sheet(f'image{index:03}', f'An image {kind}', ws)
+    sheet = Sheet(f'image{index:03}', f'An image, {kind}', ws)
     sheet.add('opening', f'openingCode (opening 12 {len(ws) * 8} words {table})', opening_code(ws, len(ws) * 8, table))
     try:
         v = View(ws, len(ws) * 8, 10 ** 6)
@@ -424,7 +424,7 @@ def image_sheet(seed, index):
         m.history(sheet)
         return sheet
     meaning_facts(rng, sheet, v, keys, table)
-    damage_facts(rng, sheet, ws, 1 if make is kind_many_chunks else 5)
+    damage_facts(rng, sheet, ws)
     if index % 3 == 0:
         length_fact(rng, sheet, ws, table)
     if index % 4 == 1:
@@ -435,6 +435,8 @@ def image_sheet(seed, index):
             cut_fact(rng, sheet, ws, keys, table)
     if make is kind_batch:
         batch_facts(rng, sheet, ws, keys, table, small=index // len(KINDS) % 2 == 0)
+    if make is kind_crowded:
+        place_facts(rng, sheet, v, keys, table)
     m.history(sheet)
     return sheet
 
@@ -488,9 +490,9 @@ def shown_fact(rng, sheet, v, keys):
     sheet.add('shows', f'shownCode (shows (lookUp words (entriesIn 12 {v.count} words) {k}) (bytesOf words))', held_code(v.look_up(k)))
 
 
-def damage_facts(rng, sheet, ws, n):
+def damage_facts(rng, sheet, ws):
     b, table = len(ws) * 8, rng.choice([400, 400, 400, 4])
-    for name, pokes in some_damages(rng, ws, n):
+    for name, pokes in some_damages(rng, ws):
         new = list(ws)
         for w, x in pokes:
             new[w] = x
@@ -558,6 +560,17 @@ def batch_facts(rng, sheet, ws, keys, table, small):
             copy.open(ws, table)
             copy.staged = list(st.staged)
             call_fact(sheet, f'batch-{n}-{"-".join(str(x) for x in c)}', Machine(ws, table, 4088, copy), c)
+
+
+def place_facts(rng, sheet, v, keys, table):
+    """Commits of puts, of deletes and of both, and a large value, where few chunks are free."""
+    k, highest = keys[0], max([e.version for e in v.by_key.get(keys[0], [])], default=0)
+    delete, put = Item(k, 2, highest + 2), Item(k, 1, highest + 1, pattern(1, 9))
+    for name, items, c in (('deletes', [delete], ('commit',)), ('put', [put], ('commit',)), ('both', [put, delete], ('commit',)), ('large', [], ('put', k, 1, large_length(rng)))):
+        st = Station()
+        st.open(v.words, table)
+        st.staged = items
+        call_fact(sheet, f'places-{name}', Machine(v.words, table, 4088, st), c)
 
 
 def newest_first(values, i):
@@ -652,6 +665,26 @@ def example_sheet():
     assert m.memory[9:11] == [0, 257] and m.last == ('end', 1)
     m.total()
     m.history(s, 'four-chunks')
+    return s
+
+
+def order_sheet():
+    """Calls that several numbers would fit, for the order in which they are asked: a key at the last version, one deleted there, a full table,
+    no space in the log, two chunks free; nothing staged, one item, a full batch."""
+    spent, gone, there, new = 5, 6, 7, 8
+    log = put_words(spent, MAX_VERSION, b'') + [first_word(2, 0, MAX_VERSION, 0), gone] + put_words(there, 1, b'abc')
+    ws = header_words(4) + [0] * 2040
+    ws[9], ws[512:512 + len(log)] = 1 | 64 << 8, log
+    s = Sheet('order', 'The order of refusals', ws)
+    batches = {'none': [], 'delete': [Item(there, 2, 2)], 'full': [Item(there, 1, v, b'') for v in range(2, 18)]}
+    calls = [('put', k, 1, n) for k in (spent, there, new) for n in (3, 257, 4089)] + [('delete', k) for k in (spent, gone, there, new)]
+    calls += [('commit',), ('abandon',), ('clean', 0), ('clean', 1), ('look', gone), ('format', None, None)]
+    for name, items in batches.items():
+        for c in calls:
+            st = Station()
+            st.open(ws, 12)
+            st.staged = list(items)
+            call_fact(s, f'{name}-{"-".join(str(x) for x in c)}', Machine(ws, 12, 256 if c[0] == 'delete' else 4088, st), c)
     return s
 
 

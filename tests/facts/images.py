@@ -32,14 +32,14 @@ def run_out(st, image):
 
 
 def ours(rng, count, keys, turns, large=False):
-    """An image that random calls made."""
-    image, st, model.LIMIT = fresh(rng, count), Station(), 4088
+    """An image that random calls made; large values have one of two lengths."""
+    image, st, model.LIMIT, lengths = fresh(rng, count), Station(), 4088, [large_length(rng), large_length(rng)]
     st.open(image, 400)
     for turn in range(turns + 1):
         x, k = rng.random() if turn < turns else .8, rng.choice(keys)
         try:
             if x < .5:
-                n = large_length(rng) if large and rng.random() < .6 else rng.choice(LENGTHS) if rng.random() < .5 else rng.randrange(40)
+                n = rng.choice(lengths) if large and rng.random() < .6 else rng.choice(LENGTHS) if rng.random() < .5 else rng.randrange(40)
                 st.stage(image, k, pattern(rng.randrange(256), n))
             elif x < .65:
                 st.stage(image, k, None)
@@ -80,7 +80,7 @@ def cut_short(rng, count, keys, large):
     return med.cut(lambda w, v: v[0] if style < .2 else v[-1] if style < .3 else rng.choice(v))
 
 
-def foreign(rng, count, keys, with_blocks, twins=.5):
+def foreign(rng, count, keys, with_blocks, twins=.6):
     """An image that no call of ours made: twins in the log and in blocks, several log chunks, lines with padding."""
     new = fresh(rng, count, filled=False)
     chunks = rng.sample(range(1, count), rng.choice([2, count - 1]))
@@ -89,9 +89,10 @@ def foreign(rng, count, keys, with_blocks, twins=.5):
         for c in chunks[:rng.choice([1, 1, 2]) if len(chunks) > 2 else 1]:
             s = rng.choice(SIZES)
             new[8 + c] = 2 | s << 8
+            lengths = [rng.choice([257, s * 256 - 8]), rng.randrange(257, s * 256 - 7)]
             for j in range(UNITS // s):
-                n = rng.choice([257, 258, s * 256 - 8, rng.randrange(257, s * 256 - 7)])
-                u, ws = c * UNITS + j * s, [n] + words_of(pattern(rng.choice([3, 4]), n))
+                n = rng.choice(lengths)
+                u, ws = c * UNITS + j * s, [n] + words_of(pattern(3 + rng.randrange(5) // 4, n))
                 new[u * 32:u * 32 + len(ws)] = ws
                 blocks[u] = ws
     said = {}                                           # what the last entry of a key and version says
@@ -119,15 +120,33 @@ def foreign(rng, count, keys, with_blocks, twins=.5):
     return new
 
 
-def accepted(make):
-    for _ in range(1000):
+def accepted(make, want=lambda v: True):
+    """An image that is accepted, with what is wanted in its view."""
+    for _ in range(3000):
         ws = make()
         try:
-            View(ws, len(ws) * 8, 400)
-            return ws
+            if want(View(ws, len(ws) * 8, 400)):
+                return ws
         except Refused:
             pass
-    raise AssertionError('no accepted image was made')
+    raise AssertionError('no such image was made')
+
+
+def has_twins(v):
+    return any(len(es) > 1 for es in v.tops.values())
+
+
+def has_block_twins(v):
+    return any(len({e.tail for e in es if e.block}) > 1 for es in v.tops.values())
+
+
+def has_live(v):
+    return bool(v.live)
+
+
+def spare_sizes(v):
+    """The block sizes of which a data chunk has two blocks that are not live."""
+    return [s for c, (role, s) in enumerate(v.roles) if role == 2 and UNITS // s - sum(u // UNITS == c for u in v.live) >= 2]
 
 
 def put_words(key, version, value):
@@ -264,26 +283,48 @@ def block_damage(rng, ws, v, name, some):
     return {name + k: x for k, x in out.items()}
 
 
-def damages(rng, ws):
-    v = View(ws, len(ws) * 8, 10 ** 6)
-    out = header_damage(rng, ws, v.count)
-    out.update(directory_damage(rng, ws, v))
-    out.update(entry_damage(rng, ws, v))
-    pointing = [e for e in v.entries if e.block]
-    out.update(block_damage(rng, ws, v, '', [e for e in pointing if e in v.tops[e.key]]))
-    out.update(block_damage(rng, ws, v, 'old-', [e for e in pointing if e not in v.tops[e.key]]))
-    a, b = rng.choice(sorted(out)), rng.choice(sorted(out))
-    out['two'] = out[a] + out[b]
-    return out
+def twin_damage(rng, ws, v):
+    """One committed line more, with an entry that has a top entry for a twin, or shares a block."""
+    logs = [c for c in range(1, v.count) if v.roles[c][0] == 1 and v.roles[c][1] < 64]
+    if not logs or not v.tops:
+        return {}
+    c = rng.choice(logs)
+    lines, k = v.roles[c][1], rng.choice(list(v.tops))
+    h, tops = v.chosen(k).version, [e for es in v.tops.values() for e in es]
+    out = {'delete': [first_word(2, 0, h, 0), k], 'put': put_words(k, h, pattern(9, rng.randrange(40))), 'above': [first_word(2, 0, min(h + 1, MAX_VERSION), 0), k]}
+    small = [e for e in tops if e.op == 1 and not e.block and e.tail < 48]
+    if small:
+        e = rng.choice(small)
+        value = v.value(e)
+        out.update({'same': v.entry_words(e), 'longer': put_words(e.key, e.version, value + b'\0'), 'other': put_words(e.key, e.version, b'x' + value[1:])})
+    live = [e for e in tops if e.block]
+    if live:
+        e = rng.choice(live)
+        blocks = sorted({f.tail for f in v.entries if f.block})
+        out.update({'same-block': [first_word(1, 1, e.version, e.tail), e.key], 'block-and-log': put_words(e.key, e.version, b''),
+                    'any-block': [first_word(1, 1, e.version, rng.choice(blocks)), e.key], 'shared': [first_word(1, 1, 1, e.tail), 12345],
+                    'shared-below': [first_word(1, 1, max(1, h - 1), e.tail), k]})
+    at = c * 512 + lines * 8
+    return {f'twin-{name}': [(8 + c, 1 | lines + 1 << 8)] + [(at + i, w) for i, w in enumerate(words + [0] * (8 - len(words)))] for name, words in out.items()}
 
 
 times_damaged = {}
 
 
-def some_damages(rng, ws, n):
-    """The n clauses damaged least often so far."""
-    found = damages(rng, ws)
-    names = sorted(found, key=lambda x: (times_damaged.get(x, 0), rng.random()))[:n]
-    for x in names:
+def some_damages(rng, ws):
+    """Of each family of clauses those damaged least often so far."""
+    v = View(ws, len(ws) * 8, 10 ** 6)
+    pointing = [e for e in v.entries if e.block]
+    families = [(1, header_damage(rng, ws, v.count)), (1 if pointing else 2, directory_damage(rng, ws, v)), (1 if pointing else 2, entry_damage(rng, ws, v)),
+                (3 if pointing else 2, twin_damage(rng, ws, v)),
+                (5, block_damage(rng, ws, v, '', [e for e in pointing if e in v.tops[e.key]])),
+                (3, block_damage(rng, ws, v, 'old-', [e for e in pointing if e not in v.tops[e.key]]))]
+    out = []
+    for n, found in families:
+        out += [(x, found[x]) for x in sorted(found, key=lambda x: (times_damaged.get(x, 0), rng.random()))[:n]]
+    for x, _ in out:
         times_damaged[x] = times_damaged.get(x, 0) + 1
-    return [(x, found[x]) for x in names]
+    if rng.random() < .3:
+        (_, a), (_, b) = rng.sample(out, 2)
+        out.append(('two', a + b))
+    return out

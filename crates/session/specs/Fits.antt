@@ -2,7 +2,7 @@
 -- would build, and the staged items beside.
 -- Assumes nothing.
 use mathlib.Core.Path.{_≡_}
-use mathlib.Core.Bool.{Bool, true, false}
+use mathlib.Core.Bool.{true}
 use mathlib.Core.List.{List, [], _∷_, _++_, map}
 use Prim.Native.Nat.{ℕ, _+_, _*_, _/_, _≤_}
 use lib.Dec.{eqb}
@@ -11,6 +11,7 @@ use Rattle.spec.specs.Basics.{isIn, distinct}
 use Rattle.spec.specs.Places.{basePower, base}
 use Rattle.spec.specs.Medium.{Action}
 use Rattle.spec.specs.Log.{Entry, encodeAll, placed}
+use Rattle.spec.specs.Blocks.{pointed}
 use Rattle.spec.specs.Contents.{capacity, liveBlocks}
 use Rattle.spec.specs.Opening.{Accepted, opening}
 use Rattle.spec.specs.Calls.{Task, Staging, Committing, Cleaning, State, Closed, Rest, Busy, Formatting, maxItems, runWords}
@@ -19,7 +20,7 @@ use Rattle.spec.specs.declared.Control.{Control}
 use Rattle.spec.specs.declared.Setup.{Setup}
 use Rattle.spec.specs.declared.Session.{Session}
 use Rattle.theory_log.specs.Batch.{AllRight}
-use Rattle.theory_log.specs.Contents.{CountsOn, Mem}
+use Rattle.theory_log.specs.Contents.{CountsOn, Mem, Top}
 use Rattle.bits.specs.Bits.{hasBit}
 use Rattle.volatile.specs.Known.{Indexed}
 use Rattle.session.specs.State.{batchRoom, batchWords, stateOf}
@@ -59,6 +60,10 @@ abbrev pub BuiltBy : List Action → Session → List ℕ → List Entry → Lis
 BuiltBy [] s table before after = Built (s .control) (s .buffer) table after
 BuiltBy (a ∷ rest) s table before after = Built (s .control) (s .buffer) table before
 
+-- no two keys' top puts share a block
+abbrev pub BlocksApart : List Entry → Type 0
+BlocksApart es = (e f : Entry) → Top es e → Top es f → pointed e ≡ true → pointed f ≡ true → e .field ≡ f .field → e .key ≡ f .key
+
 abbrev pub batchPlace : Setup → ℕ
 batchPlace k = base basePower (k .chunk) + 8 * k .lines
 
@@ -71,6 +76,7 @@ pub record CommitFits (s : Session) (ws table : List ℕ) (items : List Entry) (
   pub long : length ws ≡ s .setup .image / 8
   pub lent : length table ≡ s .setup .table
   pub batch : BatchFits (s .control) (s .buffer) (front ++ back) items
+  pub apart : BlocksApart (front ++ back)
   pub built : BuiltBy rest s table (front ++ back) (front ++ (placed (batchPlace (s .setup)) items ++ back))
   pub table-room : s .control .keys + s .control .fresh ≤ capacity (s .setup .table)
 

@@ -29,13 +29,22 @@ loop-less : tie.Need-loop-less Inv-loop μ-loop
 loop-less c = omega arith
 
 loop-again : tie.Need-loop-again Inv-loop μ-loop
-loop-again c = (omega arith, c .before .before .before .loop .inv .1 ∙ at-right _ _ _ _ (c .before .directory-word-fits .ensures) (c .if1 .taken) (c .before .before .loop-test .taken))
+loop-again c =
+    let a = c .before .before .before .before .before .args in
+    let at = c .before .before .before .loop in
+    (omega arith, at .inv .1 ∙ at-right (a .count) (at .c) (wordsOf (a .image .now)) _ (c .before .directory-word-fits .ensures) (c .if1 .taken) (omega arith))
 
 returns : tie.Need-returns Inv-loop μ-loop
-returns c = sym (c .before .before .before .loop .inv .1 ∙ at-wrong _ _ _ _ (c .before .directory-word-fits .ensures) (c .if1 .left) (c .before .before .loop-test .taken))
+returns c =
+    let a = c .before .before .before .before .before .args in
+    let at = c .before .before .before .loop in
+    sym (at .inv .1 ∙ at-wrong (a .count) (at .c) (wordsOf (a .image .now)) _ (c .before .directory-word-fits .ensures) (c .if1 .left) (omega arith))
 
 returns-2 : tie.Need-returns-2 Inv-loop μ-loop
-returns-2 c = sym (c .before .loop .inv .1 ∙ at-end _ _ _ (c .loop-test .left))
+returns-2 c =
+    let a = c .before .before .before .args in
+    let at = c .before .loop in
+    sym (at .inv .1 ∙ at-end (a .count) (at .c) (wordsOf (a .image .now)) (omega arith))
 
 pub directory-fits-spec : {M : Type 1} → statement M
 directory-fits-spec =

@@ -1,0 +1,279 @@
+-- What the code of a commit's begin shows at each return is what the contract says.
+-- Assumes nothing.
+use mathlib.Core.Path.{_≡_, refl, sym, _∙_, ap, subst}
+use mathlib.Core.Logic.{inl, inr}
+use mathlib.Core.Bool.{Bool, true, false}
+use mathlib.Core.Option.{Option, none, some}
+use mathlib.Core.List.{List, [], _∷_}
+use Prim.Native.Nat.{ℕ, suc, _/_, _≤_, _<_, min}
+use native.Mathlib.Omega.{arith}
+use lib.Dec.{eqb}
+use lib.ListN.{length, getD, drop}
+use Rattle.spec.specs.Basics.{pick}
+use Rattle.spec.specs.Words.{wordsOf}
+use Rattle.spec.specs.Places.{basePower, chunkBytes, directoryWord, chunksIn}
+use Rattle.spec.specs.Medium.{Action}
+use Rattle.spec.specs.Directory.{linesOf}
+use Rattle.spec.specs.Log.{Entry, encodeAll}
+use Rattle.spec.specs.Actions.{linesFor, appendOf}
+use Rattle.spec.specs.Opening.{opening}
+use Rattle.spec.specs.Calls.{Commit, Staging, Committing, Closed, Rest, Busy, Formatting, gate, refusedBy, Begin, Refuse, planned, appendTo, runWords, freeNeeded, logPlace, planCommit, next}
+use Rattle.spec.specs.Contract.{Exact, Called}
+use Rattle.spec.specs.declared.Control.{Control}
+use Rattle.spec.specs.declared.Setup.{Setup}
+use Rattle.spec.specs.declared.Session.{Session}
+use Rattle.spec.specs.declared.Refusal.{Refusal}
+use Rattle.spec.specs.declared.Refusal.the-variants as N
+use Rattle.spec.specs.declared.Report.{Report}
+use Rattle.spec.specs.declared.Report.the-variants as R
+use Rattle.theory_medium.proofs.Lists.{not-both}
+use Rattle.session.specs.State.{batchRoom, batchWords, batchItems, commitActions, formatActions, stateAt, stateOf}
+use Rattle.session.specs.Fits.{RestFits, CommitFits, Fits}
+use Rattle.batch.specs.Items.{OnlyDeletes}
+use Rattle.placing.specs.declared.Place.{Place}
+use Rattle.placing.specs.Found.{placeOf}
+use Rattle.acts.specs.Nth.{nth, commitCount}
+use Rattle.acts.proofs.Committing.{length-part, length-commit, commit-next}
+use Rattle.recovery.specs.declared.Gated.{Gated}
+use Rattle.recovery.specs.declared.Gated.the-variants as G
+use Rattle.recovery.specs.Asks.{gateOf, Asking}
+use Rattle.recovery.proofs.Gates as Gates
+use Rattle.stepping.specs.declared.CommitPlan.{CommitPlan}
+use Rattle.stepping.specs.declared.CommitPlan.the-variants as P
+use Rattle.stepping.specs.Planned.{PlaceFor, CommitPlanned, committing, writingTo}
+use Rattle.stepping.proofs.Forward.{Forward, forward}
+use Rattle.stepping.proofs.States.{at-3}
+
+-- THE RECORD AT REST, read as a state: its items are those that its words say.
+items-by : (c : Control) (k : Setup) (b : List ℕ) (i t : ℕ) (items : List Entry) (b1 b2 b3 b4 b5 : Bool)
+    → pick b1 (Rest (k .image) (k .table) (batchItems c b))
+    (pick b2 (Busy (k .image) (k .table) (batchItems c b) Staging [])
+    (pick b3 (Busy (k .image) (k .table) (batchItems c b) Committing (drop (c .next) (commitActions c k b)))
+    (pick b4 (Formatting false (k .image) (k .table) (drop (c .next) (formatActions k)))
+    (pick b5 (Formatting true (k .image) (k .table) (drop (c .next) (formatActions k))) Closed)))) ≡ Rest i t items
+    → batchItems c b ≡ items
+items-by c k b i t items true b2 b3 b4 b5 e = cc
+items-by c k b i t items false true b3 b4 b5 e = absurd (let z : _≡_ {A = ℕ} 0 1 = cc in omega arith)
+items-by c k b i t items false false true b4 b5 e = absurd (let z : _≡_ {A = ℕ} 0 1 = cc in omega arith)
+items-by c k b i t items false false false true b5 e = absurd (let z : _≡_ {A = ℕ} 0 1 = cc in omega arith)
+items-by c k b i t items false false false false true e = absurd (let z : _≡_ {A = ℕ} 0 1 = cc in omega arith)
+items-by c k b i t items false false false false false e = absurd (let z : _≡_ {A = ℕ} 0 1 = cc in omega arith)
+
+rest-items : (c : Control) (k : Setup) (b : List ℕ) (i t : ℕ) (items : List Entry) → stateAt c k b ≡ Rest i t items → batchItems c b ≡ items
+unfolding stateAt
+rest-items c k b i t items e = items-by c k b i t items (eqb (c .phase) 1) (eqb (c .phase) 2) (eqb (c .phase) 3) (eqb (c .phase) 4) (eqb (c .phase) 5) e
+
+-- THE BEGIN on words at rest, with the place d found for the items f ∷ fs
+module _ (c : Control) (k : Setup) (b ws table : List ℕ) (f : Entry) (fs : List Entry) (r : RestFits (record { control = c; setup = k; buffer = b }) ws table (f ∷ fs))
+    (d : ℕ) (found : logPlace basePower (chunksIn basePower (k .image)) ws (linesFor (length (encodeAll (f ∷ fs)))) 0 (freeNeeded (f ∷ fs)) ≡ some d) where
+  abbrev items : List Entry
+  items = f ∷ fs
+
+  abbrev old : ℕ
+  old = getD ws (directoryWord d) 0
+
+  abbrev lines : ℕ
+  lines = linesOf basePower ws d
+
+  abbrev c′ : Control
+  c′ = committing c
+
+  abbrev k′ : Setup
+  k′ = writingTo k d old lines
+
+  staged : length (encodeAll items) ≤ batchRoom
+  unfolding batchWords
+  staged =
+      let e : length (batchWords c b) ≡ length (encodeAll items) = ap length (r .batch .written) in
+      let q : length (batchWords c b) ≡ min (c .words) batchRoom = length-part b 0 (min (c .words) batchRoom) in
+      omega arith
+
+  ahead : Forward (k .image) (k .table) ws (r .entries) items d old
+  ahead =
+      forward (k .image) (k .table) ws (r .entries) f fs (r .accepted) (r .long) (r .batch .right) (r .batch .counts) (r .batch .in-log) staged
+      (let q = r .batch .keys in let t = r .table-room in omega arith) d old (freeNeeded items) found
+
+  written : batchWords c′ b ≡ encodeAll items
+  unfolding batchWords
+  written = r .batch .written
+
+  pub begun-acts : commitActions c′ k′ b ≡ appendOf basePower d old lines (encodeAll items)
+  unfolding commitActions
+  begun-acts =
+      let x = ahead .chunk in
+      let y = ahead .lines in
+      let p : min d 503 ≡ d = omega arith in
+      let q : min lines 64 ≡ lines = omega arith in
+      rw (p, q, written)
+
+  some-words : 0 < commitCount (c .words)
+  some-words = omega arith
+
+  pub begun-first : drop 0 (commitActions c′ k′ b) ≡ nth (commitActions c′ k′ b) 0 ∷ drop 1 (commitActions c′ k′ b)
+  begun-first = commit-next c′ k′ b 0 some-words
+
+  pub begun-fits : CommitFits (record { control = c′; setup = k′; buffer = b }) ws table items (nth (commitActions c′ k′ b) 0 ∷ drop 1 (commitActions c′ k′ b))
+  begun-fits = record {
+    front = ahead .front;
+    back = ahead .back;
+    chunk = ahead .chunk;
+    lines = ahead .lines;
+    accepted = ap (λ (l : List Action). opening basePower (k .image) (runWords l ws) (k .table)) (sym begun-first ∙ begun-acts) ∙ ahead .accepted;
+    long = r .long;
+    lent = r .lent;
+    batch = record {
+      room = r .batch .room;
+      written = written;
+      count = r .batch .count;
+      few = r .batch .few;
+      right = r .batch .right;
+      counts = rw (ahead .split) at (r .batch .counts);
+      in-log = r .batch .in-log;
+      keys = rw (ahead .split) at (r .batch .keys);
+    };
+    apart = rw (ahead .split) at (ahead .apart);
+    built = record { indexed = rw (ahead .split) at (r .built .indexed); blocks = rw (ahead .split) at (r .built .blocks) };
+    table-room = r .table-room;
+  }
+
+-- THE PLAN, by the place that was found
+plan-none : (n : ℕ) (ws : List ℕ) (items : List Entry) → length items ≡ 0 → planCommit 12 n ws items ≡ Refuse N.NothingStaged
+unfolding planCommit
+plan-none n ws [] h = refl
+plan-none n ws (f ∷ fs) h = absurd (omega arith)
+
+plan-full : (n : ℕ) (ws : List ℕ) (f : Entry) (fs : List Entry) → logPlace 12 n ws (linesFor (length (encodeAll (f ∷ fs)))) 0 (freeNeeded (f ∷ fs)) ≡ none
+    → planCommit 12 n ws (f ∷ fs) ≡ Refuse N.NoSpace
+unfolding planCommit
+plan-full n ws f fs h = rw h
+
+plan-at : (n : ℕ) (ws : List ℕ) (f : Entry) (fs : List Entry) (d : ℕ) → logPlace 12 n ws (linesFor (length (encodeAll (f ∷ fs)))) 0 (freeNeeded (f ∷ fs)) ≡ some d
+    → planCommit 12 n ws (f ∷ fs) ≡ Begin (f ∷ fs) Committing (appendTo 12 ws (encodeAll (f ∷ fs)) d)
+unfolding planCommit
+plan-at n ws f fs d h = rw h
+
+found-none : (ws : List ℕ) (q : Option ℕ) (place : Place) → place ≡ placeOf ws q → place .found ≡ false → q ≡ none
+found-none ws none place e h = refl
+found-none ws (some d) place e h = absurd (not-both (place .found) (ap (λ (x : Place). x .found) e) h)
+
+found-some : (ws : List ℕ) (q : Option ℕ) (place : Place) → place ≡ placeOf ws q → place .found ≡ true → (d : ℕ) × (q ≡ some d) × (place ≡ placeOf ws (some d))
+found-some ws none place e h = absurd (not-both (place .found) h (ap (λ (x : Place). x .found) e))
+found-some ws (some d) place e h = (d, refl, e)
+
+-- the place that the code looked for
+pub place-shown : (b : List ℕ) (words : ℕ) (bytes : List ℕ) (count lines : ℕ) (deletes : Bool) (needed : ℕ) (place : Place)
+    → count ≡ length bytes / 4096 → lines ≡ linesFor (min words batchRoom) → OnlyDeletes b words deletes → needed ≡ pick deletes 2 3
+    → place ≡ placeOf (wordsOf bytes) (logPlace 12 count (wordsOf bytes) lines 0 needed) → PlaceFor b words bytes place
+unfolding chunksIn chunkBytes
+place-shown b words bytes count lines deletes needed place ec el ed en ep items staged =
+    let l : length (encodeAll items) ≡ min words batchRoom = ap length (sym (staged .written)) ∙ length-part b 0 (min words batchRoom) in
+    rw (ep, ec, el, en, ed items staged, l)
+
+-- THE CALL
+module _ (c : Control) (k : Setup) (b bytes table : List ℕ) where
+  abbrev s : Session
+  s = record { control = c; setup = k; buffer = b }
+
+  -- by the plan
+  module _ (plan : CommitPlan) (right : CommitPlanned c k b bytes table plan) where
+    pub plan-refused : (n : Refusal) → plan ≡ P.Refused n → Called stateOf Fits 12 256 Commit s s bytes bytes table table (R.Refused n)
+    plan-refused n e = rw e at right
+
+    pub plan-begun : (chunk old lines actions : ℕ) → plan ≡ P.At chunk old lines actions
+        → Called stateOf Fits 12 256 Commit s (record { control = committing c; setup = writingTo k chunk old lines; buffer = b }) bytes bytes table table (R.Begun actions)
+    plan-begun chunk old lines actions e = rw e at right
+
+  -- by the gate
+  module _ (g : Gated) (asks : Asking c k (length bytes) (length table) g) where
+    pub gate-refuses : (n : Refusal) → g ≡ G.Refused n → Called stateOf Fits 12 256 Commit s s bytes bytes table table (R.Refused n)
+    gate-refuses n e = Gates.turned-down 12 256 s bytes table n (asks .asked b ∙ ap gateOf e) Commit tt
+
+    module _ (e : g ≡ G.Open) where
+      opened : gate (stateOf s) (length bytes) (length table) ≡ none
+      opened = asks .asked b ∙ ap gateOf e
+
+      passed : (r r′ : Report) → refusedBy (gate (stateOf s) (length bytes) (length table)) ≡ some r′ → r ≡ r′
+      passed r r′ h = absurd (let q : none ≡ some r′ = rw opened at h in let z : _≡_ {A = ℕ} 0 1 = cc in omega arith)
+
+      rests : Fits s (wordsOf bytes) table → Gates.AtRest s (length bytes) (length table) (wordsOf bytes) table
+      rests q = Gates.at-rest s (length bytes) (length table) (wordsOf bytes) table opened q
+
+      -- 14
+      pub nothing-staged : c .items ≡ 0 → Called stateOf Fits 12 256 Commit s s bytes bytes table table (R.Refused N.NothingStaged)
+      nothing-staged h =
+          Gates.refused 12 256 s bytes table N.NothingStaged Commit refl (λ q. q) (λ q. let a = rests q in rw (opened, a .state) (by (a .items) (a .fits))) (passed (R.Refused N.NothingStaged))
+          (inr (inr (inr (inl refl)))) (refl, refl)
+        where
+          by : (items : List Entry) → RestFits s (wordsOf bytes) table items → R.Refused N.NothingStaged ≡ planned (planCommit 12 (chunksIn 12 (length bytes)) (wordsOf bytes) items)
+          by items r = sym (ap planned (plan-none (chunksIn 12 (length bytes)) (wordsOf bytes) items (let n = r .batch .count in omega arith)))
+
+      module _ (some-staged : c .items ≡ 0 → ⊥) (place : Place) (searched : PlaceFor b (c .words) bytes place) where
+        abbrev at-place : List Entry → Option ℕ
+        at-place items = logPlace 12 (chunksIn 12 (length bytes)) (wordsOf bytes) (linesFor (length (encodeAll items))) 0 (freeNeeded items)
+
+        place-is : (items : List Entry) → RestFits s (wordsOf bytes) table items → place ≡ placeOf (wordsOf bytes) (at-place items)
+        unfolding batchWords
+        place-is items r = searched items (record { written = r .batch .written; right = r .batch .right })
+
+        -- 13
+        pub no-space : place .found ≡ false → Called stateOf Fits 12 256 Commit s s bytes bytes table table (R.Refused N.NoSpace)
+        no-space h =
+            Gates.refused 12 256 s bytes table N.NoSpace Commit refl (λ q. q) (λ q. let a = rests q in rw (opened, a .state) (by (a .items) (a .fits))) (passed (R.Refused N.NoSpace))
+            (inr (inr (inr (inr (inl refl))))) (refl, refl)
+          where
+            by : (items : List Entry) → RestFits s (wordsOf bytes) table items → R.Refused N.NoSpace ≡ planned (planCommit 12 (chunksIn 12 (length bytes)) (wordsOf bytes) items)
+            by [] r = absurd (some-staged (r .batch .count))
+            by (f ∷ fs) r =
+                sym (ap planned (plan-full (chunksIn 12 (length bytes)) (wordsOf bytes) f fs (found-none (wordsOf bytes) (at-place (f ∷ fs)) place (place-is (f ∷ fs) r) h)))
+
+        -- begun
+        abbrev began : Place → Session
+        began x = record { control = committing c; setup = writingTo k (x .chunk) (x .old) (x .committed); buffer = b }
+
+        module _ (f : Entry) (fs : List Entry) (q : Fits s (wordsOf bytes) table) (σ : stateOf s ≡ Rest (k .image) (k .table) (f ∷ fs)) (r : RestFits s (wordsOf bytes) table (f ∷ fs)) (same : k .image ≡ length bytes)
+            (d : ℕ) (found : at-place (f ∷ fs) ≡ some d) where
+          abbrev s′ : Session
+          s′ = began (placeOf (wordsOf bytes) (some d))
+
+          found′ : logPlace basePower (chunksIn basePower (k .image)) (wordsOf bytes) (linesFor (length (encodeAll (f ∷ fs)))) 0 (freeNeeded (f ∷ fs)) ≡ some d
+          found′ = rw same found
+
+          abbrev acts : List Action
+          acts = appendOf basePower d (getD (wordsOf bytes) (directoryWord d) 0) (linesOf basePower (wordsOf bytes) d) (encodeAll (f ∷ fs))
+
+          acts-are : commitActions (s′ .control) (s′ .setup) b ≡ acts
+          acts-are = begun-acts c k b (wordsOf bytes) table f fs r d found′
+
+          items-are : batchItems (s′ .control) b ≡ f ∷ fs
+          unfolding batchItems batchWords
+          items-are = rest-items c k b (k .image) (k .table) (f ∷ fs) σ
+
+          state-is : stateOf s′ ≡ Busy (k .image) (k .table) (f ∷ fs) Committing acts
+          state-is = rw (at-3 (s′ .control) (s′ .setup) b refl, items-are, acts-are)
+
+          plan-is : planCommit 12 (chunksIn 12 (length bytes)) (wordsOf bytes) (f ∷ fs) ≡ Begin (f ∷ fs) Committing acts
+          plan-is = plan-at (chunksIn 12 (length bytes)) (wordsOf bytes) f fs d found
+
+          exact-at : Exact stateOf Fits 12 256 Commit s s′ bytes bytes table table (R.Begun (commitCount (c .words)))
+          unfolding next
+          exact-at = record {
+            answered = rw (opened, σ, plan-is) (ap R.Begun (sym (length-commit (s′ .control) (s′ .setup) b) ∙ ap length acts-are));
+            became = rw (opened, σ, plan-is) state-is;
+            fits = (q .0, rw (at-3 (s′ .control) (s′ .setup) b refl, items-are, begun-first c k b (wordsOf bytes) table f fs r d found′) (begun-fits c k b (wordsOf bytes) table f fs r d found′));
+          }
+
+        pub begins : place .found ≡ true → (a : ℕ) → a ≡ commitCount (c .words) → Called stateOf Fits 12 256 Commit s (began place) bytes bytes table table (R.Begun a)
+        begins h a e = rw e (record {
+          exact = λ q. let t = rests q in by (t .items) q (t .state) (t .fits) (t .same-bytes);
+          first = passed (R.Begun (commitCount (c .words)));
+          image = refl;
+          sized = refl;
+          outcome = (rw (at-3 (committing c) (began place .setup) b refl) (ap suc (length-commit (committing c) (began place .setup) b)), refl);
+        })
+          where
+            by : (items : List Entry) → Fits s (wordsOf bytes) table → stateOf s ≡ Rest (k .image) (k .table) items → RestFits s (wordsOf bytes) table items → k .image ≡ length bytes
+                → Exact stateOf Fits 12 256 Commit s (began place) bytes bytes table table (R.Begun (commitCount (c .words)))
+            by [] q σ r same = absurd (some-staged (r .batch .count))
+            by (f ∷ fs) q σ r same =
+                let t = found-some (wordsOf bytes) (at-place (f ∷ fs)) place (place-is (f ∷ fs) r) h in
+                subst (λ (x : Place). Exact stateOf Fits 12 256 Commit s (began x) bytes bytes table table (R.Begun (commitCount (c .words)))) (sym (t .2)) (exact-at f fs q σ r same (t .0) (t .1))

@@ -1,0 +1,5 @@
+mod Forward
+mod States
+mod Keeping
+mod Shows
+mod Begins

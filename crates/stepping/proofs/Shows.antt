@@ -1,0 +1,175 @@
+-- What the code of a step shows at each return is what the contract says.
+-- Assumes nothing.
+use mathlib.Core.Path.{_≡_, refl, _∙_, ap}
+use mathlib.Core.Bool.{Bool, true, false}
+use mathlib.Core.List.{List, [], _∷_}
+use Prim.Native.Nat.{ℕ, _+_, _≤_, _<_}
+use native.Mathlib.Omega.{arith}
+use native.Mathlib.Decide.{ℕ-discrete}
+use lib.Dec.{eqb}
+use lib.ListN.{length, drop}
+use borrow.Author.Tests.{eq-eqb, ne-eqb}
+use Rattle.spec.specs.Basics.{both}
+use Rattle.spec.specs.Words.{wordsOf}
+use Rattle.spec.specs.Medium.{Action}
+use Rattle.spec.specs.Calls.{Step, Staging, Committing, State, Closed, Rest, Busy, Formatting, asReport, wordsAfter}
+use Rattle.spec.specs.Contract.{Changed, Called}
+use Rattle.spec.specs.declared.Control.{Control}
+use Rattle.spec.specs.declared.Setup.{Setup}
+use Rattle.spec.specs.declared.Session.{Session}
+use Rattle.spec.specs.declared.Refusal.the-variants as N
+use Rattle.spec.specs.declared.Report.{Report}
+use Rattle.spec.specs.declared.Report.the-variants as R
+use Rattle.session.specs.State.{batchWords, batchItems, commitActions, formatActions, stateAt, stateOf}
+use Rattle.session.specs.Fits.{Fits}
+use Rattle.acts.specs.Nth.{nth, nthReport, commitCount, formatCount}
+use Rattle.acts.proofs.Committing.{commit-next, commit-done}
+use Rattle.acts.proofs.Formatting.{format-next, format-done}
+use Rattle.acts.proofs.Performed.{changed-words}
+use Rattle.joining.specs.Joining.{Joining}
+use Rattle.stepping.proofs.States.{busy, formatting, at-2, at-3, at-4, at-5, nothing-begun, in-call, table-kept, step-idle, step-refused, step-acts, step-ends}
+use Rattle.stepping.proofs.Keeping.{words-kept, same-items, same-acts, acted, emptied, staged, action-kept, last-kept, end-kept, staging-kept}
+
+-- NOTHING BEGUN, and lengths unlike those at the begin
+module _ (c : Control) (k : Setup) (b bytes table : List ℕ) where
+  abbrev same : Session
+  same = record { control = c; setup = k; buffer = b }
+
+  pub idles : (2 ≤ c .phase → c .phase ≤ 5 → ⊥) → Called stateOf Fits 12 256 Step same same bytes bytes table table R.Idle
+  idles h = step-idle same bytes table (nothing-begun c k b h)
+
+  pub turned-down : 2 ≤ c .phase → c .phase ≤ 5 → (k .image ≡ length bytes → k .table ≡ length table → ⊥) → Called stateOf Fits 12 256 Step same same bytes bytes table table (R.Refused N.ImageLength)
+  turned-down l h unlike = step-refused same bytes table (in-call c k b l h) (go (ℕ-discrete (k .image) (length bytes)) (ℕ-discrete (k .table) (length table)))
+    where
+      go : Dec (k .image ≡ length bytes) → Dec (k .table ≡ length table) → both (eqb (k .image) (length bytes)) (eqb (k .table) (length table)) ≡ false
+      go (no n) d = rw (ne-eqb (k .image) (length bytes) n)
+      go (yes e) (no n) = rw (eq-eqb (k .image) (length bytes) e, ne-eqb (k .table) (length table) n)
+      go (yes e) (yes q) = absurd (unlike e q)
+
+module _ (c : Control) (k : Setup) (b bytes table : List ℕ) (same-bytes : k .image ≡ length bytes) (same-words : k .table ≡ length table) where
+  abbrev s : Session
+  s = record { control = c; setup = k; buffer = b }
+
+  abbrev with′ : Control → List ℕ → Session
+  with′ c′ b′ = record { control = c′; setup = k; buffer = b′ }
+
+  -- STAGING
+  pub staging-ends : c .phase ≡ 2 → Called stateOf Fits 12 256 Step s (with′ (staged c) b) bytes bytes table table (R.End 0)
+  unfolding stateAt batchItems batchWords
+  staging-ends e =
+      step-ends s (with′ (staged c) b) bytes bytes table table (k .image) (k .table) 0 (Rest (k .image) (k .table) (batchItems c b)) (Busy (k .image) (k .table) (batchItems c b) Staging)
+      (busy (k .image) (k .table) (batchItems c b) Staging) same-bytes same-words (at-2 c k b e) refl
+      (λ f. (f .0, staging-kept c k b (wordsOf bytes) table (batchItems c b) (rw (at-2 c k b e) at (f .1))))
+
+  -- COMMIT
+  module _ (e : c .phase ≡ 3) where
+    abbrev acts : List Action
+    acts = commitActions c k b
+
+    abbrev F : List Action → State
+    F = Busy (k .image) (k .table) (batchItems c b) Committing
+
+    abbrev act : Action
+    act = nth acts (c .next)
+
+    here : c .next < commitCount (c .words) → stateAt c k b ≡ F (act ∷ drop (c .next + 1) acts)
+    here h = at-3 c k b e ∙ ap F (commit-next c k b (c .next) h)
+
+    behind : (c′ : Control) (b′ : List ℕ) → c′ .phase ≡ 3 → c′ .next ≡ c .next + 1 → batchWords c′ b′ ≡ batchWords c b → stateAt c′ k b′ ≡ F (drop (c .next + 1) acts)
+    behind c′ b′ p n w = rw (at-3 c′ k b′ p, same-items c c′ b b′ w, same-acts c c′ k b b′ w, n)
+
+    as-staged : batchWords (acted c (c .keys) (c .fresh)) b ≡ batchWords c b
+    unfolding batchWords
+    as-staged = refl
+
+    module _ (bytes′ : List ℕ) (r : Report) (er : r ≡ nthReport acts (c .next)) (changed : Changed r bytes bytes′) where
+      done : Changed (asReport act) bytes bytes′
+      done = rw er at changed
+
+      words : wordsOf bytes′ ≡ wordsAfter (asReport act) (wordsOf bytes)
+      words = changed-words (asReport act) bytes bytes′ done
+
+      -- an action that is not the last
+      pub commit-acts : c .next + 1 < commitCount (c .words) → Called stateOf Fits 12 256 Step s (with′ (acted c (c .keys) (c .fresh)) b) bytes bytes′ table table r
+      commit-acts h =
+          rw er
+          (step-acts s s′ bytes bytes′ table table (k .image) (k .table) 0 (Rest (k .image) (k .table) []) F (busy (k .image) (k .table) (batchItems c b) Committing) same-bytes same-words
+          act (drop (c .next + 1) acts) (here (omega arith)) after done refl (table-kept (stateAt c k b) table) fits)
+        where
+          s′ : Session
+          s′ = with′ (acted c (c .keys) (c .fresh)) b
+
+          after : stateAt (acted c (c .keys) (c .fresh)) k b ≡ F (drop (c .next + 1) acts)
+          after = behind (acted c (c .keys) (c .fresh)) b refl refl as-staged
+
+          more : drop (c .next + 1) acts ≡ nth acts (c .next + 1) ∷ drop (c .next + 1 + 1) acts
+          more = commit-next c k b (c .next + 1) h
+
+          fits : Fits s (wordsOf bytes) table → Fits s′ (wordsOf bytes′) table
+          fits f = (f .0, rw (after, more, words) (action-kept c k b (wordsOf bytes) table (batchItems c b) act (nth acts (c .next + 1)) (drop (c .next + 1 + 1) acts) (rw (here (omega arith), more) at (f .1))))
+
+      -- the last, with its batch joined
+      pub commit-joins : (b′ table′ : List ℕ) (keys : ℕ) → c .next + 1 ≡ commitCount (c .words) → Joining c k b b′ (wordsOf bytes′) table table′ keys
+          → Called stateOf Fits 12 256 Step s (with′ (acted c keys 0) b′) bytes bytes′ table table′ r
+      commit-joins b′ table′ keys h j =
+          rw er
+          (step-acts s s′ bytes bytes′ table table′ (k .image) (k .table) 0 (Rest (k .image) (k .table) []) F (busy (k .image) (k .table) (batchItems c b) Committing) same-bytes same-words
+          act (drop (c .next + 1) acts) (here (omega arith)) after done (j .sized) (rw (at-3 c k b e) tt) fits)
+        where
+          s′ : Session
+          s′ = with′ (acted c keys 0) b′
+
+          after : stateAt (acted c keys 0) k b′ ≡ F (drop (c .next + 1) acts)
+          after = behind (acted c keys 0) b′ refl refl (words-kept c (acted c keys 0) b b′ (j .kept) refl)
+
+          none : drop (c .next + 1) acts ≡ []
+          none = commit-done c k b (c .next + 1) (omega arith)
+
+          fits : Fits s (wordsOf bytes) table → Fits s′ (wordsOf bytes′) table′
+          fits f = (j .kept .long ∙ f .0, rw (after, none, words) (last-kept c k b (wordsOf bytes) table (batchItems c b) act (rw (here (omega arith), none) at (f .1)) b′ table′ keys (rw words at j)))
+
+    pub commit-ends : commitCount (c .words) ≤ c .next → Called stateOf Fits 12 256 Step s (with′ (emptied c) b) bytes bytes table table (R.End 0)
+    unfolding stateAt batchItems batchWords
+    commit-ends h =
+        step-ends s (with′ (emptied c) b) bytes bytes table table (k .image) (k .table) 0 (Rest (k .image) (k .table) []) F (busy (k .image) (k .table) (batchItems c b) Committing)
+        same-bytes same-words last refl (λ f. (f .0, end-kept c k b (wordsOf bytes) table (batchItems c b) (rw last at (f .1))))
+      where
+        last : stateAt c k b ≡ F []
+        last = at-3 c k b e ∙ ap F (commit-done c k b (c .next) h)
+
+  -- FORMAT
+  -- after an action; after the last
+  abbrev pub counted : Control
+  counted = record { phase = c .phase; next = c .next + 1; items = c .items; words = c .words; keys = c .keys; fresh = c .fresh }
+
+  abbrev pub closed : Control
+  closed = record { phase = 0; next = 0; items = 0; words = 0; keys = 0; fresh = 0 }
+
+  module _ (low : 4 ≤ c .phase) (high : c .phase ≤ 5) where
+    abbrev isOpen : Dec (c .phase ≡ 5) → Bool
+    isOpen (yes e) = true
+    isOpen (no e) = false
+
+    abbrev o : Bool
+    o = isOpen (ℕ-discrete (c .phase) 5)
+
+    by-phase : (c′ : Control) → c′ .phase ≡ c .phase → stateAt c′ k b ≡ Formatting o (k .image) (k .table) (drop (c′ .next) (formatActions k))
+    by-phase c′ e = go (ℕ-discrete (c .phase) 5)
+      where
+        go : (d : Dec (c .phase ≡ 5)) → stateAt c′ k b ≡ Formatting (isOpen d) (k .image) (k .table) (drop (c′ .next) (formatActions k))
+        go (yes q) = at-5 c′ k b (e ∙ q)
+        go (no q) = at-4 c′ k b (omega arith)
+
+    pub format-acts : (bytes′ : List ℕ) (r : Report) → c .next < formatCount → r ≡ nthReport (formatActions k) (c .next) → Changed r bytes bytes′
+        → Called stateOf Fits 12 256 Step s (with′ counted b) bytes bytes′ table table r
+    format-acts bytes′ r h er changed =
+        rw er
+        (step-acts s (with′ counted b) bytes bytes′ table table (k .image) (k .table) 0 Closed (Formatting o (k .image) (k .table)) (formatting o (k .image) (k .table)) same-bytes same-words
+        (nth (formatActions k) (c .next)) (drop (c .next + 1) (formatActions k)) (by-phase c refl ∙ ap (Formatting o (k .image) (k .table)) (format-next k (c .next) h)) (by-phase counted refl)
+        (rw er at changed) refl (table-kept (stateAt c k b) table) (λ f. (f .0, rw (by-phase counted refl) tt)))
+
+    pub format-ends : formatCount ≤ c .next → Called stateOf Fits 12 256 Step s (with′ closed b) bytes bytes table table (R.End 0)
+    unfolding stateAt
+    format-ends h =
+        step-ends s (with′ closed b) bytes bytes table table (k .image) (k .table) 0 Closed (Formatting o (k .image) (k .table)) (formatting o (k .image) (k .table)) same-bytes same-words
+        (by-phase c refl ∙ ap (Formatting o (k .image) (k .table)) (format-done k (c .next) h)) refl (λ f. (f .0, tt))

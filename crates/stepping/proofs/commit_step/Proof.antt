@@ -1,0 +1,58 @@
+-- `stepping::commit_step` meets its contract.
+-- Assumes nothing.
+use native.Mathlib.Omega.{arith}
+use borrow.Author.Needs.{needs}
+use Rattle.stepping.proofs.Shows as S
+use Rattle.stepping.proofs.commit_step.Statement.{statement}
+use Rattle.stepping.proofs.commit_step.Tie as tie
+
+commit-count-requires : tie.Need-commit-count-requires
+commit-count-requires c κs = search needs
+
+returns : tie.Need-returns
+returns c = S.commit-ends _ _ _ _ _ (omega arith) (omega arith) (omega arith) (omega arith)
+
+commit-action-requires : tie.Need-commit-action-requires
+commit-action-requires c κs = search needs
+
+perform-requires : tie.Need-perform-requires
+perform-requires c κs = search needs
+
+add-next : tie.Need-add-next
+add-next c = search needs
+
+same-length : tie.Need-same-length
+same-length c = search needs
+
+returns-2 : tie.Need-returns-2
+returns-2 c =
+    S.commit-acts _ _ _ _ _ (omega arith) (omega arith) (omega arith) _ _ (c .before .before .before .before .before .commit-action .ensures) (c .before .before .before .perform .ensures) (omega arith)
+
+join-requires : tie.Need-join-requires
+join-requires c κs = search needs
+
+same-length-2 : tie.Need-same-length-2
+same-length-2 c = search needs
+
+same-length-3 : tie.Need-same-length-3
+same-length-3 c = search needs
+
+returns-3 : tie.Need-returns-3
+returns-3 c =
+    S.commit-joins _ _ _ _ _ (omega arith) (omega arith) (omega arith) _ _ (c .before .before .before .before .before .before .before .before .before .before .before .commit-action .ensures) (c .before .before .before .before .before .before .before .before .before .perform .ensures) _ _ _ (omega arith) (c .before .before .join .ensures)
+
+pub commit-step-spec : {M : Type 1} → statement M
+commit-step-spec =
+    tie.close
+    (tie.spec
+    commit-count-requires
+    returns
+    commit-action-requires
+    perform-requires
+    add-next
+    same-length
+    returns-2
+    join-requires
+    same-length-2
+    same-length-3
+    returns-3)

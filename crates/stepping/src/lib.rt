@@ -1,0 +1,316 @@
+// The begin of a commit; and the step: the next action of the call that is begun, or its end. A core takes the record's small parts
+// by value and its buffer lent, and answers the next ones with the report.
+ghost use mathlib.Core.Path.{_≡_};
+ghost use Prim.Native.Nat.{_≤_, min};
+ghost use lib.ListN.{length};
+ghost use Rattle.spec.specs.Basics.{pick};
+ghost use Rattle.spec.specs.Actions.{linesFor};
+ghost use Rattle.spec.specs.Calls.{Commit, Step};
+ghost use Rattle.spec.specs.Contract.{Called};
+ghost use Rattle.session.specs.State.{batchRoom, stateOf};
+ghost use Rattle.session.specs.Fits.{Fits};
+ghost use Rattle.stepping.specs.Planned.{PlaceFor, CommitPlanned};
+use placing::Place;
+use recovery::Gated;
+use spec::Control;
+use spec::Refusal;
+use spec::Report;
+use spec::Setup;
+
+// The record's small parts after a call, and its report.
+pub struct Moved {
+    pub control: Control,
+    pub setup: Setup,
+    pub report: Report,
+}
+
+// COMMIT
+// What a commit finds: a refusal, or where it writes (chunk, its directory word, its committed lines) and how many actions it has.
+pub enum CommitPlan {
+    Refused(Refusal),
+    At {
+        chunk: usize,
+        old: u64,
+        lines: usize,
+        actions: usize,
+    },
+}
+
+// How many lines the staged words take.
+fn batch_lines(words: usize) -> usize
+    ensures { λ r. ⌜ r ≡ linesFor (min words batchRoom) ⌝ }
+{
+    if words < 512 {
+        return (words + 7) / 8;
+    }
+    64
+}
+
+// How many free chunks a commit asks for.
+fn free_needed(deletes: bool) -> usize
+    ensures { λ r. ⌜ r ≡ pick deletes 2 3 ⌝ }
+{
+    if deletes { 2 } else { 3 }
+}
+
+// The place for the staged items.
+fn commit_place(buffer: &[u64; 1152], words: usize, image: &[u8]) -> Place
+    ensures { λ r. ⌜ PlaceFor (now (buffer .entry)) words (now (image .entry)) r ⌝ }
+{
+    let count = image.len() / 4096;
+    let lines = batch_lines(words);
+    let deletes = batch::only_deletes(buffer, words);
+    let needed = free_needed(deletes);
+    placing::log_place(image, count, lines, needed)
+}
+
+// 2, 1, 8, 14, 13, or the place. Nothing is changed.
+pub fn plan_commit(
+    control: Control,
+    setup: Setup,
+    buffer: &[u64; 1152],
+    image: &[u8],
+    table: &[u64],
+) -> CommitPlan
+    ensures { λ r. ⌜ CommitPlanned control setup (now (buffer .entry)) (now (image .entry)) (now (table .entry)) r ⌝ }
+{
+    let gated = recovery::gate(control, setup, image.len(), table.len());
+    match gated {
+        Gated::Refused(n) => CommitPlan::Refused(n),
+        Gated::Open => {
+            if control.items == 0 {
+                return CommitPlan::Refused(Refusal::NothingStaged);
+            }
+            let place = commit_place(buffer, control.words, image);
+            if place.found {
+                let actions = acts::commit_count(control.words);
+                return CommitPlan::At {
+                    chunk: place.chunk,
+                    old: place.old,
+                    lines: place.committed,
+                    actions,
+                };
+            }
+            CommitPlan::Refused(Refusal::NoSpace)
+        }
+    }
+}
+
+// The staged items are to be written where the plan says.
+pub fn commit_core(
+    control: Control,
+    setup: Setup,
+    buffer: &[u64; 1152],
+    image: &[u8],
+    table: &[u64],
+) -> Moved
+    ensures { λ r. ⌜ Called stateOf Fits 12 256 Commit (record { control = control; setup = setup; buffer = now (buffer .entry) }) (record { control = r .control; setup = r .setup; buffer = now (buffer .entry) }) (now (image .entry)) (now (image .entry)) (now (table .entry)) (now (table .entry)) (r .report) ⌝ }
+{
+    let plan = plan_commit(control, setup, buffer, image, table);
+    match plan {
+        CommitPlan::Refused(n) => Moved {
+            control,
+            setup,
+            report: Report::Refused(n),
+        },
+        CommitPlan::At {
+            chunk,
+            old,
+            lines,
+            actions,
+        } => {
+            let begun = Control {
+                phase: 3,
+                next: 0,
+                items: control.items,
+                words: control.words,
+                keys: control.keys,
+                fresh: control.fresh,
+            };
+            let bound = Setup {
+                image: setup.image,
+                table: setup.table,
+                chunk,
+                old,
+                lines,
+                fields: setup.fields,
+                station: setup.station,
+                centre: setup.centre,
+            };
+            Moved {
+                control: begun,
+                setup: bound,
+                report: Report::Begun(actions),
+            }
+        }
+    }
+}
+
+// STEP
+// A commit's next action; with the last, a fence, the batch joins the key table. Its end leaves nothing staged.
+fn commit_step(
+    control: Control,
+    setup: Setup,
+    buffer: &mut [u64; 1152],
+    image: &mut [u8],
+    table: &mut [u64],
+) -> Moved
+    requires { ⌜ (control .phase ≡ 3) × (setup .image ≡ length (now image)) × (setup .table ≡ length (now table)) ⌝ }
+    ensures { λ r. ⌜ Called stateOf Fits 12 256 Step (record { control = control; setup = setup; buffer = now (buffer .entry) }) (record { control = r .control; setup = r .setup; buffer = now (buffer .exit) }) (now (image .entry)) (now (image .exit)) (now (table .entry)) (now (table .exit)) (r .report) ⌝ }
+{
+    let at = control.next;
+    let count = acts::commit_count(control.words);
+    if count <= at {
+        let items = 0;
+        let ended = Control {
+            phase: 1,
+            next: 0,
+            items,
+            words: 0,
+            keys: control.keys,
+            fresh: 0,
+        };
+        return Moved {
+            control: ended,
+            setup,
+            report: Report::End(0),
+        };
+    }
+    let act = acts::commit_action(control, setup, buffer, at);
+    acts::perform(image, act);
+    let next = at + 1;
+    if next < count {
+        let moved = Control {
+            phase: 3,
+            next,
+            items: control.items,
+            words: control.words,
+            keys: control.keys,
+            fresh: control.fresh,
+        };
+        return Moved {
+            control: moved,
+            setup,
+            report: act,
+        };
+    }
+    let keys = joining::join(control, setup, buffer, image, table);
+    let moved = Control {
+        phase: 3,
+        next,
+        items: control.items,
+        words: control.words,
+        keys,
+        fresh: 0,
+    };
+    Moved {
+        control: moved,
+        setup,
+        report: act,
+    }
+}
+
+// A formatting's next action. Its end leaves nothing open.
+fn format_step(
+    control: Control,
+    setup: Setup,
+    buffer: &[u64; 1152],
+    image: &mut [u8],
+    table: &[u64],
+) -> Moved
+    requires { ⌜ (4 ≤ control .phase) × (control .phase ≤ 5) × (setup .image ≡ length (now image)) × (setup .table ≡ length (now table)) ⌝ }
+    ensures { λ r. ⌜ Called stateOf Fits 12 256 Step (record { control = control; setup = setup; buffer = now (buffer .entry) }) (record { control = r .control; setup = r .setup; buffer = now (buffer .entry) }) (now (image .entry)) (now (image .exit)) (now (table .entry)) (now (table .entry)) (r .report) ⌝ }
+{
+    let at = control.next;
+    if acts::format_count() <= at {
+        let closed = Control {
+            phase: 0,
+            next: 0,
+            items: 0,
+            words: 0,
+            keys: 0,
+            fresh: 0,
+        };
+        return Moved {
+            control: closed,
+            setup,
+            report: Report::End(0),
+        };
+    }
+    let action = acts::format_action(setup, at);
+    acts::perform(image, action);
+    let next = at + 1;
+    let moved = Control {
+        phase: control.phase,
+        next,
+        items: control.items,
+        words: control.words,
+        keys: control.keys,
+        fresh: control.fresh,
+    };
+    Moved {
+        control: moved,
+        setup,
+        report: action,
+    }
+}
+
+// Idle where nothing is begun, 1 where a lent length is unlike that at the begin; else the call that is begun goes on.
+pub fn step_core(
+    control: Control,
+    setup: Setup,
+    buffer: &mut [u64; 1152],
+    image: &mut [u8],
+    table: &mut [u64],
+) -> Moved
+    ensures { λ r. ⌜ Called stateOf Fits 12 256 Step (record { control = control; setup = setup; buffer = now (buffer .entry) }) (record { control = r .control; setup = r .setup; buffer = now (buffer .exit) }) (now (image .entry)) (now (image .exit)) (now (table .entry)) (now (table .exit)) (r .report) ⌝ }
+{
+    let phase = control.phase;
+    if phase < 2 {
+        return Moved {
+            control,
+            setup,
+            report: Report::Idle,
+        };
+    }
+    if 5 < phase {
+        return Moved {
+            control,
+            setup,
+            report: Report::Idle,
+        };
+    }
+    if setup.image != image.len() {
+        return Moved {
+            control,
+            setup,
+            report: Report::Refused(Refusal::ImageLength),
+        };
+    }
+    if setup.table != table.len() {
+        return Moved {
+            control,
+            setup,
+            report: Report::Refused(Refusal::ImageLength),
+        };
+    }
+    if phase == 2 {
+        let staged = Control {
+            phase: 1,
+            next: 0,
+            items: control.items,
+            words: control.words,
+            keys: control.keys,
+            fresh: control.fresh,
+        };
+        return Moved {
+            control: staged,
+            setup,
+            report: Report::End(0),
+        };
+    }
+    if phase == 3 {
+        return commit_step(control, setup, buffer, image, table);
+    }
+    format_step(control, setup, buffer, image, table)
+}
