@@ -16,7 +16,7 @@ use Rattle.spec.specs.Contents.{Held}
 use Rattle.spec.specs.Opening.{Accepted, opening}
 use Rattle.spec.specs.Calls.{Call, Format, Open, LookUp, State, Closed, Rest, Busy, Formatting, mediumAfter, itemsThen, isRefused, answer, next}
 use Rattle.spec.specs.Book.{Item, Book, doneBatch, note, noteCut, noteOpen}
-use Rattle.spec.specs.Contract.{Proper, Ready, Called}
+use Rattle.spec.specs.Contract.{Proper, Again, Ready, Called}
 use Rattle.spec.specs.History.{Lent, World, SameLent, MayOpen, leastAfter, afterCall, afterCut, Opens, Looks}
 use Rattle.spec.specs.declared.Session.{Session}
 use Rattle.spec.specs.declared.Given.{Given}
@@ -40,9 +40,10 @@ module _ (p limit : ℕ) (laws : Laws p limit) (stateOf : Session → State) (Fi
   same-lent w b none s table e h = absurd e
   same-lent w b (some l) s table e h = rw (← (e .0), ← (e .1)) h
 
-  -- what a call has that keeps the invariant: `Fits` is all it asks of its record, it leaves the table's bound, and its next state holds
+  -- what a call has that keeps the invariant: `Fits` is all it asks of its record, memory fits again, it leaves the table's bound, and its next state holds
   pub record Usual (k : Call) : Type 0 where
     pub ready : (s : Session) (ws table : List ℕ) → Fits s ws table → Ready stateOf Fits p limit k s ws table
+    pub again : (s : Session) (ws table : List ℕ) (r : Report) → Again k r (Fits s ws table) → Fits s ws table
     pub least : (table : List ℕ) (a : ℕ) → leastAfter k table a ≡ a
     pub kept : (least : ℕ) (u : Bool) (b : Book) (m : Medium) (σ : State) → Holds p bytes least u b σ m → Keeps p limit bytes least u b m k σ
 
@@ -66,7 +67,7 @@ module _ (p limit : ℕ) (laws : Laws p limit) (stateOf : Session → State) (Fi
           agrees = follows .0;
           sized = follows .1 ∙ i .sized;
           held = (
-            c .exact y .fits,
+            q .again s′ (wordsOf image′) table′ r (c .exact y .fits),
             c .sized ∙ lent .1 ∙ sym (q .least table′ (w .least)),
             rw (q .least, became y, answered y) (q .kept (w .least) (w .unfinished) b (w .medium) (stateOf s) (lent .2)),
           );

@@ -125,7 +125,7 @@ module _ (p limit : ℕ) (laws : Laws p limit) (stateOf : Session → State) (Fi
 
       walked : Standing p (chunksIn p (length image)) 0 nothing [] [] m′ × (wordsOf image′ ≡ latest m′) × (length image′ ≡ length image)
       walked = format-walk (Standing p (chunksIn p (length image)) 0 nothing [] []) (length image) (length table) (isOpen (stateOf s)) (formatOf (chunksIn p (length image)) station centre) rs n m m′ s₀ s′ image image′ table₀ table′
-          (started .1) refl (sym (c .sized)) (x .fits) agrees (made .0) steps
+          (started .1) refl (sym (c .sized)) (x .fits refl) agrees (made .0) steps
 
   -- SECOND START. The image was accepted, so the opening was that of a medium that stands.
   opened-accepts : (o : Opening) → R.Opened ≡ opened o → (es : List Entry) × (o ≡ Accepted es)

@@ -36,23 +36,23 @@ module _ (p limit : ℕ) (laws : Laws p limit) (stateOf : Session → State) (Fi
       call (Format a z) w b i s s′ image′ table table′ r l c small e = sound (afterCall (Format a z) w s′ image′ table′ r) b (E.format-kept p limit laws stateOf Fits bytes a z w b s s′ image′ table table′ r i l c e)
       call Open w b i s s′ image′ table table′ r l c small e = E.opening-claim p limit laws stateOf Fits bytes whole Then sound w b s s′ image′ table table′ r i l c small
       call (Put k v) w b i s s′ image′ table table′ r l c small e =
-          usual (Put k v) (record { ready = λ s ws t f. f; least = λ t a. refl; kept = λ least u b m. K.put-kept p limit laws bytes least u b m k v e }) w b i s s′ image′ table table′ r l c
+          usual (Put k v) (record { ready = λ s ws t f. f; again = λ s ws t r f. f; least = λ t a. refl; kept = λ least u b m. K.put-kept p limit laws bytes least u b m k v e }) w b i s s′ image′ table table′ r l c
       call (Delete k) w b i s s′ image′ table table′ r l c small e =
-          usual (Delete k) (record { ready = λ s ws t f. f; least = λ t a. refl; kept = λ least u b m. K.delete-kept p limit laws bytes least u b m k }) w b i s s′ image′ table table′ r l c
+          usual (Delete k) (record { ready = λ s ws t f. f; again = λ s ws t r f. f; least = λ t a. refl; kept = λ least u b m. K.delete-kept p limit laws bytes least u b m k }) w b i s s′ image′ table table′ r l c
       call Commit w b i s s′ image′ table table′ r l c small e =
-          usual Commit (record { ready = λ s ws t f. f; least = λ t a. refl; kept = K.commit-kept p limit laws bytes }) w b i s s′ image′ table table′ r l c
+          usual Commit (record { ready = λ s ws t f. f; again = λ s ws t r f. f; least = λ t a. refl; kept = K.commit-kept p limit laws bytes }) w b i s s′ image′ table table′ r l c
       call Abandon w b i s s′ image′ table table′ r l c small e =
-          usual Abandon (record { ready = λ s ws t f. f; least = λ t a. refl; kept = K.abandon-kept p limit laws bytes }) w b i s s′ image′ table table′ r l c
+          usual Abandon (record { ready = λ s ws t f. f; again = λ s ws t r f. f; least = λ t a. refl; kept = K.abandon-kept p limit laws bytes }) w b i s s′ image′ table table′ r l c
       call (LookUp k) w b i s s′ image′ table table′ r l c small e = (
         E.looks p limit laws stateOf Fits bytes k w b s s′ image′ table table′ r i l c small,
-        usual (LookUp k) (record { ready = λ s ws t f. f; least = λ t a. refl; kept = λ least u b m. K.look-kept p limit laws bytes least u b m k }) w b i s s′ image′ table table′ r l c,
+        usual (LookUp k) (record { ready = λ s ws t f. f; again = λ s ws t r f. f; least = λ t a. refl; kept = λ least u b m. K.look-kept p limit laws bytes least u b m k }) w b i s s′ image′ table table′ r l c,
       )
       call Choose w b i s s′ image′ table table′ r l c small e =
-          usual Choose (record { ready = λ s ws t f. f; least = λ t a. refl; kept = K.choose-kept p limit laws bytes }) w b i s s′ image′ table table′ r l c
+          usual Choose (record { ready = λ s ws t f. f; again = λ s ws t r f. f; least = λ t a. refl; kept = K.choose-kept p limit laws bytes }) w b i s s′ image′ table table′ r l c
       call (Clean z) w b i s s′ image′ table table′ r l c small e =
-          usual (Clean z) (record { ready = λ s ws t f. f; least = λ t a. refl; kept = λ least u b m. K.clean-kept p limit laws bytes least u b m z }) w b i s s′ image′ table table′ r l c
+          usual (Clean z) (record { ready = λ s ws t f. f; again = λ s ws t r f. f; least = λ t a. refl; kept = λ least u b m. K.clean-kept p limit laws bytes least u b m z }) w b i s s′ image′ table table′ r l c
       call Step w b i s s′ image′ table table′ r l c small e =
-          usual Step (record { ready = λ s ws t f. f; least = λ t a. refl; kept = K.step-kept p limit laws bytes }) w b i s s′ image′ table table′ r l c
+          usual Step (record { ready = λ s ws t f. f; again = λ s ws t r f. f; least = λ t a. refl; kept = K.step-kept p limit laws bytes }) w b i s s′ image′ table table′ r l c
 
       claim : (e : Event) (w : World) (b : Book) → Inv p stateOf Fits bytes w b → Claim stateOf Fits p limit e Then w b
       claim (Do k) w b i = call k w b i

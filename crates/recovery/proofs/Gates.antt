@@ -16,7 +16,7 @@ use Rattle.spec.specs.Words.{wordsOf}
 use Rattle.spec.specs.Medium.{Action}
 use Rattle.spec.specs.Log.{Entry}
 use Rattle.spec.specs.Calls.{Call, Format, Open, Put, Delete, Commit, Abandon, LookUp, Choose, Clean, Step, State, Closed, Rest, Busy, Formatting, Staging, Committing, gate, answer, next, refusals, refusedBy, isOpening}
-use Rattle.spec.specs.Contract.{MemRefusal, Ready, Kept, Barred, Called}
+use Rattle.spec.specs.Contract.{MemRefusal, Again, Ready, Kept, Barred, Called}
 use Rattle.spec.specs.declared.Control.{Control}
 use Rattle.spec.specs.declared.Setup.{Setup}
 use Rattle.spec.specs.declared.Session.{Session}
@@ -77,7 +77,7 @@ gate-number (Formatting true b t acts) bytes words n h = late n (both (eqb b byt
 
 module _ (p limit : ℕ) (s : Session) (bytes table : List ℕ) (n : Refusal) where
   -- a refused call that leaves all as it was
-  pub refused : (k : Call) → isOpening k ≡ false → (Ready stateOf Fits p limit k s (wordsOf bytes) table → Fits s (wordsOf bytes) table)
+  pub refused : (k : Call) → isOpening k ≡ false → (Ready stateOf Fits p limit k s (wordsOf bytes) table → Again k (R.Refused n) (Fits s (wordsOf bytes) table))
       → (Ready stateOf Fits p limit k s (wordsOf bytes) table → R.Refused n ≡ answer p limit k (stateOf s) (wordsOf bytes) (length bytes) (length table))
       → Barred stateOf Fits p limit k s bytes table (R.Refused n) → MemRefusal n (refusals k) → Kept stateOf Fits p limit k s s table table
       → Called stateOf Fits p limit k s s bytes bytes table table (R.Refused n)

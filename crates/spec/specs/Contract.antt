@@ -9,7 +9,7 @@ use Prim.Native.Nat.{ℕ, zero, suc, _+_, _≤_}
 use lib.ListN.{length, replicate, set}
 use lib.Seq.{slice}
 use Rattle.spec.specs.Words.{wordsOf}
-use Rattle.spec.specs.Calls.{Call, Format, Open, Put, Delete, Commit, Abandon, LookUp, Choose, Clean, Step, State, Closed, Rest, Busy, Formatting, answer, next, barred, refusals, stepsLeft}
+use Rattle.spec.specs.Calls.{Call, Format, Open, Put, Delete, Commit, Abandon, LookUp, Choose, Clean, Step, State, Closed, Rest, Busy, Formatting, answer, next, barred, refusals, stepsLeft, isRefused}
 use Rattle.spec.specs.declared.Session.{Session}
 use Rattle.spec.specs.declared.Refusal.{Refusal}
 use Rattle.spec.specs.declared.Report.{Report}
@@ -54,6 +54,19 @@ partBytes R.Abandoned bytes = []
 partBytes (R.Chosen c) bytes = []
 partBytes (R.Part a n) bytes = slice a (a + n) bytes
 
+-- Memory fits again. A refused formatting, which may be lent any record, leaves memory as it was.
+abbrev pub Again : Call → Report → Type 0 → Type 0
+Again (Format a b) r Fit = isRefused r ≡ false → Fit
+Again Open r Fit = Fit
+Again (Put k v) r Fit = Fit
+Again (Delete k) r Fit = Fit
+Again Commit r Fit = Fit
+Again Abandon r Fit = Fit
+Again (LookUp k) r Fit = Fit
+Again Choose r Fit = Fit
+Again (Clean c) r Fit = Fit
+Again Step r Fit = Fit
+
 -- An implementation reads its record as a state, and keeps record and table fitting the image's words: "memory as our calls
 -- left it". Nothing is to be believed of either: an opening and a formatting need no more of the record than its type.
 module _ (stateOf : Session → State) (Fits : Session → List ℕ → List ℕ → Type 0) (p limit : ℕ) where
@@ -73,7 +86,7 @@ module _ (stateOf : Session → State) (Fits : Session → List ℕ → List ℕ
   pub record Exact (k : Call) (s s′ : Session) (bytes bytes′ table table′ : List ℕ) (r : Report) : Type 0 where
     pub answered : r ≡ answer p limit k (stateOf s) (wordsOf bytes) (length bytes) (length table)
     pub became : stateOf s′ ≡ next p limit k (stateOf s) (wordsOf bytes) (length bytes) (length table)
-    pub fits : Fits s′ (wordsOf bytes′) table′
+    pub fits : Again k r (Fits s′ (wordsOf bytes′) table′)
 
   -- a refusal leaves record and table as they were; a refused opening leaves a record with nothing open and a table of zeros
   abbrev pub Kept : Call → Session → Session → List ℕ → List ℕ → Type 0

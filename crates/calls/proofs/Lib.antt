@@ -1,0 +1,4 @@
+pub mod Shows
+pub mod Known
+pub mod Admits
+pub mod Staging

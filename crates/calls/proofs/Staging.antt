@@ -1,0 +1,296 @@
+-- What the code of a staging shows at each return is what the contract says.
+-- Assumes nothing.
+use mathlib.Core.Path.{_≡_, refl, sym, _∙_, ap}
+use mathlib.Core.Logic.{inl, inr}
+use mathlib.Core.Bool.{Bool, true, false}
+use mathlib.Core.Option.{none, some}
+use mathlib.Core.List.{List, [], _∷_, _++_}
+use Prim.Native.Nat.{ℕ, suc, _+_, _/_, _<_, _≤_}
+use native.Mathlib.Omega.{arith}
+use lib.Dec.{eqb}
+use lib.ListN.{length}
+use borrow.Author.Tests.{le-leb, lt-leb}
+use Rattle.spec.specs.Basics.{pick}
+use Rattle.spec.specs.Words.{AreBytes, wordsOf, packed}
+use Rattle.spec.specs.Places.{chunksIn}
+use Rattle.spec.specs.Medium.{Action}
+use Rattle.spec.specs.Log.{Entry, Entries, filled, maxInLog, imageEntries}
+use Rattle.spec.specs.Contents.{highest, capacity, entriesIn}
+use Rattle.spec.specs.Calls.{Call, Put, Delete, Staging, Committing, Closed, Rest, Busy, Formatting, Begin, entry, maxVersion, itemsOf, planPut, planDelete, stepsLeft, gate, refusedBy, answer, next}
+use Rattle.spec.specs.Contract.{Again, Ready, Barred, Called}
+use Rattle.spec.specs.declared.Control.{Control}
+use Rattle.spec.specs.declared.Setup.{Setup}
+use Rattle.spec.specs.declared.Session.{Session}
+use Rattle.spec.specs.declared.Refusal.{Refusal}
+use Rattle.spec.specs.declared.Refusal.the-variants as N
+use Rattle.spec.specs.declared.Report.{Report}
+use Rattle.spec.specs.declared.Report.the-variants as R
+use Rattle.words.specs.Values.{length-packed, packed-filled, filled-test}
+use Rattle.theory_log.specs.Batch.{put, delete, Right}
+use Rattle.theory_cuts.specs.Accepted.{Ok}
+use Rattle.theory_cuts.proofs.Opening.{opens-ok}
+use Rattle.volatile.specs.Known.{Bounded}
+use Rattle.volatile.proofs.Image.{image-bounded}
+use Rattle.session.specs.State.{batchItems, stateAt, stateOf}
+use Rattle.session.specs.Fits.{BatchFits, Fits}
+use Rattle.batch.specs.Added.{Added}
+use Rattle.batch.proofs.Items.{AtZero, zero-more, items-zero, items-read}
+use Rattle.batch.proofs.Count.{isOld, freshWith}
+use Rattle.batch.proofs.Fits.{fits-staged, batch-more}
+use Rattle.recovery.specs.declared.Gated.{Gated}
+use Rattle.recovery.specs.declared.Gated.the-variants as G
+use Rattle.recovery.specs.Asks.{Asking}
+use Rattle.recovery.proofs.Gates.{refused, AtRest}
+use Rattle.calls.specs.declared.Newest.{Newest}
+use Rattle.calls.specs.declared.Admission.{Admission}
+use Rattle.calls.specs.declared.Admission.the-variants as A
+use Rattle.calls.specs.declared.Moved.{Moved}
+use Rattle.calls.specs.Staging.{NewestOf, presentBy, admitOf, Staged}
+use Rattle.calls.proofs.Shows as Shows
+use Rattle.calls.proofs.Known.{Says, newest-says}
+use Rattle.calls.proofs.Admits.{planBy, Admitting, admitted, turned, fresh-then, plan-admits}
+
+-- ## The new entries are right
+
+pub put-right : (v : List ℕ) → AreBytes v → (version key : ℕ) → 1 ≤ version → version ≤ maxVersion → length v ≤ maxInLog → Right (entry 1 0 version (length v) key (packed v))
+put-right v small version key l h n = record { kind = put n; low = l; high = omega arith; words = length-packed v; fill = fill _ }
+  where
+    fill : (head : ℕ) → filled 0 (length v) (head ∷ key ∷ packed v) ≡ true
+    fill head = let q : 2 + length v / 8 ≡ suc (suc (length v / 8)) = omega arith in rw q (filled-test (length v) (packed v) (packed-filled v small))
+
+pub delete-right : (version key : ℕ) → 1 ≤ version → version ≤ maxVersion → Right (entry 2 0 version 0 key [])
+delete-right version key l h = record { kind = delete; low = l; high = omega arith; words = refl; fill = refl }
+
+module _ (c : Control) (k : Setup) (b bytes table : List ℕ) where
+  abbrev s : Session
+  s = record { control = c; setup = k; buffer = b }
+
+  -- a record at rest has the items that its words say
+  rest-items : (items : List Entry) → stateOf s ≡ Rest (k .image) (k .table) items → items ≡ batchItems c b
+  unfolding stateAt
+  rest-items items e = go (eqb (c .phase) 1) (eqb (c .phase) 2) (eqb (c .phase) 3) (eqb (c .phase) 4) (eqb (c .phase) 5) _ _ _ _ e
+    where
+      go : (b1 b2 b3 b4 b5 : Bool) (found : List Entry) (a3 a4 a5 : List Action)
+          → pick b1 (Rest (k .image) (k .table) found) (pick b2 (Busy (k .image) (k .table) found Staging []) (pick b3 (Busy (k .image) (k .table) found Committing a3)
+          (pick b4 (Formatting false (k .image) (k .table) a4) (pick b5 (Formatting true (k .image) (k .table) a5) Closed)))) ≡ Rest (k .image) (k .table) items
+          → items ≡ found
+      go true b2 b3 b4 b5 found a3 a4 a5 q = cc
+      go false true b3 b4 b5 found a3 a4 a5 q = absurd (let z : _≡_ {A = ℕ} 0 1 = cc in omega arith)
+      go false false true b4 b5 found a3 a4 a5 q = absurd (let z : _≡_ {A = ℕ} 0 1 = cc in omega arith)
+      go false false false true b5 found a3 a4 a5 q = absurd (let z : _≡_ {A = ℕ} 0 1 = cc in omega arith)
+      go false false false false true found a3 a4 a5 q = absurd (let z : _≡_ {A = ℕ} 0 1 = cc in omega arith)
+      go false false false false false found a3 a4 a5 q = absurd (let z : _≡_ {A = ℕ} 0 1 = cc in omega arith)
+
+  abbrev ws : List ℕ
+  ws = wordsOf bytes
+
+  abbrev chunks : ℕ
+  chunks = chunksIn 12 (length bytes)
+
+  module _ (g : Gated) (asks : Asking c k (length bytes) (length table) g) (passes : g ≡ G.Open) where
+    opened : gate (stateOf s) (length bytes) (length table) ≡ none
+    opened = Shows.opened c k b bytes table g asks passes
+
+    barred : (r r′ : Report) → refusedBy (gate (stateOf s) (length bytes) (length table)) ≡ some r′ → r ≡ r′
+    barred = Shows.passed c k b bytes table g asks passes
+
+    -- ## What fitting memory says
+
+    module _ (f : Fits s ws table) where
+      rests : AtRest s (length bytes) (length table) ws table
+      rests = Shows.rests c k b bytes table g asks passes f
+
+      abbrev es : List Entry
+      es = rests .fits .entries
+
+      abbrev items : List Entry
+      items = rests .items
+
+      batch : BatchFits c b es items
+      batch = rests .fits .batch
+
+      ok : Ok 12 (chunksIn 12 (k .image)) ws es
+      ok = let r = rests .fits in opens-ok 12 (omega arith) (omega arith) (k .image) (k .table) ws es (r .long) (r .accepted) .0
+
+      parsed : imageEntries 12 chunks ws ≡ Entries es
+      parsed = rw (ap (chunksIn 12) (rests .same-bytes)) at (ok .parsed)
+
+      small : Bounded es
+      small = image-bounded 12 (omega arith) (omega arith) (chunksIn 12 (k .image)) ws es (ok .parsed) (ok .most)
+
+      says : (key : ℕ) (n : Newest) → NewestOf b (c .words) table key n → Says key es items ws n
+      says key n is = newest-says key chunks ws es items parsed small (batch .counts) table (c .keys) (rests .fits .built .indexed) n (is items (fits-staged c b es items batch))
+
+    -- ## Too long
+
+    pub put-long : (key : ℕ) (v : List ℕ) → 256 < length v → Called stateOf Fits 12 256 (Put key v) s s bytes bytes table table (R.Refused N.TooLong)
+    unfolding planPut
+    put-long key v l =
+        refused 12 256 s bytes table N.TooLong (Put key v) refl (λ f. f) (λ f. sym (rw (opened, lt-leb (length v) 256 l)))
+        (barred (R.Refused N.TooLong)) (inr (inr (inr (inl refl)))) (refl, refl)
+
+    module _ (key : ℕ) (n : Newest) (is : NewestOf b (c .words) table key n) where
+      abbrev room : ℕ
+      room = capacity (length table)
+
+      -- ## One more item
+
+      module _ (e : Entry) (fresh : ℕ) (adm : Admitting c (n .version) (2 + length (e .value)) room fresh) (after : List ℕ) (words : ℕ) (added : Added b after (c .words) words e) where
+        abbrev s′ : Session
+        s′ = record { control = record { phase = 2; next = 0; items = c .items + 1; words = words; keys = c .keys; fresh = fresh }; setup = k; buffer = after }
+
+        -- for any memory
+        steps : stepsLeft (stateOf s′) ≡ 1
+        unfolding stateAt
+        steps = refl
+
+        module _ (right : Right e) (in-log : e .placement ≡ 0) (at-zero : e .at ≡ 0) (version : e .version ≡ suc (n .version)) (of-key : e .key ≡ key) (f : Fits s ws table) where
+          abbrev more : List Entry
+          more = items f ++ (e ∷ [])
+
+          counted : fresh ≡ freshWith (isOld (e .key) (es f) (items f)) (c .fresh)
+          counted =
+              let y = says f key n is in
+              rw of-key (adm .counted ∙ sym (fresh-then (isOld key (es f) (items f)) (n .version) (c .fresh) (y .old)))
+
+          batch-then : BatchFits (s′ .control) after (es f) more
+          batch-then =
+              let y = says f key n is in
+              let v : e .version ≡ suc (highest (e .key) (es f ++ items f)) = rw of-key (version ∙ ap suc (y .version)) in
+              batch-more c b (es f) (items f) (batch f) (s′ .control) after e added (adm .fits) (adm .few) right in-log v refl refl counted
+
+          items-then : batchItems (s′ .control) after ≡ more
+          items-then =
+              let r = rest-items (items f) (rests f .state) in
+              let z : AtZero (items f) = rw r (items-zero c b) in
+              items-read (s′ .control) after more (batch-then .written) (batch-then .right) (zero-more (items f) e z at-zero)
+
+          state-then : stateOf s′ ≡ Busy (k .image) (k .table) more Staging []
+          unfolding stateAt
+          state-then = rw items-then
+
+          fits-then : Fits s′ ws table
+          fits-then =
+              let r = rests f .fits in
+              let q = adm .keys in
+              let l = r .lent in (
+                added .long ∙ f .0,
+                rw state-then (record {
+                  entries = es f;
+                  accepted = r .accepted;
+                  long = r .long;
+                  lent = r .lent;
+                  built = record { indexed = r .built .indexed; blocks = λ u. added .bits u ∙ r .built .blocks u };
+                  batch = batch-then;
+                  table-room = rw l at q;
+                }),
+              )
+
+        -- the call, by what it answers and leaves
+        staged : (call : Call) → (Ready stateOf Fits 12 256 call s ws table → Fits s ws table) → ((Fit : Type 0) → Fit → Again call (R.Begun 0) Fit) → Barred stateOf Fits 12 256 call s bytes table (R.Begun 0)
+            → Right e → e .placement ≡ 0 → e .at ≡ 0 → e .version ≡ suc (n .version) → e .key ≡ key
+            → ((f : Fits s ws table) → (answer 12 256 call (stateOf s) ws (length bytes) (length table) ≡ R.Begun 0)
+            × (next 12 256 call (stateOf s) ws (length bytes) (length table) ≡ Busy (k .image) (k .table) (items f ++ (e ∷ [])) Staging []))
+            → Called stateOf Fits 12 256 call s s′ bytes bytes table table (R.Begun 0)
+        staged call ready again bars right in-log at-zero version of-key goes = record {
+          exact = λ r. let f = ready r in record {
+            answered = sym (goes f .0);
+            became = state-then right in-log at-zero version of-key f ∙ sym (goes f .1);
+            fits = again _ (fits-then right in-log at-zero version of-key f);
+          };
+          first = bars;
+          image = refl;
+          sized = refl;
+          outcome = (steps, refl);
+        }
+
+      -- ## Put
+
+      module _ (v : List ℕ) where
+        abbrev need-words : ℕ
+        need-words = 2 + (length v + 7) / 8
+
+        put-plan : (l : length v ≤ 256) (f : Fits s ws table)
+            → planPut 12 256 chunks ws (length table) (entriesIn 12 chunks ws) (itemsOf (stateOf s)) key v
+            ≡ planBy (admitOf c (n .version) need-words room) (Begin (items f ++ (entry 1 0 (suc (n .version)) (length v) key (packed v) ∷ [])) Staging [])
+        unfolding planPut
+        put-plan l f =
+            let y = says f key n is in
+            rw (parsed f, rests f .state, le-leb (length v) 256 l)
+            (plan-admits c b (es f) (items f) (batch f) key (n .version) need-words (length table) (y .version) (y .old) _
+            ∙ ap (λ (h : ℕ). planBy (admitOf c (n .version) need-words room) (Begin (items f ++ (entry 1 0 (suc h) (length v) key (packed v) ∷ [])) Staging [])) (sym (y .version)))
+
+        module _ (l : length v ≤ 256) (a : Admission) (told : a ≡ admitOf c (n .version) need-words room) where
+          pub put-refused : (x : Refusal) → a ≡ A.Refused x → Called stateOf Fits 12 256 (Put key v) s s bytes bytes table table (R.Refused x)
+          put-refused x e =
+              refused 12 256 s bytes table x (Put key v) refl (λ f. f) (λ f. sym (rw (opened, put-plan l f, sym told ∙ e)))
+              (barred (R.Refused x)) (inr (inr (inr (inr (turned c (n .version) need-words room x (sym told ∙ e)))))) (refl, refl)
+
+          pub put-done : (small : AreBytes v) (fresh : ℕ) → a ≡ A.Admitted fresh → (after : List ℕ) (m : Moved)
+              → Staged c k b after fresh (entry 1 0 (n .version + 1) (length v) key (packed v)) m
+              → Called stateOf Fits 12 256 (Put key v) s (record { control = m .control; setup = m .setup; buffer = after }) bytes bytes table table (m .report)
+          unfolding next
+          put-done small fresh e after m st = rw (st .control, st .setup, st .report)
+              (staged item fresh adm after (st .words) (st .added) (Put key v) (λ f. f) (λ Fit f. f) (barred (R.Begun 0)) right refl refl next-is refl
+              (λ f. (rw (opened, plan f), rw (opened, plan f, rests f .state))))
+            where
+              next-is : n .version + 1 ≡ suc (n .version)
+              next-is = omega arith
+
+              item : Entry
+              item = entry 1 0 (n .version + 1) (length v) key (packed v)
+
+              adm : Admitting c (n .version) (2 + length (packed v)) room fresh
+              adm = rw (length-packed v) (admitted c (n .version) need-words room fresh (sym told ∙ e))
+
+              right : Right item
+              right = let u = adm .unspent in put-right v small (n .version + 1) key (omega arith) (omega arith) l
+
+              plan : (f : Fits s ws table) → planPut 12 256 chunks ws (length table) (entriesIn 12 chunks ws) (itemsOf (stateOf s)) key v ≡ Begin (items f ++ (item ∷ [])) Staging []
+              plan f = put-plan l f ∙ rw (sym told ∙ e, next-is)
+
+      -- ## Delete
+
+      delete-plan : presentBy ws n ≡ true → (f : Fits s ws table)
+          → planDelete (length table) (entriesIn 12 chunks ws) (itemsOf (stateOf s)) key
+          ≡ planBy (admitOf c (n .version) 2 room) (Begin (items f ++ (entry 2 0 (suc (n .version)) 0 key [] ∷ [])) Staging [])
+      unfolding planDelete
+      delete-plan h f =
+          let y = says f key n is in
+          rw (parsed f, rests f .state, sym (y .shown) ∙ h)
+          (plan-admits c b (es f) (items f) (batch f) key (n .version) 2 (length table) (y .version) (y .old) _
+          ∙ ap (λ (h′ : ℕ). planBy (admitOf c (n .version) 2 room) (Begin (items f ++ (entry 2 0 (suc h′) 0 key [] ∷ [])) Staging [])) (sym (y .version)))
+
+      pub delete-absent : presentBy ws n ≡ false → Called stateOf Fits 12 256 (Delete key) s s bytes bytes table table (R.Refused N.KeyAbsent)
+      unfolding planDelete
+      delete-absent h =
+          refused 12 256 s bytes table N.KeyAbsent (Delete key) refl (λ f. f) (λ f. sym (rw (opened, parsed f, rests f .state, sym (says f key n is .shown) ∙ h)))
+          (barred (R.Refused N.KeyAbsent)) (inr (inr (inr (inl refl)))) (refl, refl)
+
+      module _ (h : presentBy ws n ≡ true) (a : Admission) (told : a ≡ admitOf c (n .version) 2 room) where
+        pub delete-refused : (x : Refusal) → a ≡ A.Refused x → Called stateOf Fits 12 256 (Delete key) s s bytes bytes table table (R.Refused x)
+        delete-refused x e =
+            refused 12 256 s bytes table x (Delete key) refl (λ f. f) (λ f. sym (rw (opened, delete-plan h f, sym told ∙ e)))
+            (barred (R.Refused x)) (inr (inr (inr (inr (turned c (n .version) 2 room x (sym told ∙ e)))))) (refl, refl)
+
+        pub delete-done : (fresh : ℕ) → a ≡ A.Admitted fresh → (after : List ℕ) (m : Moved) → Staged c k b after fresh (entry 2 0 (n .version + 1) 0 key []) m
+            → Called stateOf Fits 12 256 (Delete key) s (record { control = m .control; setup = m .setup; buffer = after }) bytes bytes table table (m .report)
+        unfolding next
+        delete-done fresh e after m st = rw (st .control, st .setup, st .report)
+            (staged item fresh adm after (st .words) (st .added) (Delete key) (λ f. f) (λ Fit f. f) (barred (R.Begun 0)) right refl refl next-is refl
+            (λ f. (rw (opened, plan f), rw (opened, plan f, rests f .state))))
+          where
+            next-is : n .version + 1 ≡ suc (n .version)
+            next-is = omega arith
+
+            item : Entry
+            item = entry 2 0 (n .version + 1) 0 key []
+
+            adm : Admitting c (n .version) 2 room fresh
+            adm = admitted c (n .version) 2 room fresh (sym told ∙ e)
+
+            right : Right item
+            right = let u = adm .unspent in delete-right (n .version + 1) key (omega arith) (omega arith)
+
+            plan : (f : Fits s ws table) → planDelete (length table) (entriesIn 12 chunks ws) (itemsOf (stateOf s)) key ≡ Begin (items f ++ (item ∷ [])) Staging []
+            plan f = delete-plan h f ∙ rw (sym told ∙ e, next-is)

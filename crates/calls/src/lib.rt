@@ -1,0 +1,419 @@
+// The begin of the calls that have no place to find: formatting, staging and abandoning. A core takes the record's small parts
+// by value and its buffer lent, and answers the next ones with the report.
+ghost use mathlib.Core.Path.{_≡_};
+ghost use Prim.Native.Nat.{_≤_, _<_};
+ghost use lib.ListN.{getD};
+ghost use Rattle.spec.specs.Words.{wordsOf, packed};
+ghost use Rattle.spec.specs.Header.{bitOf, headerMap};
+ghost use Rattle.spec.specs.Log.{firstOf};
+ghost use Rattle.spec.specs.Calls.{Format, Put, Delete, Abandon, entry};
+ghost use Rattle.spec.specs.Contract.{Called};
+ghost use Rattle.session.specs.State.{stateOf};
+ghost use Rattle.session.specs.Fits.{Fits};
+ghost use Rattle.calls.specs.Begun.{numberIn, unfinishedAt, formattingAt};
+ghost use Rattle.calls.specs.Staging.{NewestOf, putIn, presentBy, newKeys, admitOf, Staged};
+use recovery::Gated;
+use spec::Control;
+use spec::FirstWord;
+use spec::Given;
+use spec::Refusal;
+use spec::Report;
+use spec::Setup;
+
+// The record's small parts after a call, and its report.
+pub struct Moved {
+    pub control: Control,
+    pub setup: Setup,
+    pub report: Report,
+}
+
+// ABANDON
+// Forgets the staged items: 14 if there are none.
+pub fn abandon_core(
+    control: Control,
+    setup: Setup,
+    buffer: &[u64; 1152],
+    image: &[u8],
+    table: &[u64],
+) -> Moved
+    ensures { λ r. ⌜ Called stateOf Fits 12 256 Abandon (record { control = control; setup = setup; buffer = now (buffer .entry) }) (record { control = r .control; setup = r .setup; buffer = now (buffer .entry) }) (now (image .entry)) (now (image .entry)) (now (table .entry)) (now (table .entry)) (r .report) ⌝ }
+{
+    let g = recovery::gate(control, setup, image.len(), table.len());
+    match g {
+        Gated::Refused(n) => Moved {
+            control,
+            setup,
+            report: Report::Refused(n),
+        },
+        Gated::Open => {
+            if control.items == 0 {
+                return Moved {
+                    control,
+                    setup,
+                    report: Report::Refused(Refusal::NothingStaged),
+                };
+            }
+            let next = Control {
+                phase: 1,
+                next: 0,
+                items: 0,
+                words: 0,
+                keys: control.keys,
+                fresh: 0,
+            };
+            Moved {
+                control: next,
+                setup,
+                report: Report::Abandoned,
+            }
+        }
+    }
+}
+
+// FORMAT
+// The bit of the header's map for a number that is given.
+fn bit(b: u64, given: Given) -> u64
+    requires { ⌜ b ≤ 4 ⌝ }
+    ensures { λ r. ⌜ (r ≡ bitOf b given) × (r ≤ 4) ⌝ }
+{
+    match given {
+        Given::Number(_) => b,
+        Given::Absent => 0,
+    }
+}
+
+fn header_map(station: Given, centre: Given) -> u64
+    ensures { λ r. ⌜ r ≡ headerMap station centre ⌝ }
+{
+    1 + bit(2, station) + bit(4, centre)
+}
+
+// The number given, 0 where none is.
+fn number_in(given: Given) -> u64
+    ensures { λ r. ⌜ r ≡ numberIn given ⌝ }
+{
+    match given {
+        Given::Number(x) => x,
+        Given::Absent => 0,
+    }
+}
+
+// Whether a call is unfinished in a phase.
+fn is_unfinished(phase: u64) -> bool
+    ensures { λ r. ⌜ r ≡ unfinishedAt phase ⌝ }
+{
+    if 2 <= phase {
+        return phase <= 5;
+    }
+    false
+}
+
+// The phase of a formatting that is begun in a phase with nothing unfinished.
+fn formatting_phase(phase: u64) -> u64
+    ensures { λ r. ⌜ r ≡ formattingAt phase ⌝ }
+{
+    if phase == 1 { 5 } else { 4 }
+}
+
+// 1, 8, or a formatting with what it was told.
+pub fn format_core(
+    control: Control,
+    setup: Setup,
+    buffer: &[u64; 1152],
+    image: &[u8],
+    table: &[u64],
+    station: Given,
+    centre: Given,
+) -> Moved
+    ensures { λ r. ⌜ Called stateOf Fits 12 256 (Format station centre) (record { control = control; setup = setup; buffer = now (buffer .entry) }) (record { control = r .control; setup = r .setup; buffer = now (buffer .entry) }) (now (image .entry)) (now (image .entry)) (now (table .entry)) (now (table .entry)) (r .report) ⌝ }
+{
+    let bytes = image.len();
+    let words = table.len();
+    if recovery::length_allowed(bytes) {
+        if is_unfinished(control.phase) {
+            return Moved {
+                control,
+                setup,
+                report: Report::Refused(Refusal::Unfinished),
+            };
+        }
+        let begun = Control {
+            phase: formatting_phase(control.phase),
+            next: 0,
+            items: 0,
+            words: 0,
+            keys: 0,
+            fresh: 0,
+        };
+        let told = Setup {
+            image: bytes,
+            table: words,
+            chunk: 0,
+            old: 0,
+            lines: 0,
+            fields: header_map(station, centre),
+            station: number_in(station),
+            centre: number_in(centre),
+        };
+        Moved {
+            control: begun,
+            setup: told,
+            report: Report::Begun(582),
+        }
+    } else {
+        Moved {
+            control,
+            setup,
+            report: Report::Refused(Refusal::ImageLength),
+        }
+    }
+}
+
+// STAGING
+// What is known of a key: the highest version, staged items counted, 0 where it has none; whether it is staged, and then the
+// operation of its last staged item; else the place of its chosen entry.
+pub struct Newest {
+    pub version: u64,
+    pub staged: bool,
+    pub op: u64,
+    pub place: usize,
+}
+
+fn known_of(buffer: &[u64; 1152], words: usize, table: &[u64], key: u64) -> Newest
+    ensures { λ r. ⌜ NewestOf (now (buffer .entry)) words (now (table .entry)) key r ⌝ }
+{
+    let last = batch::last_staged(buffer, words, key);
+    if last.version == 0 {
+        let word = index::look(table, key);
+        if word == 0 {
+            return Newest {
+                version: 0,
+                staged: false,
+                op: 0,
+                place: 0,
+            };
+        }
+        let info = index::unpack(word);
+        return Newest {
+            version: info.version,
+            staged: false,
+            op: 0,
+            place: info.place as usize,
+        };
+    }
+    Newest {
+        version: last.version,
+        staged: true,
+        op: last.op,
+        place: 0,
+    }
+}
+
+// Whether the entry at a word of the image is a put.
+fn is_put(image: &[u8], place: usize) -> bool
+    ensures { λ r. ⌜ r ≡ putIn (firstOf (getD (wordsOf (now (image .entry))) place 0)) ⌝ }
+{
+    let first = codec::first_of(words::load(image, place));
+    match first {
+        FirstWord::Padding => false,
+        FirstWord::Wrong => false,
+        FirstWord::Entry {
+            op,
+            placement: _,
+            version: _,
+            field: _,
+        } => op == 1,
+    }
+}
+
+fn is_present(image: &[u8], known: Newest) -> bool
+    ensures { λ r. ⌜ r ≡ presentBy (wordsOf (now (image .entry))) known ⌝ }
+{
+    if known.version == 0 {
+        return false;
+    }
+    if known.staged {
+        return known.op == 1;
+    }
+    is_put(image, known.place)
+}
+
+// Whether one more item is staged: a refusal, or the number of staged keys that are not known, then.
+pub enum Admission {
+    Refused(Refusal),
+    Admitted(usize),
+}
+
+fn new_keys(version: u64) -> usize
+    ensures { λ r. ⌜ r ≡ newKeys version ⌝ }
+{
+    if version == 0 { 1 } else { 0 }
+}
+
+// 12, 10, 7 for an item of `more` words, where a table holds `room` keys; `version` is the key's highest so far.
+fn admit(control: Control, version: u64, more: usize, room: usize) -> Admission
+    ensures { λ r. ⌜ r ≡ admitOf control version more room ⌝ }
+{
+    if 1_048_575 <= version {
+        return Admission::Refused(Refusal::VersionSpent);
+    }
+    if 16 <= control.items {
+        return Admission::Refused(Refusal::BatchFull);
+    }
+    let words = control.words;
+    if 512 < words {
+        return Admission::Refused(Refusal::BatchFull);
+    }
+    if 512 - words < more {
+        return Admission::Refused(Refusal::BatchFull);
+    }
+    let keys = control.keys;
+    if room < keys {
+        return Admission::Refused(Refusal::TableFull);
+    }
+    let left = room - keys;
+    let fresh = control.fresh;
+    if left < fresh {
+        return Admission::Refused(Refusal::TableFull);
+    }
+    let new = new_keys(version);
+    if left - fresh < new {
+        return Admission::Refused(Refusal::TableFull);
+    }
+    Admission::Admitted(fresh + new)
+}
+
+// One more item behind the others; the call then has no action, and ends with its next step.
+fn stage(
+    control: Control,
+    setup: Setup,
+    buffer: &mut [u64; 1152],
+    fresh: usize,
+    op: u64,
+    version: u64,
+    field: u64,
+    key: u64,
+    value: &[u8],
+) -> Moved
+    requires { ⌜ control .items < 16 ⌝ }
+    ensures { λ r. ⌜ Staged control setup (now (buffer .entry)) (now (buffer .exit)) fresh (entry op 0 version field key (packed (now (value .entry)))) r ⌝ }
+{
+    let words = batch::add_entry(buffer, control.words, op, 0, version, field, key, value);
+    let next = Control {
+        phase: 2,
+        next: 0,
+        items: control.items + 1,
+        words,
+        keys: control.keys,
+        fresh,
+    };
+    Moved {
+        control: next,
+        setup,
+        report: Report::Begun(0),
+    }
+}
+
+// Stages a put: 9, 12, 10, 7. All is asked before the buffer is written.
+pub fn put_core(
+    control: Control,
+    setup: Setup,
+    buffer: &mut [u64; 1152],
+    image: &[u8],
+    table: &[u64],
+    key: u64,
+    value: &[u8],
+) -> Moved
+    ensures { λ r. ⌜ Called stateOf Fits 12 256 (Put key (now (value .entry))) (record { control = control; setup = setup; buffer = now (buffer .entry) }) (record { control = r .control; setup = r .setup; buffer = now (buffer .exit) }) (now (image .entry)) (now (image .entry)) (now (table .entry)) (now (table .entry)) (r .report) ⌝ }
+{
+    let g = recovery::gate(control, setup, image.len(), table.len());
+    match g {
+        Gated::Refused(n) => Moved {
+            control,
+            setup,
+            report: Report::Refused(n),
+        },
+        Gated::Open => {
+            let bytes = value.len();
+            if 256 < bytes {
+                return Moved {
+                    control,
+                    setup,
+                    report: Report::Refused(Refusal::TooLong),
+                };
+            }
+            let known = known_of(buffer, control.words, table, key);
+            let more = 2 + (bytes + 7) / 8;
+            let a = admit(control, known.version, more, index::capacity(table.len()));
+            match a {
+                Admission::Refused(n) => Moved {
+                    control,
+                    setup,
+                    report: Report::Refused(n),
+                },
+                Admission::Admitted(fresh) => stage(
+                    control,
+                    setup,
+                    buffer,
+                    fresh,
+                    1,
+                    known.version + 1,
+                    bytes as u64,
+                    key,
+                    value,
+                ),
+            }
+        }
+    }
+}
+
+// Stages a delete: 11, 12, 10, 7.
+pub fn delete_core(
+    control: Control,
+    setup: Setup,
+    buffer: &mut [u64; 1152],
+    image: &[u8],
+    table: &[u64],
+    key: u64,
+) -> Moved
+    ensures { λ r. ⌜ Called stateOf Fits 12 256 (Delete key) (record { control = control; setup = setup; buffer = now (buffer .entry) }) (record { control = r .control; setup = r .setup; buffer = now (buffer .exit) }) (now (image .entry)) (now (image .entry)) (now (table .entry)) (now (table .entry)) (r .report) ⌝ }
+{
+    let g = recovery::gate(control, setup, image.len(), table.len());
+    match g {
+        Gated::Refused(n) => Moved {
+            control,
+            setup,
+            report: Report::Refused(n),
+        },
+        Gated::Open => {
+            let known = known_of(buffer, control.words, table, key);
+            if is_present(image, known) {
+                let a = admit(control, known.version, 2, index::capacity(table.len()));
+                match a {
+                    Admission::Refused(n) => Moved {
+                        control,
+                        setup,
+                        report: Report::Refused(n),
+                    },
+                    Admission::Admitted(fresh) => stage(
+                        control,
+                        setup,
+                        buffer,
+                        fresh,
+                        2,
+                        known.version + 1,
+                        0,
+                        key,
+                        &image[0..0],
+                    ),
+                }
+            } else {
+                Moved {
+                    control,
+                    setup,
+                    report: Report::Refused(Refusal::KeyAbsent),
+                }
+            }
+        }
+    }
+}
