@@ -1,0 +1,82 @@
+// The public calls of the counter level: thin functions over the station record, which is lent as one `&mut` and altered in place.
+// Each copies the record's small parts, lends its buffer where it lies to the core that does the work, and stores the small parts back.
+// Every call is lent record, image and key table. None has a `requires`: what each answers and leaves is said by `Called`.
+ghost use mathlib.Core.Path.{_≡_};
+ghost use Rattle.spec.specs.Calls.{Open, Put, Delete, Commit, Abandon, Step, Format};
+ghost use Rattle.spec.specs.Contract.{Called};
+ghost use Rattle.session.specs.State.{stateOf};
+ghost use Rattle.session.specs.Fits.{Fits};
+use spec::Report;
+use spec::Session;
+
+// Opens the register of the lent image, whatever record and table hold: the refusal 1 to 7, or opened.
+pub fn open_register(s: &mut Session, image: &[u8], table: &mut [u64]) -> Report
+    ensures { λ r. ⌜ Called stateOf Fits 12 256 Open (now (s .entry)) (now (s .exit)) (now (image .entry)) (now (image .entry)) (now (table .entry)) (now (table .exit)) r ⌝ }
+{
+    let c = s.control;
+    let k = s.setup;
+    let m = recovery::open_core(c, k, &mut s.buffer, image, table);
+    s.control = m.control;
+    s.setup = m.setup;
+    m.report
+}
+
+// Begins staging a put of up to 256 bytes.
+pub fn stage_put(s: &mut Session, image: &[u8], table: &[u64], key: u64, value: &[u8]) -> Report
+    ensures { λ r. ⌜ Called stateOf Fits 12 256 (Put key (now (value .entry))) (now (s .entry)) (now (s .exit)) (now (image .entry)) (now (image .entry)) (now (table .entry)) (now (table .entry)) r ⌝ }
+{
+    let c = s.control;
+    let k = s.setup;
+    let m = calls::put_core(c, k, &mut s.buffer, image, table, key, value);
+    s.control = m.control;
+    s.setup = m.setup;
+    m.report
+}
+
+// Begins staging a delete.
+pub fn stage_delete(s: &mut Session, image: &[u8], table: &[u64], key: u64) -> Report
+    ensures { λ r. ⌜ Called stateOf Fits 12 256 (Delete key) (now (s .entry)) (now (s .exit)) (now (image .entry)) (now (image .entry)) (now (table .entry)) (now (table .entry)) r ⌝ }
+{
+    let c = s.control;
+    let k = s.setup;
+    let m = calls::delete_core(c, k, &mut s.buffer, image, table, key);
+    s.control = m.control;
+    s.setup = m.setup;
+    m.report
+}
+
+// Begins the commit of the staged items.
+pub fn commit(s: &mut Session, image: &[u8], table: &[u64]) -> Report
+    ensures { λ r. ⌜ Called stateOf Fits 12 256 Commit (now (s .entry)) (now (s .exit)) (now (image .entry)) (now (image .entry)) (now (table .entry)) (now (table .entry)) r ⌝ }
+{
+    let c = s.control;
+    let k = s.setup;
+    let m = stepping::commit_core(c, k, &s.buffer, image, table);
+    s.control = m.control;
+    s.setup = m.setup;
+    m.report
+}
+
+// Forgets the staged items.
+pub fn abandon(s: &mut Session, image: &[u8], table: &[u64]) -> Report
+    ensures { λ r. ⌜ Called stateOf Fits 12 256 Abandon (now (s .entry)) (now (s .exit)) (now (image .entry)) (now (image .entry)) (now (table .entry)) (now (table .entry)) r ⌝ }
+{
+    let c = s.control;
+    let k = s.setup;
+    let m = calls::abandon_core(c, k, &s.buffer, image, table);
+    s.control = m.control;
+    s.setup = m.setup;
+    m.report
+}
+
+// One step of the call that is begun: one store, flush or fence, done on the image and reported; or the end; or idle.
+pub fn step(s: &mut Session, image: &mut [u8], table: &mut [u64]) -> Report
+    ensures { λ r. ⌜ Called stateOf Fits 12 256 Step (now (s .entry)) (now (s .exit)) (now (image .entry)) (now (image .exit)) (now (table .entry)) (now (table .exit)) r ⌝ }
+{
+    let c = s.control;
+    let k = s.setup;
+    let m = stepping::step_core(c, k, &mut s.buffer, image, table);
+    s.control = m.control;
+    s.setup = m.setup;
+    m.report
+}
