@@ -80,6 +80,7 @@ pub enum Report {
 // The numbers that change from call to call: what is begun (0 nothing open, 1 open and at rest, 2 a staging, 3 a commit,
 // 4 a formatting begun with nothing open, 5 one begun on an open register), the number of its next action, the staged
 // items, their words, the known keys, and the staged keys that are not known.
+#[repr(C)]
 pub struct Control {
     pub phase: u64,
     pub next: usize,
@@ -92,6 +93,7 @@ pub struct Control {
 // The numbers that a step only reads: the image's bytes and the table's words at the opening (at a formatting's begin, once
 // that is begun), where the begun call writes (chunk, its directory word, its committed lines), and what a formatting was told
 // (the header's map of fields, station and centre number).
+#[repr(C)]
 pub struct Setup {
     pub image: usize,
     pub table: usize,
@@ -103,8 +105,9 @@ pub struct Setup {
     pub centre: u64,
 }
 
-// The station record. Its buffer has the staged entries (512 words), a large value on its way or the entries that
+// The station record: 64-bit numbers alone, in this order, so that a host in C may lend any memory of its size. Its buffer has the staged entries (512 words), a large value on its way or the entries that
 // a cleaning keeps (512 words), and a bit for each unit that starts a block in use (126 words).
+#[repr(C)]
 pub struct Session {
     pub control: Control,
     pub setup: Setup,
