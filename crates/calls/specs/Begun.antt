@@ -1,11 +1,16 @@
 -- What the cores of the calls read off the record and the arguments.
 -- Assumes nothing.
-use mathlib.Core.Bool.{Bool}
+use mathlib.Core.Bool.{Bool, true, false}
 use Prim.Native.Nat.{ℕ}
 use lib.Dec.{eqb, leb}
 use Rattle.spec.specs.Basics.{pick, both}
 use Rattle.spec.specs.declared.Given.{Given}
 use Rattle.spec.specs.declared.Given.the-variants as G
+
+-- a number told with a mark whether it is given
+abbrev pub given : Bool → ℕ → Given
+given true x = G.Number x
+given false x = G.Absent
 
 -- the number given, 0 where none is
 abbrev pub numberIn : Given → ℕ

@@ -10,7 +10,7 @@ ghost use Rattle.spec.specs.Calls.{Format, Put, Delete, Abandon, entry};
 ghost use Rattle.spec.specs.Contract.{Called};
 ghost use Rattle.session.specs.State.{stateOf};
 ghost use Rattle.session.specs.Fits.{Fits};
-ghost use Rattle.calls.specs.Begun.{numberIn, unfinishedAt, formattingAt};
+ghost use Rattle.calls.specs.Begun.{given, numberIn, unfinishedAt, formattingAt};
 ghost use Rattle.calls.specs.Staging.{NewestOf, putIn, presentBy, newKeys, admitOf, Staged};
 use recovery::Gated;
 use spec::Control;
@@ -167,6 +167,36 @@ pub fn format_core(
             report: Report::Refused(Refusal::ImageLength),
         }
     }
+}
+
+// A number that is told with a mark whether it is given: what a host in C passes.
+fn told(is_given: bool, number: u64) -> Given
+    ensures { λ r. ⌜ r ≡ given «is_given» number ⌝ }
+{
+    if is_given {
+        Given::Number(number)
+    } else {
+        Given::Absent
+    }
+}
+
+// The same, told by marks and numbers.
+pub fn format_told(
+    control: Control,
+    setup: Setup,
+    buffer: &[u64; 1152],
+    image: &[u8],
+    table: &[u64],
+    station_given: bool,
+    station: u64,
+    centre_given: bool,
+    centre: u64,
+) -> Moved
+    ensures { λ r. ⌜ Called stateOf Fits 12 256 (Format (given «station_given» station) (given «centre_given» centre)) (record { control = control; setup = setup; buffer = now (buffer .entry) }) (record { control = r .control; setup = r .setup; buffer = now (buffer .entry) }) (now (image .entry)) (now (image .entry)) (now (table .entry)) (now (table .entry)) (r .report) ⌝ }
+{
+    let a = told(station_given, station);
+    let b = told(centre_given, centre);
+    format_core(control, setup, buffer, image, table, a, b)
 }
 
 // STAGING

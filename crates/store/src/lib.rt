@@ -6,8 +6,39 @@ ghost use Rattle.spec.specs.Calls.{Open, Put, Delete, Commit, Abandon, Step, Fo
 ghost use Rattle.spec.specs.Contract.{Called};
 ghost use Rattle.session.specs.State.{stateOf};
 ghost use Rattle.session.specs.Fits.{Fits};
+ghost use Rattle.calls.specs.Begun.{given};
 use spec::Report;
 use spec::Session;
+
+// Begins a formatting; the register's numbers are told each with a mark whether it is given.
+pub fn format(
+    s: &mut Session,
+    image: &[u8],
+    table: &[u64],
+    station_given: bool,
+    station: u64,
+    centre_given: bool,
+    centre: u64,
+) -> Report
+    ensures { λ r. ⌜ Called stateOf Fits 12 256 (Format (given «station_given» station) (given «centre_given» centre)) (now (s .entry)) (now (s .exit)) (now (image .entry)) (now (image .entry)) (now (table .entry)) (now (table .entry)) r ⌝ }
+{
+    let c = s.control;
+    let k = s.setup;
+    let m = calls::format_told(
+        c,
+        k,
+        &s.buffer,
+        image,
+        table,
+        station_given,
+        station,
+        centre_given,
+        centre,
+    );
+    s.control = m.control;
+    s.setup = m.setup;
+    m.report
+}
 
 // Opens the register of the lent image, whatever record and table hold: the refusal 1 to 7, or opened.
 pub fn open_register(s: &mut Session, image: &[u8], table: &mut [u64]) -> Report
