@@ -7,8 +7,12 @@ ghost use Rattle.spec.specs.Contract.{Called};
 ghost use Rattle.session.specs.State.{stateOf};
 ghost use Rattle.session.specs.Fits.{Fits};
 ghost use Rattle.calls.specs.Begun.{given};
+ghost use Rattle.store.specs.Look.{Reported, ReportedFor, Shown};
+use recovery::Located;
+use spec::Control;
 use spec::Report;
 use spec::Session;
+use spec::Setup;
 
 // Begins a formatting; the register's numbers are told each with a mark whether it is given.
 pub fn format(
@@ -110,4 +114,40 @@ pub fn step(s: &mut Session, image: &mut [u8], table: &mut [u64]) -> Report
     s.control = m.control;
     s.setup = m.setup;
     m.report
+}
+
+// LOOK-UP
+// The report by the record's small parts.
+fn found(control: Control, setup: Setup, image: &[u8], table: &[u64], key: u64) -> Report
+    ensures { λ r. ⌜ ReportedFor control setup key (now (image .entry)) (now (table .entry)) r ⌝ }
+{
+    let r = recovery::locate(control, setup, image, table, key);
+    match r {
+        Located::Refused(n) => Report::Refused(n),
+        Located::Part { start, length } => Report::Part { start, length },
+    }
+}
+
+// Look-up, with its report: a refusal, or where in the image the value lies. The record is only read.
+pub fn find(s: &Session, image: &[u8], table: &[u64], key: u64) -> Report
+    ensures { λ r. ⌜ Reported (now (s .entry)) key (now (image .entry)) (now (table .entry)) r ⌝ }
+{
+    let c = s.control;
+    let k = s.setup;
+    found(c, k, image, table, key)
+}
+
+// Look-up: the part of the image that holds the value, the empty part on a refusal; `answer` gets 0 or the refusal's number.
+pub fn look_up<'a>(
+    s: &Session,
+    image: &'a [u8],
+    table: &[u64],
+    key: u64,
+    answer: &mut u64,
+) -> &'a [u8]
+    ensures { λ r. ⌜ Shown (now (s .entry)) key (now (image .entry)) (now (table .entry)) (now r) (now (answer .exit)) ⌝ }
+{
+    let c = s.control;
+    let k = s.setup;
+    recovery::look_up_core(c, k, image, table, key, answer)
 }

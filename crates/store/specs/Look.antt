@@ -1,0 +1,36 @@
+-- What a look-up through the station record answers. The record, the image and the table are as they were.
+-- Assumes nothing.
+use mathlib.Core.Path.{_≡_}
+use mathlib.Core.List.{List}
+use Prim.Native.Nat.{ℕ, _+_, _≤_}
+use lib.ListN.{length}
+use Rattle.spec.specs.Calls.{LookUp}
+use Rattle.spec.specs.Contract.{Called, partBytes}
+use Rattle.spec.specs.declared.Control.{Control}
+use Rattle.spec.specs.declared.Setup.{Setup}
+use Rattle.spec.specs.declared.Session.{Session}
+use Rattle.spec.specs.declared.Report.{Report}
+use Rattle.spec.specs.declared.Report.the-variants as R
+use Rattle.session.specs.State.{stateOf}
+use Rattle.session.specs.Fits.{Fits}
+use Rattle.recovery.specs.declared.Located.{Located}
+use Rattle.recovery.specs.Look.{reportOf, InImage, numberOf, LookedUp}
+
+-- the call's report, for any memory a refusal or a part of the image
+pub record Reported (s : Session) (key : ℕ) (bytes table : List ℕ) (r : Report) : Type 0 where
+  pub called : Called stateOf Fits 12 256 (LookUp key) s s bytes bytes table table r
+  pub located : Located
+  pub is-report : r ≡ reportOf located
+  pub inside : InImage (length bytes) located
+
+-- the part itself, and 0 or the refusal's number: `located` is what the call answers
+pub record Shown (s : Session) (key : ℕ) (bytes table part : List ℕ) (answer : ℕ) : Type 0 where
+  pub located : Located
+  pub called : Called stateOf Fits 12 256 (LookUp key) s s bytes bytes table table (reportOf located)
+  pub inside : InImage (length bytes) located
+  pub is-part : part ≡ partBytes (reportOf located) bytes
+  pub is-number : answer ≡ numberOf located
+
+-- the report of a record of which the small parts are known, whatever its buffer holds
+abbrev pub ReportedFor : Control → Setup → ℕ → List ℕ → List ℕ → Report → Type 0
+ReportedFor c k key bytes table r = (b : List ℕ) → Reported (record { control = c; setup = k; buffer = b }) key bytes table r
