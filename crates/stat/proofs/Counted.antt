@@ -1,0 +1,67 @@
+-- The known keys that the record counts, on memory as our calls left it.
+-- Assumes nothing.
+use mathlib.Core.Path.{_≡_, refl, sym, _∙_, ap, subst}
+use mathlib.Core.Bool.{Bool, true, false}
+use mathlib.Core.List.{List, [], _∷_}
+use Prim.Native.Nat.{ℕ, _/_}
+use native.Mathlib.Omega.{arith}
+use lib.Dec.{eqb}
+use lib.ListN.{length}
+use Rattle.spec.specs.Basics.{pick, either}
+use Rattle.spec.specs.Places.{basePower}
+use Rattle.spec.specs.Medium.{Action}
+use Rattle.spec.specs.Log.{Entry, Parsed}
+use Rattle.spec.specs.Contents.{keysOf, listed}
+use Rattle.spec.specs.Opening.{Accepted, opening}
+use Rattle.spec.specs.Calls.{Staging, Committing, State, Closed, Rest, Busy, Formatting}
+use Rattle.spec.specs.declared.Control.{Control}
+use Rattle.spec.specs.declared.Setup.{Setup}
+use Rattle.spec.specs.declared.Session.{Session}
+use Rattle.theory_cuts.proofs.Opening.{opens-ok}
+use Rattle.session.specs.State.{stateAt}
+use Rattle.session.specs.Fits.{RestFits, CommitFits, FitsAt, Fits}
+use Rattle.stat.specs.Counts.{keyCount, Before, KnownAt, KnownBy}
+
+-- by the phase
+abbrev counts : Control → Bool
+counts c = either (eqb (c .phase) 1) (either (eqb (c .phase) 2) (eqb (c .phase) 3))
+
+-- the entries of an accepted image are those that its words say
+accepted-count : (bytes table : ℕ) (ws : List ℕ) (es : List Entry) → length ws ≡ bytes / 8 → opening basePower bytes ws table ≡ Accepted es → length (keysOf es) ≡ keyCount bytes ws
+accepted-count bytes table ws es long h = ap (λ (q : Parsed). length (keysOf (listed q))) (sym (opens-ok 12 (omega arith) (omega arith) bytes table ws es long h .0 .parsed))
+
+module _ (s : Session) (ws table : List ℕ) (items : List Entry) where
+  at-rest : RestFits s ws table items → s .control .keys ≡ keyCount (s .setup .image) ws
+  at-rest f = f .built .indexed .count ∙ accepted-count (s .setup .image) (s .setup .table) ws (f .entries) (f .long) (f .accepted)
+
+  in-commit : (rest : List Action) → CommitFits s ws table items rest → KnownAt (Busy (s .setup .image) (s .setup .table) items Committing rest) s ws (s .control .keys)
+  in-commit [] f = f .built .indexed .count ∙ accepted-count (s .setup .image) (s .setup .table) ws _ (f .long) (f .accepted)
+  in-commit (a ∷ rest) f = record { front = f .front; back = f .back; accepted = f .accepted; count = f .built .indexed .count }
+
+known-keys-are : (c : Control) → KnownBy c (pick (counts c) (c .keys) 0)
+unfolding stateAt
+known-keys-are c k b ws table f = go (eqb (c .phase) 1) (eqb (c .phase) 2) (eqb (c .phase) 3) (eqb (c .phase) 4) (eqb (c .phase) 5) _ _ _ _ (f .1)
+  where
+    s : Session
+    s = record { control = c; setup = k; buffer = b }
+
+    by : Bool → Bool → Bool → Bool → Bool → List Entry → List Action → List Action → List Action → State
+    by b1 b2 b3 b4 b5 items a3 a4 a5 =
+        pick b1 (Rest (k .image) (k .table) items) (pick b2 (Busy (k .image) (k .table) items Staging []) (pick b3 (Busy (k .image) (k .table) items Committing a3)
+        (pick b4 (Formatting false (k .image) (k .table) a4) (pick b5 (Formatting true (k .image) (k .table) a5) Closed))))
+
+    go : (b1 b2 b3 b4 b5 : Bool) (items : List Entry) (a3 a4 a5 : List Action)
+        → FitsAt (by b1 b2 b3 b4 b5 items a3 a4 a5) s ws table → KnownAt (by b1 b2 b3 b4 b5 items a3 a4 a5) s ws (pick (either b1 (either b2 b3)) (c .keys) 0)
+    go true b2 b3 b4 b5 items a3 a4 a5 g = at-rest s ws table items g
+    go false true b3 b4 b5 items a3 a4 a5 g = at-rest s ws table items g
+    go false false true b4 b5 items a3 a4 a5 g = in-commit s ws table items a3 g
+    go false false false true b5 items a3 a4 a5 g = refl
+    go false false false false true items a3 a4 a5 g = refl
+    go false false false false false items a3 a4 a5 g = refl
+
+-- what the code shows at its two ends
+pub counted-keys : (c : Control) → counts c ≡ true → KnownBy c (c .keys)
+counted-keys c h = subst (λ (t : Bool). KnownBy c (pick t (c .keys) 0)) h (known-keys-are c)
+
+pub no-keys : (c : Control) → counts c ≡ false → KnownBy c 0
+no-keys c h = subst (λ (t : Bool). KnownBy c (pick t (c .keys) 0)) h (known-keys-are c)

@@ -1,0 +1,56 @@
+-- What a station's display asks: the committed lines of an image, and the known keys of an open register.
+-- Assumes nothing.
+use mathlib.Core.Path.{_≡_}
+use mathlib.Core.List.{List, [], _∷_, _++_}
+use Prim.Native.Nat.{ℕ, _+_, _-_}
+use lib.ListN.{length}
+use Rattle.spec.specs.Basics.{upFrom}
+use Rattle.spec.specs.Places.{basePower, chunksIn}
+use Rattle.spec.specs.Medium.{Action}
+use Rattle.spec.specs.Directory.{linesOf}
+use Rattle.spec.specs.Log.{Entry, placed}
+use Rattle.spec.specs.Contents.{keysOf, entriesIn}
+use Rattle.spec.specs.Opening.{Accepted, opening}
+use Rattle.spec.specs.Calls.{Staging, Committing, Cleaning, State, Closed, Rest, Busy, Formatting, runWords}
+use Rattle.spec.specs.declared.Control.{Control}
+use Rattle.spec.specs.declared.Setup.{Setup}
+use Rattle.spec.specs.declared.Session.{Session}
+use Rattle.session.specs.State.{stateOf}
+use Rattle.session.specs.Fits.{Fits, batchPlace}
+
+abbrev pub sumOver : (ℕ → ℕ) → List ℕ → ℕ
+sumOver f [] = 0
+sumOver f (c ∷ cs) = f c + sumOver f cs
+
+-- the committed lines of the log chunks of n chunks; a chunk that is no log chunk has none
+abbrev pub linesUsed : ℕ → ℕ → List ℕ → ℕ
+linesUsed p n ws = sumOver (linesOf p ws) (upFrom 1 (n - 1))
+
+-- the known keys of an image of so many bytes whose words are ws: what refusal 7 counts
+abbrev pub keyCount : ℕ → List ℕ → ℕ
+keyCount bytes ws = length (keysOf (entriesIn basePower (chunksIn basePower bytes) ws))
+
+-- until a commit's last fence the count is that of the entries before it: with the actions to come done, the image has these and the batch
+pub record Before (s : Session) (ws : List ℕ) (items : List Entry) (rest : List Action) (n : ℕ) : Type 0 where
+  pub front : List Entry
+  pub back : List Entry
+  pub accepted : opening basePower (s .setup .image) (runWords rest ws) (s .setup .table) ≡ Accepted (front ++ (placed (batchPlace (s .setup)) items ++ back))
+  pub count : n ≡ length (keysOf (front ++ back))
+
+-- the number n is that of the known keys, by the state; no record stands for a cleaning
+abbrev pub KnownAt : State → Session → List ℕ → ℕ → Type 0
+KnownAt Closed s ws n = n ≡ 0
+KnownAt (Rest b t items) s ws n = n ≡ keyCount b ws
+KnownAt (Busy b t items Staging rest) s ws n = n ≡ keyCount b ws
+KnownAt (Busy b t items Committing []) s ws n = n ≡ keyCount b ws
+KnownAt (Busy b t items Committing (a ∷ rest)) s ws n = Before s ws items (a ∷ rest) n
+KnownAt (Busy b t items (Cleaning m) rest) s ws n = Unit {0}
+KnownAt (Formatting o b t rest) s ws n = n ≡ 0
+
+-- on memory as our calls left it
+abbrev pub Known : Session → ℕ → Type 0
+Known s n = (ws table : List ℕ) → Fits s ws table → KnownAt (stateOf s) s ws n
+
+-- the same, by the record's control alone
+abbrev pub KnownBy : Control → ℕ → Type 0
+KnownBy c n = (k : Setup) (b : List ℕ) → Known (record { control = c; setup = k; buffer = b }) n

@@ -1,0 +1,478 @@
+/* Speed of the register beside a plain C floor, in one run: a table of ratios, and with --svg a picture of it.
+ *
+ * A durable put is staging, commit and all steps, with real write-backs (clwb or the best there is) and fences; its floor
+ * makes the same words, stores, write-backs and fences in plain C, with no index and no check. The same without write-backs
+ * and fences shows what the processor spends. The floor of a look-up is one probe of a plain C hash and one read of the
+ * entry, that of an opening one pass in plain C over the same image with the same checks, which fills that hash.
+ * Both sides work on memory of the same kind (ordinary memory here: on persistent memory a fence costs more, so that the
+ * ratio of a durable put is nearer to 1). They go by turns, processor time is taken, and the best of several rounds counts,
+ * so that other work on the machine disturbs little. A ratio is our time over the floor's: 1.00 is the floor itself.
+ *
+ * bench [--svg FILE] */
+#define _GNU_SOURCE
+#include <inttypes.h>
+#include <stdbool.h>
+#include <stdio.h>
+#include <stdlib.h>
+#include <string.h>
+#include <time.h>
+
+#include "device.h"
+#include "zitskvoze.h"
+
+enum {
+    CHUNK = 512,                            /* words in a chunk */
+    CHUNKS = ZKV_CHUNKS_MAX,
+    BYTES = CHUNKS * ZKV_CHUNK_BYTES,
+    TABLE = ZKV_TABLE_WORDS_MAX,
+    SLOTS = TABLE / 2,
+    PASSES = 5,                             /* over all rows; the best pass of each side counts */
+    ROUNDS = 15,                            /* of a row in a pass */
+    BLOCKS = 8,                             /* of commits in a round, the two sides by turns */
+    COMMITS = 128,                          /* in a block */
+    OPENINGS = 10,
+    LOOKS = 500,                            /* look-ups in a block */
+    LOOK_BLOCKS_MAX = 60000 / LOOKS,
+    ROWS_MAX = 16
+};
+
+/* Nanoseconds of processor time of this thread, waits for write-backs included. */
+static double now(void)
+{
+    struct timespec t;
+    clock_gettime(CLOCK_THREAD_CPUTIME_ID, &t);
+    return (double)t.tv_sec * 1e9 + (double)t.tv_nsec;
+}
+
+static uint64_t state = 88172645463325252u;
+
+static uint64_t draw(void)
+{
+    state ^= state << 13;
+    state ^= state >> 7;
+    state ^= state << 17;
+    return state;
+}
+
+static void *memory(size_t bytes)
+{
+    void *p = mmap(NULL, bytes, PROT_READ | PROT_WRITE, MAP_PRIVATE | MAP_ANONYMOUS | MAP_POPULATE, -1, 0);
+    if (p == MAP_FAILED) {
+        perror("bench: memory");
+        exit(2);
+    }
+    return p;
+}
+
+static void wrong(const char *what)
+{
+    fprintf(stderr, "bench: %s\n", what);
+    exit(1);
+}
+
+/* ---- the rows of the table */
+static struct row {
+    const char *name, *unit;
+    double ours, floor;
+} rows[ROWS_MAX];
+
+static size_t row_count;
+
+/* A row's times in one pass. */
+static void note(const char *name, const char *unit, double ours, double floor)
+{
+    size_t i = 0;
+    while (i < row_count && strcmp(rows[i].name, name) != 0) {
+        i++;
+    }
+    if (i == row_count) {
+        row_count++;
+        rows[i] = (struct row){name, unit, ours, floor};
+    }
+    rows[i].ours = ours < rows[i].ours ? ours : rows[i].ours;
+    rows[i].floor = floor < rows[i].floor ? floor : rows[i].floor;
+}
+
+/* ---- puts */
+static enum write_back how;
+static uint8_t *image;                      /* ours */
+static uint64_t *floor_image;
+static uint64_t *table;
+static zkv_record record;
+
+/* Carries a begun call out, with write-backs and fences or without. */
+static inline void run(zkv_report begun, bool durable)
+{
+    if (begun.kind != ZKV_BEGUN) {
+        wrong("a call was refused");
+    }
+    for (;;) {
+        zkv_report r = zkv_step(&record, image, BYTES, table, TABLE);
+        if (r.kind == ZKV_FLUSH) {
+            if (durable) {
+                write_back_line(how, image + ZKV_LINE_BYTES * r.first);
+            }
+        } else if (r.kind == ZKV_FENCE) {
+            if (durable) {
+                store_fence();
+            }
+        } else if (r.kind == ZKV_END) {
+            return;
+        }
+    }
+}
+
+/* `items` puts of `size` bytes under the keys from `key` on, committed together. */
+__attribute__((noinline)) static void our_commit(uint64_t key, size_t items, const uint8_t *value, size_t size, bool durable)
+{
+    for (size_t i = 0; i < items; i++) {
+        run(zkv_put(&record, image, BYTES, table, TABLE, key + i, value, size), durable);
+    }
+    run(zkv_commit(&record, image, BYTES, table, TABLE), durable);
+}
+
+/* The same words, stores, write-backs and fences: `line` is where the batch goes, *directory the chunk's directory word. */
+__attribute__((noinline)) static void floor_commit(size_t *chunk, size_t *line, uint64_t key, size_t items, const uint8_t *value,
+                                                   size_t size, bool durable)
+{
+    uint64_t batch[CHUNK];
+    size_t words = 0, follow = (size + 7) / 8;
+    for (size_t i = 0; i < items; i++) {
+        batch[words] = 1 | 1 << 4 | (uint64_t)size << 24;
+        batch[words + 1] = key + i;
+        batch[words + 1 + follow] = 0;
+        memcpy(batch + words + 2, value, size);
+        words += 2 + follow;
+    }
+    size_t lines = (words + 7) / 8;
+    while (words < 8 * lines) {
+        batch[words++] = 0;
+    }
+    if (*line + lines > 64) {
+        *chunk += 1;
+        *line = 0;
+    }
+    volatile uint64_t *at = floor_image + CHUNK * *chunk + 8 * *line;
+    for (size_t i = 0; i < words; i++) {
+        at[i] = batch[i];
+    }
+    for (size_t i = 0; durable && i < lines; i++) {
+        write_back_line(how, (const void *)(at + 8 * i));
+    }
+    if (durable) {
+        store_fence();
+    }
+    *line += lines;
+    volatile uint64_t *directory = floor_image + 8 + *chunk;
+    *directory = 1 | (uint64_t)*line << 8;
+    if (durable) {
+        write_back_line(how, (const void *)directory);
+        store_fence();
+    }
+}
+
+static void new_register(size_t full_chunks)
+{
+    static const uint8_t value[ZKV_VALUE_MAX];
+    memset(image, 0, BYTES);
+    memset(floor_image, 0, BYTES);
+    memset(&record, 0, sizeof record);
+    run(zkv_format(&record, image, BYTES, table, TABLE, 0, 0, 0, 0), false);
+    if (zkv_open(&record, image, BYTES, table, TABLE).kind != ZKV_OPENED) {
+        wrong("the formatted image was refused");
+    }
+    for (size_t c = 0; c < full_chunks; c++) {
+        our_commit(1000000, 15, value, 256, false);
+    }
+}
+
+/* The log of both images must be the same words but for the versions. */
+static void compare_logs(size_t from)
+{
+    const uint64_t versions = 0xFFFFFull << 4;
+    for (size_t w = CHUNK * from; w < CHUNK * CHUNKS; w++) {
+        uint64_t x;
+        memcpy(&x, image + 8 * w, 8);
+        if (((x ^ floor_image[w]) & ~versions) != 0) {
+            wrong("the floor stored other words");
+        }
+    }
+}
+
+static void measure_puts(const char *name, size_t items, size_t size, bool durable, size_t full_chunks)
+{
+    double ours[BLOCKS], floor[BLOCKS], our_sum = 0, floor_sum = 0;
+    uint8_t value[ZKV_VALUE_MAX];
+    for (size_t b = 0; b < BLOCKS; b++) {
+        ours[b] = floor[b] = 1e18;
+    }
+    for (size_t i = 0; i < sizeof value; i++) {
+        value[i] = (uint8_t)(i + 1);
+    }
+    for (int round = 0; round < ROUNDS; round++) {
+        size_t chunk = 1 + full_chunks, line = 0;
+        new_register(full_chunks);
+        for (size_t b = 0; b < BLOCKS; b++) {
+            size_t commits = items * size > 64 ? COMMITS / 4 : COMMITS;
+            double t = now();
+            for (size_t i = 0; i < commits; i++) {
+                our_commit(16 * i, items, value, size, durable);
+            }
+            double u = now();
+            for (size_t i = 0; i < commits; i++) {
+                floor_commit(&chunk, &line, 16 * i, items, value, size, durable);
+            }
+            double v = now();
+            ours[b] = (u - t) / (double)commits < ours[b] ? (u - t) / (double)commits : ours[b];
+            floor[b] = (v - u) / (double)commits < floor[b] ? (v - u) / (double)commits : floor[b];
+        }
+        if (round == 0) {
+            compare_logs(1 + full_chunks);
+        }
+    }
+    for (size_t b = 0; b < BLOCKS; b++) {
+        our_sum += ours[b];
+        floor_sum += floor[b];
+    }
+    note(name, "ns", our_sum / BLOCKS, floor_sum / BLOCKS);
+}
+
+/* ---- opening and look-up */
+
+/* An image with n entries of `size` bytes, each of another key. */
+static void make_image(size_t n, size_t size, uint64_t *keys)
+{
+    uint64_t *w = (uint64_t *)(void *)image;
+    size_t value = (size + 7) / 8, entry = 2 + value, per = CHUNK / entry, i = 0;
+    memset(w, 0, BYTES);
+    w[0] = 1;
+    w[1] = CHUNKS;
+    w[7] = -(w[0] + w[1]);
+    for (size_t c = 1; c < CHUNKS && i < n; c++) {
+        size_t at = c * CHUNK, k;
+        for (k = 0; k < per && i < n; k++, i++, at += entry) {
+            keys[i] = draw();
+            w[at] = 1 | 1 << 4 | (uint64_t)size << 24;
+            w[at + 1] = keys[i];
+            for (size_t j = 0; j < value; j++) {
+                w[at + 2 + j] = draw();
+            }
+        }
+        w[8 + c] = 1 | (uint64_t)((k * entry + 7) / 8) << 8;
+    }
+    if (i < n) {
+        wrong("the image is too small for the entries");
+    }
+}
+
+static size_t slot_of(uint64_t key)
+{
+    return (key * 0x9E3779B97F4A7C15u) >> 47 & (SLOTS - 1);
+}
+
+/* Checks header, directory and entries in one pass and fills the hash; the number of keys, and one more, or 0. */
+__attribute__((noinline)) static uint64_t floor_open(const uint64_t *w, size_t bytes, uint64_t *hash)
+{
+    size_t count = bytes / ZKV_CHUNK_BYTES;
+    uint64_t sum = 0, found = 0;
+    memset(hash, 0, 8 * TABLE);
+    if (bytes % ZKV_CHUNK_BYTES != 0 || count < ZKV_CHUNKS_MIN || count > ZKV_CHUNKS_MAX) {
+        return 0;
+    }
+    for (size_t i = 0; i < 8; i++) {
+        sum += w[i];
+    }
+    if (sum != 0 || w[0] != 1 || w[1] != count || w[2] || w[3] || w[4] || w[5] || w[6]) {
+        return 0;
+    }
+    for (size_t c = 0; c < ZKV_CHUNKS_MAX; c++) {
+        uint64_t d = w[8 + c], lines = d >> 8;
+        if (d != 0 && (c == 0 || c >= count || (d & 255) != 1 || lines < 1 || lines > 64)) {
+            return 0;
+        }
+    }
+    for (size_t c = 1; c < count; c++) {
+        size_t at = c * CHUNK, end = at + 8 * (w[8 + c] >> 8);
+        while (at < end) {
+            uint64_t first = w[at];
+            if (first == 0) {
+                at++;
+                continue;
+            }
+            uint64_t version = first >> 4 & 0xFFFFF, length = first >> 24;
+            if ((first & 15) != 1 || version == 0 || length > ZKV_VALUE_MAX) {
+                return 0;
+            }
+            size_t words = 2 + (length + 7) / 8;
+            if (end - at < words || (length % 8 != 0 && w[at + words - 1] >> 8 * (length % 8) != 0)) {
+                return 0;
+            }
+            size_t s = slot_of(w[at + 1]);
+            while (hash[2 * s + 1] != 0 && hash[2 * s] != w[at + 1]) {
+                s = (s + 1) & (SLOTS - 1);
+            }
+            if (hash[2 * s + 1] == 0) {
+                hash[2 * s] = w[at + 1];
+                hash[2 * s + 1] = at | version << 32;
+                found++;
+            } else if (hash[2 * s + 1] >> 32 < version) {
+                hash[2 * s + 1] = at | version << 32;
+            }
+            at += words;
+        }
+    }
+    return found + 1;
+}
+
+__attribute__((noinline)) static uint64_t floor_look_up(const uint64_t *w, const uint64_t *hash, uint64_t key, uint64_t *start,
+                                                        uint64_t *length)
+{
+    for (size_t s = slot_of(key); hash[2 * s + 1] != 0; s = (s + 1) & (SLOTS - 1)) {
+        if (hash[2 * s] == key) {
+            size_t at = (uint32_t)hash[2 * s + 1];
+            *start = 8 * (at + 2);
+            *length = w[at] >> 24;
+            return 0;
+        }
+    }
+    *start = *length = 0;
+    return ZKV_KEY_ABSENT;
+}
+
+static void measure_opening(const char *open_name, const char *look_name, size_t n, size_t size, uint64_t *hash)
+{
+    uint64_t *keys = memory(8 * n);
+    double ours = 1e18, floor = 1e18, our_look = 0, floor_looks = 0;
+    const uint64_t *w = (const uint64_t *)(const void *)image;
+    make_image(n, size, keys);
+    for (int r = 0; r < OPENINGS; r++) {
+        double t = now();
+        zkv_report o = zkv_open(&record, image, BYTES, table, TABLE);
+        double u = now();
+        uint64_t found = floor_open(w, BYTES, hash);
+        double v = now();
+        if (o.kind != ZKV_OPENED || zkv_keys(&record) != n || found != n + 1) {
+            wrong("an opening did not find every key");
+        }
+        ours = u - t < ours ? u - t : ours;
+        floor = v - u < floor ? v - u : floor;
+    }
+    for (size_t i = n - 1; i > 0; i--) {
+        size_t j = draw() % (i + 1);
+        uint64_t k = keys[i];
+        keys[i] = keys[j];
+        keys[j] = k;
+    }
+    double our_block[LOOK_BLOCKS_MAX], floor_block[LOOK_BLOCKS_MAX];
+    size_t blocks = n / LOOKS;
+    for (int r = 0; r < ROUNDS; r++) {
+        for (size_t b = 0; b < blocks; b++) {
+            uint64_t start, length, our_answers = 0, floor_answers = 0;
+            double t = now();
+            for (size_t i = b * LOOKS; i < (b + 1) * LOOKS; i++) {
+                our_answers += zkv_look_up(&record, image, BYTES, table, TABLE, keys[i], &start, &length);
+                our_answers += 3 * start + length;
+            }
+            double u = now();
+            for (size_t i = b * LOOKS; i < (b + 1) * LOOKS; i++) {
+                floor_answers += floor_look_up(w, hash, keys[i], &start, &length);
+                floor_answers += 3 * start + length;
+            }
+            double v = now();
+            if (our_answers != floor_answers) {
+                wrong("look-up and floor answer differently");
+            }
+            our_block[b] = r == 0 || u - t < our_block[b] ? u - t : our_block[b];
+            floor_block[b] = r == 0 || v - u < floor_block[b] ? v - u : floor_block[b];
+        }
+    }
+    for (size_t b = 0; b < blocks; b++) {
+        our_look += our_block[b];
+        floor_looks += floor_block[b];
+    }
+    note(look_name, "ns", our_look / (double)n, floor_looks / (double)n);
+    note(open_name, "ms", ours / 1e6, floor / 1e6);
+    munmap(keys, 8 * n);
+}
+
+/* ---- output */
+static void print_table(void)
+{
+    printf("%-44s %10s %10s %7s\n", "what", "ours", "plain C", "ratio");
+    for (size_t i = 0; i < row_count; i++) {
+        struct row *r = &rows[i];
+        int digits = r->ours < 10 ? 2 : 1;
+        printf("%-44s %7.*f %s %7.*f %s %7.2f\n", r->name, digits, r->ours, r->unit, digits, r->floor, r->unit,
+               r->ours / r->floor);
+    }
+}
+
+static bool draw_table(const char *path)
+{
+    enum { LEFT = 300, SCALE = 60, TOP = 64, STEP = 30 };
+    FILE *f = fopen(path, "w");
+    if (f == NULL) {
+        return false;
+    }
+    double most = 0;
+    for (size_t i = 0; i < row_count; i++) {
+        double ratio = rows[i].ours / rows[i].floor;
+        most = ratio > most ? ratio : most;
+    }
+    double scale = most * SCALE > 420 ? 420 / most : SCALE;
+    int height = TOP + STEP * (int)row_count + 24;
+    fprintf(f, "<svg xmlns=\"http://www.w3.org/2000/svg\" width=\"940\" height=\"%d\" viewBox=\"0 0 940 %d\" "
+               "font-family=\"sans-serif\" font-size=\"13\">\n", height, height);
+    fprintf(f, "<rect width=\"940\" height=\"%d\" fill=\"#ffffff\"/>\n", height);
+    fprintf(f, "<text x=\"16\" y=\"24\" font-size=\"16\" fill=\"#222222\">Time over that of plain C, one run (%s, ordinary memory)"
+               "</text>\n", write_back_name(how));
+    fprintf(f, "<text x=\"16\" y=\"44\" fill=\"#555555\">1 is the floor: the same stores, write-backs and fences, a plain hash, "
+               "a plain scan</text>\n");
+    for (size_t i = 0; i < row_count; i++) {
+        struct row *r = &rows[i];
+        double ratio = r->ours / r->floor;
+        int y = TOP + STEP * (int)i, digits = r->ours < 10 ? 2 : 1;
+        fprintf(f, "<text x=\"%d\" y=\"%d\" text-anchor=\"end\" fill=\"#222222\">%s</text>\n", LEFT - 10, y + 15, r->name);
+        fprintf(f, "<rect x=\"%d\" y=\"%d\" width=\"%.1f\" height=\"20\" fill=\"#4878a8\"/>\n", LEFT, y, ratio * scale);
+        fprintf(f, "<text x=\"%.1f\" y=\"%d\" fill=\"#222222\">%.2f (%.*f to %.*f %s)</text>\n", LEFT + ratio * scale + 8, y + 15,
+                ratio, digits, r->ours, digits, r->floor, r->unit);
+    }
+    fprintf(f, "<line x1=\"%.1f\" y1=\"%d\" x2=\"%.1f\" y2=\"%d\" stroke=\"#c04030\" stroke-width=\"2\"/>\n", LEFT + scale,
+            TOP - 6, LEFT + scale, TOP + STEP * (int)row_count);
+    fprintf(f, "<text x=\"%.1f\" y=\"%d\" text-anchor=\"middle\" fill=\"#c04030\">plain C</text>\n", LEFT + scale,
+            TOP + STEP * (int)row_count + 14);
+    fprintf(f, "</svg>\n");
+    return fclose(f) == 0;
+}
+
+int main(int count, char **argument)
+{
+    const char *picture = NULL;
+    if (count == 3 && strcmp(argument[1], "--svg") == 0) {
+        picture = argument[2];
+    } else if (count != 1) {
+        fputs("usage: bench [--svg FILE]\n", stderr);
+        return 2;
+    }
+    how = best_write_back();
+    image = memory(BYTES);
+    floor_image = memory(BYTES);
+    table = memory(8 * TABLE);
+    uint64_t *hash = memory(8 * TABLE);
+    for (int pass = 0; pass < PASSES; pass++) {
+        measure_puts("durable put of 16 bytes", 1, 16, true, 0);
+        measure_puts("durable put of 256 bytes", 1, 256, true, 0);
+        measure_puts("durable batch of 16 puts of 16 bytes", 16, 16, true, 0);
+        measure_puts("put of 16 bytes, no write-backs", 1, 16, false, 0);
+        measure_puts("the same behind 400 full chunks", 1, 16, false, 400);
+        measure_opening("opening, 60,000 values of 8 bytes", "look-up among 60,000 keys", 60000, 8, hash);
+        measure_opening("opening, 7,500 values of 256 bytes", "look-up among 7,500 keys", 7500, 256, hash);
+    }
+    printf("write-back by %s, ordinary memory\n", write_back_name(how));
+    print_table();
+    if (picture != NULL && !draw_table(picture)) {
+        fprintf(stderr, "bench: %s cannot be written\n", picture);
+        return 2;
+    }
+    return 0;
+}

@@ -1,0 +1,244 @@
+/* The calls of the label register for hosts in C and C++: a proved key-value store in one module of persistent memory.
+ *
+ * The library keeps, under each 64-bit key, the exact bytes of a value (0 to 256 of them), and survives a power cut at any
+ * moment. It has no heap, no thread, no file and no state of its own: the host lends it everything, and carries out on the
+ * device what each step reports. This file is the manual of the calls. "Document 01" is the description that they are
+ * proved against.
+ *
+ * WHAT THE HOST LENDS
+ *
+ * - image: the persistent memory; header, directory and log. It is the register. 4 to 504 times 4,096 bytes, aligned to 64.
+ * - table: the key table, volatile words that each opening fills anew. Any number of words, aligned to 8.
+ * - record: the station record (zkv_record, 9,328 bytes, aligned to 8): what is open, staged and unfinished. Volatile.
+ * - value: the bytes of a put, 0 to 256. Any alignment.
+ *
+ * The host allocates and frees all of them; the library keeps no pointer after a call returns. The staged values lie in the
+ * record's buffer, so `value` may be reused as soon as zkv_put has returned. Fields of the record are nobody's business but
+ * the library's. Make a new record by zeroing it: `zkv_record r = {0};`, nothing is open in it.
+ * A table of t words holds t / 4 keys, rounded down, at most 65,536 (ZKV_TABLE_WORDS_MAX words hold them).
+ * Every call is lent the same image, table and record as the call before, with the same lengths. Only an opening may be
+ * lent another record and table; its table must not be smaller than at the opening before.
+ * Areas lent to one call must not overlap, and no pointer may be null, even where the length is 0.
+ *
+ * BEGUN CALLS AND STEPS
+ *
+ * A call that writes is begun (zkv_format, zkv_put, zkv_delete, zkv_commit answer ZKV_BEGUN with a number of actions a) and
+ * then stepped: exactly a + 1 calls of zkv_step, the last of which answers ZKV_END. Until then every other call but an
+ * opening is refused with 8. A staging has 0 actions, so one step; a commit of b lines has 9 b + 4; a formatting has 582.
+ *
+ * What a step answers, and what the host does before the next step:
+ * - ZKV_STORE, first = word, second = value: nothing. The word at byte 8 * first of the image is already stored.
+ * - ZKV_FLUSH, first = line: start the write-back of the 64 bytes at image + 64 * first (clwb or the like).
+ * - ZKV_FENCE: wait until every write-back started before is durable (sfence; msync where the image is a file's pages).
+ * - ZKV_END, first = entries copied, 0 but for a cleaning: nothing. The call is done; a commit's batch is durable.
+ * - ZKV_IDLE: nothing was begun.
+ * - ZKV_REFUSED, first = 1: a lent length is unlike that at the begin. Step again with the right ones.
+ *
+ * A report is the image's whole change. A batch is acknowledged to anybody only after the ZKV_END of its commit.
+ *
+ * WHICH CALL MAY FOLLOW WHICH
+ *
+ * The record is in one of four states:
+ * - closed: a zeroed record, after a refused opening, or after the end of a formatting. zkv_open and zkv_format may follow;
+ *   other calls get 2.
+ * - open, nothing staged: after ZKV_OPENED, the end of a commit, or ZKV_ABANDONED. zkv_put, zkv_delete, zkv_look_up, zkv_open
+ *   and zkv_format may follow; zkv_commit and zkv_abandon get 14.
+ * - open, something staged: after the end of a staging. All of these may follow.
+ * - unfinished: after ZKV_BEGUN. zkv_step and zkv_open may follow; other calls get 8 (or 2, in a formatting that was begun on a
+ *   closed record). In the other states a step answers ZKV_IDLE and changes nothing.
+ *
+ * A new image: zkv_format, step to its end, zkv_open. An image from before: zkv_open. A put that lasts: zkv_put, step to the
+ * end, zkv_commit, step to the end. Up to 16 puts and deletes (4,096 bytes of entries: 16 bytes and the value, rounded up to
+ * 8, for each) may be staged before one commit, which makes all of them last; a power cut in it leaves all or none.
+ *
+ * REFUSALS
+ *
+ * A refusal leaves image, table and record as they were; but a refused opening zeroes the table and closes the record.
+ * The numbers are the enum zkv_refusal, in document 01's order; zkv_sentence gives the words. Where several apply, the
+ * answer of an opening is the lowest; of zkv_format 1 before 8; of the other calls the first in the order 2, 1, 8, 9, 11,
+ * 12, 10, 7, 14, 13.
+ *
+ * CAVEATS, AND WHAT TO DO
+ *
+ * - An opening in the middle of an unfinished call, with no power cut in between, is outside the promise: it is safe, but
+ *   may show a batch that a later cut takes back. Step to the end first.
+ * - A process that was killed and not the power: the caches, or the system's pages, may still hold unfenced words. Write
+ *   back the whole image and fence (or fsync its file) before opening; then it is as after a cut that kept every latest
+ *   word, and the promise holds.
+ * - Formatting an image that holds a register destroys it. zkv_format does not ask: the host does.
+ * - Memory altered behind the calls' back (image, table or record): every call is still safe, reads and writes nothing
+ *   outside what is lent, and ends after its count; but any number of the table may come, and values may be wrong. Open again.
+ * - Lengths must be true: a length above what is really there is beyond any proof.
+ * - The archive is for x86-64 Linux. Words are little-endian, so an image may be moved between machines of that kind.
+ * - One call at a time, one writer to an image. The library has no lock: the host needs one, also between processes
+ *   (the program zkv takes a lock on the image's file).
+ * - Where only the pages of a file stand behind the image, a fence is an msync; hosts on persistent memory map it with
+ *   MAP_SYNC, else a flushed line may be durable in a page that the file does not have yet.
+ * - A word must reach the medium whole. Aligned 8-byte stores do; tests/one_move.sh looks at the compiled code. Do not
+ *   build the library in a way that changes it (instrumentation of its stores, another back end).
+ * - A table too small for the image's keys makes a refused opening slow (time by the square of the entries). Lend one of
+ *   ZKV_TABLE_WORDS_MAX words where memory allows.
+ * - Nothing is removed from the log at this level, so space runs out (13); known keys include deleted ones. Copy the
+ *   present values to a newly formatted image. No call lists the keys yet: the host asks for those it knows.
+ */
+#ifndef ZITSKVOZE_H
+#define ZITSKVOZE_H
+
+#include <stddef.h>
+#include <stdint.h>
+
+#ifdef __cplusplus
+extern "C" {
+#endif
+
+#define ZKV_VERSION "1.0"
+
+enum {
+    ZKV_CHUNK_BYTES = 4096,
+    ZKV_CHUNKS_MIN = 4,
+    ZKV_CHUNKS_MAX = 504,
+    ZKV_LINE_BYTES = 64,
+    ZKV_VALUE_MAX = 256,
+    ZKV_BATCH_ITEMS = 16,
+    ZKV_KEYS_MAX = 65536,
+    ZKV_TABLE_WORDS_MAX = 262144,
+    ZKV_FORMAT_ACTIONS = 582
+};
+
+/* What a report says. ZKV_CHOSEN and ZKV_PART are not answered by the calls below. */
+enum zkv_kind {
+    ZKV_REFUSED = 0,
+    ZKV_BEGUN = 1,
+    ZKV_STORE = 2,
+    ZKV_FLUSH = 3,
+    ZKV_FENCE = 4,
+    ZKV_END = 5,
+    ZKV_IDLE = 6,
+    ZKV_OPENED = 7,
+    ZKV_ABANDONED = 8,
+    ZKV_CHOSEN = 9,
+    ZKV_PART = 10
+};
+
+/* Why a call is refused. */
+enum zkv_refusal {
+    ZKV_IMAGE_LENGTH = 1,
+    ZKV_NOT_OPEN = 2,
+    ZKV_DIRECTORY_WRONG = 3,
+    ZKV_ENTRY_WRONG = 4,
+    ZKV_BLOCK_WRONG = 5,
+    ZKV_TOPS_DISAGREE = 6,
+    ZKV_TABLE_FULL = 7,
+    ZKV_UNFINISHED = 8,
+    ZKV_TOO_LONG = 9,
+    ZKV_BATCH_FULL = 10,
+    ZKV_KEY_ABSENT = 11,
+    ZKV_VERSION_SPENT = 12,
+    ZKV_NO_SPACE = 13,
+    ZKV_NOTHING_STAGED = 14,
+    ZKV_BATCH_STAGED = 15,
+    ZKV_NOT_CLEANABLE = 16
+};
+
+/* The sentence of a refusal's number. */
+static inline const char *zkv_sentence(uint64_t number)
+{
+    switch (number) {
+    case ZKV_IMAGE_LENGTH:
+        return "the image's length is not 4 to 504 times 4,096 bytes, or a lent length is unlike that at the opening";
+    case ZKV_NOT_OPEN:
+        return "the header is wrong, its count is unlike the image's length, or no register is open";
+    case ZKV_DIRECTORY_WRONG:
+        return "a directory word is wrong";
+    case ZKV_ENTRY_WRONG:
+        return "an entry of the log is wrong";
+    case ZKV_BLOCK_WRONG:
+        return "a value's block is wrong: its place, its length or its fill";
+    case ZKV_TOPS_DISAGREE:
+        return "the newest entries of a key disagree, or two keys share a block";
+    case ZKV_TABLE_FULL:
+        return "the keys do not fit the key table";
+    case ZKV_UNFINISHED:
+        return "a call is unfinished";
+    case ZKV_TOO_LONG:
+        return "the value is too long";
+    case ZKV_BATCH_FULL:
+        return "the batch is full: 16 items or 4,096 bytes";
+    case ZKV_KEY_ABSENT:
+        return "the key is absent";
+    case ZKV_VERSION_SPENT:
+        return "the key's versions are used up";
+    case ZKV_NO_SPACE:
+        return "there is no space left in the image";
+    case ZKV_NOTHING_STAGED:
+        return "nothing is staged";
+    case ZKV_BATCH_STAGED:
+        return "a batch is staged";
+    case ZKV_NOT_CLEANABLE:
+        return "the chunk cannot be cleaned, or none is worth it";
+    default:
+        return "no refusal has this number";
+    }
+}
+
+/* The station record: plain memory of this size, read and written by the calls alone. */
+typedef struct zkv_record {
+    uint64_t word[1166];
+} zkv_record;
+
+/* What a call answers: a kind, and two numbers that are 0 where the kind has none. */
+typedef struct zkv_report {
+    uint64_t kind, first, second;
+} zkv_report;
+
+/* Begins a formatting: the image is to hold an empty register. A number is absent where its `given` is 0. The record may be
+ * closed or open; the end of the formatting leaves it closed, with nothing staged. The table is not touched.
+ * ZKV_BEGUN 582, or refused: 1, 8. */
+zkv_report zkv_format(zkv_record *record, const uint8_t *image, size_t bytes, const uint64_t *table, size_t words,
+                      uint64_t station_given, uint64_t station, uint64_t centre_given, uint64_t centre);
+
+/* Opens the register of the image, whatever record and table hold, and fills the table. It forgets staged items and an
+ * unfinished call. ZKV_OPENED, or refused: 1 to 7; the table is then all zero and the record closed. */
+zkv_report zkv_open(zkv_record *record, const uint8_t *image, size_t bytes, uint64_t *table, size_t words);
+
+/* Begins staging a put of `length` bytes, which are copied into the record. One step ends it. Look-up does not see it before
+ * its commit has ended. ZKV_BEGUN 0, or refused: 2, 1, 8, 9, 12, 10, 7. */
+zkv_report zkv_put(zkv_record *record, const uint8_t *image, size_t bytes, const uint64_t *table, size_t words,
+                   uint64_t key, const uint8_t *value, size_t length);
+
+/* Begins staging a delete of a present key (staged items counted). One step ends it.
+ * ZKV_BEGUN 0, or refused: 2, 1, 8, 11, 12, 10, 7. */
+zkv_report zkv_delete(zkv_record *record, const uint8_t *image, size_t bytes, const uint64_t *table, size_t words,
+                      uint64_t key);
+
+/* Begins the commit of the staged items, in the order of their staging. ZKV_BEGUN 9 b + 4 for b lines, or refused:
+ * 2, 1, 8, 14, 13; after 13 the items stay staged. */
+zkv_report zkv_commit(zkv_record *record, const uint8_t *image, size_t bytes, const uint64_t *table, size_t words);
+
+/* Forgets the staged items. ZKV_ABANDONED, or refused: 2, 1, 8, 14. */
+zkv_report zkv_abandon(zkv_record *record, const uint8_t *image, size_t bytes, const uint64_t *table, size_t words);
+
+/* One step of the begun call: see the table of reports above. Idle where nothing is begun, else refused with 1 alone, where a
+ * lent length is unlike that at the opening (in a formatting: at its begin). */
+zkv_report zkv_step(zkv_record *record, uint8_t *image, size_t bytes, uint64_t *table, size_t words);
+
+/* Looks a key up: 0, with the part of the image that holds its value (*length bytes from byte *start on; no copy, so read it
+ * before the next call that is begun); or the refusal's number 2, 1, 8 or 11, with 0 in both. Staged items are unseen. An
+ * empty value is a part of length 0 and not a refusal. */
+uint64_t zkv_look_up(const zkv_record *record, const uint8_t *image, size_t bytes, const uint64_t *table, size_t words,
+                     uint64_t key, uint64_t *start, uint64_t *length);
+
+/* The known keys of the open register, deleted ones that still have an entry included. */
+uint64_t zkv_keys(const zkv_record *record);
+
+/* The chunks of an image whose directory word says free. */
+uint64_t zkv_free_chunks(const uint8_t *image, size_t bytes);
+
+/* The committed lines of all log chunks of an image. */
+uint64_t zkv_lines_used(const uint8_t *image, size_t bytes);
+
+#ifdef __cplusplus
+}
+#endif
+
+#endif

@@ -1,0 +1,42 @@
+#!/bin/sh
+# A step's store into the image is one machine move of 8 bytes, so that a power cut never tears a word: looks at the compiled
+# archive (objdump, tests/stores.py), and watches the image instruction by instruction (tests/one_move.c). Both are first
+# shown to find a store in parts.
+#
+# tests/one_move.sh [ARCHIVE]       target/staticlib/libcapi.a if none is named; needs gcc, objdump, Python 3
+set -eu
+cd "$(dirname "$0")/.."
+archive=${1:-target/staticlib/libcapi.a}
+[ -f "$archive" ] || { echo "$archive is missing: run rt staticlib capi" >&2; exit 2; }
+work=$(mktemp -d)
+trap 'rm -rf "$work"' EXIT
+
+cat > "$work/torn.c" <<'END'
+#include <stddef.h>
+#include <stdint.h>
+void zkv_step(uint8_t *image, size_t word, uint64_t value)
+{
+    uint8_t *p = image + 8 * word;
+    p[0] = (uint8_t)value, p[1] = (uint8_t)(value >> 8), p[2] = (uint8_t)(value >> 16), p[3] = (uint8_t)(value >> 24);
+    p[4] = (uint8_t)(value >> 32), p[5] = (uint8_t)(value >> 40), p[6] = (uint8_t)(value >> 48), p[7] = (uint8_t)(value >> 56);
+}
+END
+gcc -O0 -c "$work/torn.c" -o "$work/torn.o"
+if python3 -B tests/stores.py "$work/torn.o" > "$work/out"; then
+    echo "one_move: stores.py did not find eight stores of a byte" >&2
+    exit 1
+fi
+grep -q '8 stores that are not whole words' "$work/out" || { cat "$work/out" >&2; exit 1; }
+python3 -B tests/stores.py "$archive"
+
+flags="-std=c11 -O2 -Wall -Wextra -Werror -Iinclude"
+gcc $flags -DTORN tests/one_move.c "$archive" -o "$work/torn"
+status=0
+"$work/torn" > "$work/out" || status=$?
+if [ "$status" -ne 1 ] || ! grep -q 'not stored by one instruction' "$work/out"; then
+    echo "one_move: a store byte by byte was not seen:" >&2
+    cat "$work/out" >&2
+    exit 1
+fi
+gcc $flags tests/one_move.c "$archive" -o "$work/whole"
+"$work/whole"
