@@ -3,10 +3,12 @@
  * A durable put is staging, commit and all steps, with real write-backs (clwb or the best there is) and fences; its floor
  * makes the same words, stores, write-backs and fences in plain C, with no index and no check. The same without write-backs
  * and fences shows what the processor spends. The floor of a look-up is one probe of a plain C hash and one read of the
- * entry, that of an opening one pass in plain C over the same image with the same checks, which fills that hash.
- * Both sides work on memory of the same kind (ordinary memory here: on persistent memory a fence costs more, so that the
- * ratio of a durable put is nearer to 1). They go by turns, processor time is taken, and the best of several rounds counts,
- * so that other work on the machine disturbs little. A ratio is our time over the floor's: 1.00 is the floor itself.
+ * entry. That of an opening is one pass in plain C over the same image, which checks header, directory and entries and fills
+ * that hash; it knows neither blocks nor deletes and does not compare top entries. Look-ups are timed one by one, each
+ * waiting for the one before, and overlapped, as the processor will where it can.
+ * Both sides work on ordinary memory, so nothing is said of persistent memory. They go by turns, processor time is taken, and
+ * of each side the best of several rounds counts. Other work on the machine still shows: a run beside it may have ratios half
+ * as high again. A ratio is our time over the floor's: 1.00 is the floor itself.
  *
  * bench [--svg FILE] */
 #define _GNU_SOURCE
@@ -239,7 +241,7 @@ static void measure_puts(const char *name, size_t items, size_t size, bool durab
 
 /* ---- opening and look-up */
 
-/* An image with n entries of `size` bytes, each of another key. */
+/* An image with n entries of `size` bytes, each of another key; the keys are then shuffled. */
 static void make_image(size_t n, size_t size, uint64_t *keys)
 {
     uint64_t *w = (uint64_t *)(void *)image;
@@ -262,6 +264,12 @@ static void make_image(size_t n, size_t size, uint64_t *keys)
     }
     if (i < n) {
         wrong("the image is too small for the entries");
+    }
+    for (i = n - 1; i > 0; i--) {
+        size_t j = draw() % (i + 1);
+        uint64_t k = keys[i];
+        keys[i] = keys[j];
+        keys[j] = k;
     }
 }
 
@@ -339,43 +347,27 @@ __attribute__((noinline)) static uint64_t floor_look_up(const uint64_t *w, const
     return ZKV_KEY_ABSENT;
 }
 
-static void measure_opening(const char *open_name, const char *look_name, size_t n, size_t size, uint64_t *hash)
+/* Look-ups of all keys. Where they wait, each key is known only once the look-up before has answered, as for a clerk; else the
+ * processor works on several at once. */
+static void measure_looks(const char *name, const uint64_t *keys, size_t n, const uint64_t *hash, bool wait)
 {
-    uint64_t *keys = memory(8 * n);
-    double ours = 1e18, floor = 1e18, our_look = 0, floor_looks = 0;
+    double our_block[LOOK_BLOCKS_MAX], floor_block[LOOK_BLOCKS_MAX], ours = 0, floor = 0;
     const uint64_t *w = (const uint64_t *)(const void *)image;
-    make_image(n, size, keys);
-    for (int r = 0; r < OPENINGS; r++) {
-        double t = now();
-        zkv_report o = zkv_open(&record, image, BYTES, table, TABLE);
-        double u = now();
-        uint64_t found = floor_open(w, BYTES, hash);
-        double v = now();
-        if (o.kind != ZKV_OPENED || zkv_keys(&record) != n || found != n + 1) {
-            wrong("an opening did not find every key");
-        }
-        ours = u - t < ours ? u - t : ours;
-        floor = v - u < floor ? v - u : floor;
-    }
-    for (size_t i = n - 1; i > 0; i--) {
-        size_t j = draw() % (i + 1);
-        uint64_t k = keys[i];
-        keys[i] = keys[j];
-        keys[j] = k;
-    }
-    double our_block[LOOK_BLOCKS_MAX], floor_block[LOOK_BLOCKS_MAX];
+    volatile uint64_t none = 0;
     size_t blocks = n / LOOKS;
     for (int r = 0; r < ROUNDS; r++) {
         for (size_t b = 0; b < blocks; b++) {
-            uint64_t start, length, our_answers = 0, floor_answers = 0;
+            uint64_t start = 0, length = 0, our_answers = 0, floor_answers = 0, mask = none;
             double t = now();
             for (size_t i = b * LOOKS; i < (b + 1) * LOOKS; i++) {
-                our_answers += zkv_look_up(&record, image, BYTES, table, TABLE, keys[i], &start, &length);
+                uint64_t key = wait ? keys[i + (start & mask)] : keys[i];
+                our_answers += zkv_look_up(&record, image, BYTES, table, TABLE, key, &start, &length);
                 our_answers += 3 * start + length;
             }
             double u = now();
             for (size_t i = b * LOOKS; i < (b + 1) * LOOKS; i++) {
-                floor_answers += floor_look_up(w, hash, keys[i], &start, &length);
+                uint64_t key = wait ? keys[i + (start & mask)] : keys[i];
+                floor_answers += floor_look_up(w, hash, key, &start, &length);
                 floor_answers += 3 * start + length;
             }
             double v = now();
@@ -387,12 +379,28 @@ static void measure_opening(const char *open_name, const char *look_name, size_t
         }
     }
     for (size_t b = 0; b < blocks; b++) {
-        our_look += our_block[b];
-        floor_looks += floor_block[b];
+        ours += our_block[b];
+        floor += floor_block[b];
     }
-    note(look_name, "ns", our_look / (double)n, floor_looks / (double)n);
-    note(open_name, "ms", ours / 1e6, floor / 1e6);
-    munmap(keys, 8 * n);
+    note(name, "ns", ours / (double)n, floor / (double)n);
+}
+
+static void measure_opening(const char *name, size_t n, uint64_t *hash)
+{
+    double ours = 1e18, floor = 1e18;
+    for (int r = 0; r < OPENINGS; r++) {
+        double t = now();
+        zkv_report o = zkv_open(&record, image, BYTES, table, TABLE);
+        double u = now();
+        uint64_t found = floor_open((const uint64_t *)(const void *)image, BYTES, hash);
+        double v = now();
+        if (o.kind != ZKV_OPENED || zkv_keys(&record) != n || found != n + 1) {
+            wrong("an opening did not find every key");
+        }
+        ours = u - t < ours ? u - t : ours;
+        floor = v - u < floor ? v - u : floor;
+    }
+    note(name, "ms", ours / 1e6, floor / 1e6);
 }
 
 /* ---- output */
@@ -407,40 +415,58 @@ static void print_table(void)
     }
 }
 
+/* Where a ratio stands on the picture's axis: powers of two at whole numbers, straight lines between them. */
+static double axis(double ratio)
+{
+    double x = 0;
+    while (ratio >= 2) {
+        ratio /= 2;
+        x += 1;
+    }
+    while (ratio < 1) {
+        ratio *= 2;
+        x -= 1;
+    }
+    return x + ratio - 1;
+}
+
 static bool draw_table(const char *path)
 {
-    enum { LEFT = 300, SCALE = 60, TOP = 64, STEP = 30 };
+    enum { WIDTH = 960, LEFT = 290, RIGHT = 190, TOP = 76, STEP = 28 };
     FILE *f = fopen(path, "w");
     if (f == NULL) {
         return false;
     }
-    double most = 0;
+    double least = 0, most = 1;
     for (size_t i = 0; i < row_count; i++) {
-        double ratio = rows[i].ours / rows[i].floor;
-        most = ratio > most ? ratio : most;
+        double x = axis(rows[i].ours / rows[i].floor);
+        least = x < least ? x : least;
+        most = x > most ? x : most;
     }
-    double scale = most * SCALE > 420 ? 420 / most : SCALE;
-    int height = TOP + STEP * (int)row_count + 24;
-    fprintf(f, "<svg xmlns=\"http://www.w3.org/2000/svg\" width=\"940\" height=\"%d\" viewBox=\"0 0 940 %d\" "
-               "font-family=\"sans-serif\" font-size=\"13\">\n", height, height);
-    fprintf(f, "<rect width=\"940\" height=\"%d\" fill=\"#ffffff\"/>\n", height);
-    fprintf(f, "<text x=\"16\" y=\"24\" font-size=\"16\" fill=\"#222222\">Time over that of plain C, one run (%s, ordinary memory)"
-               "</text>\n", write_back_name(how));
-    fprintf(f, "<text x=\"16\" y=\"44\" fill=\"#555555\">1 is the floor: the same stores, write-backs and fences, a plain hash, "
-               "a plain scan</text>\n");
+    double scale = (WIDTH - LEFT - RIGHT) / (most - least), one = LEFT - least * scale;
+    int bottom = TOP + STEP * (int)row_count, height = bottom + 28;
+    fprintf(f, "<svg xmlns=\"http://www.w3.org/2000/svg\" width=\"%d\" height=\"%d\" viewBox=\"0 0 %d %d\" "
+               "font-family=\"sans-serif\" font-size=\"13\" fill=\"#222222\">\n", WIDTH, height, WIDTH, height);
+    fprintf(f, "<rect width=\"%d\" height=\"%d\" fill=\"#ffffff\"/>\n", WIDTH, height);
+    fprintf(f, "<text x=\"16\" y=\"24\" font-size=\"16\">Time over that of plain C, one run (%s, ordinary memory)</text>\n",
+            write_back_name(how));
+    fprintf(f, "<text x=\"16\" y=\"46\" fill=\"#555555\">1 is plain C with the same stores, write-backs and fences, a plain hash, "
+               "a plain scan; each line doubles</text>\n");
+    for (int power = 0; power <= (int)most; power++) {
+        double x = one + power * scale;
+        fprintf(f, "<line x1=\"%.1f\" y1=\"%d\" x2=\"%.1f\" y2=\"%d\" stroke=\"%s\"/>\n", x, TOP - 6, x, bottom,
+                power == 0 ? "#c04030" : "#dddddd");
+        fprintf(f, "<text x=\"%.1f\" y=\"%d\" text-anchor=\"middle\" fill=\"#555555\">%d</text>\n", x, bottom + 16, 1 << power);
+    }
     for (size_t i = 0; i < row_count; i++) {
         struct row *r = &rows[i];
-        double ratio = r->ours / r->floor;
-        int y = TOP + STEP * (int)i, digits = r->ours < 10 ? 2 : 1;
-        fprintf(f, "<text x=\"%d\" y=\"%d\" text-anchor=\"end\" fill=\"#222222\">%s</text>\n", LEFT - 10, y + 15, r->name);
-        fprintf(f, "<rect x=\"%d\" y=\"%d\" width=\"%.1f\" height=\"20\" fill=\"#4878a8\"/>\n", LEFT, y, ratio * scale);
-        fprintf(f, "<text x=\"%.1f\" y=\"%d\" fill=\"#222222\">%.2f (%.*f to %.*f %s)</text>\n", LEFT + ratio * scale + 8, y + 15,
-                ratio, digits, r->ours, digits, r->floor, r->unit);
+        double ratio = r->ours / r->floor, x = one + axis(ratio) * scale, from = x < one ? x : one, to = x < one ? one : x;
+        int y = TOP + STEP * (int)i, digits = r->ours < 10 ? 2 : 0;
+        fprintf(f, "<text x=\"%d\" y=\"%d\" text-anchor=\"end\">%s</text>\n", LEFT - 10, y + 15, r->name);
+        fprintf(f, "<rect x=\"%.1f\" y=\"%d\" width=\"%.1f\" height=\"20\" fill=\"#4878a8\"/>\n", from, y, to - from);
+        fprintf(f, "<text x=\"%.1f\" y=\"%d\">%.2f (%.*f %s, C %.*f %s)</text>\n", to + 8, y + 15, ratio, digits, r->ours,
+                r->unit, digits, r->floor, r->unit);
     }
-    fprintf(f, "<line x1=\"%.1f\" y1=\"%d\" x2=\"%.1f\" y2=\"%d\" stroke=\"#c04030\" stroke-width=\"2\"/>\n", LEFT + scale,
-            TOP - 6, LEFT + scale, TOP + STEP * (int)row_count);
-    fprintf(f, "<text x=\"%.1f\" y=\"%d\" text-anchor=\"middle\" fill=\"#c04030\">plain C</text>\n", LEFT + scale,
-            TOP + STEP * (int)row_count + 14);
     fprintf(f, "</svg>\n");
     return fclose(f) == 0;
 }
@@ -458,15 +484,20 @@ int main(int count, char **argument)
     image = memory(BYTES);
     floor_image = memory(BYTES);
     table = memory(8 * TABLE);
-    uint64_t *hash = memory(8 * TABLE);
+    uint64_t *hash = memory(8 * TABLE), *keys = memory(8 * 60000);
     for (int pass = 0; pass < PASSES; pass++) {
         measure_puts("durable put of 16 bytes", 1, 16, true, 0);
         measure_puts("durable put of 256 bytes", 1, 256, true, 0);
         measure_puts("durable batch of 16 puts of 16 bytes", 16, 16, true, 0);
         measure_puts("put of 16 bytes, no write-backs", 1, 16, false, 0);
         measure_puts("the same behind 400 full chunks", 1, 16, false, 400);
-        measure_opening("opening, 60,000 values of 8 bytes", "look-up among 60,000 keys", 60000, 8, hash);
-        measure_opening("opening, 7,500 values of 256 bytes", "look-up among 7,500 keys", 7500, 256, hash);
+        make_image(60000, 8, keys);
+        measure_opening("opening, 60,000 values of 8 bytes", 60000, hash);
+        measure_looks("look-up among 60,000 keys, one by one", keys, 60000, hash, true);
+        measure_looks("look-up among 60,000 keys, overlapped", keys, 60000, hash, false);
+        make_image(7500, 256, keys);
+        measure_opening("opening, 7,500 values of 256 bytes", 7500, hash);
+        measure_looks("look-up among 7,500 keys, one by one", keys, 7500, hash, true);
     }
     printf("write-back by %s, ordinary memory\n", write_back_name(how));
     print_table();

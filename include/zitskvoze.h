@@ -228,7 +228,8 @@ zkv_report zkv_step(zkv_record *record, uint8_t *image, size_t bytes, uint64_t *
 uint64_t zkv_look_up(const zkv_record *record, const uint8_t *image, size_t bytes, const uint64_t *table, size_t words,
                      uint64_t key, uint64_t *start, uint64_t *length);
 
-/* The known keys of the open register, deleted ones that still have an entry included. */
+/* The known keys of the open register, deleted ones that still have an entry included; 0 where none is open, and while a
+ * formatting is unfinished. */
 uint64_t zkv_keys(const zkv_record *record);
 
 /* The chunks of an image whose directory word says free. */

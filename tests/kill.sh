@@ -33,7 +33,7 @@ for ((n = 1; n <= puts; n++)); do
     key=$((RANDOM % 9 + 1))
     length=$((RANDOM % 257))
     head -c "$length" /dev/urandom > next
-    "$zkv" put image "$key" next --pause 1000 &
+    "$zkv" put image "$key" next --pause 2000 &
     job=$!
     sleep "0.0$((RANDOM % 80 + 10))"
     kill -9 "$job" 2> /dev/null || true

@@ -2,14 +2,14 @@
 # Compares the library with the model: scripts of calls, refusals, damaged images and power cuts are played on both, and the
 # answers must be equal line by line.
 #
-# tests/replay.sh [FIRST [COUNT [TURNS]]]     seeds FIRST .. FIRST + COUNT - 1 (1, 150), scripts of TURNS turns (60)
+# tests/replay.sh [FIRST [COUNT [TURNS]]]     seeds FIRST .. FIRST + COUNT - 1 (1, 100), scripts of TURNS turns (60)
 #
 # Needs host/build/replay (make -C host) and Python 3. Stops at the first difference, shows it, and keeps the script and both
 # outputs under host/build/differ/.
 set -eu
 cd "$(dirname "$0")/.."
 first=${1:-1}
-count=${2:-150}
+count=${2:-100}
 turns=${3:-60}
 work=$(mktemp -d)
 trap 'rm -rf "$work"' EXIT
@@ -21,8 +21,9 @@ export python turns work
 cat > "$work/one" <<'END'
 set -eu
 at="$work/$1"
-$python tests/model/make_script.py "$1" "$turns" --level counter > "$at.script"
-$python tests/model/replay_model.py --no-blocks < "$at.script" > "$at.model"
+stopped() { echo "replay: seed $1: $2" >&2; exit 255; }
+$python tests/model/make_script.py "$1" "$turns" --level counter > "$at.script" || stopped "$1" "no script could be made"
+$python tests/model/replay_model.py --no-blocks < "$at.script" > "$at.model" || stopped "$1" "the model stopped"
 status=0
 host/build/replay < "$at.script" > "$at.replay" || status=$?
 if [ "$status" -ne 0 ] || ! cmp -s "$at.model" "$at.replay"; then

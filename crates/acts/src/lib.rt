@@ -1,8 +1,8 @@
 // The actions of begun calls, one by one, made without reading the image; and what a report does to the image.
 ghost use mathlib.Core.Path.{_≡_};
-ghost use Prim.Native.Nat.{min};
+ghost use Prim.Native.Nat.{_+_, _*_, min};
 ghost use lib.ListN.{getD};
-ghost use Rattle.spec.specs.Actions.{padded, firstWordOf};
+ghost use Rattle.spec.specs.Actions.{linesFor, padded, firstWordOf};
 ghost use Rattle.spec.specs.Contract.{Changed};
 ghost use Rattle.session.specs.State.{bufferPart, batchRoom, commitActions, givenBy, formatActions};
 ghost use Rattle.acts.specs.Nth.{nthReport, commitCount, formatCount, registerWord};
@@ -26,8 +26,23 @@ pub fn commit_count(words: usize) -> usize
     9 * lines + 4
 }
 
+// How many of these store a word of the batch: they come first.
+pub fn commit_stores(words: usize) -> usize
+    ensures { λ r. ⌜ r ≡ 8 * linesFor (min words batchRoom) ⌝ }
+{
+    let lines = (at_most(words, 512) + 7) / 8;
+    8 * lines
+}
+
+// The word of the image where the batch begins.
+pub fn batch_start(setup: Setup) -> usize
+    ensures { λ r. ⌜ r ≡ 512 * min (setup .chunk) 503 + 8 * min (setup .lines) 64 ⌝ }
+{
+    512 * at_most(setup.chunk, 503) + 8 * at_most(setup.lines, 64)
+}
+
 // Word i of the batch padded to whole lines: 0 behind the staged words.
-fn batch_word(buffer: &[u64; 1152], words: usize, i: usize) -> u64
+pub fn batch_word(buffer: &[u64; 1152], words: usize, i: usize) -> u64
     ensures { λ r. ⌜ r ≡ getD (padded (bufferPart (now (buffer .entry)) 0 (min words batchRoom))) i 0 ⌝ }
 {
     let staged = at_most(words, 512);

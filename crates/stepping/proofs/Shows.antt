@@ -3,15 +3,16 @@
 use mathlib.Core.Path.{_≡_, refl, _∙_, ap}
 use mathlib.Core.Bool.{Bool, true, false}
 use mathlib.Core.List.{List, [], _∷_}
-use Prim.Native.Nat.{ℕ, _+_, _≤_, _<_}
+use Prim.Native.Nat.{ℕ, _+_, _*_, _≤_, _<_, min}
 use native.Mathlib.Omega.{arith}
 use native.Mathlib.Decide.{ℕ-discrete}
 use lib.Dec.{eqb}
-use lib.ListN.{length, drop}
+use lib.ListN.{length, getD, drop}
 use borrow.Author.Tests.{eq-eqb, ne-eqb}
 use Rattle.spec.specs.Basics.{both}
 use Rattle.spec.specs.Words.{wordsOf}
 use Rattle.spec.specs.Medium.{Action}
+use Rattle.spec.specs.Actions.{linesFor, padded}
 use Rattle.spec.specs.Calls.{Step, Staging, Committing, State, Closed, Rest, Busy, Formatting, asReport, wordsAfter}
 use Rattle.spec.specs.Contract.{Changed, Called}
 use Rattle.spec.specs.declared.Control.{Control}
@@ -20,12 +21,13 @@ use Rattle.spec.specs.declared.Session.{Session}
 use Rattle.spec.specs.declared.Refusal.the-variants as N
 use Rattle.spec.specs.declared.Report.{Report}
 use Rattle.spec.specs.declared.Report.the-variants as R
-use Rattle.session.specs.State.{batchWords, batchItems, commitActions, formatActions, stateAt, stateOf}
+use Rattle.words.specs.Image.{Saved}
+use Rattle.session.specs.State.{bufferPart, batchRoom, batchWords, batchItems, commitActions, formatActions, stateAt, stateOf}
 use Rattle.session.specs.Fits.{Fits}
 use Rattle.acts.specs.Nth.{nth, nthReport, commitCount, formatCount}
-use Rattle.acts.proofs.Committing.{commit-next, commit-done}
+use Rattle.acts.proofs.Committing.{commit-next, commit-done, shows-store}
 use Rattle.acts.proofs.Formatting.{format-next, format-done}
-use Rattle.acts.proofs.Performed.{changed-words}
+use Rattle.acts.proofs.Performed.{changed-store, changed-words}
 use Rattle.joining.specs.Joining.{Joining}
 use Rattle.stepping.proofs.States.{busy, formatting, at-2, at-3, at-4, at-5, nothing-begun, in-call, table-kept, step-idle, step-refused, step-acts, step-ends}
 use Rattle.stepping.proofs.Keeping.{words-kept, same-items, same-acts, acted, emptied, staged, action-kept, last-kept, end-kept, staging-kept}
@@ -127,6 +129,14 @@ module _ (c : Control) (k : Setup) (b bytes table : List ℕ) (same-bytes : k .i
 
           fits : Fits s (wordsOf bytes) table → Fits s′ (wordsOf bytes′) table′
           fits f = (j .kept .long ∙ f .0, rw (after, none, words) (last-kept c k b (wordsOf bytes) table (batchItems c b) act (rw (here (omega arith), none) at (f .1)) b′ table′ keys (rw words at j)))
+
+    -- a store of one of the batch's words
+    pub commit-stores : (bytes′ : List ℕ) (w v : ℕ) → c .next < 8 * linesFor (min (c .words) batchRoom) → w ≡ 512 * min (k .chunk) 503 + 8 * min (k .lines) 64 + c .next
+        → v ≡ getD (padded (bufferPart b 0 (min (c .words) batchRoom))) (c .next) 0 → Saved bytes bytes′ w v
+        → Called stateOf Fits 12 256 Step s (with′ (acted c (c .keys) (c .fresh)) b) bytes bytes′ table table (R.Store w v)
+    commit-stores bytes′ w v h ew ev saved =
+        commit-acts bytes′ (R.Store w v) (shows-store c k b (c .next) (min (c .words) batchRoom) (min (k .chunk) 503) (min (k .lines) 64) refl refl refl w v h ew ev)
+        (changed-store (R.Store w v) bytes bytes′ w v refl saved) (omega arith)
 
     pub commit-ends : commitCount (c .words) ≤ c .next → Called stateOf Fits 12 256 Step s (with′ (emptied c) b) bytes bytes table table (R.End 0)
     unfolding stateAt batchItems batchWords

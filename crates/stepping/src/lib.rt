@@ -147,18 +147,42 @@ pub fn commit_core(
 }
 
 // STEP
-// A commit's next action; with the last, a fence, the batch joins the key table. Its end leaves nothing staged.
+// The record's changed part after a step, and its report: a step leaves the setup as it was.
+pub struct Stepped {
+    pub control: Control,
+    pub report: Report,
+}
+
+// A commit's next action: first the stores of the batch's words; with the last, a fence, the batch joins the key table. Its end leaves nothing staged.
 fn commit_step(
     control: Control,
     setup: Setup,
     buffer: &mut [u64; 1152],
     image: &mut [u8],
     table: &mut [u64],
-) -> Moved
+) -> Stepped
     requires { ⌜ (control .phase ≡ 3) × (setup .image ≡ length (now image)) × (setup .table ≡ length (now table)) ⌝ }
-    ensures { λ r. ⌜ Called stateOf Fits 12 256 Step (record { control = control; setup = setup; buffer = now (buffer .entry) }) (record { control = r .control; setup = r .setup; buffer = now (buffer .exit) }) (now (image .entry)) (now (image .exit)) (now (table .entry)) (now (table .exit)) (r .report) ⌝ }
+    ensures { λ r. ⌜ Called stateOf Fits 12 256 Step (record { control = control; setup = setup; buffer = now (buffer .entry) }) (record { control = r .control; setup = setup; buffer = now (buffer .exit) }) (now (image .entry)) (now (image .exit)) (now (table .entry)) (now (table .exit)) (r .report) ⌝ }
 {
     let at = control.next;
+    let stores = acts::commit_stores(control.words);
+    if at < stores {
+        let word = acts::batch_start(setup) + at;
+        let value = acts::batch_word(buffer, control.words, at);
+        words::save(image, word, value);
+        let stored = Control {
+            phase: 3,
+            next: at + 1,
+            items: control.items,
+            words: control.words,
+            keys: control.keys,
+            fresh: control.fresh,
+        };
+        return Stepped {
+            control: stored,
+            report: Report::Store { word, value },
+        };
+    }
     let count = acts::commit_count(control.words);
     if count <= at {
         let items = 0;
@@ -170,9 +194,8 @@ fn commit_step(
             keys: control.keys,
             fresh: 0,
         };
-        return Moved {
+        return Stepped {
             control: ended,
-            setup,
             report: Report::End(0),
         };
     }
@@ -188,9 +211,8 @@ fn commit_step(
             keys: control.keys,
             fresh: control.fresh,
         };
-        return Moved {
+        return Stepped {
             control: moved,
-            setup,
             report: act,
         };
     }
@@ -203,9 +225,8 @@ fn commit_step(
         keys,
         fresh: 0,
     };
-    Moved {
+    Stepped {
         control: moved,
-        setup,
         report: act,
     }
 }
@@ -217,9 +238,9 @@ fn format_step(
     buffer: &[u64; 1152],
     image: &mut [u8],
     table: &[u64],
-) -> Moved
+) -> Stepped
     requires { ⌜ (4 ≤ control .phase) × (control .phase ≤ 5) × (setup .image ≡ length (now image)) × (setup .table ≡ length (now table)) ⌝ }
-    ensures { λ r. ⌜ Called stateOf Fits 12 256 Step (record { control = control; setup = setup; buffer = now (buffer .entry) }) (record { control = r .control; setup = r .setup; buffer = now (buffer .entry) }) (now (image .entry)) (now (image .exit)) (now (table .entry)) (now (table .entry)) (r .report) ⌝ }
+    ensures { λ r. ⌜ Called stateOf Fits 12 256 Step (record { control = control; setup = setup; buffer = now (buffer .entry) }) (record { control = r .control; setup = setup; buffer = now (buffer .entry) }) (now (image .entry)) (now (image .exit)) (now (table .entry)) (now (table .entry)) (r .report) ⌝ }
 {
     let at = control.next;
     if acts::format_count() <= at {
@@ -231,9 +252,8 @@ fn format_step(
             keys: 0,
             fresh: 0,
         };
-        return Moved {
+        return Stepped {
             control: closed,
-            setup,
             report: Report::End(0),
         };
     }
@@ -248,9 +268,8 @@ fn format_step(
         keys: control.keys,
         fresh: control.fresh,
     };
-    Moved {
+    Stepped {
         control: moved,
-        setup,
         report: action,
     }
 }
@@ -262,35 +281,31 @@ pub fn step_core(
     buffer: &mut [u64; 1152],
     image: &mut [u8],
     table: &mut [u64],
-) -> Moved
-    ensures { λ r. ⌜ Called stateOf Fits 12 256 Step (record { control = control; setup = setup; buffer = now (buffer .entry) }) (record { control = r .control; setup = r .setup; buffer = now (buffer .exit) }) (now (image .entry)) (now (image .exit)) (now (table .entry)) (now (table .exit)) (r .report) ⌝ }
+) -> Stepped
+    ensures { λ r. ⌜ Called stateOf Fits 12 256 Step (record { control = control; setup = setup; buffer = now (buffer .entry) }) (record { control = r .control; setup = setup; buffer = now (buffer .exit) }) (now (image .entry)) (now (image .exit)) (now (table .entry)) (now (table .exit)) (r .report) ⌝ }
 {
     let phase = control.phase;
     if phase < 2 {
-        return Moved {
+        return Stepped {
             control,
-            setup,
             report: Report::Idle,
         };
     }
     if 5 < phase {
-        return Moved {
+        return Stepped {
             control,
-            setup,
             report: Report::Idle,
         };
     }
     if setup.image != image.len() {
-        return Moved {
+        return Stepped {
             control,
-            setup,
             report: Report::Refused(Refusal::ImageLength),
         };
     }
     if setup.table != table.len() {
-        return Moved {
+        return Stepped {
             control,
-            setup,
             report: Report::Refused(Refusal::ImageLength),
         };
     }
@@ -303,9 +318,8 @@ pub fn step_core(
             keys: control.keys,
             fresh: control.fresh,
         };
-        return Moved {
+        return Stepped {
             control: staged,
-            setup,
             report: Report::End(0),
         };
     }

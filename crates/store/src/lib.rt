@@ -112,7 +112,6 @@ pub fn step(s: &mut Session, image: &mut [u8], table: &mut [u64]) -> Report
     let k = s.setup;
     let m = stepping::step_core(c, k, &mut s.buffer, image, table);
     s.control = m.control;
-    s.setup = m.setup;
     m.report
 }
 

@@ -1,0 +1,241 @@
+// The public calls for a host in C: each stands for the call of `store` whose contract it cites, with plain numbers in and out.
+// A slice is a pointer and a count, the record a pointer, an `Answer` a struct of three 64-bit numbers. None has a `requires`.
+ghost use mathlib.Core.Path.{_≡_};
+ghost use lib.ListN.{length};
+ghost use Rattle.spec.specs.Words.{wordsOf};
+ghost use Rattle.spec.specs.Places.{chunksIn};
+ghost use Rattle.spec.specs.Directory.{freeChunks};
+ghost use Rattle.spec.specs.Calls.{Format, Open, Put, Delete, Commit, Abandon, Step};
+ghost use Rattle.spec.specs.Contract.{Called};
+ghost use Rattle.session.specs.State.{stateOf};
+ghost use Rattle.session.specs.Fits.{Fits};
+ghost use Rattle.calls.specs.Begun.{given};
+ghost use Rattle.store.specs.Look.{Reported};
+ghost use Rattle.stat.specs.Counts.{linesUsed, Known};
+ghost use Rattle.capi.specs.Answers.{answerOf, Told, isGiven, ShownBy, Shown};
+use spec::Report;
+use spec::Session;
+
+// A report in numbers: its kind, 0 to 10 in the order of `Report`, and its values, 0 where it has none.
+#[repr(C)]
+pub struct Answer {
+    pub kind: u64,
+    pub first: u64,
+    pub second: u64,
+}
+
+// The numbers of a report; a refusal has that of document 01's table. Two different reports have different numbers (proofs/Lossless.antt).
+fn told(report: Report) -> Answer
+    ensures { λ r. ⌜ r ≡ answerOf report ⌝ }
+{
+    match report {
+        Report::Refused(n) => Answer {
+            kind: 0,
+            first: recovery::number(n),
+            second: 0,
+        },
+        Report::Begun(actions) => Answer {
+            kind: 1,
+            first: actions as u64,
+            second: 0,
+        },
+        Report::Store { word, value } => Answer {
+            kind: 2,
+            first: word as u64,
+            second: value,
+        },
+        Report::Flush(line) => Answer {
+            kind: 3,
+            first: line as u64,
+            second: 0,
+        },
+        Report::Fence => Answer {
+            kind: 4,
+            first: 0,
+            second: 0,
+        },
+        Report::End(copied) => Answer {
+            kind: 5,
+            first: copied as u64,
+            second: 0,
+        },
+        Report::Idle => Answer {
+            kind: 6,
+            first: 0,
+            second: 0,
+        },
+        Report::Opened => Answer {
+            kind: 7,
+            first: 0,
+            second: 0,
+        },
+        Report::Abandoned => Answer {
+            kind: 8,
+            first: 0,
+            second: 0,
+        },
+        Report::Chosen(chunk) => Answer {
+            kind: 9,
+            first: chunk as u64,
+            second: 0,
+        },
+        Report::Part { start, length } => Answer {
+            kind: 10,
+            first: start as u64,
+            second: length as u64,
+        },
+    }
+}
+
+// A host's mark, 0 for a number that is absent.
+fn is_given(mark: u64) -> bool
+    ensures { λ r. ⌜ r ≡ isGiven mark ⌝ }
+{
+    mark != 0
+}
+
+// Begins a formatting (`store::format`); a mark is 0 where the number behind it is absent.
+#[no_mangle]
+pub extern "C" fn zkv_format(
+    s: &mut Session,
+    image: &[u8],
+    table: &[u64],
+    station_given: u64,
+    station: u64,
+    centre_given: u64,
+    centre: u64,
+) -> Answer
+    ensures { λ r. ⌜ Told (Called stateOf Fits 12 256 (Format (given (isGiven «station_given») station) (given (isGiven «centre_given») centre)) (now (s .entry)) (now (s .exit)) (now (image .entry)) (now (image .entry)) (now (table .entry)) (now (table .entry))) r ⌝ }
+{
+    let a = is_given(station_given);
+    let b = is_given(centre_given);
+    let report = store::format(s, image, table, a, station, b, centre);
+    told(report)
+}
+
+// Opens the register of the lent image (`store::open_register`).
+#[no_mangle]
+pub extern "C" fn zkv_open(s: &mut Session, image: &[u8], table: &mut [u64]) -> Answer
+    ensures { λ r. ⌜ Told (Called stateOf Fits 12 256 Open (now (s .entry)) (now (s .exit)) (now (image .entry)) (now (image .entry)) (now (table .entry)) (now (table .exit))) r ⌝ }
+{
+    let report = store::open_register(s, image, table);
+    told(report)
+}
+
+// Begins staging a put (`store::stage_put`).
+#[no_mangle]
+pub extern "C" fn zkv_put(
+    s: &mut Session,
+    image: &[u8],
+    table: &[u64],
+    key: u64,
+    value: &[u8],
+) -> Answer
+    ensures { λ r. ⌜ Told (Called stateOf Fits 12 256 (Put key (now (value .entry))) (now (s .entry)) (now (s .exit)) (now (image .entry)) (now (image .entry)) (now (table .entry)) (now (table .entry))) r ⌝ }
+{
+    let report = store::stage_put(s, image, table, key, value);
+    told(report)
+}
+
+// Begins staging a delete (`store::stage_delete`).
+#[no_mangle]
+pub extern "C" fn zkv_delete(s: &mut Session, image: &[u8], table: &[u64], key: u64) -> Answer
+    ensures { λ r. ⌜ Told (Called stateOf Fits 12 256 (Delete key) (now (s .entry)) (now (s .exit)) (now (image .entry)) (now (image .entry)) (now (table .entry)) (now (table .entry))) r ⌝ }
+{
+    let report = store::stage_delete(s, image, table, key);
+    told(report)
+}
+
+// Begins the commit of the staged items (`store::commit`).
+#[no_mangle]
+pub extern "C" fn zkv_commit(s: &mut Session, image: &[u8], table: &[u64]) -> Answer
+    ensures { λ r. ⌜ Told (Called stateOf Fits 12 256 Commit (now (s .entry)) (now (s .exit)) (now (image .entry)) (now (image .entry)) (now (table .entry)) (now (table .entry))) r ⌝ }
+{
+    let report = store::commit(s, image, table);
+    told(report)
+}
+
+// Forgets the staged items (`store::abandon`).
+#[no_mangle]
+pub extern "C" fn zkv_abandon(s: &mut Session, image: &[u8], table: &[u64]) -> Answer
+    ensures { λ r. ⌜ Told (Called stateOf Fits 12 256 Abandon (now (s .entry)) (now (s .exit)) (now (image .entry)) (now (image .entry)) (now (table .entry)) (now (table .entry))) r ⌝ }
+{
+    let report = store::abandon(s, image, table);
+    told(report)
+}
+
+// One step of the call that is begun (`store::step`).
+#[no_mangle]
+pub extern "C" fn zkv_step(s: &mut Session, image: &mut [u8], table: &mut [u64]) -> Answer
+    ensures { λ r. ⌜ Told (Called stateOf Fits 12 256 Step (now (s .entry)) (now (s .exit)) (now (image .entry)) (now (image .exit)) (now (table .entry)) (now (table .exit))) r ⌝ }
+{
+    let report = store::step(s, image, table);
+    told(report)
+}
+
+// A look-up's report in numbers: 0 or the refusal's number, and the part's first byte and length, 0 where there is none.
+fn shown(report: Report, start: &mut u64, length: &mut u64) -> u64
+    ensures { λ r. ⌜ ShownBy report r (now (start .exit)) (now (length .exit)) ⌝ }
+{
+    match report {
+        Report::Refused(n) => {
+            *start = 0;
+            *length = 0;
+            recovery::number(n)
+        }
+        Report::Part {
+            start: a,
+            length: n,
+        } => {
+            *start = a as u64;
+            *length = n as u64;
+            0
+        }
+        _ => {
+            *start = 0;
+            *length = 0;
+            0
+        }
+    }
+}
+
+// Where in the image the value of a key lies (`store::find`): the answer is 0, or the refusal's number with `start` and `length` 0.
+#[no_mangle]
+pub extern "C" fn zkv_look_up(
+    s: &Session,
+    image: &[u8],
+    table: &[u64],
+    key: u64,
+    start: &mut u64,
+    length: &mut u64,
+) -> u64
+    ensures { λ r. ⌜ Shown (Reported (now (s .entry)) key (now (image .entry)) (now (table .entry))) r (now (start .exit)) (now (length .exit)) ⌝ }
+{
+    let report = store::find(s, image, table, key);
+    shown(report, start, length)
+}
+
+// COUNTS FOR A DISPLAY
+// The known keys of the open register (`stat::keys`).
+#[no_mangle]
+pub extern "C" fn zkv_keys(s: &Session) -> u64
+    ensures { λ r. ⌜ Known (now (s .entry)) r ⌝ }
+{
+    stat::keys(s)
+}
+
+// How many chunks the directory says are free (`stat::free_chunks`).
+#[no_mangle]
+pub extern "C" fn zkv_free_chunks(image: &[u8]) -> u64
+    ensures { λ r. ⌜ r ≡ length (freeChunks 12 (chunksIn 12 (length (now (image .entry)))) (wordsOf (now (image .entry)))) ⌝ }
+{
+    stat::free_chunks(image)
+}
+
+// The committed lines of all log chunks (`stat::lines_used`).
+#[no_mangle]
+pub extern "C" fn zkv_lines_used(image: &[u8]) -> u64
+    ensures { λ r. ⌜ r ≡ linesUsed 12 (chunksIn 12 (length (now (image .entry)))) (wordsOf (now (image .entry))) ⌝ }
+{
+    stat::lines_used(image)
+}

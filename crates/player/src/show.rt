@@ -1,0 +1,98 @@
+// What a call answers, as a line of text.
+use spec::Report;
+
+pub fn text(line: &[u8]) {
+    io::write_all(1, line);
+}
+
+fn line_feed() {
+    io::write_all(1, b"\n");
+}
+
+// A word and a number behind it.
+pub fn one(word: &[u8], number: u64) {
+    io::write_all(1, word);
+    io::write_all(1, b" ");
+    io::print_decimal(1, number);
+    line_feed();
+}
+
+pub fn two(word: &[u8], first: u64, second: u64) {
+    io::write_all(1, word);
+    io::write_all(1, b" ");
+    io::print_decimal(1, first);
+    io::write_all(1, b" ");
+    io::print_decimal(1, second);
+    line_feed();
+}
+
+pub fn three(word: &[u8], first: u64, second: u64, third: u64) {
+    io::write_all(1, word);
+    io::write_all(1, b" ");
+    io::print_decimal(1, first);
+    io::write_all(1, b" ");
+    two_numbers(second, third);
+}
+
+fn two_numbers(first: u64, second: u64) {
+    io::print_decimal(1, first);
+    io::write_all(1, b" ");
+    io::print_decimal(1, second);
+    line_feed();
+}
+
+fn wide(b: u8) -> u64 {
+    b as u64
+}
+
+// The first bytes of a value, sixteen at most, in hexadecimal digits.
+fn first_bytes(value: &[u8]) {
+    let mut i = 0;
+    while i < 16 {
+        if value.len() <= i {
+            break;
+        }
+        io::print_hex(1, wide(value[i]), 2);
+        i += 1;
+    }
+    line_feed();
+}
+
+// A key's value: its length, its sum and its first bytes.
+pub fn value(key: u64, bytes: &[u8], sum: u64) {
+    io::write_all(1, b"value ");
+    io::print_decimal(1, key);
+    io::write_all(1, b" ");
+    io::print_decimal(1, bytes.len() as u64);
+    io::write_all(1, b" ");
+    io::print_decimal(1, sum);
+    if bytes.len() > 0 {
+        io::write_all(1, b" ");
+    }
+    first_bytes(bytes);
+}
+
+// An end with no entries copied shows no number.
+fn end(count: u64) {
+    if count == 0 {
+        text(b"end\n");
+        return;
+    }
+    one(b"end", count);
+}
+
+pub fn report(report: Report) {
+    match report {
+        Report::Refused(n) => one(b"refused", recovery::number(n)),
+        Report::Begun(actions) => one(b"begun", actions as u64),
+        Report::Store { word, value } => two(b"store", word as u64, value),
+        Report::Flush(line) => one(b"flush", line as u64),
+        Report::Fence => text(b"fence\n"),
+        Report::End(count) => end(count as u64),
+        Report::Idle => text(b"idle\n"),
+        Report::Opened => text(b"opened\n"),
+        Report::Abandoned => text(b"abandoned\n"),
+        Report::Chosen(chunk) => one(b"chunk", chunk as u64),
+        Report::Part { start, length } => two(b"part", start as u64, length as u64),
+    }
+}
