@@ -151,8 +151,8 @@ static void shuffle(uint64_t *keys)
 // The slot at which the proved table starts, as its definition `hashOf` says.
 static size_t rattle_hash(uint64_t key)
 {
-    uint32_t low = (uint32_t)key * 0x9E3779B9u;
-    uint32_t high = (uint32_t)(key >> 32) * 0xC2B2AE3Du;
+    uint32_t low = (uint32_t)key * 0xFF274DFFu;
+    uint32_t high = (uint32_t)(key >> 32) * 0x7D87B233u;
     uint32_t mixed = low + high;
     return ((uint64_t)mixed * SLOTS) >> 32;
 }

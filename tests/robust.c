@@ -29,7 +29,7 @@ enum {
     TABLE_MAX = 8192,
     VALUE_MAX = 8192,
     CHUNK_WORDS = 512,
-    BUFFER = 14,              /* word of the record at which its buffer starts */
+    BUFFER = 16,              /* word of the record at which its buffer starts */
     STEPS_MAX = 583,
     SECONDS = 300             /* far more than a run takes */
 };
@@ -557,9 +557,11 @@ static void near_record(void)
     w[8] = one_in(8) ? 503 + below(2) : below(chunks + 2);
     w[9] = one_in(4) ? draw() : get_word(8 + w[8]);
     w[10] = below(66);
-    w[11] = below(8);
-    w[12] = draw();
-    w[13] = draw();
+    w[11] = one_in(4) ? draw() : below(chunks + 2);
+    w[12] = one_in(4) ? draw() : below(66);
+    w[13] = below(8);
+    w[14] = draw();
+    w[15] = draw();
     if (one_in(3)) {
         wild(w + BUFFER, 8 * 1152);
     } else {

@@ -95,6 +95,7 @@ module _ (c : Control) (k : Setup) (b bytes table : List ℕ) where
             built = record { indexed = f .built .indexed; blocks = f .built .blocks };
             batch = record { room = omega arith; written = refl; count = refl; few = omega arith; right = tt; counts = tt; in-log = λ e m. absurd m; keys = omega arith };
             table-room = omega arith;
+            hint = f .hint;
           }
 
       pub abandon-done : (c .items ≡ 0 → ⊥) → Called stateOf Fits 12 256 Abandon s bare bytes bytes table table R.Abandoned
@@ -158,7 +159,7 @@ module _ (c : Control) (k : Setup) (b bytes table : List ℕ) where
     abbrev formatting : Session
     formatting = record {
       control = record { phase = formattingAt (c .phase); next = 0; items = 0; words = 0; keys = 0; fresh = 0 };
-      setup = record { image = length bytes; table = length table; chunk = 0; old = 0; lines = 0; fields = headerMap station centre; station = numberIn station; centre = numberIn centre };
+      setup = record { image = length bytes; table = length table; chunk = 0; old = 0; lines = 0; first = 0; least = 0; fields = headerMap station centre; station = numberIn station; centre = numberIn centre };
       buffer = b;
     }
 
@@ -203,7 +204,7 @@ module _ (c : Control) (k : Setup) (b bytes table : List ℕ) where
         → Called stateOf Fits 12 256 (Format station centre) s
         (record {
           control = record { phase = phase; next = 0; items = 0; words = 0; keys = 0; fresh = 0 };
-          setup = record { image = length bytes; table = length table; chunk = 0; old = 0; lines = 0; fields = fields; station = x; centre = y };
+          setup = record { image = length bytes; table = length table; chunk = 0; old = 0; lines = 0; first = 0; least = 0; fields = fields; station = x; centre = y };
           buffer = b;
         }) bytes bytes table table (R.Begun 582)
     format-begun phase fields x y p f d e h u = rw (p, f, d, e) (begins h u)

@@ -183,6 +183,7 @@ module _ (c : Control) (k : Setup) (b bytes table : List ℕ) where
                   built = record { indexed = r .built .indexed; blocks = λ u. added .bits u ∙ r .built .blocks u };
                   batch = batch-then;
                   table-room = rw l at q;
+                  hint = r .hint;
                 }),
               )
 

@@ -151,6 +151,8 @@ pub fn format_core(
             chunk: 0,
             old: 0,
             lines: 0,
+            first: 0,
+            least: 0,
             fields: header_map(station, centre),
             station: number_in(station),
             centre: number_in(centre),

@@ -2,7 +2,7 @@
 ghost use mathlib.Core.Path.{_≡_};
 ghost use Prim.Native.Nat.{_<_};
 ghost use lib.ListN.{length};
-ghost use Rattle.index.specs.Index.{mixOf, hashOf, next, stopOf, get, insert, foundOf, putOf, zeros, used, capacity, Removal};
+ghost use Rattle.index.specs.Index.{infoAt, mixOf, hashOf, next, stopOf, get, insert, putAt, foundOf, putOf, zeros, used, capacity, Removal};
 ghost use Rattle.index.specs.Distance.{dist};
 ghost use Rattle.index.specs.Packed.{packOf, unpackOf};
 
@@ -50,8 +50,8 @@ pub fn clear(table: &mut [u64])
 fn mix(key: u64) -> u64
     ensures { λ r. ⌜ r ≡ mixOf key ⌝ }
 {
-    let low = key % 0x1_0000_0000 * 0x9E37_79B9 % 0x1_0000_0000;
-    let high = key / 0x1_0000_0000 * 0xC2B2_AE3D % 0x1_0000_0000;
+    let low = key % 0x1_0000_0000 * 0xFF27_4DFF % 0x1_0000_0000;
+    let high = key / 0x1_0000_0000 * 0x7D87_B233 % 0x1_0000_0000;
     (low + high) % 0x1_0000_0000
 }
 
@@ -61,11 +61,7 @@ fn hash(key: u64, n: usize) -> usize
     ensures { λ r. ⌜ r ≡ hashOf key n ⌝ }
 {
     let m = mix(key) as usize;
-    if n < 0x1_0000_0000 {
-        m * n / 0x1_0000_0000
-    } else {
-        m % n
-    }
+    m * (n % 0x1_0000_0000) / 0x1_0000_0000
 }
 
 // The slot after s, round n slots.
@@ -77,7 +73,7 @@ fn after(s: usize, n: usize) -> usize
 }
 
 // The slot at which the probing for a key stops, or the number of slots.
-fn stop(table: &[u64], key: u64) -> usize
+pub fn stop(table: &[u64], key: u64) -> usize
     ensures { λ r. ⌜ r ≡ stopOf (now (table .entry)) key ⌝ }
 {
     let n = table.len() / 2;
@@ -99,7 +95,8 @@ fn stop(table: &[u64], key: u64) -> usize
     n
 }
 
-// The word of a key, 0 where it has none. It probes as `stop` does, and answers with the word that it has read.
+// The word of a key, 0 where it has none. It probes as `stop` does, and answers with the word that it has read: the first slot, those
+// behind it, and then those before it.
 pub fn look(table: &[u64], key: u64) -> u64
     ensures { λ r. ⌜ r ≡ get (now (table .entry)) key ⌝ }
 {
@@ -107,9 +104,16 @@ pub fn look(table: &[u64], key: u64) -> u64
     if n == 0 {
         return 0;
     }
-    let mut slot = hash(key, n);
-    let mut turns = n;
-    while 0 < turns {
+    let home = hash(key, n);
+    let first = table[2 * home + 1];
+    if first == 0 {
+        return 0;
+    }
+    if table[2 * home] == key {
+        return first;
+    }
+    let mut slot = home + 1;
+    while slot < n {
         let info = table[2 * slot + 1];
         if info == 0 {
             return 0;
@@ -117,10 +121,40 @@ pub fn look(table: &[u64], key: u64) -> u64
         if table[2 * slot] == key {
             return info;
         }
-        slot = after(slot, n);
-        turns -= 1;
+        slot += 1;
+    }
+    let mut low = 0;
+    while low < home {
+        let info = table[2 * low + 1];
+        if info == 0 {
+            return 0;
+        }
+        if table[2 * low] == key {
+            return info;
+        }
+        low += 1;
     }
     0
+}
+
+// The word of a slot, 0 past the last.
+pub fn word_at(table: &[u64], slot: usize) -> u64
+    ensures { λ r. ⌜ r ≡ infoAt (now (table .entry)) slot ⌝ }
+{
+    if slot < table.len() / 2 {
+        return table[2 * slot + 1];
+    }
+    0
+}
+
+// A key and its word are put into a slot; past the last nothing changes. Put where its probing stops, the key is inserted (`put-insert`).
+pub fn put_at(table: &mut [u64], slot: usize, key: u64, info: u64)
+    ensures { λ _. ⌜ now (table .exit) ≡ putAt (now (table .entry)) slot key info ⌝ }
+{
+    if slot < table.len() / 2 {
+        table[2 * slot] = key;
+        table[2 * slot + 1] = info;
+    }
 }
 
 pub fn find(table: &[u64], key: u64) -> Found

@@ -2,3 +2,4 @@ pub mod Roles
 pub mod Stands
 pub mod Walk
 pub mod Scan
+pub mod Shifts

@@ -1,6 +1,6 @@
 // Walking the entries of an image: what stands at a place, what the directory says of a chunk, and the log in order.
 ghost use mathlib.Core.Path.{_≡_};
-ghost use Prim.Native.Nat.{_+_, _*_, _/_, _^_, _≤_, _<_, min};
+ghost use Prim.Native.Nat.{_+_, _*_, _/_, _≤_, _<_, min};
 ghost use lib.ListN.{length, drop};
 ghost use lib.Seq.{slice};
 ghost use Rattle.spec.specs.Words.{wordsOf};
@@ -55,31 +55,9 @@ pub fn words_for(placement: u64, field: u64) -> usize
     }
 }
 
-// 256 to the r.
-fn power(r: u64) -> u64
-    requires { ⌜ r < 8 ⌝ }
-    ensures { λ p. ⌜ p ≡ 256 ^ r ⌝ }
-{
-    if r < 4 {
-        match r {
-            0 => 1,
-            1 => 0x100,
-            2 => 0x1_0000,
-            _ => 0x100_0000,
-        }
-    } else {
-        match r {
-            4 => 0x1_0000_0000,
-            5 => 0x100_0000_0000,
-            6 => 0x1_0000_0000_0000,
-            _ => 0x100_0000_0000_0000,
-        }
-    }
-}
-
-// Whether the value of an entry at word `at`, which ends within the image, is zero-filled.
-fn fill_right(img: &[u8], at: usize, placement: u64, field: u64) -> bool
-    requires { ⌜ at + (2 + wordsFor placement field) ≤ length (now img) / 8 ⌝ }
+// Whether the value of an entry at word `at`, which takes so many words and ends within the image, is zero-filled.
+fn fill_right(img: &[u8], at: usize, placement: u64, field: u64, words: usize) -> bool
+    requires { ⌜ (words ≡ wordsFor placement field) × (at + (2 + words) ≤ length (now img) / 8) ⌝ }
     ensures { λ r. ⌜ r ≡ filled placement field (drop at (wordsOf (now (img .entry)))) ⌝ }
 {
     if placement != 0 {
@@ -89,8 +67,8 @@ fn fill_right(img: &[u8], at: usize, placement: u64, field: u64) -> bool
     if odd == 0 {
         return true;
     }
-    let last = load(img, at + (2 + (field / 8) as usize));
-    last < power(odd)
+    let last = load(img, at + (1 + words));
+    last < 1 << (8 * odd)
 }
 
 fn lesser(a: usize, b: usize) -> usize
@@ -121,7 +99,7 @@ pub fn next_entry(img: &[u8], at: usize, end: usize) -> LogStep
             if stop - at < 2 + words {
                 return LogStep::Wrong;
             }
-            if fill_right(img, at, placement, field) {
+            if fill_right(img, at, placement, field, words) {
                 let key = load(img, at + 1);
                 LogStep::Entry {
                     op,

@@ -24,19 +24,6 @@ pub found-nothing : (q : Option ℕ) → foundOf q ≡ F.Nothing → q ≡ none
 found-nothing none h = refl
 found-nothing (some d) h = absurd (let z : _≡_ {A = ℕ} 0 1 = cc in omega arith)
 
--- what the code shows of the place, by the answers of its two searches
-module _ (ws : List ℕ) (count lines needed : ℕ) (log : Found) (told : log ≡ foundOf (first (filter (hasSpace 12 ws lines 0) (upFrom 1 (count - 1))))) where
-  in-log : Option ℕ
-  in-log = first (filter (hasSpace 12 ws lines 0) (upFrom 1 (count - 1)))
-
-  pub place-log : (c : ℕ) → log ≡ F.At c → logPlace 12 count ws lines 0 needed ≡ some c
-  unfolding logPlace in-log
-  place-log c e = rw (found-at in-log c (sym told ∙ e))
-
-  pub place-else : log ≡ F.Nothing → logPlace 12 count ws lines 0 needed ≡ freeChunk 12 count ws needed
-  unfolding logPlace in-log
-  place-else e = rw (found-nothing in-log (sym told ∙ e))
-
 -- a place by its field `found`
 pub record PlacedAt (ws : List ℕ) (q : Option ℕ) (r : Place) : Type 0 where
   pub chunk : q ≡ some (r .chunk)

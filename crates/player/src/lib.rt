@@ -1,4 +1,5 @@
 // Plays a script of calls on one station: lends it image, key table and record, and prints what each call answers.
+// The calls are the cores, with the record's small parts by value and its buffer lent. tests/scripts.py has the commands.
 mod memory;
 mod show;
 mod sums;
@@ -7,7 +8,6 @@ use script::Line;
 use script::Token;
 use spec::Control;
 use spec::Given;
-use spec::Refusal;
 use spec::Report;
 use spec::Setup;
 
@@ -96,6 +96,8 @@ fn nothing() -> Setup {
         chunk: 0,
         old: 0,
         lines: 0,
+        first: 0,
+        least: 0,
         fields: 0,
         station: 0,
         centre: 0,
@@ -350,7 +352,7 @@ fn lent(
     }
 }
 
-// What a refused call leaves: image, table and record as they were.
+// What a refused call leaves: the record as it was, and image and table.
 fn same_record(
     c: Control,
     old_c: Control,
@@ -454,38 +456,40 @@ fn bad() {
 
 // An image of so many bytes, all zero; 65,536 at most.
 fn lend_image(state: State, image: &mut [u8], bytes: u64) -> State {
-    if 65536 < bytes {
-        bad();
-        return state;
-    }
     memory::zero_bytes(image);
     let mut s = state;
-    s.bytes = bytes as usize;
+    s.bytes = if bytes <= 65536 {
+        bytes as usize
+    } else {
+        65536
+    };
     s
 }
 
 // A key table of so many words, 8,192 at most, that hold what they held.
 fn lend_table(state: State, words: u64) -> State {
-    if 8192 < words {
-        bad();
-        return state;
-    }
     let mut s = state;
-    s.words = words as usize;
+    s.words = if words <= 8192 { words as usize } else { 8192 };
     s
 }
 
 fn image_line(state: State, image: &mut [u8], bytes: Token) -> State {
-    let s = lend_image(state, image, bytes.value);
+    if 65536 < bytes.value {
+        bad();
+        return state;
+    }
     show::one(b"image", bytes.value);
-    s
+    lend_image(state, image, bytes.value)
 }
 
 fn table_line(state: State, table: &mut [u64], words: Token) -> State {
-    let s = lend_table(state, words.value);
-    memory::zero_words(table);
+    if 8192 < words.value {
+        bad();
+        return state;
+    }
     show::one(b"table", words.value);
-    s
+    memory::zero_words(table);
+    lend_table(state, words.value)
 }
 
 fn lend_line(state: State, image: &mut [u8], bytes: Token, words: Token) -> State {

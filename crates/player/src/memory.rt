@@ -1,4 +1,8 @@
 // Lent memory: filled, copied and compared.
+ghost use mathlib.Core.Path.{_≡_};
+ghost use mathlib.Core.Bool.{true};
+ghost use Prim.Native.Nat.{ℕ, _<_};
+ghost use lib.ListN.{length, getD};
 use spec::Control;
 use spec::Setup;
 
@@ -18,7 +22,10 @@ pub fn zero_words(words: &mut [u64]) {
     }
 }
 
-pub fn are_zero(words: &[u64]) -> bool {
+// Says so only of zeros.
+pub fn are_zero(words: &[u64]) -> bool
+    ensures { λ r. ⌜ (r ≡ true → (k : ℕ) → k < length (now (words .entry)) → getD (now (words .entry)) k 0 ≡ 0) ⌝ }
+{
     let mut i = 0;
     while i < words.len() {
         if words[i] != 0 {
@@ -52,7 +59,10 @@ pub fn copy_words(from: &[u64], to: &mut [u64]) {
     }
 }
 
-pub fn same_bytes(a: &[u8], b: &[u8]) -> bool {
+// Says so only of equal lists.
+pub fn same_bytes(a: &[u8], b: &[u8]) -> bool
+    ensures { λ r. ⌜ (r ≡ true → now (a .entry) ≡ now (b .entry)) ⌝ }
+{
     if a.len() != b.len() {
         return false;
     }
@@ -66,7 +76,10 @@ pub fn same_bytes(a: &[u8], b: &[u8]) -> bool {
     true
 }
 
-pub fn same_words(a: &[u64], b: &[u64]) -> bool {
+// Says so only of equal lists.
+pub fn same_words(a: &[u64], b: &[u64]) -> bool
+    ensures { λ r. ⌜ (r ≡ true → now (a .entry) ≡ now (b .entry)) ⌝ }
+{
     if a.len() != b.len() {
         return false;
     }
@@ -113,6 +126,12 @@ pub fn same_setup(a: Setup, b: Setup) -> bool {
         return false;
     }
     if a.lines != b.lines {
+        return false;
+    }
+    if a.first != b.first {
+        return false;
+    }
+    if a.least != b.least {
         return false;
     }
     if a.fields != b.fields {

@@ -5,16 +5,16 @@ use mathlib.Core.Logic.{inl, inr}
 use mathlib.Core.Bool.{Bool, true, false}
 use mathlib.Core.Option.{none, some}
 use mathlib.Core.List.{List, []}
-use Prim.Native.Nat.{ℕ, _+_, _-_, _*_, _^_, _≤_, _<_}
+use Prim.Native.Nat.{ℕ, _+_, _-_, _*_, _/_, _%_, _≤_, _<_}
 use native.Mathlib.Omega.{arith}
 use lib.Dec.{eqb, leb}
 use lib.ListN.{length, getD, take, drop}
-use borrow.Author.Tests.{le-leb, lt-leb, leb-true, eq-eqb, ne-eqb}
+use borrow.Author.Tests.{le-leb, lt-leb, leb-true, ne-eqb}
 use Rattle.spec.specs.Basics.{pick, both}
 use Rattle.spec.specs.Words.{wordsOf}
 use Rattle.spec.specs.Places.{unitChunk, unitWord, chunksIn}
 use Rattle.spec.specs.Directory.{sizeOf}
-use Rattle.spec.specs.Log.{Entry, Entries, firstOf, wordsFor, imageEntries}
+use Rattle.spec.specs.Log.{Entry, Entries, wordsFor, imageEntries}
 use Rattle.spec.specs.Blocks.{pointed}
 use Rattle.spec.specs.Contents.{chosen}
 use Rattle.spec.specs.Calls.{LookUp, State, isRefused, gate, answer, next, partOr, lookUp, number}
@@ -22,8 +22,6 @@ use Rattle.spec.specs.Contract.{Changed, Outcome, Called}
 use Rattle.spec.specs.declared.Control.{Control}
 use Rattle.spec.specs.declared.Setup.{Setup}
 use Rattle.spec.specs.declared.Session.{Session}
-use Rattle.spec.specs.declared.FirstWord.{FirstWord}
-use Rattle.spec.specs.declared.FirstWord.the-variants as F
 use Rattle.spec.specs.declared.Refusal.{Refusal}
 use Rattle.spec.specs.declared.Refusal.the-variants as N
 use Rattle.spec.specs.declared.Report.the-variants as R
@@ -68,12 +66,10 @@ pick-in : (bytes : ℕ) (t : Bool) (x y : Located) → PartIn bytes x → PartIn
 pick-in bytes true x y p q = p
 pick-in bytes false x y p q = q
 
-part-in : (bytes : ℕ) (ws : List ℕ) (place : ℕ) (f : FirstWord) → PartIn bytes (partBy bytes ws place f)
-part-in bytes ws place F.Padding = refl
-part-in bytes ws place F.Wrong = refl
-part-in bytes ws place (F.Entry op placement version field) =
-    pick-in bytes (eqb op 1) _ (L.Refused N.KeyAbsent)
-    (pick-in bytes (eqb placement 1) _ _ (within-in bytes (8 * (unitWord field + 1)) (getD ws (unitWord field) 0)) (within-in bytes (8 * (place + 2)) field)) refl
+part-in : (bytes : ℕ) (ws : List ℕ) (place w : ℕ) → PartIn bytes (partBy bytes ws place w)
+part-in bytes ws place w =
+    pick-in bytes (eqb (w % 16) 1) _ _ (within-in bytes (8 * (place + 2)) (w / 16777216))
+    (pick-in bytes (eqb (w % 16) 5) _ (L.Refused N.KeyAbsent) (within-in bytes (8 * (unitWord (w / 16777216) + 1)) (getD ws (unitWord (w / 16777216)) 0)) refl)
 
 in-image : (bytes : ℕ) (r : Located) → PartIn bytes r → InImage bytes r
 in-image bytes (L.Refused n) h = tt
@@ -82,12 +78,30 @@ in-image bytes (L.Part a n) h = h
 -- ## An accepted image: the part of its chosen entry
 
 -- the entry's own words say where its value is, in the log or in a block
-entry-part : (bytes : ℕ) (ws : List ℕ) (e : Entry) (f : FirstWord) → f ≡ F.Entry (e .op) (e .placement) (e .version) (e .field)
+kind-part : (bytes : ℕ) (ws : List ℕ) (place w op pl x : ℕ) → Kind op pl x → w % 16 ≡ op + 4 * pl → w / 16777216 ≡ x
+    → partBy bytes ws place w ≡ pick (eqb op 1) (pick (eqb pl 1) (blockPart bytes ws x) (within bytes (8 * (place + 2)) x)) (L.Refused N.KeyAbsent)
+kind-part bytes ws place w op pl x (put l) a b = rw (a, b)
+kind-part bytes ws place w op pl x block a b = rw (a, b)
+kind-part bytes ws place w op pl x delete a b = rw a
+
+entry-part : (bytes : ℕ) (ws : List ℕ) (e : Entry) → StandsIn ws e
     → (pointed e ≡ true → 8 * (unitWord (e .field) + 1) + getD ws (unitWord (e .field)) 0 ≤ bytes)
     → (eqb (e .op) 1 ≡ true → eqb (e .placement) 1 ≡ false → 8 * (e .at + 2) + e .field ≤ bytes)
-    → reportOf (partBy bytes ws (e .at) f) ≡ partOr ws (some e)
-entry-part bytes ws e f is blocks logs = rw is (go (eqb (e .op) 1) (eqb (e .placement) 1) blocks logs)
+    → reportOf (partAt bytes ws (e .at)) ≡ partOr ws (some e)
+entry-part bytes ws e stands blocks logs =
+    let w = getD ws (e .at) 0 in
+    let h = head-first w (e .op) (e .placement) (e .version) (e .field) (stands .first) in
+    let k = kind-small (e .op) (e .placement) (e .field) (stands .right .kind) in
+    let v = stands .right .high in
+    let a : w % 16 ≡ e .op + 4 * e .placement = omega arith in
+    let b : w / 16777216 ≡ e .field = omega arith in
+    ap reportOf (kind-part bytes ws (e .at) w (e .op) (e .placement) (e .field) (stands .right .kind) a b) ∙ go (eqb (e .op) 1) (eqb (e .placement) 1) blocks logs
   where
+    kind-small : (op pl x : ℕ) → Kind op pl x → op + 4 * pl < 16
+    kind-small op pl x (put l) = omega arith
+    kind-small op pl x block = omega arith
+    kind-small op pl x delete = omega arith
+
     go : (b1 b2 : Bool) → (both b1 b2 ≡ true → 8 * (unitWord (e .field) + 1) + getD ws (unitWord (e .field)) 0 ≤ bytes) → (b1 ≡ true → b2 ≡ false → 8 * (e .at + 2) + e .field ≤ bytes)
         → reportOf (pick b1 (pick b2 (within bytes (8 * (unitWord (e .field) + 1)) (getD ws (unitWord (e .field)) 0)) (within bytes (8 * (e .at + 2)) (e .field))) (L.Refused N.KeyAbsent))
         ≡ pick b1 (pick (both b1 b2) (R.Part (8 * (unitWord (e .field) + 1)) (getD ws (unitWord (e .field)) 0)) (R.Part (8 * (e .at + 2)) (e .field))) (R.Refused N.KeyAbsent)
@@ -113,7 +127,7 @@ module _ (n : ℕ) (bytes : List ℕ) (es : List Entry) (ok : Ok 12 n (wordsOf b
 
   chosen-part : (k : ℕ) (e : Entry) → chosen k es ≡ some e → reportOf (partAt (length bytes) ws (e .at)) ≡ lookUp ws es k
   unfolding lookUp
-  chosen-part k e h = rw h (entry-part (length bytes) ws e _ (stands .first) in-block in-log)
+  chosen-part k e h = rw h (entry-part (length bytes) ws e stands in-block in-log)
     where
       stands : StandsIn ws e
       stands = image-stands 12 (omega arith) (omega arith) n ws es (ok .parsed) e (chosen-is k es e h .in-list)
@@ -146,28 +160,18 @@ module _ (bytes a n : ℕ) where
   pub within-no : bytes < a + n → L.Refused N.KeyAbsent ≡ within bytes a n
   within-no h = sym (rw (lt-leb (a + n) bytes h))
 
-module _ (bytes : ℕ) (ws : List ℕ) (place word : ℕ) (f : FirstWord) (is-word : word ≡ getD ws place 0) (is-first : f ≡ firstOf word) where
-  says : (g : FirstWord) → f ≡ g → partBy bytes ws place g ≡ partAt bytes ws place
-  says g e = sym (ap (partBy bytes ws place) (ap firstOf (sym is-word) ∙ sym is-first ∙ e))
+  pub within-all : a + n ≤ bytes → L.Part a n ≡ within bytes a n
+  within-all h = sym (rw (le-leb (a + n) bytes h))
 
-  pub part-padding : f ≡ F.Padding → L.Refused N.KeyAbsent ≡ partAt bytes ws place
-  part-padding e = says F.Padding e
+module _ (bytes : ℕ) (ws : List ℕ) (place word : ℕ) (is-word : word ≡ getD ws place 0) where
+  pub part-log : (r : Located) → word % 16 ≡ 1 → r ≡ within bytes (8 * (place + 2)) (word / 16777216) → r ≡ partAt bytes ws place
+  part-log r k h = h ∙ rw (← is-word, k)
 
-  pub part-wrong : f ≡ F.Wrong → L.Refused N.KeyAbsent ≡ partAt bytes ws place
-  part-wrong e = says F.Wrong e
+  pub part-block : (r : Located) → word % 16 ≡ 5 → r ≡ blockPart bytes ws (word / 16777216) → r ≡ partAt bytes ws place
+  part-block r k h = h ∙ rw (← is-word, k)
 
-  module _ (op placement version field : ℕ) (e : f ≡ F.Entry op placement version field) where
-    pub field-small : word < 2 ^ 64 → field < 2 ^ 40
-    field-small l = let h = head-first word op placement version field (sym is-first ∙ e) in omega arith
-
-    pub part-none : (op ≡ 1 → ⊥) → L.Refused N.KeyAbsent ≡ partAt bytes ws place
-    part-none o = sym (rw (ne-eqb op 1 o)) ∙ says (F.Entry op placement version field) e
-
-    pub part-block : (r : Located) → op ≡ 1 → placement ≡ 1 → r ≡ blockPart bytes ws field → r ≡ partAt bytes ws place
-    part-block r o p h = h ∙ sym (rw (eq-eqb op 1 o, eq-eqb placement 1 p)) ∙ says (F.Entry op placement version field) e
-
-    pub part-log : (r : Located) → op ≡ 1 → (placement ≡ 1 → ⊥) → r ≡ within bytes (8 * (place + 2)) field → r ≡ partAt bytes ws place
-    part-log r o p h = h ∙ sym (rw (eq-eqb op 1 o, ne-eqb placement 1 p)) ∙ says (F.Entry op placement version field) e
+  pub part-none : (word % 16 ≡ 1 → ⊥) → (word % 16 ≡ 5 → ⊥) → L.Refused N.KeyAbsent ≡ partAt bytes ws place
+  part-none a b = rw (← is-word, ne-eqb (word % 16) 1 a, ne-eqb (word % 16) 5 b)
 
 module _ (key : ℕ) (bytes table : List ℕ) (word : ℕ) (is : word ≡ get table key) where
   pub looking-none : word ≡ 0 → Looking key bytes table (L.Refused N.KeyAbsent)
@@ -176,7 +180,7 @@ module _ (key : ℕ) (bytes table : List ℕ) (word : ℕ) (is : word ≡ get ta
 
   pub looking-part : (info : Info) (r : Located) → (word ≡ 0 → ⊥) → info ≡ unpackOf word → r ≡ partAt (length bytes) (wordsOf bytes) (info .place) → Looking key bytes table r
   looking-part info r nz i e = record {
-    inside = rw e (part-in (length bytes) (wordsOf bytes) (info .place) (firstOf (getD (wordsOf bytes) (info .place) 0)));
+    inside = rw e (part-in (length bytes) (wordsOf bytes) (info .place) (getD (wordsOf bytes) (info .place) 0));
     exact = λ n keys es ok ix.
         let f = found-chosen table keys es ix (small n bytes es ok) key word is nz in
         let place : info .place ≡ f .0 .at = ap (λ (j : Info). j .place) (i ∙ f .2) in

@@ -31,7 +31,7 @@ use Rattle.bits.specs.Bits.{hasBit}
 use Rattle.volatile.specs.Known.{Indexed, FillInv}
 use Rattle.volatile.proofs.Fill.{fill-end, fill-fits}
 use Rattle.tops.specs.declared.Checked.{Checked}
-use Rattle.tops.specs.Pass.{Listed, CheckedAs}
+use Rattle.tops.specs.Pass.{Listed, Tested, Examined}
 use Rattle.session.specs.State.{batchWords, batchItems, stateAt, stateOf}
 use Rattle.session.specs.Fits.{RestFits, Fits}
 use Rattle.recovery.specs.declared.Verdict.{Verdict}
@@ -42,35 +42,35 @@ use Rattle.recovery.specs.Judged.{firstRefusal, Judged, JudgingLog, Judg
 -- ## The log
 
 -- what the first pass says of the parsed log
-module _ (n : ℕ) (ws table table′ : List ℕ) (fits : Bool) (keys : ℕ) where
-  fill-wrong : Filling n ws table table′ false fits keys → n ≤ maxChunks → imageEntries 12 n ws ≡ Wrong
+module _ (n : ℕ) (ws table table′ : List ℕ) (fits plain : Bool) (keys : ℕ) where
+  fill-wrong : Filling n ws table table′ false fits plain keys → n ≤ maxChunks → imageEntries 12 n ws ≡ Wrong
   fill-wrong f most = go (imageEntries 12 n ws) refl
     where
       go : (q : Parsed) → imageEntries 12 n ws ≡ q → q ≡ Wrong
       go Wrong h = refl
       go (Entries es) h = absurd (not-both false (f .entries most es h .0) refl)
 
-  fill-right : Filling n ws table table′ true fits keys → n ≤ maxChunks → (es : List Entry) × (imageEntries 12 n ws ≡ Entries es) × FillInv (length table) es table′ keys fits
+  fill-right : Filling n ws table table′ true fits plain keys → n ≤ maxChunks → (es : List Entry) × (imageEntries 12 n ws ≡ Entries es) × FillInv (length table) es table′ keys fits
   fill-right f most = go (imageEntries 12 n ws) refl
     where
       go : (q : Parsed) → imageEntries 12 n ws ≡ q → (es : List Entry) × (q ≡ Entries es) × FillInv (length table) es table′ keys fits
       go Wrong h = absurd (not-both true refl (f .wrong h))
       go (Entries es) h = (es, refl, f .entries most es h .1)
 
-module _ (n : ℕ) (ws table table′ : List ℕ) (right fits : Bool) (keys : ℕ) (filled : Filling n ws table table′ right fits keys) where
+module _ (n : ℕ) (ws table table′ : List ℕ) (right fits plain : Bool) (keys : ℕ) (filled : Filling n ws table table′ right fits plain keys) where
   -- 4
   pub log-wrong : (buffer : List ℕ) → right ≡ false → JudgingLog n ws table table′ buffer buffer (J.Refused N.EntryWrong)
   log-wrong buffer e = record {
     sized = filled .sized;
     kept = refl;
-    judged = λ most long. (rw (fill-wrong n ws table table′ fits keys (rw e at filled) most), inr (inr (inr (inl refl))));
+    judged = λ most long. (rw (fill-wrong n ws table table′ fits plain keys (rw e at filled) most), inr (inr (inr (inl refl))));
   }
 
-  module _ (buffer buffer′ : List ℕ) (r : Checked) (checked : CheckedAs n ws table′ fits buffer buffer′ r) (so : right ≡ true) where
+  module _ (buffer buffer′ : List ℕ) (r : Checked) (checked : Examined n ws table′ fits plain buffer buffer′ r) (so : right ≡ true) where
     -- the entries, with what both passes say of them
     module _ (most : n ≤ maxChunks) (long : 512 * n ≤ length ws) where
       found : (es : List Entry) × (imageEntries 12 n ws ≡ Entries es) × FillInv (length table) es table′ keys fits
-      found = fill-right n ws table table′ fits keys (rw so at filled) most
+      found = fill-right n ws table table′ fits plain keys (rw so at filled) most
 
       abbrev es : List Entry
       es = found .0
@@ -82,6 +82,9 @@ module _ (n : ℕ) (ws table table′ : List ℕ) (right fits : Bool) (keys : �
       listed : Listed n ws table′ fits es
       listed = record { few = most; whole = long; entries = found .1; keys = keys; indexed = indexed fits (found .2) }
 
+      tested : Tested n ws es buffer′ r
+      tested = checked .tested es listed (filled .plainly most es (found .1))
+
       space : fits ≡ fitsTable (length table) es
       space = fill-fits (length table) es table′ keys fits (found .2)
 
@@ -91,7 +94,7 @@ module _ (n : ℕ) (ws table table′ : List ℕ) (right fits : Bool) (keys : �
       sized = filled .sized;
       kept = checked .kept .long;
       judged = λ most long.
-          let t : blocksTest 12 n ws (es most long) ≡ false = sym (checked .blocks (es most long) (listed most long)) ∙ b in
+          let t : blocksTest 12 n ws (es most long) ≡ false = sym (tested most long .blocks) ∙ b in
           (rw (found most long .1, t), inr (inr (inr (inr (inl refl)))));
     }
 
@@ -101,14 +104,11 @@ module _ (n : ℕ) (ws table table′ : List ℕ) (right fits : Bool) (keys : �
           → Judged (openLog 12 n ws (length table) (imageEntries 12 n ws)) table′ buffer′ (firstRefusal t N.TopsDisagree u N.TableFull keys)
       last most long t h u i = go t h u i
         where
-          l : Listed n ws table′ fits (es most long)
-          l = listed most long
-
           five : blocksTest 12 n ws (es most long) ≡ true
-          five = sym (checked .blocks (es most long) l) ∙ b
+          five = sym (tested most long .blocks) ∙ b
 
           six : both (agreeTest ws (es most long)) (apartTest (es most long)) ≡ agreed
-          six = rw (← checked .agreeing (es most long) l b, ← checked .apart (es most long) l b) (sym is-agreed)
+          six = rw (← tested most long .agreeing b, ← tested most long .apart b) (sym is-agreed)
 
           go : (t : Bool) → agreed ≡ t → (u : Bool) → fits ≡ u → Judged (openLog 12 n ws (length table) (imageEntries 12 n ws)) table′ buffer′ (firstRefusal t N.TopsDisagree u N.TableFull keys)
           go false h u i = (rw (found most long .1, five, six ∙ h), inr (inr (inr (inr (inr (inl refl))))))
@@ -117,7 +117,7 @@ module _ (n : ℕ) (ws table table′ : List ℕ) (right fits : Bool) (keys : �
             es most long,
             rw (found most long .1, five, six ∙ h, sym (space most long) ∙ i),
             indexed most long fits (found most long .2) i,
-            checked .bits (es most long) l b,
+            tested most long .bits b,
           )
 
       pub log-end : (v : Verdict) → v ≡ firstRefusal agreed N.TopsDisagree fits N.TableFull keys → JudgingLog n ws table table′ buffer buffer′ v
@@ -178,7 +178,7 @@ abbrev atRest : ℕ → Control
 atRest keys = record { phase = 1; next = 0; items = 0; words = 0; keys = keys; fresh = 0 }
 
 abbrev lent : ℕ → ℕ → Setup
-lent bytes words = record { image = bytes; table = words; chunk = 0; old = 0; lines = 0; fields = 0; station = 0; centre = 0 }
+lent bytes words = record { image = bytes; table = words; chunk = 0; old = 0; lines = 0; first = 1; least = 64; fields = 0; station = 0; centre = 0 }
 
 abbrev session : Control → Setup → List ℕ → Session
 session c k b = record { control = c; setup = k; buffer = b }
@@ -258,4 +258,5 @@ module _ (c : Control) (k : Setup) (buffer bytes table table′ buffer′ : List
               keys = omega arith;
             };
             table-room = omega arith;
+            hint = λ c l u. absurd (omega arith);
           }

@@ -2,20 +2,18 @@
 -- Assumes nothing.
 use mathlib.Core.Path.{_≡_}
 use mathlib.Core.List.{List}
-use Prim.Native.Nat.{ℕ, _+_, _*_, _≤_}
+use Prim.Native.Nat.{ℕ, _+_, _*_, _/_, _%_, _≤_}
 use lib.Dec.{eqb, leb}
 use lib.ListN.{length, getD}
 use Rattle.spec.specs.Basics.{pick}
 use Rattle.spec.specs.Words.{wordsOf}
 use Rattle.spec.specs.Places.{unitWord}
-use Rattle.spec.specs.Log.{Entry, firstOf}
+use Rattle.spec.specs.Log.{Entry}
 use Rattle.spec.specs.Calls.{LookUp, lookUp, number}
 use Rattle.spec.specs.Contract.{Called, partBytes}
 use Rattle.spec.specs.declared.Control.{Control}
 use Rattle.spec.specs.declared.Setup.{Setup}
 use Rattle.spec.specs.declared.Session.{Session}
-use Rattle.spec.specs.declared.FirstWord.{FirstWord}
-use Rattle.spec.specs.declared.FirstWord.the-variants as F
 use Rattle.spec.specs.declared.Refusal.the-variants as N
 use Rattle.spec.specs.declared.Report.{Report}
 use Rattle.spec.specs.declared.Report.the-variants as R
@@ -38,17 +36,14 @@ within bytes a n = pick (leb (a + n) bytes) (L.Part a n) (L.Refused N.KeyAbsent)
 abbrev pub blockPart : ℕ → List ℕ → ℕ → Located
 blockPart bytes ws unit = within bytes (8 * (unitWord unit + 1)) (getD ws (unitWord unit) 0)
 
--- the part that holds the value of the entry whose first word, at word `place`, says this
-abbrev pub partBy : ℕ → List ℕ → ℕ → FirstWord → Located
-partBy bytes ws place F.Padding = L.Refused N.KeyAbsent
-partBy bytes ws place F.Wrong = L.Refused N.KeyAbsent
-partBy bytes ws place (F.Entry op placement version field) =
-    pick (eqb op 1)
-    (pick (eqb placement 1) (blockPart bytes ws field) (within bytes (8 * (place + 2)) field))
-    (L.Refused N.KeyAbsent)
+-- the part that holds the value of the entry at word `place`, whose first word is w: a put with its value in the log, or in a block
+abbrev pub partBy : ℕ → List ℕ → ℕ → ℕ → Located
+partBy bytes ws place w =
+    pick (eqb (w % 16) 1) (within bytes (8 * (place + 2)) (w / 16777216))
+    (pick (eqb (w % 16) 5) (blockPart bytes ws (w / 16777216)) (L.Refused N.KeyAbsent))
 
 abbrev pub partAt : ℕ → List ℕ → ℕ → Located
-partAt bytes ws place = partBy bytes ws place (firstOf (getD ws place 0))
+partAt bytes ws place = partBy bytes ws place (getD ws place 0)
 
 -- 11, or a part of an image of so many bytes
 abbrev pub PartIn : ℕ → Located → Type 0

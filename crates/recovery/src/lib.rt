@@ -1,9 +1,10 @@
 // Opening: what an image means, or why it is refused; the key table and the block bits, built anew; and look-up.
 ghost use mathlib.Core.Path.{_≡_};
-ghost use Prim.Native.Nat.{_+_, _^_, _<_};
-ghost use lib.Dec.{eqb};
+ghost use mathlib.Core.Bool.{false};
+ghost use Prim.Native.Nat.{_+_, _*_, _^_, _<_};
+ghost use lib.Dec.{eqb, ltb};
 ghost use lib.ListN.{length, getD};
-ghost use Rattle.spec.specs.Basics.{both, either};
+ghost use Rattle.spec.specs.Basics.{pick, both, either};
 ghost use Rattle.spec.specs.Words.{wordsOf};
 ghost use Rattle.spec.specs.Places.{lengthAllowed};
 ghost use Rattle.spec.specs.Header.{headerRight};
@@ -20,9 +21,8 @@ ghost use Rattle.recovery.specs.Judged.{firstRefusal, JudgingLog, Judgin
 ghost use Rattle.recovery.specs.Asks.{gateFor, sameLengths, gateOf, Asking};
 ghost use Rattle.recovery.specs.Look.{within, blockPart, partAt, Looking, Locating, LookedUp, Showing};
 use index::Info;
-use log::Next;
 use spec::Control;
-use spec::FirstWord;
+use spec::LogStep;
 use spec::Refusal;
 use spec::Report;
 use spec::Role;
@@ -144,10 +144,30 @@ pub fn noted(word: u64, place: usize, version: u64) -> u64
     index::pack(raised(index::unpack(word), place, version))
 }
 
-// The table's keys, and whether those of all entries so far fit.
+// Whether entries are still plain: a word of the table without the bit of several top entries, and no value in a block.
+fn single(plain: bool, info: u64) -> bool
+    ensures { λ r. ⌜ r ≡ both plain (ltb info 0x8000_0000_0000_0000) ⌝ }
+{
+    if plain {
+        return info < 0x8000_0000_0000_0000;
+    }
+    false
+}
+
+fn unpointed(plain: bool, placement: u64) -> bool
+    ensures { λ r. ⌜ r ≡ pick (eqb placement 1) false plain ⌝ }
+{
+    if placement == 1 {
+        return false;
+    }
+    plain
+}
+
+// The table's keys, whether those of all entries so far fit, and whether the entries are plain.
 struct Entered {
     keys: usize,
     fits: bool,
+    plain: bool,
 }
 
 // One more entry in the table. Once the keys do not fit the table stays.
@@ -155,78 +175,116 @@ fn enter(
     table: &mut [u64],
     keys: usize,
     fits: bool,
+    plain: bool,
     key: u64,
     version: u64,
     place: usize,
 ) -> Entered
-    ensures { λ r. ⌜ Entering (now (table .entry)) (now (table .exit)) keys fits key version place (r .keys) (r .fits) ⌝ }
+    ensures { λ r. ⌜ Entering (now (table .entry)) (now (table .exit)) keys fits plain key version place (r .keys) (r .fits) (r .plain) ⌝ }
 {
     if fits {
-        let old = index::look(table, key);
+        let slot = index::stop(table, key);
+        let old = index::word_at(table, slot);
         if old == 0 {
             if keys < index::capacity(table.len()) {
                 let info = noted(0, place, version);
-                index::insert_or_update(table, key, info);
+                index::put_at(table, slot, key, info);
                 return Entered {
                     keys: keys + 1,
                     fits: true,
+                    plain: single(plain, info),
                 };
             }
-            return Entered { keys, fits: false };
+            return Entered {
+                keys,
+                fits: false,
+                plain: false,
+            };
         }
         let info = noted(old, place, version);
-        index::insert_or_update(table, key, info);
-        return Entered { keys, fits: true };
+        index::put_at(table, slot, key, info);
+        return Entered {
+            keys,
+            fits: true,
+            plain: single(plain, info),
+        };
     }
-    Entered { keys, fits: false }
+    Entered {
+        keys,
+        fits: false,
+        plain: false,
+    }
 }
 
-// What the pass finds: whether every entry is right, whether the keys fit, and how many the table has.
+// What the pass finds: whether every entry is right, whether the keys fit and the entries are plain, and how many keys the table has.
 struct Filled {
     right: bool,
     fits: bool,
+    plain: bool,
     keys: usize,
 }
 
-// The pass over the log of an image of `count` chunks, from an empty table.
+// The pass over the log of an image of `count` chunks, from an empty table. It walks as `log::next_in_log` does.
 fn fill(image: &[u8], count: usize, table: &mut [u64]) -> Filled
-    ensures { λ r. ⌜ Filling count (wordsOf (now (image .entry))) (now (table .entry)) (now (table .exit)) (r .right) (r .fits) (r .keys) ⌝ }
+    ensures { λ r. ⌜ Filling count (wordsOf (now (image .entry))) (now (table .entry)) (now (table .exit)) (r .right) (r .fits) (r .plain) (r .keys) ⌝ }
 {
     index::clear(table);
     let mut keys: usize = 0;
     let mut fits = true;
-    let mut cursor = log::first_cursor();
+    let mut plain = true;
+    let mut chunk: usize = 0;
+    let mut at: usize = 0;
+    let mut end: usize = 0;
     loop {
-        let n = log::next_in_log(image, count, cursor);
-        match n {
-            Next::Done => {
-                return Filled {
-                    right: true,
-                    fits,
-                    keys,
-                };
+        let s = log::next_entry(image, at, end);
+        match s {
+            LogStep::End => {
+                if count <= chunk {
+                    return Filled {
+                        right: true,
+                        fits,
+                        plain,
+                        keys,
+                    };
+                }
+                if count - chunk == 1 {
+                    return Filled {
+                        right: true,
+                        fits,
+                        plain,
+                        keys,
+                    };
+                }
+                let next = log::chunk_cursor(image, chunk + 1);
+                chunk = next.chunk;
+                at = next.at;
+                end = next.end;
             }
-            Next::Wrong => {
+            LogStep::Wrong => {
                 return Filled {
                     right: false,
                     fits,
+                    plain,
                     keys,
                 };
             }
-            Next::Entry {
+            LogStep::Padding => {
+                at += 1;
+            }
+            LogStep::Entry {
                 op: _,
-                placement: _,
+                placement,
                 version,
                 field: _,
                 key,
-                words: _,
-                place,
-                cursor: behind,
+                words,
             } => {
-                let e = enter(table, keys, fits, key, version, place);
+                let so = unpointed(plain, placement);
+                let e = enter(table, keys, fits, so, key, version, at);
                 keys = e.keys;
                 fits = e.fits;
-                cursor = behind;
+                plain = e.plain;
+                at += 2 + words;
             }
         }
     }
@@ -267,7 +325,7 @@ fn judge_log(image: &[u8], count: usize, table: &mut [u64], buffer: &mut [u64; 1
 {
     let filled = fill(image, count, table);
     if filled.right {
-        let checked = tops::check(image, count, table, filled.fits, buffer);
+        let checked = tops::examine(image, count, table, filled.fits, filled.plain, buffer);
         if checked.blocks {
             let agreed = both(checked.agreeing, checked.apart);
             let room = filled.fits;
@@ -361,6 +419,8 @@ pub fn open_core(
                 chunk: 0,
                 old: 0,
                 lines: 0,
+                first: 1,
+                least: 64,
                 fields: 0,
                 station: 0,
                 centre: 0,
@@ -453,32 +513,34 @@ fn block_part(image: &[u8], unit: u64) -> Located
     within(image.len(), 8 * (start + 1), words::load(image, start))
 }
 
-// The part that holds the value of the entry at word `place`.
+// The part that holds a value in the log of an entry at word `place`.
+fn log_part(bytes: usize, place: usize, length: u64) -> Located
+    requires { ⌜ (place < 0x40_0000) × (length < 2 ^ 40) ⌝ }
+    ensures { λ r. ⌜ r ≡ within bytes (8 * (place + 2)) length ⌝ }
+{
+    let start = 8 * (place + 2);
+    let n = length as usize;
+    if start + n <= bytes {
+        return Located::Part { start, length: n };
+    }
+    Located::Refused(Refusal::KeyAbsent)
+}
+
+// The part that holds the value of the entry at word `place`: a put with its value in the log, or one with its value in a block.
 fn part_at(image: &[u8], place: usize) -> Located
     requires { ⌜ place < 0x40_0000 ⌝ }
     ensures { λ r. ⌜ r ≡ partAt (length (now (image .entry))) (wordsOf (now (image .entry))) place ⌝ }
 {
-    let first = codec::first_of(words::load(image, place));
-    match first {
-        FirstWord::Padding => Located::Refused(Refusal::KeyAbsent),
-        FirstWord::Wrong => Located::Refused(Refusal::KeyAbsent),
-        FirstWord::Entry {
-            op,
-            placement,
-            version: _,
-            field,
-        } => {
-            if op == 1 {
-                if placement == 1 {
-                    block_part(image, field)
-                } else {
-                    within(image.len(), 8 * (place + 2), field)
-                }
-            } else {
-                Located::Refused(Refusal::KeyAbsent)
-            }
-        }
+    let word = words::load(image, place);
+    let kind = word % 16;
+    let field = word / 16777216;
+    if kind == 1 {
+        return log_part(image.len(), place, field);
     }
+    if kind == 5 {
+        return block_part(image, field);
+    }
+    Located::Refused(Refusal::KeyAbsent)
 }
 
 // The value of a key, by one probe of the table and one read of the entry that it names.

@@ -1,6 +1,8 @@
 // Lines of a script: a word and up to three numbers, separated by single blanks.
-ghost use Prim.Native.Nat.{_<_, _≤_};
-ghost use lib.ListN.{length};
+ghost use mathlib.Core.Path.{_≡_};
+ghost use Prim.Native.Nat.{_+_, _-_, _*_, _%_, _^_, _<_};
+ghost use lib.ListN.{length, drop};
+ghost use Rattle.script.specs.Spelled.{isDigit, withDigit, spelled};
 
 // What stands at a place of a line, and where the text goes on behind it: a word's letters or a number; `given` if there is one.
 pub struct Token {
@@ -18,7 +20,9 @@ pub struct Line {
     pub next: usize,
 }
 
-fn wide(b: u8) -> u64 {
+fn wide(b: u8) -> u64
+    ensures { λ r. ⌜ r ≡ b ⌝ }
+{
     b as u64
 }
 
@@ -37,7 +41,9 @@ fn line_behind(text: &[u8], from: usize) -> usize
     at
 }
 
-fn is_digit(b: u8) -> bool {
+fn is_digit(b: u8) -> bool
+    ensures { λ r. ⌜ r ≡ isDigit b ⌝ }
+{
     if b'0' <= b {
         return b <= b'9';
     }
@@ -51,21 +57,35 @@ fn is_letter(b: u8) -> bool {
     false
 }
 
-fn twice(x: u64) -> u64 {
+fn twice(x: u64) -> u64
+    ensures { λ r. ⌜ r ≡ (x + x) % 2 ^ 64 ⌝ }
+{
     std::num::wrapping_add_u64(x, x)
 }
 
-fn ten_times(x: u64) -> u64 {
+fn ten_times(x: u64) -> u64
+    ensures { λ r. ⌜ r ≡ 10 * x % 2 ^ 64 ⌝ }
+{
     std::num::wrapping_add_u64(twice(twice(twice(x))), twice(x))
 }
 
+fn digit(b: u8) -> u64
+    ensures { λ r. ⌜ r ≡ b - 48 ⌝ }
+{
+    if b < 48 { 0 } else { wide(b) - 48 }
+}
+
 // One digit more behind a number, modulo 2^64.
-fn with_digit(value: u64, b: u8) -> u64 {
-    std::num::wrapping_sub_u64(std::num::wrapping_add_u64(ten_times(value), wide(b)), 48)
+fn with_digit(value: u64, b: u8) -> u64
+    ensures { λ r. ⌜ r ≡ withDigit value b ⌝ }
+{
+    std::num::wrapping_add_u64(ten_times(value), digit(b))
 }
 
 // The decimal number at a place, modulo 2^64.
-pub fn number(text: &[u8], from: usize) -> Token {
+pub fn number(text: &[u8], from: usize) -> Token
+    ensures { λ r. ⌜ r .value ≡ spelled (drop from (now (text .entry))) 0 ⌝ }
+{
     let mut at = from;
     let mut value: u64 = 0;
     while at < text.len() {
@@ -74,7 +94,11 @@ pub fn number(text: &[u8], from: usize) -> Token {
             value = with_digit(value, b);
             at += 1;
         } else {
-            break;
+            return Token {
+                given: from < at,
+                value,
+                at,
+            };
         }
     }
     Token {

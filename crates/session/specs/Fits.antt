@@ -2,9 +2,9 @@
 -- would build, and the staged items beside.
 -- Assumes nothing.
 use mathlib.Core.Path.{_≡_}
-use mathlib.Core.Bool.{true}
+use mathlib.Core.Bool.{true, false}
 use mathlib.Core.List.{List, [], _∷_, _++_, map}
-use Prim.Native.Nat.{ℕ, _+_, _*_, _/_, _≤_}
+use Prim.Native.Nat.{ℕ, _+_, _*_, _/_, _≤_, _<_}
 use lib.Dec.{eqb}
 use lib.ListN.{length}
 use Rattle.spec.specs.Basics.{isIn, distinct}
@@ -14,7 +14,7 @@ use Rattle.spec.specs.Log.{Entry, encodeAll, placed}
 use Rattle.spec.specs.Blocks.{pointed}
 use Rattle.spec.specs.Contents.{capacity, liveBlocks}
 use Rattle.spec.specs.Opening.{Accepted, opening}
-use Rattle.spec.specs.Calls.{Task, Staging, Committing, Cleaning, State, Closed, Rest, Busy, Formatting, maxItems, runWords}
+use Rattle.spec.specs.Calls.{Task, Staging, Committing, Cleaning, State, Closed, Rest, Busy, Formatting, maxItems, hasSpace, runWords}
 use Rattle.spec.specs.Contract.{Proper}
 use Rattle.spec.specs.declared.Control.{Control}
 use Rattle.spec.specs.declared.Setup.{Setup}
@@ -44,6 +44,10 @@ pub record Built (c : Control) (buffer table : List ℕ) (es : List Entry) : Typ
   pub indexed : Indexed table (c .keys) es
   pub blocks : (u : ℕ) → hasBit buffer u ≡ isIn u (liveBlocks es)
 
+-- no log chunk below `first` has space for `least` lines behind its committed ones
+abbrev pub NoneBelow : (ws : List ℕ) (first least : ℕ) → Type 0
+NoneBelow ws first least = (c : ℕ) → 1 ≤ c → c < first → hasSpace basePower ws least 0 c ≡ false
+
 -- at rest
 pub record RestFits (s : Session) (ws table : List ℕ) (items : List Entry) : Type 0 where
   pub entries : List Entry
@@ -53,6 +57,7 @@ pub record RestFits (s : Session) (ws table : List ℕ) (items : List Entry) : T
   pub built : Built (s .control) (s .buffer) table entries
   pub batch : BatchFits (s .control) (s .buffer) entries items
   pub table-room : s .control .keys + s .control .fresh ≤ capacity (s .setup .table)
+  pub hint : NoneBelow ws (s .setup .first) (s .setup .least)
 
 -- In a commit, looking forward: with the actions still to come done on these words, the image is accepted, and its entries are those
 -- before (front and back) with the batch placed between. Until the last fence table and bits are those of the entries before.
@@ -79,6 +84,7 @@ pub record CommitFits (s : Session) (ws table : List ℕ) (items : List Entry) (
   pub apart : BlocksApart (front ++ back)
   pub built : BuiltBy rest s table (front ++ back) (front ++ (placed (batchPlace (s .setup)) items ++ back))
   pub table-room : s .control .keys + s .control .fresh ≤ capacity (s .setup .table)
+  pub hint : NoneBelow (runWords rest ws) (s .setup .first) (s .setup .least)
 
 abbrev pub FitsAt : State → Session → List ℕ → List ℕ → Type 0
 FitsAt Closed s ws table = Unit {0}

@@ -91,8 +91,9 @@ pub struct Control {
 }
 
 // The numbers that a step only reads: the image's bytes and the table's words at the opening (at a formatting's begin, once
-// that is begun), where the begun call writes (chunk, its directory word, its committed lines), and what a formatting was told
-// (the header's map of fields, station and centre number).
+// that is begun), where the begun call writes (chunk, its directory word, its committed lines), where the next commit looks for
+// space (no log chunk below `first` has space for `least` lines), and what a formatting was told (the header's map of fields,
+// station and centre number).
 #[repr(C)]
 pub struct Setup {
     pub image: usize,
@@ -100,6 +101,8 @@ pub struct Setup {
     pub chunk: usize,
     pub old: u64,
     pub lines: usize,
+    pub first: usize,
+    pub least: usize,
     pub fields: u64,
     pub station: u64,
     pub centre: u64,

@@ -28,10 +28,12 @@ use Rattle.spec.specs.declared.Report.{Report}
 use Rattle.spec.specs.declared.Report.the-variants as R
 use Rattle.theory_medium.proofs.Lists.{not-both}
 use Rattle.session.specs.State.{batchRoom, batchWords, batchItems, commitActions, formatActions, stateAt, stateOf}
-use Rattle.session.specs.Fits.{RestFits, CommitFits, Fits}
+use Rattle.session.specs.Fits.{NoneBelow, RestFits, CommitFits, Fits}
 use Rattle.batch.specs.Items.{OnlyDeletes}
 use Rattle.placing.specs.declared.Place.{Place}
-use Rattle.placing.specs.Found.{placeOf}
+use Rattle.placing.specs.declared.Placed.{Placed}
+use Rattle.placing.specs.Found.{placeOf, Searched, Searching}
+use Rattle.placing.proofs.Hint.{same-space}
 use Rattle.acts.specs.Nth.{nth, commitCount}
 use Rattle.acts.proofs.Committing.{length-part, length-commit, commit-next}
 use Rattle.recovery.specs.declared.Gated.{Gated}
@@ -65,7 +67,8 @@ rest-items c k b i t items e = items-by c k b i t items (eqb (c .phase) 1) (eqb 
 
 -- THE BEGIN on words at rest, with the place d found for the items f ∷ fs
 module _ (c : Control) (k : Setup) (b ws table : List ℕ) (f : Entry) (fs : List Entry) (r : RestFits (record { control = c; setup = k; buffer = b }) ws table (f ∷ fs))
-    (d : ℕ) (found : logPlace basePower (chunksIn basePower (k .image)) ws (linesFor (length (encodeAll (f ∷ fs)))) 0 (freeNeeded (f ∷ fs)) ≡ some d) where
+    (d : ℕ) (found : logPlace basePower (chunksIn basePower (k .image)) ws (linesFor (length (encodeAll (f ∷ fs)))) 0 (freeNeeded (f ∷ fs)) ≡ some d)
+    (first′ least′ : ℕ) (below : NoneBelow ws first′ least′) (low : first′ ≤ d) where
   abbrev items : List Entry
   items = f ∷ fs
 
@@ -79,7 +82,7 @@ module _ (c : Control) (k : Setup) (b ws table : List ℕ) (f : Entry) (fs : Lis
   c′ = committing c
 
   abbrev k′ : Setup
-  k′ = writingTo k d old lines
+  k′ = writingTo k d old lines first′ least′
 
   staged : length (encodeAll items) ≤ batchRoom
   unfolding batchWords
@@ -112,13 +115,20 @@ module _ (c : Control) (k : Setup) (b ws table : List ℕ) (f : Entry) (fs : Lis
   pub begun-first : drop 0 (commitActions c′ k′ b) ≡ nth (commitActions c′ k′ b) 0 ∷ drop 1 (commitActions c′ k′ b)
   begun-first = commit-next c′ k′ b 0 some-words
 
+  todo : nth (commitActions c′ k′ b) 0 ∷ drop 1 (commitActions c′ k′ b) ≡ appendOf basePower d old lines (encodeAll items)
+  todo = sym begun-first ∙ begun-acts
+
+  -- the directory words below chunk d stay
+  still-below : NoneBelow (runWords (appendOf basePower d old lines (encodeAll items)) ws) first′ least′
+  still-below e l u = same-space ws (runWords (appendOf basePower d old lines (encodeAll items)) ws) least′ 0 e (ahead .kept e l (omega arith)) ∙ below e l u
+
   pub begun-fits : CommitFits (record { control = c′; setup = k′; buffer = b }) ws table items (nth (commitActions c′ k′ b) 0 ∷ drop 1 (commitActions c′ k′ b))
   begun-fits = record {
     front = ahead .front;
     back = ahead .back;
     chunk = ahead .chunk;
     lines = ahead .lines;
-    accepted = ap (λ (l : List Action). opening basePower (k .image) (runWords l ws) (k .table)) (sym begun-first ∙ begun-acts) ∙ ahead .accepted;
+    accepted = ap (λ (l : List Action). opening basePower (k .image) (runWords l ws) (k .table)) todo ∙ ahead .accepted;
     long = r .long;
     lent = r .lent;
     batch = record {
@@ -134,6 +144,7 @@ module _ (c : Control) (k : Setup) (b ws table : List ℕ) (f : Entry) (fs : Lis
     apart = rw (ahead .split) at (ahead .apart);
     built = record { indexed = rw (ahead .split) at (r .built .indexed); blocks = rw (ahead .split) at (r .built .blocks) };
     table-room = r .table-room;
+    hint = subst (λ (l : List Action). NoneBelow (runWords l ws) first′ least′) (sym todo) still-below;
   }
 
 -- THE PLAN, by the place that was found
@@ -161,13 +172,13 @@ found-some ws none place e h = absurd (not-both (place .found) h (ap (λ (x : Pl
 found-some ws (some d) place e h = (d, refl, e)
 
 -- the place that the code looked for
-pub place-shown : (b : List ℕ) (words : ℕ) (bytes : List ℕ) (count lines : ℕ) (deletes : Bool) (needed : ℕ) (place : Place)
+pub place-shown : (b : List ℕ) (words : ℕ) (bytes : List ℕ) (count lines : ℕ) (deletes : Bool) (needed first least : ℕ) (place : Placed)
     → count ≡ length bytes / 4096 → lines ≡ linesFor (min words batchRoom) → OnlyDeletes b words deletes → needed ≡ pick deletes 2 3
-    → place ≡ placeOf (wordsOf bytes) (logPlace 12 count (wordsOf bytes) lines 0 needed) → PlaceFor b words bytes place
+    → Searching (wordsOf bytes) count lines needed first least place → PlaceFor b words bytes first least place
 unfolding chunksIn chunkBytes
-place-shown b words bytes count lines deletes needed place ec el ed en ep items staged =
+place-shown b words bytes count lines deletes needed first least place ec el ed en ep items staged hint =
     let l : length (encodeAll items) ≡ min words batchRoom = ap length (sym (staged .written)) ∙ length-part b 0 (min words batchRoom) in
-    rw (ep, ec, el, en, ed items staged, l)
+    rw l (rw (ec, el, en, ed items staged) at (ep hint))
 
 -- THE CALL
 module _ (c : Control) (k : Setup) (b bytes table : List ℕ) where
@@ -179,9 +190,9 @@ module _ (c : Control) (k : Setup) (b bytes table : List ℕ) where
     pub plan-refused : (n : Refusal) → plan ≡ P.Refused n → Called stateOf Fits 12 256 Commit s s bytes bytes table table (R.Refused n)
     plan-refused n e = rw e at right
 
-    pub plan-begun : (chunk old lines actions : ℕ) → plan ≡ P.At chunk old lines actions
-        → Called stateOf Fits 12 256 Commit s (record { control = committing c; setup = writingTo k chunk old lines; buffer = b }) bytes bytes table table (R.Begun actions)
-    plan-begun chunk old lines actions e = rw e at right
+    pub plan-begun : (chunk old lines first least actions : ℕ) → plan ≡ P.At chunk old lines first least actions
+        → Called stateOf Fits 12 256 Commit s (record { control = committing c; setup = writingTo k chunk old lines first least; buffer = b }) bytes bytes table table (R.Begun actions)
+    plan-begun chunk old lines first least actions e = rw e at right
 
   -- by the gate
   module _ (g : Gated) (asks : Asking c k (length bytes) (length table) g) where
@@ -207,13 +218,17 @@ module _ (c : Control) (k : Setup) (b bytes table : List ℕ) where
           by : (items : List Entry) → RestFits s (wordsOf bytes) table items → R.Refused N.NothingStaged ≡ planned (planCommit 12 (chunksIn 12 (length bytes)) (wordsOf bytes) items)
           by items r = sym (ap planned (plan-none (chunksIn 12 (length bytes)) (wordsOf bytes) items (let n = r .batch .count in omega arith)))
 
-      module _ (some-staged : c .items ≡ 0 → ⊥) (place : Place) (searched : PlaceFor b (c .words) bytes place) where
+      module _ (some-staged : c .items ≡ 0 → ⊥) (placed : Placed) (searched : PlaceFor b (c .words) bytes (k .first) (k .least) placed) where
         abbrev at-place : List Entry → Option ℕ
         at-place items = logPlace 12 (chunksIn 12 (length bytes)) (wordsOf bytes) (linesFor (length (encodeAll items))) 0 (freeNeeded items)
 
-        place-is : (items : List Entry) → RestFits s (wordsOf bytes) table items → place ≡ placeOf (wordsOf bytes) (at-place items)
+        abbrev place : Place
+        place = placed .place
+
+        place-is : (items : List Entry) → RestFits s (wordsOf bytes) table items
+            → Searched (wordsOf bytes) (chunksIn 12 (length bytes)) (linesFor (length (encodeAll items))) (freeNeeded items) placed
         unfolding batchWords
-        place-is items r = searched items (record { written = r .batch .written; right = r .batch .right })
+        place-is items r = searched items (record { written = r .batch .written; right = r .batch .right }) (r .hint)
 
         -- 13
         pub no-space : place .found ≡ false → Called stateOf Fits 12 256 Commit s s bytes bytes table table (R.Refused N.NoSpace)
@@ -224,25 +239,28 @@ module _ (c : Control) (k : Setup) (b bytes table : List ℕ) where
             by : (items : List Entry) → RestFits s (wordsOf bytes) table items → R.Refused N.NoSpace ≡ planned (planCommit 12 (chunksIn 12 (length bytes)) (wordsOf bytes) items)
             by [] r = absurd (some-staged (r .batch .count))
             by (f ∷ fs) r =
-                sym (ap planned (plan-full (chunksIn 12 (length bytes)) (wordsOf bytes) f fs (found-none (wordsOf bytes) (at-place (f ∷ fs)) place (place-is (f ∷ fs) r) h)))
+                sym (ap planned (plan-full (chunksIn 12 (length bytes)) (wordsOf bytes) f fs (found-none (wordsOf bytes) (at-place (f ∷ fs)) place (place-is (f ∷ fs) r .place) h)))
 
         -- begun
         abbrev began : Place → Session
-        began x = record { control = committing c; setup = writingTo k (x .chunk) (x .old) (x .committed); buffer = b }
+        began x = record { control = committing c; setup = writingTo k (x .chunk) (x .old) (x .committed) (placed .first) (placed .least); buffer = b }
 
         module _ (f : Entry) (fs : List Entry) (q : Fits s (wordsOf bytes) table) (σ : stateOf s ≡ Rest (k .image) (k .table) (f ∷ fs)) (r : RestFits s (wordsOf bytes) table (f ∷ fs)) (same : k .image ≡ length bytes)
-            (d : ℕ) (found : at-place (f ∷ fs) ≡ some d) where
+            (d : ℕ) (found : at-place (f ∷ fs) ≡ some d) (low : placed .first ≤ d) where
           abbrev s′ : Session
           s′ = began (placeOf (wordsOf bytes) (some d))
 
           found′ : logPlace basePower (chunksIn basePower (k .image)) (wordsOf bytes) (linesFor (length (encodeAll (f ∷ fs)))) 0 (freeNeeded (f ∷ fs)) ≡ some d
           found′ = rw same found
 
+          below : NoneBelow (wordsOf bytes) (placed .first) (placed .least)
+          below = place-is (f ∷ fs) r .none
+
           abbrev acts : List Action
           acts = appendOf basePower d (getD (wordsOf bytes) (directoryWord d) 0) (linesOf basePower (wordsOf bytes) d) (encodeAll (f ∷ fs))
 
           acts-are : commitActions (s′ .control) (s′ .setup) b ≡ acts
-          acts-are = begun-acts c k b (wordsOf bytes) table f fs r d found′
+          acts-are = begun-acts c k b (wordsOf bytes) table f fs r d found′ (placed .first) (placed .least) below low
 
           items-are : batchItems (s′ .control) b ≡ f ∷ fs
           unfolding batchItems batchWords
@@ -259,7 +277,7 @@ module _ (c : Control) (k : Setup) (b bytes table : List ℕ) where
           exact-at = record {
             answered = rw (opened, σ, plan-is) (ap R.Begun (sym (length-commit (s′ .control) (s′ .setup) b) ∙ ap length acts-are));
             became = rw (opened, σ, plan-is) state-is;
-            fits = (q .0, rw (at-3 (s′ .control) (s′ .setup) b refl, items-are, begun-first c k b (wordsOf bytes) table f fs r d found′) (begun-fits c k b (wordsOf bytes) table f fs r d found′));
+            fits = (q .0, rw (at-3 (s′ .control) (s′ .setup) b refl, items-are, begun-first c k b (wordsOf bytes) table f fs r d found′ (placed .first) (placed .least) below low) (begun-fits c k b (wordsOf bytes) table f fs r d found′ (placed .first) (placed .least) below low));
           }
 
         pub begins : place .found ≡ true → (a : ℕ) → a ≡ commitCount (c .words) → Called stateOf Fits 12 256 Commit s (began place) bytes bytes table table (R.Begun a)
@@ -275,5 +293,8 @@ module _ (c : Control) (k : Setup) (b bytes table : List ℕ) where
                 → Exact stateOf Fits 12 256 Commit s (began place) bytes bytes table table (R.Begun (commitCount (c .words)))
             by [] q σ r same = absurd (some-staged (r .batch .count))
             by (f ∷ fs) q σ r same =
-                let t = found-some (wordsOf bytes) (at-place (f ∷ fs)) place (place-is (f ∷ fs) r) h in
-                subst (λ (x : Place). Exact stateOf Fits 12 256 Commit s (began x) bytes bytes table table (R.Begun (commitCount (c .words)))) (sym (t .2)) (exact-at f fs q σ r same (t .0) (t .1))
+                let p = place-is (f ∷ fs) r in
+                let t = found-some (wordsOf bytes) (at-place (f ∷ fs)) place (p .place) h in
+                let e : place .chunk ≡ t .0 = ap (λ (x : Place). x .chunk) (t .2) in
+                let l : placed .first ≤ place .chunk = p .low h in
+                subst (λ (x : Place). Exact stateOf Fits 12 256 Commit s (began x) bytes bytes table table (R.Begun (commitCount (c .words)))) (sym (t .2)) (exact-at f fs q σ r same (t .0) (t .1) (omega arith))

@@ -5,10 +5,10 @@ use mathlib.Core.Path.{_≡_, refl, sym, _∙_, ap}
 use mathlib.Core.Bool.{Bool, true, false}
 use mathlib.Core.Option.{some}
 use mathlib.Core.List.{List, [], _∷_, _++_, map-append}
-use Prim.Native.Nat.{ℕ, suc, _+_, _*_, _/_, _≤_}
+use Prim.Native.Nat.{ℕ, suc, _+_, _*_, _/_, _≤_, _<_}
 use native.Mathlib.Omega.{arith}
 use lib.Dec.{eqb}
-use lib.ListN.{length, length-set}
+use lib.ListN.{length, getD, length-set}
 use Rattle.spec.specs.Basics.{both, distinct}
 use Rattle.spec.specs.Places.{basePower, chunkLines, base, directoryWord, chunksIn}
 use Rattle.spec.specs.Medium.{Cell, Action, Store, Flush, Fence, Medium, apply, run, latest, cellAt, settledAt}
@@ -85,6 +85,7 @@ pub record Forward (bytes table : ℕ) (ws : List ℕ) (es items : List Entry) (
   pub apart : BlocksApart es
   pub accepted : opening basePower bytes (runWords (appendOf basePower d old (linesOf basePower ws d) (encodeAll items)) ws) table
       ≡ Accepted (front ++ (placed (base basePower d + 8 * linesOf basePower ws d) items ++ back))
+  pub kept : (c : ℕ) → 1 ≤ c → c < d → getD (runWords (appendOf basePower d old (linesOf basePower ws d) (encodeAll items)) ws) (directoryWord c) 0 ≡ getD ws (directoryWord c) 0
 
 module _ (bytes table : ℕ) (ws : List ℕ) (es : List Entry) (f : Entry) (fs : List Entry) (accepted : opening basePower bytes ws table ≡ Accepted es) (long : length ws ≡ bytes / 8)
     (right : AllRight (f ∷ fs)) (counts : CountsOn es (f ∷ fs)) (in-log : (e : Entry) → Mem e (f ∷ fs) → e .placement ≡ 0) (small : length (encodeAll (f ∷ fs)) ≤ batchRoom)
@@ -179,4 +180,5 @@ module _ (bytes table : ℕ) (ws : List ℕ) (es : List Entry) (f : Entry) (fs :
     accepted =
         rw (← image-is)
         (ok-opens basePower lo hi n bytes table (ended .image) (ended .entries) size (ended .rests .ok) (fits-keys table (ended .entries) (ended .few′)) ∙ ap Accepted (ended .joined));
+    kept = λ c l u. rw (← image-is) (ended .chunks c l (let a = place .high in omega arith) (λ e. omega arith) .1);
   }

@@ -114,6 +114,7 @@ module _ (c : Control) (k : Setup) (b : List ℕ) where
       apart = f .apart;
       built = built-kept c (acted c (c .keys) (c .fresh)) b table (f .front ++ f .back) refl (f .built);
       table-room = f .table-room;
+      hint = f .hint;
     }
 
     -- ITS LAST: the batch joins
@@ -164,6 +165,7 @@ module _ (c : Control) (k : Setup) (b : List ℕ) where
             apart = f .apart;
             built = record { indexed = q .0 .indexed; blocks = q .0 .blocks };
             table-room = omega arith;
+            hint = f .hint;
           }
 
     -- ITS END
@@ -180,6 +182,7 @@ module _ (c : Control) (k : Setup) (b : List ℕ) where
           built = record { indexed = f .built .indexed; blocks = f .built .blocks };
           batch = record { room = omega arith; written = refl; count = refl; few = omega arith; right = tt; counts = tt; in-log = λ e m. absurd m; keys = omega arith };
           table-room = omega arith;
+          hint = f .hint;
         }
 
     -- A STAGING'S END
@@ -193,4 +196,5 @@ module _ (c : Control) (k : Setup) (b : List ℕ) where
       built = record { indexed = f .built .indexed; blocks = f .built .blocks };
       batch = batch-kept c (staged c) b b (f .entries) items refl refl refl refl (f .batch);
       table-room = f .table-room;
+      hint = f .hint;
     }

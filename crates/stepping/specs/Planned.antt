@@ -1,6 +1,5 @@
 -- What a commit finds before it is begun, and the record at its begin.
 -- Assumes nothing.
-use mathlib.Core.Path.{_≡_}
 use mathlib.Core.List.{List}
 use Prim.Native.Nat.{ℕ}
 use lib.ListN.{length}
@@ -8,36 +7,36 @@ use Rattle.spec.specs.Words.{wordsOf}
 use Rattle.spec.specs.Places.{chunksIn}
 use Rattle.spec.specs.Log.{Entry, encodeAll}
 use Rattle.spec.specs.Actions.{linesFor}
-use Rattle.spec.specs.Calls.{Commit, logPlace, freeNeeded}
+use Rattle.spec.specs.Calls.{Commit, freeNeeded}
 use Rattle.spec.specs.Contract.{Called}
 use Rattle.spec.specs.declared.Control.{Control}
 use Rattle.spec.specs.declared.Setup.{Setup}
 use Rattle.spec.specs.declared.Report.the-variants as R
 use Rattle.session.specs.State.{stateOf}
-use Rattle.session.specs.Fits.{Fits}
+use Rattle.session.specs.Fits.{NoneBelow, Fits}
 use Rattle.batch.specs.Items.{StagedIn}
-use Rattle.placing.specs.declared.Place.{Place}
-use Rattle.placing.specs.Found.{placeOf}
+use Rattle.placing.specs.declared.Placed.{Placed}
+use Rattle.placing.specs.Found.{Searched}
 use Rattle.stepping.specs.declared.CommitPlan.{CommitPlan}
 use Rattle.stepping.specs.declared.CommitPlan.the-variants as P
 
--- the place that the definition finds for the staged items
-abbrev pub PlaceFor : (buffer : List ℕ) (words : ℕ) (image : List ℕ) → Place → Type 0
-PlaceFor buffer words image r =
-    (items : List Entry) → StagedIn buffer words items
-    → r ≡ placeOf (wordsOf image) (logPlace 12 (chunksIn 12 (length image)) (wordsOf image) (linesFor (length (encodeAll items))) 0 (freeNeeded items))
+-- the place that the definition finds for the staged items, where the hint holds
+abbrev pub PlaceFor : (buffer : List ℕ) (words : ℕ) (image : List ℕ) (first least : ℕ) → Placed → Type 0
+PlaceFor buffer words image first least r =
+    (items : List Entry) → StagedIn buffer words items → NoneBelow (wordsOf image) first least
+    → Searched (wordsOf image) (chunksIn 12 (length image)) (linesFor (length (encodeAll items))) (freeNeeded items) r
 
--- the record's small parts at a commit's begin: no action done yet, and where it writes
+-- the record's small parts at a commit's begin: no action done yet, where it writes, and where the next one looks for space
 abbrev pub committing : Control → Control
 committing c = record { phase = 3; next = 0; items = c .items; words = c .words; keys = c .keys; fresh = c .fresh }
 
-abbrev pub writingTo : Setup → (chunk old lines : ℕ) → Setup
-writingTo k chunk old lines =
-    record { image = k .image; table = k .table; chunk = chunk; old = old; lines = lines; fields = k .fields; station = k .station; centre = k .centre }
+abbrev pub writingTo : Setup → (chunk old lines first least : ℕ) → Setup
+writingTo k chunk old lines first least =
+    record { image = k .image; table = k .table; chunk = chunk; old = old; lines = lines; first = first; least = least; fields = k .fields; station = k .station; centre = k .centre }
 
 -- a plan is right if the call that follows it does what it promises
 abbrev pub CommitPlanned : Control → Setup → (buffer image table : List ℕ) → CommitPlan → Type 0
 CommitPlanned c k b image table (P.Refused n) =
     Called stateOf Fits 12 256 Commit (record { control = c; setup = k; buffer = b }) (record { control = c; setup = k; buffer = b }) image image table table (R.Refused n)
-CommitPlanned c k b image table (P.At chunk old lines actions) =
-    Called stateOf Fits 12 256 Commit (record { control = c; setup = k; buffer = b }) (record { control = committing c; setup = writingTo k chunk old lines; buffer = b }) image image table table (R.Begun actions)
+CommitPlanned c k b image table (P.At chunk old lines first least actions) =
+    Called stateOf Fits 12 256 Commit (record { control = c; setup = k; buffer = b }) (record { control = committing c; setup = writingTo k chunk old lines first least; buffer = b }) image image table table (R.Begun actions)

@@ -10,7 +10,7 @@ ghost use Rattle.spec.specs.Contract.{Called};
 ghost use Rattle.session.specs.State.{batchRoom, stateOf};
 ghost use Rattle.session.specs.Fits.{Fits};
 ghost use Rattle.stepping.specs.Planned.{PlaceFor, CommitPlanned};
-use placing::Place;
+use placing::Placed;
 use recovery::Gated;
 use spec::Control;
 use spec::Refusal;
@@ -25,13 +25,16 @@ pub struct Moved {
 }
 
 // COMMIT
-// What a commit finds: a refusal, or where it writes (chunk, its directory word, its committed lines) and how many actions it has.
+// What a commit finds: a refusal, or where it writes (chunk, its directory word, its committed lines), where the next one looks for space,
+// and how many actions it has.
 pub enum CommitPlan {
     Refused(Refusal),
     At {
         chunk: usize,
         old: u64,
         lines: usize,
+        first: usize,
+        least: usize,
         actions: usize,
     },
 }
@@ -53,15 +56,21 @@ fn free_needed(deletes: bool) -> usize
     if deletes { 2 } else { 3 }
 }
 
-// The place for the staged items.
-fn commit_place(buffer: &[u64; 1152], words: usize, image: &[u8]) -> Place
-    ensures { λ r. ⌜ PlaceFor (now (buffer .entry)) words (now (image .entry)) r ⌝ }
+// The place for the staged items, looked for from the hint on.
+fn commit_place(
+    buffer: &[u64; 1152],
+    words: usize,
+    first: usize,
+    least: usize,
+    image: &[u8],
+) -> Placed
+    ensures { λ r. ⌜ PlaceFor (now (buffer .entry)) words (now (image .entry)) first least r ⌝ }
 {
     let count = image.len() / 4096;
     let lines = batch_lines(words);
     let deletes = batch::only_deletes(buffer, words);
     let needed = free_needed(deletes);
-    placing::log_place(image, count, lines, needed)
+    placing::log_place(image, count, lines, needed, first, least)
 }
 
 // 2, 1, 8, 14, 13, or the place. Nothing is changed.
@@ -81,13 +90,16 @@ pub fn plan_commit(
             if control.items == 0 {
                 return CommitPlan::Refused(Refusal::NothingStaged);
             }
-            let place = commit_place(buffer, control.words, image);
+            let placed = commit_place(buffer, control.words, setup.first, setup.least, image);
+            let place = placed.place;
             if place.found {
                 let actions = acts::commit_count(control.words);
                 return CommitPlan::At {
                     chunk: place.chunk,
                     old: place.old,
                     lines: place.committed,
+                    first: placed.first,
+                    least: placed.least,
                     actions,
                 };
             }
@@ -117,6 +129,8 @@ pub fn commit_core(
             chunk,
             old,
             lines,
+            first,
+            least,
             actions,
         } => {
             let begun = Control {
@@ -133,6 +147,8 @@ pub fn commit_core(
                 chunk,
                 old,
                 lines,
+                first,
+                least,
                 fields: setup.fields,
                 station: setup.station,
                 centre: setup.centre,

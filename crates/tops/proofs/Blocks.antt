@@ -4,19 +4,18 @@ use mathlib.Core.Path.{_≡_, refl, sym, _∙_}
 use mathlib.Core.Bool.{Bool, true, false}
 use mathlib.Core.List.{List, [], _∷_, _++_}
 use Prim.Native.Nat.{ℕ, zero, suc, _+_, _-_, _*_, _/_, _%_, _^_, _≤_, _<_, min}
-use native.Mathlib.Nat.{pow-suc, add-zero}
+use native.Mathlib.Nat.{add-zero}
 use native.Mathlib.Decide.{decLe}
 use native.Mathlib.Omega.{arith}
 use lib.Dec.{leb, ltb}
 use lib.ListN.{length, getD, List·getD-eq-default}
-use lib.Pow.{pow-add}
 use borrow.Author.Tests.{eq-eqb, ne-eqb, le-leb, lt-leb, lt-ltb, le-ltb, leb-true}
 use Rattle.spec.specs.Basics.{both, every}
 use Rattle.spec.specs.Places.{unitChunk, unitIn, unitWord, chunkUnits}
 use Rattle.spec.specs.Blocks.{startTests, lengthTests, blockTest, blockRight}
 use Rattle.spec.specs.Directory.{sizeOf}
 use Rattle.theory_medium.proofs.Lists.{every-true}
-use Rattle.bits.proofs.Word.{shifted}
+use Rattle.log.proofs.Shifts.{shift-bytes}
 
 pub both-true : (b : Bool) → both b true ≡ b
 both-true true = refl
@@ -56,13 +55,6 @@ unfolding unitChunk unitIn chunkUnits
 start-size n u s h = leb-true 1 s (every-true (startTests 12 n u s) h .1 .1 .0)
 
 -- The length and the fill.
-power : (r : ℕ) → 2 ^ (8 * r) ≡ 256 ^ r
-power zero = refl
-power (suc r) = let e : 8 * suc r ≡ 8 * r + 8 = omega arith in rw (e, pow-add 2 (8 * r) 8, power r) (sym (pow-suc 256 r))
-
-pub shift-bytes : (r : ℕ) → r < 8 → 1 * 2 ^ (8 * r) % 2 ^ 64 ≡ 256 ^ r
-shift-bytes r h = shifted (8 * r) (omega arith) ∙ power r
-
 module _ (s len last : ℕ) where
   pub length-low : len < 257 → false ≡ every (lengthTests s len last)
   length-low h = rw (lt-leb 257 len h)

@@ -32,10 +32,11 @@ use Rattle.log.proofs.Stands.{image-stands, image-apart}
 use Rattle.volatile.specs.Check.{CheckInv}
 use Rattle.volatile.proofs.Marks.{chosen-before}
 use Rattle.volatile.proofs.Check.{agreed-own, agreed-other, block-wrong, check-start, check-skip, check-top, check-blocks, check-agree, check-apart, check-live}
+use Rattle.volatile.proofs.Plain.{plain-check}
 use Rattle.tops.specs.declared.Head.{Head}
 use Rattle.tops.specs.declared.Checked.{Checked}
 use Rattle.tops.specs.Spans.{entryOf, points}
-use Rattle.tops.specs.Pass.{Listed, AgreesWith, TopIs, AgreedIs, MarkedIs, VisitedIs, CheckedAs}
+use Rattle.tops.specs.Pass.{Listed, AgreesWith, TopIs, AgreedIs, MarkedIs, VisitedIs, CheckedAs, Tested, Examined}
 use Rattle.tops.proofs.Blocks.{both-true}
 use Rattle.tops.proofs.Found.{version-highest}
 use Rattle.tops.proofs.Passed.{Passed, passed-start, passed-done, passed-wrong, passed-split, passed-next}
@@ -192,3 +193,24 @@ module _ (n : ℕ) (ws table : List ℕ) (fits : Bool) (first cleared : List ℕ
         apart = λ es l t. absurd (not-both (s′ .blocks) t f);
         bits = λ es l t. absurd (not-both (s′ .blocks) t f);
       }
+
+-- ## With the pass, and without it
+
+pub examined-passed : (n : ℕ) (ws table : List ℕ) (fits plain : Bool) (before after : List ℕ) (r : Checked) → CheckedAs n ws table fits before after r
+    → Examined n ws table fits plain before after r
+examined-passed n ws table fits plain before after r h = record {
+  kept = h .kept;
+  tested = λ es l p. record { blocks = h .blocks es l; agreeing = h .agreeing es l; apart = h .apart es l; bits = h .bits es l };
+}
+
+pub examined-plain : (n : ℕ) (ws table : List ℕ) (fits plain : Bool) (before after : List ℕ) → plain ≡ true → BitsCleared before after
+    → Examined n ws table fits plain before after (record { blocks = true; agreeing = true; apart = true })
+examined-plain n ws table fits plain before after so clear = record { kept = clear .kept; tested = λ es l p. told es (plain-check 12 n ws es (hasBit after) (clear .none) (p so)) }
+  where
+    told : (es : List Entry) → CheckInv 12 n ws es es (hasBit after) true true true → Tested n ws es after (record { blocks = true; agreeing = true; apart = true })
+    told es inv = record {
+      blocks = check-blocks 12 n ws es (hasBit after) true true true inv;
+      agreeing = λ t. check-agree 12 n ws es (hasBit after) true true true inv;
+      apart = λ t. check-apart 12 n ws es (hasBit after) true true true inv;
+      bits = λ t. check-live 12 n ws es (hasBit after) true true true inv;
+    }

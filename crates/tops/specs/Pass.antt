@@ -18,6 +18,7 @@ use Rattle.log.specs.Best.{bestOf}
 use Rattle.log.specs.Stands.{StandsIn}
 use Rattle.volatile.specs.Known.{Indexed}
 use Rattle.volatile.specs.Check.{clashing, clash, Marks, CheckInv}
+use Rattle.volatile.specs.Plain.{Plain}
 use Rattle.tops.specs.Spans.{entryOf, points, pointsTo}
 use Rattle.tops.specs.declared.Head.{Head}
 use Rattle.tops.specs.declared.Checked.{Checked}
@@ -89,3 +90,15 @@ pub record CheckedAs (n : ℕ) (ws table : List ℕ) (fits : Bool) (before after
   pub agreeing : (es : List Entry) → Listed n ws table fits es → r .blocks ≡ true → r .agreeing ≡ agreeTest ws es
   pub apart : (es : List Entry) → Listed n ws table fits es → r .blocks ≡ true → r .apart ≡ apartTest es
   pub bits : (es : List Entry) → Listed n ws table fits es → r .blocks ≡ true → (u : ℕ) → hasBit after u ≡ isIn u (liveBlocks es)
+
+-- what the tests tell of the entries es, with the blocks in use as bits
+pub record Tested (n : ℕ) (ws : List ℕ) (es : List Entry) (after : List ℕ) (r : Checked) : Type 0 where
+  pub blocks : r .blocks ≡ blocksTest 12 n ws es
+  pub agreeing : r .blocks ≡ true → r .agreeing ≡ agreeTest ws es
+  pub apart : r .blocks ≡ true → r .apart ≡ apartTest es
+  pub bits : r .blocks ≡ true → (u : ℕ) → hasBit after u ≡ isIn u (liveBlocks es)
+
+-- the pass, or none where the entries are known to be plain
+pub record Examined (n : ℕ) (ws table : List ℕ) (fits plain : Bool) (before after : List ℕ) (r : Checked) : Type 0 where
+  pub kept : WordsKept before after
+  pub tested : (es : List Entry) → Listed n ws table fits es → (plain ≡ true → Plain es) → Tested n ws es after r

@@ -7,7 +7,7 @@ ghost use Rattle.spec.specs.Basics.{pick, every};
 ghost use Rattle.spec.specs.Words.{wordsOf};
 ghost use Rattle.spec.specs.Blocks.{startTests, lengthTests, blockRight};
 ghost use Rattle.tops.specs.Spans.{spanIn, sameSpan, sameFrom, points, pointsTo};
-ghost use Rattle.tops.specs.Pass.{AgreesWith, TopIs, ClashingIs, ClashIs, PointsAt, AgreedIs, SkippedIs, StillIs, MarkedIs, VisitedIs, CheckedAs};
+ghost use Rattle.tops.specs.Pass.{AgreesWith, TopIs, ClashingIs, ClashIs, PointsAt, AgreedIs, SkippedIs, StillIs, MarkedIs, VisitedIs, CheckedAs, Examined};
 use bits::clear_bits;
 use bits::has_bit;
 use bits::set_bit;
@@ -474,4 +474,26 @@ pub fn check(
             }
         }
     }
+}
+
+// What the pass finds. Where the log is `plain`, with one top entry a key and no value in a block, nothing is left to find and none is made.
+pub fn examine(
+    image: &[u8],
+    count: usize,
+    table: &[u64],
+    fits: bool,
+    plain: bool,
+    buffer: &mut [u64; 1152],
+) -> Checked
+    ensures { λ r. ⌜ Examined count (wordsOf (now (image .entry))) (now (table .entry)) fits plain (now (buffer .entry)) (now (buffer .exit)) r ⌝ }
+{
+    if plain {
+        clear_bits(buffer);
+        return Checked {
+            blocks: true,
+            agreeing: true,
+            apart: true,
+        };
+    }
+    check(image, count, table, fits, buffer)
 }

@@ -47,7 +47,7 @@ same-list : (xs : List ℕ) → sameList xs xs ≡ true
 same-list [] = refl
 same-list (x ∷ xs) = rw (eq-eqb x x refl) (same-list xs)
 
-same-held : (h : Held) → sameHeld h h ≡ true
+pub same-held : (h : Held) → sameHeld h h ≡ true
 same-held Absent = refl
 same-held (Value xs) = same-list xs
 

@@ -202,7 +202,7 @@ info-above k xs ys e b q l = info-from k n (xs ++ e ∷ ys) (e ∷ []) (tops-abo
         sym (r ∙ rw (lt-ltb (f .version) (e .version) (omega arith)))
 
 -- of the key, behind all others
-chosen-first : (k : ℕ) (es : List Entry) (f : Entry) → chosen k es ≡ some f → (rest : List Entry) × (tops k es ≡ f ∷ rest)
+pub chosen-first : (k : ℕ) (es : List Entry) (f : Entry) → chosen k es ≡ some f → (rest : List Entry) × (tops k es ≡ f ∷ rest)
 unfolding chosen
 chosen-first k es f h = first-is (tops k es) f h
   where

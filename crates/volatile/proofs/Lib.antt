@@ -4,3 +4,4 @@ pub mod Fill
 pub mod Image
 pub mod Marks
 pub mod Check
+pub mod Plain

@@ -1,12 +1,17 @@
--- `script::number` is safe and ends. The measure is what is left of the text. Assumes nothing.
+-- `script::number` meets its contract. What is spelled from the start on is what is spelled from here on behind the value so far.
+-- The measure is what is left of the text. Assumes nothing.
 use borrow.Author.Needs.{needs}
-use Prim.Native.Nat.{_-_}
-use lib.ListN.{length}
+use mathlib.Core.Path.{_≡_, _∙_, sym, ap}
+use native.Mathlib.Omega.{arith}
+use Prim.Native.Nat.{ℕ, _+_, _-_}
+use lib.ListN.{length, drop}
+use Rattle.script.specs.Spelled.{spelled}
+use Rattle.script.proofs.Spelling.{at-digit, at-other, at-end}
 use Rattle.script.proofs.number.Statement.{statement}
 use Rattle.script.proofs.number.Tie as tie
 
 abbrev Inv-loop : tie.InvT-loop
-Inv-loop text from at₀ value₀ at value = Unit {0}
+Inv-loop text from at₀ value₀ at value = spelled (drop from text) 0 ≡ spelled (drop at text) value
 
 abbrev μ-loop : tie.MeasureT-loop
 μ-loop text from at₀ value₀ at value = length text - at
@@ -30,10 +35,32 @@ loop-less : tie.Need-loop-less Inv-loop μ-loop
 loop-less c = search needs
 
 loop-again : tie.Need-loop-again Inv-loop μ-loop
-loop-again c = search needs
+loop-again c =
+    c .before .before .before .before .before .loop .inv
+    ∙ at-digit
+    (c .before .before .before .before .before .before .before .args .text .now)
+    (c .before .before .before .before .before .loop .at)
+    (c .before .before .before .before .before .loop .value)
+    (omega arith)
+    (sym (c .before .before .is-digit .ensures) ∙ c .before .if1 .taken)
+    ∙ ap (λ (v : ℕ). spelled (drop (c .before .before .before .before .before .loop .at + 1) (c .before .before .before .before .before .before .before .args .text .now)) v) (sym (c .with-digit .ensures))
 
 returns : tie.Need-returns Inv-loop μ-loop
-returns c = search needs
+returns c =
+    sym
+    (c .before .before .before .before .loop .inv
+    ∙ at-other
+    (c .before .before .before .before .before .before .args .text .now)
+    (c .before .before .before .before .loop .at)
+    (c .before .before .before .before .loop .value)
+    (omega arith)
+    (sym (c .before .is-digit .ensures) ∙ c .if1 .left))
+
+returns-2 : tie.Need-returns-2 Inv-loop μ-loop
+returns-2 c =
+    sym
+    (c .before .loop .inv
+    ∙ at-end (c .before .before .before .args .text .now) (c .before .loop .at) (c .before .loop .value) (omega arith))
 
 pub number-spec : {M : Type 1} → statement M
 number-spec =
@@ -48,4 +75,5 @@ number-spec =
     add-at
     loop-less
     loop-again
-    returns)
+    returns
+    returns-2)

@@ -19,7 +19,7 @@ log-place-requires : tie.Need-log-place-requires
 log-place-requires c κs = search needs
 
 returns : tie.Need-returns
-returns c = B.place-shown _ _ _ _ _ _ _ _ (omega arith) (c .before .before .before .batch-lines .ensures) (c .before .before .only-deletes .ensures) (c .before .free-needed .ensures) (c .log-place .ensures)
+returns c = B.place-shown _ _ _ _ _ _ _ _ _ _ (omega arith) (c .before .before .before .batch-lines .ensures) (c .before .before .only-deletes .ensures) (c .before .free-needed .ensures) (c .log-place .ensures)
 
 pub commit-place-spec : {M : Type 1} → statement M
 commit-place-spec =

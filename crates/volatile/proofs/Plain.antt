@@ -1,0 +1,128 @@
+-- The laws of entries of which a second pass has nothing to find: they pass its tests, and one pass shows that they are such.
+-- Assumes nothing.
+use mathlib.Core.Path.{_≡_, refl, sym, _∙_, ap}
+use mathlib.Core.Logic.{_⊎_, inl, inr}
+use mathlib.Core.Bool.{Bool, true, false}
+use mathlib.Core.Option.{Option, none, some}
+use mathlib.Core.List.{List, [], _∷_, _++_}
+use Prim.Native.Nat.{ℕ, suc, _<_}
+use native.Mathlib.Omega.{arith}
+use lib.Dec.{eqb, leb}
+use lib.ListN.{length}
+use borrow.Author.Tests.{eqb-true, eq-eqb, ne-eqb, le-leb}
+use Rattle.spec.specs.Basics.{pick, both, first}
+use Rattle.spec.specs.Log.{Entry}
+use Rattle.spec.specs.Blocks.{pointed}
+use Rattle.spec.specs.Contents.{highest, isTopOf, isTop, tops, chosen, meaning}
+use Rattle.spec.specs.Opening.{fine, agreeWith}
+use Rattle.theory_medium.proofs.Lists.{not-both, both-i, pick-i}
+use Rattle.theory_log.specs.Contents.{Mem}
+use Rattle.theory_log.proofs.Contents.{filter-mem, mem-cases, chosen-none}
+use Rattle.theory_log.proofs.Tops.{in-all}
+use Rattle.index.specs.Packed.{packed}
+use Rattle.volatile.specs.Known.{several, infoOf, noted, Bounded}
+use Rattle.volatile.specs.Check.{CheckInv}
+use Rattle.volatile.specs.Plain.{Plain, PlainInv}
+use Rattle.volatile.proofs.Info.{several-most, info-chosen, info-none, chosen-first}
+use Rattle.volatile.proofs.Grow.{grows-last}
+use Rattle.volatile.proofs.Check.{same-held}
+
+-- A word without the bit is that of a key with one top entry at most.
+bit-low : (place version entries twins : ℕ) → twins < 2 → packed place version entries twins < 0x8000_0000_0000_0000 → twins ≡ 0
+bit-low place version entries twins m l = omega arith
+
+first-nil : (ts : List Entry) → first ts ≡ none → ts ≡ []
+first-nil [] h = refl
+first-nil (t ∷ ts) h = absurd (let z : _≡_ {A = ℕ} 0 1 = cc in omega arith)
+
+tops-nil : (k : ℕ) (es : List Entry) → chosen k es ≡ none → tops k es ≡ []
+unfolding chosen
+tops-nil k es h = first-nil (tops k es) h
+
+low-single : (k : ℕ) (es : List Entry) → infoOf k es < 0x8000_0000_0000_0000 → several k es ≡ 0
+low-single k es l = go (chosen k es) refl
+  where
+    go : (q : Option Entry) → chosen k es ≡ q → several k es ≡ 0
+    go none h = rw (tops-nil k es h)
+    go (some f) h = bit-low _ _ _ (several k es) (several-most k es) (rw (info-chosen k es f h) at l)
+
+-- A top entry is then the chosen one of its key.
+alone : (f : Entry) (rest : List Entry) → _≡_ {A = ℕ} (pick (leb 2 (length (f ∷ rest))) 1 0) 0 → rest ≡ []
+alone f [] h = refl
+alone f (g ∷ rest) h =
+    let l : leb 2 (suc (suc (length rest))) ≡ true = le-leb 2 (suc (suc (length rest))) (omega arith) in
+    let z : _≡_ {A = ℕ} 1 0 = rw l at h in
+    absurd (omega arith)
+
+own-top : (es : List Entry) (e f : Entry) → ((k : ℕ) → several k es ≡ 0) → Mem e es → isTop es e ≡ true → chosen (e .key) es ≡ some f → e ≡ f
+unfolding tops
+own-top es e f single m t h = go (rw (q .1, r) at in-tops)
+  where
+    in-tops : Mem e (tops (e .key) es)
+    in-tops = filter-mem (isTopOf (e .key) (highest (e .key) es)) e es m (both-i _ _ (eq-eqb (e .key) (e .key) refl) t)
+
+    q : (rest : List Entry) × (tops (e .key) es ≡ f ∷ rest)
+    q = chosen-first (e .key) es f h
+
+    r : q .0 ≡ []
+    r = alone f (q .0) (rw (q .1) at (single (e .key)))
+
+    go : Mem e (f ∷ []) → e ≡ f
+    go (inl d) = d
+    go (inr d) = absurd d
+
+-- ## The tests of the second pass
+
+plain-agrees : (ws : List ℕ) (es : List Entry) → Plain es → (e : Entry) → Mem e es → isTop es e ≡ true → agreeWith ws e (chosen (e .key) es) ≡ true
+plain-agrees ws es plain e m t = go (chosen (e .key) es) refl
+  where
+    go : (q : Option Entry) → chosen (e .key) es ≡ q → agreeWith ws e q ≡ true
+    go none h = refl
+    go (some f) h = rw (← own-top es e f (plain .single) m t h) (same-held (meaning ws e))
+
+pub plain-check : (p n : ℕ) (ws : List ℕ) (es : List Entry) (has : ℕ → Bool) → ((u : ℕ) → has u ≡ false) → Plain es → CheckInv p n ws es es has true true true
+plain-check p n ws es has z plain = record {
+  right = sym (in-all _ es (λ e m. pick-i (isTop es e) (fine p n ws e) (λ t. rw (plain .unpointed e m))));
+  agreed = sym (in-all _ es (λ e m. pick-i (isTop es e) _ (plain-agrees ws es plain e m)));
+  marks = record {
+    marked = λ e l. absurd (not-both (pointed e) (l .points) (plain .unpointed e (l .member)));
+    only = λ u h. absurd (not-both (has u) h (z u));
+    alone = λ t e f l m q. absurd (not-both (pointed e) (l .points) (plain .unpointed e (l .member)));
+    clashes = λ f. absurd (not-both true refl f);
+  };
+}
+
+-- ## The pass that shows it
+
+pub plain-start : PlainInv [] true true
+plain-start = record {
+  held = λ t. refl;
+  low = λ t k. let e : infoOf k [] ≡ 0 = info-none k [] (chosen-none k [] (λ f m q. m)) in omega arith;
+  unpointed = λ t e m. absurd m;
+}
+
+pub plain-end : (es : List Entry) (plain fits : Bool) → PlainInv es plain fits → plain ≡ true → Plain es
+plain-end es plain fits inv t = record { single = λ k. low-single k es (inv .low t k); unpointed = inv .unpointed t }
+
+-- One more entry.
+low-next : (xs : List Entry) (e : Entry) → Bounded (xs ++ e ∷ []) → ((k : ℕ) → infoOf k xs < 0x8000_0000_0000_0000) → noted (infoOf (e .key) xs) (e .at) (e .version) < 0x8000_0000_0000_0000
+    → (k : ℕ) → infoOf k (xs ++ e ∷ []) < 0x8000_0000_0000_0000
+low-next xs e b low l k = rw (grows-last xs e b .info k) (go (eqb (e .key) k) (eqb-true (e .key) k))
+  where
+    go : (t : Bool) → (t ≡ true → e .key ≡ k) → pick t (noted (infoOf k xs) (e .at) (e .version)) (infoOf k xs) < 0x8000_0000_0000_0000
+    go true y = rw (← y refl) l
+    go false y = low k
+
+pub plain-next : (xs : List Entry) (e : Entry) (plain fits plain′ fits′ : Bool) → Bounded (xs ++ e ∷ []) → PlainInv xs plain fits
+    → (plain′ ≡ true → (plain ≡ true) × (fits′ ≡ true) × (noted (infoOf (e .key) xs) (e .at) (e .version) < 0x8000_0000_0000_0000) × (pointed e ≡ false))
+    → PlainInv (xs ++ e ∷ []) plain′ fits′
+plain-next xs e plain fits plain′ fits′ b inv so = record {
+  held = λ t. so t .1;
+  low = λ t. low-next xs e b (inv .low (so t .0)) (so t .2);
+  unpointed = λ t f m. go (so t .0) (so t .3) f (mem-cases f xs (e ∷ []) m);
+}
+  where
+    go : plain ≡ true → pointed e ≡ false → (f : Entry) → Mem f xs ⊎ Mem f (e ∷ []) → pointed f ≡ false
+    go t n f (inl m) = inv .unpointed t f m
+    go t n f (inr (inl q)) = ap pointed q ∙ n
+    go t n f (inr (inr m)) = absurd m
