@@ -1,17 +1,22 @@
-// Opening and look-up beside a plain C floor, in one run. The floor checks the same things in one pass over the same image
-// (header sum, directory words, every entry's first word, length and fill) and fills a plain open-addressing hash; its look-up
-// is one probe of that hash and the same bytes, and it trusts table and image. A second look-up in C makes the tests that the
-// proved one makes for any lent memory: phase and lengths of the record, the place within the image, the value within it.
-// Ratios: Rattle's time over C's for an opening (at most 2 is the aim), C's time over Rattle's for a look-up (at least 0.7 is
-// the aim). The best of many rounds counts, for look-ups that of each block of keys, so that other work disturbs little.
+// Opening and look-up beside plain C floors, in one run. Ours are the public calls of the archive that a host links, over a record as a
+// host keeps it: zkv_open and zkv_look_up.
+// The floor of an opening checks the same things in one pass over the same image (header sum, directory words, every entry's first word,
+// length and fill) and fills a plain open-addressing hash. The floor of a look-up is one probe of that hash and one read of the entry: it
+// trusts table and image. A second look-up in C makes the tests that the proved one makes for any lent memory: phase and lengths of
+// the record, the place within the image, the value within it.
+// Look-ups are timed in three rows, each side with the same loop around it:
+// - place: the keys are known beforehand, so that the processor works on several look-ups at once; only where the value lies is used.
+// - copied: the same, and the value's bytes are copied out into a buffer, as for a printer.
+// - waiting: one by one; each key is known only once a byte of the value before was read, as for a clerk.
+// Ratios: our time over C's for an opening (at most 2 is the aim), C's time over ours for a look-up (at least 0.7 is the aim).
+// The best of many rounds counts, for look-ups that of each block of keys, so that other work disturbs little.
 #include <stdint.h>
 #include <stdio.h>
 #include <stdlib.h>
 #include <string.h>
 #include <time.h>
 
-uint64_t bench_open(const uint8_t *image, size_t bytes, uint64_t *table, size_t words);
-size_t bench_look(const size_t record[3], const uint8_t *image, size_t bytes, const uint64_t *table, size_t words, uint64_t key, size_t *start);
+#include "zitskvoze.h"
 
 enum { CHUNK = 512, TABLE = 262144, SLOTS = TABLE / 2, ROUNDS = 60, BLOCK = 500, BLOCKS = 120 };
 
@@ -35,8 +40,9 @@ static uint64_t draw(void)
 // ---- an image of `count` chunks with n entries of `size` bytes, each of another key
 static uint64_t *make_image(size_t count, size_t n, size_t size, uint64_t *keys)
 {
-    uint64_t *w = calloc(count * CHUNK, 8);
+    uint64_t *w = aligned_alloc(64, count * CHUNK * 8);
     size_t value = (size + 7) / 8, entry = 2 + value, per = CHUNK / entry, i = 0;
+    memset(w, 0, count * CHUNK * 8);
     w[0] = 1;
     w[1] = count;
     w[7] = -(w[0] + w[1]);
@@ -167,29 +173,72 @@ __attribute__((noinline, noclone)) static size_t tested_look(const size_t record
     return 0;
 }
 
-// The best time of each block of keys in nanoseconds, summed.
-struct best {
-    double block[BLOCKS];
+// ---- the three look-ups, each by one call: the value's length, with its first byte's number through `start`
+struct set {
+    zkv_record *record;
+    const size_t *tested;       // phase and lengths, as the second C look-up asks for them
+    const uint8_t *image;
+    size_t bytes;
+    const uint64_t *table;      // of the proved calls
+    const uint64_t *hash;       // of the floor
 };
 
-static void start_best(struct best *best)
+static inline uint64_t look_ours(const struct set *s, uint64_t key, uint64_t *start)
 {
-    for (size_t b = 0; b < BLOCKS; b++)
-        best->block[b] = 1e18;
+    uint64_t length;
+    zkv_look_up(s->record, s->image, s->bytes, s->table, TABLE, key, start, &length);
+    return length;
 }
 
-static void note_time(struct best *best, size_t b, double time)
+static inline uint64_t look_floor(const struct set *s, uint64_t key, uint64_t *start)
 {
-    if (time < best->block[b])
-        best->block[b] = time;
+    return floor_look((const uint64_t *)(const void *)s->image, s->hash, key, start);
 }
 
-static double total(const struct best *best, size_t blocks)
+static inline uint64_t look_tested(const struct set *s, uint64_t key, uint64_t *start)
 {
-    double sum = 0;
-    for (size_t b = 0; b < blocks; b++)
-        sum += best->block[b];
-    return sum;
+    return tested_look(s->tested, s->image, s->bytes, s->table, TABLE, key, start);
+}
+
+enum row { PLACE, COPIED, WAITING, ROWS };
+enum side { OURS, FLOOR, TESTED, SIDES };
+
+static uint8_t label[ZKV_VALUE_MAX];
+static volatile uint8_t none = 0;
+
+// The look-ups of a block of keys; the sum is of what they answered. The set is copied, so that no loop reads it anew from memory.
+#define DEFINE_BLOCK(name, look)                                                                                        \
+    __attribute__((noinline)) static uint64_t name(const struct set *set, const uint64_t *keys, enum row row)           \
+    {                                                                                                                   \
+        const struct set s = *set;                                                                                      \
+        uint64_t sum = 0, start = 0;                                                                                    \
+        if (row == PLACE) {                                                                                             \
+            for (size_t i = 0; i < BLOCK; i++)                                                                          \
+                sum += look(&s, keys[i], &start) + 3 * start;                                                           \
+        } else if (row == COPIED) {                                                                                     \
+            for (size_t i = 0; i < BLOCK; i++) {                                                                        \
+                uint64_t length = look(&s, keys[i], &start);                                                            \
+                memcpy(label, s.image + start, length);                                                                 \
+                sum += length + 3 * start + label[0];                                                                   \
+            }                                                                                                           \
+        } else {                                                                                                        \
+            uint8_t byte = 0, mask = none;                                                                              \
+            for (size_t i = 0; i < BLOCK; i++) {                                                                        \
+                sum += look(&s, keys[i + (byte & mask)], &start) + 3 * start;                                           \
+                byte = s.image[start];                                                                                  \
+                sum += byte;                                                                                            \
+            }                                                                                                           \
+        }                                                                                                               \
+        return sum;                                                                                                     \
+    }
+
+DEFINE_BLOCK(block_ours, look_ours)
+DEFINE_BLOCK(block_floor, look_floor)
+DEFINE_BLOCK(block_tested, look_tested)
+
+static uint64_t block_of(enum side side, const struct set *s, const uint64_t *keys, enum row row)
+{
+    return side == OURS ? block_ours(s, keys, row) : side == FLOOR ? block_floor(s, keys, row) : block_tested(s, keys, row);
 }
 
 static void shuffle(uint64_t *keys, size_t n)
@@ -202,56 +251,61 @@ static void shuffle(uint64_t *keys, size_t n)
     }
 }
 
+// One row: the sides go by turns, and of each block of keys each side's best time counts.
+static void measure_looks(const char *name, const struct set *s, const uint64_t *keys, size_t n, enum row row)
+{
+    static double best[SIDES][BLOCKS];
+    size_t blocks = n / BLOCK;
+    double time[SIDES] = {0, 0, 0};
+    int equal = 1;
+    for (int r = 0; r < ROUNDS; r++) {
+        uint64_t sums[SIDES] = {0, 0, 0};
+        for (enum side side = OURS; side < SIDES; side++) {
+            for (size_t k = 0; k < blocks; k++) {
+                double t = now();
+                sums[side] += block_of(side, s, keys + k * BLOCK, row);
+                double took = now() - t;
+                if (r == 0 || took < best[side][k])
+                    best[side][k] = took;
+            }
+        }
+        equal = equal && sums[OURS] == sums[FLOOR] && sums[OURS] == sums[TESTED];
+    }
+    for (enum side side = OURS; side < SIDES; side++)
+        for (size_t k = 0; k < blocks; k++)
+            time[side] += best[side][k] / (double)(blocks * BLOCK);
+    printf("  look-up, %-8s rattle %6.1f ns   C %6.1f ns   ratio %.2f   C with the same tests %6.1f ns   ratio %.2f   answers %s\n", name,
+           time[OURS], time[FLOOR], time[FLOOR] / time[OURS], time[TESTED], time[TESTED] / time[OURS], equal ? "equal" : "DIFFER");
+}
+
 static void measure(const char *name, size_t count, size_t n, size_t size)
 {
-    uint64_t *keys = malloc(n * 8), *a = malloc(TABLE * 8), *b = malloc(TABLE * 8);
+    static zkv_record record;
+    uint64_t *keys = malloc(n * 8), *a = aligned_alloc(64, TABLE * 8), *b = aligned_alloc(64, TABLE * 8);
     uint64_t *w = make_image(count, n, size, keys);
     const uint8_t *image = (const uint8_t *)w;
-    size_t bytes = count * 4096, blocks = n / BLOCK, start = 0;
-    size_t record[3] = {1, bytes, TABLE};
+    size_t bytes = count * 4096, tested[3] = {1, bytes, TABLE};
     double ours = 1e18, floor = 1e18;
-    uint64_t x = 0, y = 0, sum1 = 0, sum2 = 0, sum3 = 0;
+    uint64_t x = 0, y = 0;
     for (int r = 0; r < ROUNDS; r++) {
         double t = now();
-        x = bench_open(image, bytes, a, TABLE);
+        zkv_report o = zkv_open(&record, image, bytes, a, TABLE);
         double u = now();
         y = floor_open(w, bytes, b);
         double v = now();
+        x = o.kind == ZKV_OPENED ? zkv_keys(&record) + 1 : 0;
         if (u - t < ours)
             ours = u - t;
         if (v - u < floor)
             floor = v - u;
     }
     shuffle(keys, n);
-    struct best our_look, floor_looks, tested_looks;
-    start_best(&our_look);
-    start_best(&floor_looks);
-    start_best(&tested_looks);
-    for (int r = 0; r < ROUNDS; r++) {
-        sum1 = sum2 = sum3 = 0;
-        for (size_t k = 0; k < blocks; k++) {
-            double t = now();
-            for (size_t i = k * BLOCK; i < (k + 1) * BLOCK; i++)
-                sum1 += bench_look(record, image, bytes, a, TABLE, keys[i], &start) + start;
-            note_time(&our_look, k, now() - t);
-        }
-        for (size_t k = 0; k < blocks; k++) {
-            double t = now();
-            for (size_t i = k * BLOCK; i < (k + 1) * BLOCK; i++)
-                sum2 += floor_look(w, b, keys[i], &start) + start;
-            note_time(&floor_looks, k, now() - t);
-        }
-        for (size_t k = 0; k < blocks; k++) {
-            double t = now();
-            for (size_t i = k * BLOCK; i < (k + 1) * BLOCK; i++)
-                sum3 += tested_look(record, image, bytes, a, TABLE, keys[i], &start) + start;
-            note_time(&tested_looks, k, now() - t);
-        }
-    }
-    double looks = blocks * BLOCK, p = total(&our_look, blocks) / looks, q = total(&floor_looks, blocks) / looks, z = total(&tested_looks, blocks) / looks;
-    printf("%s: keys %lu and %lu, answers %s\n", name, x - 1, y - 1, sum1 == sum2 && sum1 == sum3 ? "equal" : "DIFFER");
-    printf("  opening  rattle %6.2f ms   C %6.2f ms   ratio %.2f\n", ours / 1e6, floor / 1e6, ours / floor);
-    printf("  look-up  rattle %6.1f ns   C %6.1f ns   ratio %.2f   C with the same tests %6.1f ns   ratio %.2f\n", p, q, q / p, z, z / p);
+    struct set s = {&record, tested, image, bytes, a, b};
+    printf("%s: keys %lu and %lu\n", name, x - 1, y - 1);
+    printf("  opening           rattle %6.2f ms   C %6.2f ms   ratio %.2f\n", ours / 1e6, floor / 1e6, ours / floor);
+    measure_looks("place", &s, keys, n, PLACE);
+    measure_looks("copied", &s, keys, n, COPIED);
+    measure_looks("waiting", &s, keys, n, WAITING);
     free(keys);
     free(a);
     free(b);

@@ -1,7 +1,7 @@
 #!/bin/sh
-# Builds the C-linkable archive of opening and look-up and the benchmark over it, and runs it. Run from the repository root.
+# Builds the archive of the public calls and the benchmark of opening and look-up over it, and runs it. Run from the repository root.
 set -e
-rt staticlib bench_recovery
+rt staticlib capi
 mkdir -p target/bench
-gcc -O2 -Wall -o target/bench/opening bench/opening.c target/staticlib/libbench_recovery.a
+gcc -O2 -Wall -Iinclude -o target/bench/opening bench/opening.c target/staticlib/libcapi.a
 target/bench/opening

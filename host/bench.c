@@ -2,10 +2,12 @@
  *
  * A durable put is staging, commit and all steps, with real write-backs (clwb or the best there is) and fences; its floor
  * makes the same words, stores, write-backs and fences in plain C, with no index and no check. The same without write-backs
- * and fences shows what the processor spends. The floor of a look-up is one probe of a plain C hash and one read of the
+ * and fences shows what the processor spends; our time less the floor's is then what we take over the raw stores. Puts go by
+ * zkv_run, and by zkv_step where the row says so. The floor of a look-up is one probe of a plain C hash and one read of the
  * entry. That of an opening is one pass in plain C over the same image, which checks header, directory and entries and fills
  * that hash; it knows neither blocks nor deletes and does not compare top entries. Look-ups are timed one by one, each
- * waiting for the one before, and overlapped, as the processor will where it can.
+ * waiting for the one before, and overlapped, as the processor will where it can; and overlapped with both sides copying the
+ * value's bytes out into a buffer.
  * Both sides work on ordinary memory, so nothing is said of persistent memory. They go by turns, processor time is taken, and
  * of each side the best of several rounds counts. Other work on the machine still shows: a run beside it may have ratios half
  * as high again. A ratio is our time over the floor's: 1.00 is the floor itself.
@@ -76,12 +78,13 @@ static void wrong(const char *what)
 static struct row {
     const char *name, *unit;
     double ours, floor;
+    bool raw;                               /* the floor is the raw stores: no write-backs on either side */
 } rows[ROWS_MAX];
 
 static size_t row_count;
 
 /* A row's times in one pass. */
-static void note(const char *name, const char *unit, double ours, double floor)
+static void note(const char *name, const char *unit, double ours, double floor, bool raw)
 {
     size_t i = 0;
     while (i < row_count && strcmp(rows[i].name, name) != 0) {
@@ -89,7 +92,7 @@ static void note(const char *name, const char *unit, double ours, double floor)
     }
     if (i == row_count) {
         row_count++;
-        rows[i] = (struct row){name, unit, ours, floor};
+        rows[i] = (struct row){name, unit, ours, floor, raw};
     }
     rows[i].ours = ours < rows[i].ours ? ours : rows[i].ours;
     rows[i].floor = floor < rows[i].floor ? floor : rows[i].floor;
@@ -102,20 +105,24 @@ static uint64_t *floor_image;
 static uint64_t *table;
 static zkv_record record;
 
-/* Carries a begun call out, with write-backs and fences or without. */
-static inline void run(zkv_report begun, bool durable)
+/* How a put is carried out: with write-backs and fences or without, by zkv_step or by zkv_run. */
+struct way {
+    bool durable, by_steps;
+};
+
+static inline __attribute__((always_inline)) void run(zkv_report begun, struct way way)
 {
     if (begun.kind != ZKV_BEGUN) {
         wrong("a call was refused");
     }
     for (;;) {
-        zkv_report r = zkv_step(&record, image, BYTES, table, TABLE);
+        zkv_report r = way.by_steps ? zkv_step(&record, image, BYTES, table, TABLE) : zkv_run(&record, image, BYTES, table, TABLE);
         if (r.kind == ZKV_FLUSH) {
-            if (durable) {
+            if (way.durable) {
                 write_back_line(how, image + ZKV_LINE_BYTES * r.first);
             }
         } else if (r.kind == ZKV_FENCE) {
-            if (durable) {
+            if (way.durable) {
                 store_fence();
             }
         } else if (r.kind == ZKV_END) {
@@ -125,12 +132,23 @@ static inline void run(zkv_report begun, bool durable)
 }
 
 /* `items` puts of `size` bytes under the keys from `key` on, committed together. */
-__attribute__((noinline)) static void our_commit(uint64_t key, size_t items, const uint8_t *value, size_t size, bool durable)
+static inline __attribute__((always_inline)) void commit_in(uint64_t key, size_t items, const uint8_t *value, size_t size,
+                                                            struct way way)
 {
     for (size_t i = 0; i < items; i++) {
-        run(zkv_put(&record, image, BYTES, table, TABLE, key + i, value, size), durable);
+        run(zkv_put(&record, image, BYTES, table, TABLE, key + i, value, size), way);
     }
-    run(zkv_commit(&record, image, BYTES, table, TABLE), durable);
+    run(zkv_commit(&record, image, BYTES, table, TABLE), way);
+}
+
+__attribute__((noinline)) static void commit_by_steps(uint64_t key, size_t items, const uint8_t *value, size_t size, bool durable)
+{
+    commit_in(key, items, value, size, (struct way){durable, true});
+}
+
+__attribute__((noinline)) static void commit_by_runs(uint64_t key, size_t items, const uint8_t *value, size_t size, bool durable)
+{
+    commit_in(key, items, value, size, (struct way){durable, false});
 }
 
 /* The same words, stores, write-backs and fences: `line` is where the batch goes, *directory the chunk's directory word. */
@@ -179,12 +197,12 @@ static void new_register(size_t full_chunks)
     memset(image, 0, BYTES);
     memset(floor_image, 0, BYTES);
     memset(&record, 0, sizeof record);
-    run(zkv_format(&record, image, BYTES, table, TABLE, 0, 0, 0, 0), false);
+    run(zkv_format(&record, image, BYTES, table, TABLE, 0, 0, 0, 0), (struct way){false, false});
     if (zkv_open(&record, image, BYTES, table, TABLE).kind != ZKV_OPENED) {
         wrong("the formatted image was refused");
     }
     for (size_t c = 0; c < full_chunks; c++) {
-        our_commit(1000000, 15, value, 256, false);
+        commit_by_runs(1000000, 15, value, 256, false);
     }
 }
 
@@ -201,7 +219,7 @@ static void compare_logs(size_t from)
     }
 }
 
-static void measure_puts(const char *name, size_t items, size_t size, bool durable, size_t full_chunks)
+static void measure_puts(const char *name, size_t items, size_t size, struct way way, size_t full_chunks)
 {
     double ours[BLOCKS], floor[BLOCKS], our_sum = 0, floor_sum = 0;
     uint8_t value[ZKV_VALUE_MAX];
@@ -217,12 +235,18 @@ static void measure_puts(const char *name, size_t items, size_t size, bool durab
         for (size_t b = 0; b < BLOCKS; b++) {
             size_t commits = items * size > 64 ? COMMITS / 4 : COMMITS;
             double t = now();
-            for (size_t i = 0; i < commits; i++) {
-                our_commit(16 * i, items, value, size, durable);
+            if (way.by_steps) {
+                for (size_t i = 0; i < commits; i++) {
+                    commit_by_steps(16 * i, items, value, size, way.durable);
+                }
+            } else {
+                for (size_t i = 0; i < commits; i++) {
+                    commit_by_runs(16 * i, items, value, size, way.durable);
+                }
             }
             double u = now();
             for (size_t i = 0; i < commits; i++) {
-                floor_commit(&chunk, &line, 16 * i, items, value, size, durable);
+                floor_commit(&chunk, &line, 16 * i, items, value, size, way.durable);
             }
             double v = now();
             ours[b] = (u - t) / (double)commits < ours[b] ? (u - t) / (double)commits : ours[b];
@@ -236,7 +260,7 @@ static void measure_puts(const char *name, size_t items, size_t size, bool durab
         our_sum += ours[b];
         floor_sum += floor[b];
     }
-    note(name, "ns", our_sum / BLOCKS, floor_sum / BLOCKS);
+    note(name, "ns", our_sum / BLOCKS, floor_sum / BLOCKS, !way.durable);
 }
 
 /* ---- opening and look-up */
@@ -347,9 +371,24 @@ __attribute__((noinline)) static uint64_t floor_look_up(const uint64_t *w, const
     return ZKV_KEY_ABSENT;
 }
 
+/* The value's bytes in a buffer: what a host does that keeps them. Its first bytes, so that the copy is not left out. */
+static inline uint64_t copied_out(const uint8_t *at, uint64_t length)
+{
+    static uint8_t buffer[ZKV_VALUE_MAX];
+    uint64_t first;
+    if (length > sizeof buffer) {
+        wrong("a look-up answered too long a value");
+    }
+    memcpy(buffer, at, length);
+    __asm__ volatile("" : : "r"(buffer) : "memory");
+    memcpy(&first, buffer, 8);
+    return first;
+}
+
 /* Look-ups of all keys. Where they wait, each key is known only once the look-up before has answered, as for a clerk; else the
- * processor works on several at once. */
-static void measure_looks(const char *name, const uint64_t *keys, size_t n, const uint64_t *hash, bool wait)
+ * processor works on several at once. The values are copied out or only found. */
+static inline __attribute__((always_inline)) void look_all(const char *name, const uint64_t *keys, size_t n,
+                                                           const uint64_t *hash, bool wait, bool copy)
 {
     double our_block[LOOK_BLOCKS_MAX], floor_block[LOOK_BLOCKS_MAX], ours = 0, floor = 0;
     const uint64_t *w = (const uint64_t *)(const void *)image;
@@ -362,13 +401,13 @@ static void measure_looks(const char *name, const uint64_t *keys, size_t n, cons
             for (size_t i = b * LOOKS; i < (b + 1) * LOOKS; i++) {
                 uint64_t key = wait ? keys[i + (start & mask)] : keys[i];
                 our_answers += zkv_look_up(&record, image, BYTES, table, TABLE, key, &start, &length);
-                our_answers += 3 * start + length;
+                our_answers += 3 * start + length + (copy ? copied_out(image + start, length) : 0);
             }
             double u = now();
             for (size_t i = b * LOOKS; i < (b + 1) * LOOKS; i++) {
                 uint64_t key = wait ? keys[i + (start & mask)] : keys[i];
                 floor_answers += floor_look_up(w, hash, key, &start, &length);
-                floor_answers += 3 * start + length;
+                floor_answers += 3 * start + length + (copy ? copied_out((const uint8_t *)w + start, length) : 0);
             }
             double v = now();
             if (our_answers != floor_answers) {
@@ -382,7 +421,21 @@ static void measure_looks(const char *name, const uint64_t *keys, size_t n, cons
         ours += our_block[b];
         floor += floor_block[b];
     }
-    note(name, "ns", ours / (double)n, floor / (double)n);
+    note(name, "ns", ours / (double)n, floor / (double)n, false);
+}
+
+/* The three kinds of look-up, each in a loop of its own. */
+enum looks { ONE_BY_ONE, OVERLAPPED, COPIED };
+
+static void measure_looks(const char *name, const uint64_t *keys, size_t n, const uint64_t *hash, enum looks kind)
+{
+    if (kind == ONE_BY_ONE) {
+        look_all(name, keys, n, hash, true, false);
+    } else if (kind == OVERLAPPED) {
+        look_all(name, keys, n, hash, false, false);
+    } else {
+        look_all(name, keys, n, hash, false, true);
+    }
 }
 
 static void measure_opening(const char *name, size_t n, uint64_t *hash)
@@ -400,7 +453,7 @@ static void measure_opening(const char *name, size_t n, uint64_t *hash)
         ours = u - t < ours ? u - t : ours;
         floor = v - u < floor ? v - u : floor;
     }
-    note(name, "ms", ours / 1e6, floor / 1e6);
+    note(name, "ms", ours / 1e6, floor / 1e6, false);
 }
 
 /* ---- output */
@@ -412,6 +465,11 @@ static void print_table(void)
         int digits = r->ours < 10 ? 2 : 1;
         printf("%-44s %7.*f %s %7.*f %s %7.2f\n", r->name, digits, r->ours, r->unit, digits, r->floor, r->unit,
                r->ours / r->floor);
+    }
+    for (size_t i = 0; i < row_count; i++) {
+        if (rows[i].raw) {
+            printf("over the raw stores (aim: at most 100 ns): %6.1f ns, %s\n", rows[i].ours - rows[i].floor, rows[i].name);
+        }
     }
 }
 
@@ -480,24 +538,29 @@ int main(int count, char **argument)
         fputs("usage: bench [--svg FILE]\n", stderr);
         return 2;
     }
+    const struct way durable = {true, false}, durable_by_steps = {true, true};
+    const struct way plain = {false, false}, plain_by_steps = {false, true};
     how = best_write_back();
     image = memory(BYTES);
     floor_image = memory(BYTES);
     table = memory(8 * TABLE);
     uint64_t *hash = memory(8 * TABLE), *keys = memory(8 * 60000);
     for (int pass = 0; pass < PASSES; pass++) {
-        measure_puts("durable put of 16 bytes", 1, 16, true, 0);
-        measure_puts("durable put of 256 bytes", 1, 256, true, 0);
-        measure_puts("durable batch of 16 puts of 16 bytes", 16, 16, true, 0);
-        measure_puts("put of 16 bytes, no write-backs", 1, 16, false, 0);
-        measure_puts("the same behind 400 full chunks", 1, 16, false, 400);
+        measure_puts("durable put of 16 bytes", 1, 16, durable, 0);
+        measure_puts("durable put of 16 bytes, by zkv_step", 1, 16, durable_by_steps, 0);
+        measure_puts("durable put of 256 bytes", 1, 256, durable, 0);
+        measure_puts("durable batch of 16 puts of 16 bytes", 16, 16, durable, 0);
+        measure_puts("put of 16 bytes, no write-backs", 1, 16, plain, 0);
+        measure_puts("no write-backs, by zkv_step", 1, 16, plain_by_steps, 0);
+        measure_puts("no write-backs, behind 400 full chunks", 1, 16, plain, 400);
         make_image(60000, 8, keys);
         measure_opening("opening, 60,000 values of 8 bytes", 60000, hash);
-        measure_looks("look-up among 60,000 keys, one by one", keys, 60000, hash, true);
-        measure_looks("look-up among 60,000 keys, overlapped", keys, 60000, hash, false);
+        measure_looks("look-up among 60,000 keys, one by one", keys, 60000, hash, ONE_BY_ONE);
+        measure_looks("look-up among 60,000 keys, overlapped", keys, 60000, hash, OVERLAPPED);
+        measure_looks("look-up among 60,000 keys, copied out", keys, 60000, hash, COPIED);
         make_image(7500, 256, keys);
         measure_opening("opening, 7,500 values of 256 bytes", 7500, hash);
-        measure_looks("look-up among 7,500 keys, one by one", keys, 7500, hash, true);
+        measure_looks("look-up among 7,500 keys, one by one", keys, 7500, hash, ONE_BY_ONE);
     }
     printf("write-back by %s, ordinary memory\n", write_back_name(how));
     print_table();

@@ -13,7 +13,7 @@ static zkv_record record;
 static void run(zkv_report r)
 {
     enum write_back how = best_write_back();
-    for (; r.kind != ZKV_END && r.kind != ZKV_REFUSED; r = zkv_step(LENT)) {
+    for (; r.kind != ZKV_END && r.kind != ZKV_REFUSED; r = zkv_run(LENT)) {
         if (r.kind == ZKV_FLUSH) {
             write_back_line(how, image + ZKV_LINE_BYTES * r.first);
         } else if (r.kind == ZKV_FENCE) {

@@ -34,7 +34,15 @@
  * - ZKV_IDLE: nothing was begun.
  * - ZKV_REFUSED, first = 1: a lent length is unlike that at the begin. Step again with the right ones.
  *
- * A report is the image's whole change. A batch is acknowledged to anybody only after the ZKV_END of its commit.
+ * A step's report is the image's whole change. A batch is acknowledged to anybody only after the ZKV_END of its commit.
+ *
+ * Of a store's report a host needs nothing, so zkv_run takes several steps in one call: until one is to be told, whose report it
+ * answers. Every step before that one stored a word, by one 8-byte move and in the order of the steps. In a commit it makes all
+ * stores that come next and answers the flush or fence behind them: a commit of b lines takes b + 4 calls of zkv_run, and
+ * still 9 b + 5 steps. Everywhere else it is one step, so in a formatting it answers ZKV_STORE too. What the host does at each
+ * report is the same, and a power cut falls between the stores of a run as between steps. The two calls may take turns.
+ * - zkv_run: to get a begun call done. It is the quicker one.
+ * - zkv_step: where each store is to be seen, counted, or paused at (zkv --pause, tests, a device that is told every store).
  *
  * WHICH CALL MAY FOLLOW WHICH
  *
@@ -44,8 +52,8 @@
  * - open, nothing staged: after ZKV_OPENED, the end of a commit, or ZKV_ABANDONED. zkv_put, zkv_delete, zkv_look_up, zkv_open
  *   and zkv_format may follow; zkv_commit and zkv_abandon get 14.
  * - open, something staged: after the end of a staging. All of these may follow.
- * - unfinished: after ZKV_BEGUN. zkv_step and zkv_open may follow; other calls get 8 (or 2, in a formatting that was begun on a
- *   closed record). In the other states a step answers ZKV_IDLE and changes nothing.
+ * - unfinished: after ZKV_BEGUN. zkv_step, zkv_run and zkv_open may follow; other calls get 8 (or 2, in a formatting that was
+ *   begun on a closed record). In the other states a step or run answers ZKV_IDLE and changes nothing.
  *
  * A new image: zkv_format, step to its end, zkv_open. An image from before: zkv_open. A put that lasts: zkv_put, step to the
  * end, zkv_commit, step to the end. Up to 16 puts and deletes (4,096 bytes of entries: 16 bytes and the value, rounded up to
@@ -221,6 +229,11 @@ zkv_report zkv_abandon(zkv_record *record, const uint8_t *image, size_t bytes, c
 /* One step of the begun call: see the table of reports above. Idle where nothing is begun, else refused with 1 alone, where a
  * lent length is unlike that at the opening (in a formatting: at its begin). */
 zkv_report zkv_step(zkv_record *record, uint8_t *image, size_t bytes, uint64_t *table, size_t words);
+
+/* Steps of the begun call until one is to be told: in a commit the stores that come next and one step more, else one step. It
+ * answers the last step's report, which is as zkv_step's; each step before it stored a word, already in the image. In a commit
+ * it never answers ZKV_STORE. At most 513 steps; idle and refused as zkv_step. */
+zkv_report zkv_run(zkv_record *record, uint8_t *image, size_t bytes, uint64_t *table, size_t words);
 
 /* Looks a key up: 0, with the part of the image that holds its value (*length bytes from byte *start on; no copy, so read it
  * before the next call that is begun); or the refusal's number 2, 1, 8 or 11, with 0 in both. Staged items are unseen. An

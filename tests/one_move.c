@@ -1,9 +1,11 @@
-/* Watches the image after every machine instruction of zkv_step: the word of a reported store must go from its old to its new
- * value in one instruction, and nothing else of the image may change. Before each store the word is made to differ from
- * the new value in every byte, so that a store in parts would be seen.
+/* Watches the image after every machine instruction of zkv_step and of zkv_run: each word that is stored must go from its old to
+ * its new value in one instruction, and nothing else of the image may change. Before a step or run each word that it will store
+ * is made to differ from the new value in every byte, so that a store in parts would be seen. What is stored is learned from
+ * steps on a copy; a run must make the same stores in the same order.
  *
- * Instructions are watched by the processor's trap flag. A formatting and commits of 1 and of 64 lines are run, so that every
- * kind of store comes. Built with -DTORN the step stores byte by byte, and this program must find it. */
+ * Instructions are watched by the processor's trap flag. A formatting and commits of 1 and of 64 lines are stepped, so that every
+ * kind of store comes; then such commits are run. Built with -DTORN the step stores byte by byte, with -DTORN_RUN the run does,
+ * and this program must find it. */
 #define _GNU_SOURCE
 #include <inttypes.h>
 #include <signal.h>
@@ -14,14 +16,19 @@
 
 #include "zitskvoze.h"
 
-enum { BYTES = 8 * ZKV_CHUNK_BYTES, WORDS = 256 };
+enum { BYTES = 8 * ZKV_CHUNK_BYTES, WORDS = 256, STORES_MAX = 1024 };
 
 static _Alignas(64) uint8_t image[BYTES], seen[BYTES], trial[BYTES];
 static uint64_t table[WORDS], trial_table[WORDS];
 static zkv_record record, trial_record;
 
-/* The changes of the image during one step: their number, and the word and value of the last. */
-static volatile uint64_t changes, changed_word, changed_to, several, instructions, stores;
+/* The changes of the image during one call: their number, the word and value of each, and how many were of several words. */
+struct change {
+    uint64_t word, value;
+};
+
+static struct change seen_change[STORES_MAX];
+static volatile uint64_t changes, several, instructions, stores, run_instructions, run_stores;
 
 static void trapped(int signal)
 {
@@ -31,14 +38,16 @@ static void trapped(int signal)
         return;
     }
     uint64_t words = 0;
+    struct change c = {0, 0};
     for (size_t w = 0; w < BYTES / 8; w++) {
         if (memcmp(image + 8 * w, seen + 8 * w, 8) != 0) {
-            uint64_t x;
-            memcpy(&x, image + 8 * w, 8);
-            changed_word = w;
-            changed_to = x;
+            c.word = w;
+            memcpy(&c.value, image + 8 * w, 8);
             words++;
         }
+    }
+    if (changes < STORES_MAX) {
+        seen_change[changes] = c;
     }
     changes++;
     several += words > 1;
@@ -72,51 +81,110 @@ static zkv_report watched_step(void)
 }
 #endif
 
+#ifdef TORN_RUN
+static zkv_report watched_run(void)
+{
+    zkv_report r = zkv_run(&record, trial, BYTES, table, WORDS);
+    for (size_t i = 0; i < BYTES; i++) {
+        if (image[i] != trial[i]) {
+            ((volatile uint8_t *)image)[i] = trial[i];
+        }
+    }
+    return r;
+}
+#else
+static zkv_report watched_run(void)
+{
+    return zkv_run(&record, image, BYTES, table, WORDS);
+}
+#endif
+
 static void fail(const char *what, zkv_report r)
 {
-    printf("one_move: %s (kind %" PRIu64 ", word %" PRIu64 ", value %" PRIu64 "; %" PRIu64 " changes, the last: word %" PRIu64
-           " became %" PRIu64 ")\n", what, r.kind, r.first, r.second, changes, changed_word, changed_to);
+    printf("one_move: %s (kind %" PRIu64 ", %" PRIu64 ", %" PRIu64 "; %" PRIu64 " changes, %" PRIu64 " of several words)\n", what,
+           r.kind, r.first, r.second, changes, several);
     exit(1);
 }
 
-/* One step, tried on copies to learn what it stores, then watched. */
-static zkv_report step(void)
+/* One step, or one run, tried by steps on copies to learn what it stores, then watched. */
+static zkv_report watch(bool running)
 {
+    static struct change due[STORES_MAX];
+    static uint8_t after[BYTES];
+    uint64_t count = 0, before = instructions;
+    zkv_report r;
     trial_record = record;
     memcpy(trial, image, BYTES);
     memcpy(trial_table, table, sizeof table);
-    zkv_report r = zkv_step(&trial_record, trial, BYTES, trial_table, WORDS);
-    if (r.kind == ZKV_STORE) {
-        uint64_t other = ~r.second;
-        memcpy(image + 8 * r.first, &other, 8);
-        stores++;
+    do {
+        r = zkv_step(&trial_record, trial, BYTES, trial_table, WORDS);
+        if (r.kind == ZKV_STORE) {
+            if (count == STORES_MAX) {
+                fail("too many stores", r);
+            }
+            due[count++] = (struct change){r.first, r.second};
+        }
+    } while (running && r.kind == ZKV_STORE);
+    memcpy(after, trial, BYTES);
+    for (uint64_t i = 0; i < count; i++) {
+        uint64_t other = ~due[i].value;
+        memcpy(image + 8 * due[i].word, &other, 8);
     }
     memcpy(seen, image, BYTES);
     memcpy(trial, image, BYTES);
     changes = several = 0;
     trap_on();
-    zkv_report again = watched_step();
+    zkv_report again = running ? watched_run() : watched_step();
     trap_off();
-    if (memcmp(&r, &again, sizeof r) != 0) {
-        fail("a step answered otherwise on a copy", again);
+    stores += count;
+    if (running) {
+        run_stores += count;
+        run_instructions += instructions - before;
     }
-    if (r.kind != ZKV_STORE && changes != 0) {
+    if (memcmp(&r, &again, sizeof r) != 0) {
+        fail("a step or run answered otherwise than steps on a copy", again);
+    }
+    if (count == 0 && changes != 0) {
         fail("the image was changed without a store", r);
     }
-    if (r.kind == ZKV_STORE && (changes != 1 || several != 0 || changed_word != r.first || changed_to != r.second)) {
+    if (changes != count || several != 0) {
         fail("a word was not stored by one instruction", r);
+    }
+    for (uint64_t i = 0; i < count; i++) {
+        if (seen_change[i].word != due[i].word || seen_change[i].value != due[i].value) {
+            fail("another word or value was stored than by steps on a copy", r);
+        }
+    }
+    if (memcmp(image, after, BYTES) != 0 || memcmp(table, trial_table, sizeof table) != 0 ||
+        memcmp(&record, &trial_record, sizeof record) != 0) {
+        fail("image, table or record are other than after steps on a copy", r);
     }
     return r;
 }
 
-static void run(zkv_report r)
+static void finish(zkv_report r, bool running)
 {
     if (r.kind != ZKV_BEGUN) {
         fail("a call was not begun", r);
     }
     do {
-        r = step();
+        r = watch(running);
     } while (r.kind != ZKV_END);
+}
+
+/* Commits of 1 line and of 64. */
+static void commits(const uint8_t *value, bool running)
+{
+    for (size_t items = 1; items <= 15; items += 14) {
+        for (size_t i = 0; i < items; i++) {
+            finish(zkv_put(&record, image, BYTES, table, WORDS, i, value, items == 1 ? 5 : 256), running);
+        }
+        zkv_report r = zkv_commit(&record, image, BYTES, table, WORDS);
+        if (r.first != (items == 1 ? 9 * 1 + 4 : 9 * 64 + 4)) {
+            fail("a commit is not of 1 or 64 lines", r);
+        }
+        finish(r, running);
+    }
 }
 
 int main(void)
@@ -127,21 +195,18 @@ int main(void)
     for (size_t i = 0; i < sizeof value; i++) {
         value[i] = (uint8_t)(37 * i + 11);
     }
-    run(zkv_format(&record, image, BYTES, table, WORDS, 1, 0x0123456789ABCDEFu, 1, 77));
+    finish(zkv_format(&record, image, BYTES, table, WORDS, 1, 0x0123456789ABCDEFu, 1, 77), false);
     if (zkv_open(&record, image, BYTES, table, WORDS).kind != ZKV_OPENED) {
         puts("one_move: the formatted image does not open");
         return 1;
     }
-    for (size_t items = 1; items <= 15; items += 14) {
-        for (size_t i = 0; i < items; i++) {
-            run(zkv_put(&record, image, BYTES, table, WORDS, i, value, items == 1 ? 5 : 256));
-        }
-        run(zkv_commit(&record, image, BYTES, table, WORDS));
-    }
-    if (instructions < 1000) {
+    commits(value, false);
+    commits(value, true);
+    if (instructions < 1000 || run_instructions < 1000) {
         puts("one_move: the trap flag does not work here, nothing was watched");
         return 2;
     }
-    printf("one_move: %" PRIu64 " stores watched over %" PRIu64 " instructions, each by one instruction\n", stores, instructions);
+    printf("one_move: %" PRIu64 " stores watched over %" PRIu64 " instructions, %" PRIu64 " and %" PRIu64
+           " of them in runs; each by one instruction\n", stores, instructions, run_stores, run_instructions);
     return 0;
 }

@@ -1,7 +1,7 @@
 #!/bin/sh
-# A step's store into the image is one machine move of 8 bytes, so that a power cut never tears a word: looks at the compiled
-# archive (objdump, tests/stores.py), and watches the image instruction by instruction (tests/one_move.c). Both are first
-# shown to find a store in parts.
+# A store into the image, by zkv_step or zkv_run, is one machine move of 8 bytes, so that a power cut never tears a word: looks at
+# the compiled archive (objdump, tests/stores.py), and watches the image instruction by instruction (tests/one_move.c). Both
+# are first shown to find a store in parts.
 #
 # tests/one_move.sh [ARCHIVE]       target/staticlib/libcapi.a if none is named; needs gcc, objdump, Python 3
 set -eu
@@ -27,16 +27,19 @@ if python3 -B tests/stores.py "$work/torn.o" > "$work/out"; then
     exit 1
 fi
 grep -q '8 stores that are not whole words' "$work/out" || { cat "$work/out" >&2; exit 1; }
-python3 -B tests/stores.py "$archive"
+python3 -B tests/stores.py "$archive" zkv_step
+python3 -B tests/stores.py "$archive" zkv_run
 
 flags="-std=c11 -O2 -Wall -Wextra -Werror -Iinclude"
-gcc $flags -DTORN tests/one_move.c "$archive" -o "$work/torn"
-status=0
-"$work/torn" > "$work/out" || status=$?
-if [ "$status" -ne 1 ] || ! grep -q 'not stored by one instruction' "$work/out"; then
-    echo "one_move: a store byte by byte was not seen:" >&2
-    cat "$work/out" >&2
-    exit 1
-fi
+for torn in TORN TORN_RUN; do
+    gcc $flags -D$torn tests/one_move.c "$archive" -o "$work/torn"
+    status=0
+    "$work/torn" > "$work/out" || status=$?
+    if [ "$status" -ne 1 ] || ! grep -q 'not stored by one instruction' "$work/out"; then
+        echo "one_move: a store byte by byte was not seen ($torn):" >&2
+        cat "$work/out" >&2
+        exit 1
+    fi
+done
 gcc $flags tests/one_move.c "$archive" -o "$work/whole"
 "$work/whole"

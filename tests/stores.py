@@ -1,6 +1,6 @@
-"""Tells whether the compiled code of zkv_step, and of all that it calls, stores words whole.
+"""Tells whether the compiled code of a function, and of all that it calls, stores words whole.
 
-python3 tests/stores.py ARCHIVE [FUNCTION]
+python3 tests/stores.py ARCHIVE [FUNCTION]          zkv_step if none is named; zkv_run is the other one that stores
 
 Reads the disassembly of an archive or object file (objdump). Every store outside the stack must be one move of 8 bytes or of a
 vector register; the one exception is a constant byte at a plain address, which is the tag of an answer that a function returns.

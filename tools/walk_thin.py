@@ -4,7 +4,8 @@
 The thin function has one of the two shapes (any parameters after the first, each of: &mut [T], &[T], &mut [T; n], &[T; n], a number uN/usize, bool):
     pub fn f(s: &mut R, ..) -> P { let c = s.control; let m = core(c, &s.buffer, ..); s.control = m.control; m.report }      (or &mut s.buffer, or no lent field)
     pub fn f(s: &mut R, ..) -> P { let c = *s; let m = core(c, ..); *s = m.control; m.report }
-(several structs of the record may be copied out, `let k = s.setup;`, and stored back, `s.setup = m.setup;`, in the order of the record's fields)
+(several structs of the record may be copied out, `let k = s.setup;`, and stored back, `s.setup = m.setup;`, in the order of the record's fields;
+in place of the first, one of its numbers alone may be stored back: `s.control.next = m.next;`)
 Neither function has a `requires`. Each `ensures { λ r. ⌜ .. ⌝ }` of the core has a reference x only as `now (x .entry)` and `now (x .exit)`.
 TERM (a list p, q, .. where the thin function has several `ensures`) proves the thin function's facts from `e`, the core's fact (`e .0`, `e .1`, .. where it has several `ensures`, and where it is a product), at: r (the core's result), h (the record at entry), h′ (at exit), x-NAME and z-NAME (the list of a reference NAME at entry and at exit). Default: e."""
 import re,sys,os
@@ -278,14 +279,16 @@ FN=sys.argv[2]; proof='e'
 if '--proof' in sys.argv: proof=sys.argv[sys.argv.index('--proof')+1]
 f=fn(FN); body=' '.join(f['body'].split())
 copies={}   # local -> field, in order
+number=None
 m=re.match(r'let (\w+) = \*(\w+); let (\w+) = (?:\w+::)*(\w+)\((.*)\); \*\w+ = \w+\.(\w+); \w+\.(\w+)$',body)
 inplace=not m
 if m: cvar,svar,mvar,CORE,argtext,mf0,mf1=m.groups(); cf=None; lets=[cvar]
 else:
-    m=re.match(r'((?:let \w+ = \w+\.\w+; )+)let (\w+) = (?:\w+::)*(\w+)\((.*?)\); ((?:\w+\.\w+ = \w+\.\w+; )+)\w+\.(\w+)$',body)
+    m=re.match(r'((?:let \w+ = \w+\.\w+; )+)let (\w+) = (?:\w+::)*(\w+)\((.*?)\); ((?:\w+(?:\.\w+)+ = \w+\.\w+; )+)\w+\.(\w+)$',body)
     assert m, 'the body has another shape: '+body
     ltext,mvar,CORE,argtext,stext,mf1=m.groups()
-    stores=re.findall(r'(\w+)\.(\w+) = \w+\.(\w+);',stext)
+    number=re.match(r'(\w+)\.(\w+)\.(\w+) = \w+\.(\w+); $',stext)   # one number of a struct alone is stored back
+    stores=[(number[1],number[2],number[4])] if number else re.findall(r'(\w+)\.(\w+) = \w+\.(\w+);',stext)
     svar,cf,mf0=stores[0]; back={a_:b_ for _,a_,b_ in stores}   # the record's fields that are stored back, each with the field of the result
     for v_,f_ in re.findall(r'let (\w+) = \w+\.(\w+);',ltext): copies[v_]=f_
     cvar=next(v_ for v_,f_ in copies.items() if f_==cf); lets=list(copies)
@@ -412,10 +415,11 @@ zname=lambda cn: next((f'z-{V(p)}' if w=='p' else f'z-{p}') for c,w,p in ca if c
 zpath=lambda cn: '(zs'+' .1'*[c[0] for c in ca].index(cn)+' .0)'
 ztypes=[('List ℕ' if (w=='lent' and lent[p]) or (w=='p' and p[1] in('mslice','marr')) else 'Unit {0}') for cn,w,p in ca]
 # h′
+def fresh(f_): return 'record { '+'; '.join(f'{fieldname(a_[0])} = '+(f'r .{fieldname(mf0)}' if a_[0]==number[3] else f'h .{fieldname(f_)} .{fieldname(a_[0])}') for a_ in structs[fty[f_]])+' }' if number else f'r .{fieldname(back[f_])}'
 if inplace:
-    hnew='record { '+'; '.join(f'{fieldname(a[0])} = '+(f'r .{fieldname(back[a[0]])}' if a[0] in back else (f'z-{a[0]}' if lent.get(a[0]) else f'h .{fieldname(a[0])}')) for a in fs)+' }'
+    hnew='record { '+'; '.join(f'{fieldname(a[0])} = '+(fresh(a[0]) if a[0] in back else (f'z-{a[0]}' if lent.get(a[0]) else f'h .{fieldname(a[0])}')) for a in fs)+' }'
 else: hnew=f'r .{fieldname(mf0)}'
-lp=lambda new,nb:' '.join((f'(r .{fieldname(back[a[0]])})' if new else f'(h .{fieldname(a[0])})') if a[0] in back else (nb[a[0]] if a[1]=='array' else f'(h .{fieldname(a[0])})') for a in fs)
+lp=lambda new,nb:' '.join((f'({fresh(a[0])})' if new else f'(h .{fieldname(a[0])})') if a[0] in back else (nb[a[0]] if a[1]=='array' else f'(h .{fieldname(a[0])})') for a in fs)
 old_arr={a[0]:f'(h .{fieldname(a[0])})' for a in arrs}
 alias=lambda X:'Ctl' if X==C else f'K-{X}'
 bt=' → '.join(t for _,t in binders)+' → Type 0'; bb=' '.join(b for b,_ in binders)
@@ -452,6 +456,13 @@ more_new=''.join(f'''is-new-{a_} : (r : {S}) (w : Val) → Is S.the-row r (w ∷
 is-new-{a_} r w g = LL.owed S.the-type S′.the-laws r _ g{' .1'*six[b_]} .0
 
 ''' for a_,b_ in back.items() if a_!=cf)
+if number:
+    new_=fresh(cf); cfs=structs[fty[cf]]; owed_=f"LL.owed S.the-type S′.the-laws r _ g{' .1'*six[mf0]} .0"
+    is_new=f'''is-new : (h : {R}) (r : {S}) (w : Val) → Is Ctl.the-row (h .{fieldname(cf)}) (machC (h .{fieldname(cf)}) ∷ []) → Is S.the-row r (w ∷ []) → Is Ctl.the-row ({new_}) (machC ({new_}) ∷ [])
+is-new h r w i g = LL.owes Ctl.the-type Ctl′.the-laws ({new_}) {tup([owed_ if a_[0]==number[3] else "LL.owed Ctl.the-type Ctl′.the-laws (h ."+fieldname(cf)+") _ i"+" .1"*k_+" .0" for k_,a_ in enumerate(cfs)])}'''
+else:
+    is_new=f'''is-new : (r : {S}) (w : Val) → Is S.the-row r (w ∷ []) → Is Ctl.the-row (r .{fieldname(mf0)}) (machC (r .{fieldname(mf0)}) ∷ [])
+is-new r w g = LL.owed S.the-type S′.the-laws r _ g{' .1'*six[mf0]} .0'''
 o=[]; e=o.append
 used={p[2] for p in ps if p[1]!='bool'}|({P} if resK=='num' else set())
 used|={a[2] for a in arrs if a[0] in lent}
@@ -561,8 +572,7 @@ abbrev machP : {tyP} → Val
 machP p = {machP}
 
 -- what whoever holds what the core returned knows of its parts
-is-new : (r : {S}) (w : Val) → Is S.the-row r (w ∷ []) → Is Ctl.the-row (r .{fieldname(mf0)}) (machC (r .{fieldname(mf0)}) ∷ [])
-is-new r w g = LL.owed S.the-type S′.the-laws r _ g{' .1'*six[mf0]} .0
+{is_new}
 
 {more_new}is-result : (r : {S}) (w : Val) → Is S.the-row r (w ∷ []) → Is {rowP} (r .{fieldname(mf1)}) (machP (r .{fieldname(mf1)}) ∷ [])
 is-result r w g = LL.owed S.the-type S′.the-laws r _ g{' .1'*six[mf1]} .0
@@ -803,7 +813,10 @@ if lent:
     x.do(f'use1 W (given ({facts}) (‵ (fat fullShare T′.mir b o (Lent.parts {hx2})))) (Lent.back 𝓤 H A W b o {hx2})',1,['cell']); x.lam('learn ! (λ j.')
 x.nl('the control is stored back, and the report is the result')
 rn=f'(r .{fieldname(mf0)})'; rr=f'(r .{fieldname(mf1)})'
-if inplace:
+if number:
+    ni=[a_[0] for a_ in structs[fty[cf]]].index(number[3])
+    x.do(f'assigns ! (of-opd ! (load ! (from ! (fld ! refl (stop !))) (look-in ! {L(Lm)} (sub ! {six[mf0]} refl (whole !))))) (from ! (hop ! (look ! {L(1)} refl) (fld ! refl (fld ! refl (stop !))))) (store-in ! {x.pos("cell")} (sub ! {ni} refl (sub ! {fix[cf]} refl (whole !))) (tt, record {{ fits = LL.owed S.the-type S′.the-laws r _ is{" .1"*six[mf0]} .0 .1 }}))'); x.nl()
+elif inplace:
     for a_,b_ in back.items():
         al=alias(fty[a_]); nw='is-new' if a_==cf else f'is-new-{a_}'
         x.do(f'assigns ! (of-opd ! (load ! (from ! (fld ! refl (stop !))) (look-in ! {L(Lm)} (sub ! {six[b_]} refl (whole !))))) (from ! (hop ! (look ! {L(1)} refl) (fld ! refl (stop !)))) (store-in ! {x.pos("cell")} (sub ! {fix[a_]} refl (whole !)) (LL.lawful {al}.the-type {al}′.the-laws 𝓤 H A W .typed (r .{fieldname(b_)}) _ ({nw} r w is) .0))'); x.nl()
@@ -812,9 +825,9 @@ else:
 x.nl(); x.do(f'assigns ! (of-opd ! (load ! (from ! (fld ! refl (stop !))) (look-in ! {L(Lm)} (sub ! {six[mf1]} refl (whole !))))) (from ! (stop !)) (init ! {L(0)} refl {typedP(rr,"(is-result r w is)")})')
 x.nl('the borrow is closed')
 if inplace:
-    hfin='(record { '+'; '.join(f'{fieldname(a[0])} = '+(f'r .{fieldname(back[a[0]])}' if a[0] in back else (newb[a[0]] if a[1]=='array' else f'h .{fieldname(a[0])}')) for a in fs)+' })'
+    hfin='(record { '+'; '.join(f'{fieldname(a[0])} = '+(fresh(a[0]) if a[0] in back else (newb[a[0]] if a[1]=='array' else f'h .{fieldname(a[0])}')) for a in fs)+' })'
     ai=[a[0] for a in arrs]
-    ism=' '.join(('(is-new r w is)' if a[0]==cf else f'(is-new-{a[0]} r w is)') if a[0] in back else ((('j' if len(arrs)==1 else f'(j .{ai.index(a[0])})') if lent else f'(Lent.is-{a[0]} h g)') if a[1]=='array' else f'(Lent.is-{a[0]} h g)') for a in fs)
+    ism=' '.join(((f'(is-new h r w (Lent.is-{cf} h g) is)' if number else '(is-new r w is)') if a[0]==cf else f'(is-new-{a[0]} r w is)') if a[0] in back else ((('j' if len(arrs)==1 else f'(j .{ai.index(a[0])})') if lent else f'(Lent.is-{a[0]} h g)') if a[1]=='array' else f'(Lent.is-{a[0]} h g)') for a in fs)
     x.mv(['cell']); x.do(f'use1 W (‵ (fat fullShare (rawTy T′.mir) b o (mach {hfin}))) (Lent.hidden 𝓤 H A W b o {hx3})')
     isn=f'(Lent.made {hx3} {ism})'
 else:

@@ -1,9 +1,8 @@
 -- A commit's actions, by number: how many there are, which is last, and what the code shows of each.
 -- Assumes nothing.
-use mathlib.Core.Path.{_≡_, refl, sym, _∙_, ap}
+use mathlib.Core.Path.{_≡_, sym, _∙_, ap}
 use mathlib.Core.List.{List, [], _∷_}
-use Prim.Native.Nat.{ℕ, zero, suc, _+_, _-_, _*_, _/_, _<_, _≤_, min}
-use native.Mathlib.Nat.{le-of-suc-le-suc, not-suc-le-zero}
+use Prim.Native.Nat.{ℕ, _+_, _-_, _*_, _/_, _<_, _≤_, min}
 use native.Mathlib.Decide.{decLt, ℕ-discrete}
 use native.Mathlib.Omega.{arith}
 use lib.ListN.{length, getD, drop, List·getD-eq-default}
@@ -15,22 +14,14 @@ use Rattle.spec.specs.Calls.{asReport, runWords}
 use Rattle.spec.specs.declared.Control.{Control}
 use Rattle.spec.specs.declared.Setup.{Setup}
 use Rattle.spec.specs.declared.Report.the-variants as R
-use Rattle.session.specs.State.{bufferPart, batchRoom, batchWords, commitActions}
+use Rattle.session.specs.State.{bufferPart, batchRoom, batchWords, chunkIn, linesIn, commitActions}
+use Rattle.session.proofs.Part.{length-part, part-word, staged-length}
 use Rattle.theory_cuts.proofs.Append.{append-count}
 use Rattle.acts.specs.Nth.{nth, nthReport, commitCount}
 use Rattle.acts.proofs.Nth.{drop-nth, drop-past}
 use Rattle.acts.proofs.Append.{padded-word, nth-store, nth-flush, nth-fence, nth-seal, nth-seal-flush, nth-last}
 
 -- THE BATCH
-pub length-part : (b : List ℕ) (i n : ℕ) → length (bufferPart b i n) ≡ n
-length-part b i zero = refl
-length-part b i (suc n) = ap suc (length-part b (suc i) n)
-
-pub part-word : (b : List ℕ) (i n j k : ℕ) → j < n → k ≡ i + j → getD (bufferPart b i n) j 0 ≡ getD b k 0
-part-word b i zero j k h e = absurd (not-suc-le-zero h)
-part-word b i (suc n) zero k h e = ap (λ (x : ℕ). getD b x 0) (let q : i ≡ k = omega arith in q)
-part-word b i (suc n) (suc j) k h e = part-word b (suc i) n j k (le-of-suc-le-suc h) (omega arith)
-
 -- word i of the padded batch, among the staged words and behind them
 pub batch-in : (b : List ℕ) (n i : ℕ) → i < n → getD b i 0 ≡ getD (padded (bufferPart b 0 n)) i 0
 batch-in b n i h = sym (padded-word (bufferPart b 0 n) i ∙ part-word b 0 n i i h (omega arith))
@@ -44,13 +35,12 @@ module _ (c : Control) (k : Setup) (b : List ℕ) where
   batchLines = linesFor (min (c .words) batchRoom)
 
   size : length (batchWords c b) ≡ min (c .words) batchRoom
-  unfolding batchWords
-  size = length-part b 0 (min (c .words) batchRoom)
+  size = staged-length c b
 
   pub length-commit : length (commitActions c k b) ≡ commitCount (c .words)
   unfolding commitActions
   length-commit =
-      append-count basePower (min (k .chunk) 503) (k .old) (min (k .lines) 64) (batchWords c b) ∙ rw size
+      append-count basePower (chunkIn k) (k .old) (linesIn k) (batchWords c b) ∙ rw size
 
   pub commit-done : (at : ℕ) → commitCount (c .words) ≤ at → drop at (commitActions c k b) ≡ []
   commit-done at h = drop-past (commitActions c k b) at (rw length-commit h)
@@ -59,36 +49,36 @@ module _ (c : Control) (k : Setup) (b : List ℕ) where
   commit-next at h = drop-nth (commitActions c k b) at (rw length-commit h)
 
   -- EACH ACTION
-  pub commit-store : (at w : ℕ) → at < 8 * batchLines → w ≡ 512 * min (k .chunk) 503 + 8 * min (k .lines) 64 + at
+  pub commit-store : (at w : ℕ) → at < 8 * batchLines → w ≡ 512 * chunkIn k + 8 * linesIn k + at
       → nth (commitActions c k b) at ≡ Store w (getD (padded (batchWords c b)) at 0)
   unfolding commitActions base chunkWords
-  commit-store at w h e = nth-store basePower (min (k .chunk) 503) (k .old) (min (k .lines) 64) (batchWords c b) at w (rw size h) (omega arith)
+  commit-store at w h e = nth-store basePower (chunkIn k) (k .old) (linesIn k) (batchWords c b) at w (rw size h) (omega arith)
 
-  pub commit-flush : (at i line : ℕ) → at ≡ 8 * batchLines + i → i < batchLines → line ≡ 64 * min (k .chunk) 503 + min (k .lines) 64 + i
+  pub commit-flush : (at i line : ℕ) → at ≡ 8 * batchLines + i → i < batchLines → line ≡ 64 * chunkIn k + linesIn k + i
       → nth (commitActions c k b) at ≡ Flush line
   unfolding commitActions firstLine chunkLines
   commit-flush at i line e h q =
-      nth-flush basePower (min (k .chunk) 503) (k .old) (min (k .lines) 64) (batchWords c b) at i line (rw size e) (rw size h) (omega arith)
+      nth-flush basePower (chunkIn k) (k .old) (linesIn k) (batchWords c b) at i line (rw size e) (rw size h) (omega arith)
 
   pub commit-fence : (at : ℕ) → at ≡ 9 * batchLines → nth (commitActions c k b) at ≡ Fence
   unfolding commitActions
-  commit-fence at e = nth-fence basePower (min (k .chunk) 503) (k .old) (min (k .lines) 64) (batchWords c b) at (rw size e)
+  commit-fence at e = nth-fence basePower (chunkIn k) (k .old) (linesIn k) (batchWords c b) at (rw size e)
 
   -- the directory word is the last but two, its line's flush the last but one, and a fence the last
   pub commit-seal : (at : ℕ) → at + 3 ≡ commitCount (c .words)
-      → nth (commitActions c k b) at ≡ Store (directoryWord (min (k .chunk) 503)) (logWord (k .old) (min (k .lines) 64 + batchLines))
+      → nth (commitActions c k b) at ≡ Store (directoryWord (chunkIn k)) (logWord (k .old) (linesIn k + batchLines))
   unfolding commitActions
   commit-seal at e =
-      rw size at (nth-seal basePower (min (k .chunk) 503) (k .old) (min (k .lines) 64) (batchWords c b) at (rw size (omega arith)))
+      rw size at (nth-seal basePower (chunkIn k) (k .old) (linesIn k) (batchWords c b) at (rw size (omega arith)))
 
-  pub commit-seal-flush : (at : ℕ) → at + 2 ≡ commitCount (c .words) → nth (commitActions c k b) at ≡ Flush (lineOf (directoryWord (min (k .chunk) 503)))
+  pub commit-seal-flush : (at : ℕ) → at + 2 ≡ commitCount (c .words) → nth (commitActions c k b) at ≡ Flush (lineOf (directoryWord (chunkIn k)))
   unfolding commitActions
   commit-seal-flush at e =
-      nth-seal-flush basePower (min (k .chunk) 503) (k .old) (min (k .lines) 64) (batchWords c b) at (rw size (omega arith))
+      nth-seal-flush basePower (chunkIn k) (k .old) (linesIn k) (batchWords c b) at (rw size (omega arith))
 
   pub commit-last : (at : ℕ) → commitCount (c .words) ≤ at + 1 → nth (commitActions c k b) at ≡ Fence
   unfolding commitActions
-  commit-last at h = nth-last basePower (min (k .chunk) 503) (k .old) (min (k .lines) 64) (batchWords c b) at (rw size (omega arith))
+  commit-last at h = nth-last basePower (chunkIn k) (k .old) (linesIn k) (batchWords c b) at (rw size (omega arith))
 
   -- behind the store of the directory word no word changes
   pub commit-sealed : (at : ℕ) → commitCount (c .words) ≤ at + 2 → (ws : List ℕ) → runWords (drop at (commitActions c k b)) ws ≡ ws
@@ -105,29 +95,29 @@ module _ (c : Control) (k : Setup) (b : List ℕ) where
       go (yes q) (yes e) = rw (commit-next at q, commit-seal-flush at e) (last (at + 1) (omega arith))
       go (yes q) (no n) = last at (omega arith)
 
-  -- WHAT THE CODE SHOWS at each return, with its number of staged words, chunk and committed lines
-  module _ (at staged chunk committed : ℕ) (es : staged ≡ min (c .words) batchRoom) (ec : chunk ≡ min (k .chunk) 503) (em : committed ≡ min (k .lines) 64) where
-    pub shows-store : (w v : ℕ) → at < 8 * linesFor staged → w ≡ 512 * chunk + 8 * committed + at → v ≡ getD (padded (bufferPart b 0 (min (c .words) batchRoom))) at 0
+  -- WHAT THE CODE SHOWS at each return, with its number of staged words
+  module _ (at staged : ℕ) (es : staged ≡ min (c .words) batchRoom) where
+    pub shows-store : (w v : ℕ) → at < 8 * linesFor staged → w ≡ 512 * chunkIn k + 8 * linesIn k + at → v ≡ getD (padded (bufferPart b 0 (min (c .words) batchRoom))) at 0
         → R.Store w v ≡ nthReport (commitActions c k b) at
     unfolding batchWords
     shows-store w v h e q = rw q (sym (ap asReport (commit-store at w (omega arith) (omega arith))))
 
-    pub shows-flush : (line : ℕ) → 8 * linesFor staged ≤ at → at < 9 * linesFor staged → line ≡ 64 * chunk + committed + (at - 8 * linesFor staged)
+    pub shows-flush : (line : ℕ) → 8 * linesFor staged ≤ at → at < 9 * linesFor staged → line ≡ 64 * chunkIn k + linesIn k + (at - 8 * linesFor staged)
         → R.Flush line ≡ nthReport (commitActions c k b) at
     shows-flush line h q e = sym (ap asReport (commit-flush at (at - 8 * linesFor staged) line (omega arith) (omega arith) (omega arith)))
 
     pub shows-fence : at ≡ 9 * linesFor staged → R.Fence ≡ nthReport (commitActions c k b) at
     shows-fence e = sym (ap asReport (commit-fence at (omega arith)))
 
-    pub shows-seal : (w v n : ℕ) → at ≡ 9 * linesFor staged + 1 → w ≡ 8 + chunk → n ≡ committed + linesFor staged → v ≡ logWord (k .old) n
+    pub shows-seal : (w v n : ℕ) → at ≡ 9 * linesFor staged + 1 → w ≡ 8 + chunkIn k → n ≡ linesIn k + linesFor staged → v ≡ logWord (k .old) n
         → R.Store w v ≡ nthReport (commitActions c k b) at
     shows-seal w v n e q r s =
-        let x : w ≡ directoryWord (min (k .chunk) 503) = omega arith in
-        let y : n ≡ min (k .lines) 64 + batchLines = omega arith in
+        let x : w ≡ directoryWord (chunkIn k) = omega arith in
+        let y : n ≡ linesIn k + batchLines = omega arith in
         rw (s, x, y) (sym (ap asReport (commit-seal at (omega arith))))
 
-    pub shows-seal-flush : (line : ℕ) → at ≡ 9 * linesFor staged + 2 → line ≡ (8 + chunk) / 8 → R.Flush line ≡ nthReport (commitActions c k b) at
-    shows-seal-flush line e q = ap R.Flush (let z : line ≡ lineOf (directoryWord (min (k .chunk) 503)) = omega arith in z) ∙ sym (ap asReport (commit-seal-flush at (omega arith)))
+    pub shows-seal-flush : (line : ℕ) → at ≡ 9 * linesFor staged + 2 → line ≡ (8 + chunkIn k) / 8 → R.Flush line ≡ nthReport (commitActions c k b) at
+    shows-seal-flush line e q = ap R.Flush (let z : line ≡ lineOf (directoryWord (chunkIn k)) = omega arith in z) ∙ sym (ap asReport (commit-seal-flush at (omega arith)))
 
     pub shows-last : 9 * linesFor staged + 3 ≤ at → R.Fence ≡ nthReport (commitActions c k b) at
     shows-last h = sym (ap asReport (commit-last at (omega arith)))

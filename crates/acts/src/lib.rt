@@ -4,14 +4,14 @@ ghost use Prim.Native.Nat.{_+_, _*_, min};
 ghost use lib.ListN.{getD};
 ghost use Rattle.spec.specs.Actions.{linesFor, padded, firstWordOf};
 ghost use Rattle.spec.specs.Contract.{Changed};
-ghost use Rattle.session.specs.State.{bufferPart, batchRoom, commitActions, givenBy, formatActions};
+ghost use Rattle.session.specs.State.{bufferPart, batchRoom, chunkIn, linesIn, commitActions, givenBy, formatActions};
 ghost use Rattle.acts.specs.Nth.{nthReport, commitCount, formatCount, registerWord};
 use spec::Control;
 use spec::Given;
 use spec::Report;
 use spec::Setup;
 
-fn at_most(x: usize, bound: usize) -> usize
+pub fn at_most(x: usize, bound: usize) -> usize
     ensures { λ r. ⌜ r ≡ min x bound ⌝ }
 {
     if x < bound { x } else { bound }
@@ -36,9 +36,9 @@ pub fn commit_stores(words: usize) -> usize
 
 // The word of the image where the batch begins.
 pub fn batch_start(setup: Setup) -> usize
-    ensures { λ r. ⌜ r ≡ 512 * min (setup .chunk) 503 + 8 * min (setup .lines) 64 ⌝ }
+    ensures { λ r. ⌜ r ≡ 512 * chunkIn setup + 8 * linesIn setup ⌝ }
 {
-    512 * at_most(setup.chunk, 503) + 8 * at_most(setup.lines, 64)
+    512 * (setup.chunk % 512) + 8 * (setup.lines % 128)
 }
 
 // Word i of the batch padded to whole lines: 0 behind the staged words.
@@ -58,8 +58,8 @@ pub fn commit_action(control: Control, setup: Setup, buffer: &[u64; 1152], at: u
 {
     let words = control.words;
     let lines = (at_most(words, 512) + 7) / 8;
-    let chunk = at_most(setup.chunk, 503);
-    let committed = at_most(setup.lines, 64);
+    let chunk = setup.chunk % 512;
+    let committed = setup.lines % 128;
     let stores = 8 * lines;
     let fence = 9 * lines;
     let seal = fence + 1;

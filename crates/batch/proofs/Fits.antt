@@ -20,10 +20,10 @@ use Rattle.theory_log.specs.Contents.{CountsOn}
 use Rattle.theory_log.proofs.Contents.{mem-cases, highest-insert}
 use Rattle.session.specs.State.{batchRoom, batchWords}
 use Rattle.session.specs.Fits.{BatchFits}
+use Rattle.session.proofs.Part.{words-within, words-counted}
 use Rattle.batch.specs.Items.{StagedIn}
 use Rattle.batch.specs.Added.{Added}
-use Rattle.batch.proofs.Part.{length-part}
-use Rattle.batch.proofs.Items.{words-within, right-more}
+use Rattle.batch.proofs.Items.{right-more}
 use Rattle.batch.proofs.Count.{isOld, freshWith, keys-more}
 
 -- one more item counts on
@@ -49,14 +49,11 @@ module _ (c : Control) (b : List ℕ) (es items : List Entry) (fits : BatchFits 
   unfolding batchWords
   fits-staged = record { written = fits .written; right = fits .right }
 
-  pub fits-words : c .words ≡ length (encodeAll items)
-  fits-words = sym (length-part b 0 (c .words)) ∙ ap length (sym (words-within c b (fits .room)) ∙ fits .written)
-
   -- 10, as the code asks it
   pub fits-batch : (n : ℕ) → fitsBatch items n ≡ both (ltb (c .items) maxItems) (leb (c .words + n) batchRoom)
   fits-batch n =
       ap (λ (t : Bool). both (ltb (length items) maxItems) t) (lines-bytes (length (encodeAll items) + n))
-      ∙ ap (λ (k : ℕ). both (ltb (length items) maxItems) (leb (k + n) batchRoom)) (sym fits-words)
+      ∙ ap (λ (k : ℕ). both (ltb (length items) maxItems) (leb (k + n) batchRoom)) (sym (words-counted c b es items fits))
       ∙ ap (λ (k : ℕ). both (ltb k maxItems) (leb (c .words + n) batchRoom)) (sym (fits .count))
 
   -- THE BATCH WITH ONE MORE ITEM, whose value is in the log

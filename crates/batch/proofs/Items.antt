@@ -3,8 +3,7 @@
 use mathlib.Core.Path.{_≡_, refl, sym, _∙_, ap}
 use mathlib.Core.Logic.{inl, inr, ⊎-elim}
 use mathlib.Core.List.{List, [], _∷_, _++_, map, append-nil}
-use Prim.Native.Nat.{ℕ, _+_, _≤_, min}
-use native.Mathlib.Omega.{arith}
+use Prim.Native.Nat.{ℕ, _+_}
 use lib.ListN.{length}
 use Rattle.spec.specs.Log.{Entry, Entries, Parsed, parse, encodeAll, moved, placed}
 use Rattle.spec.specs.Contents.{listed}
@@ -13,7 +12,7 @@ use Rattle.theory_log.specs.Batch.{Right, AllRight}
 use Rattle.theory_log.specs.Contents.{Mem}
 use Rattle.theory_log.proofs.Contents.{mem-cases}
 use Rattle.theory_log.proofs.Batch.{parse-batch}
-use Rattle.session.specs.State.{batchRoom, bufferPart, batchWords, batchItems}
+use Rattle.session.specs.State.{batchWords, batchItems}
 
 -- staged items have no place yet
 abbrev pub AtZero : List Entry → Type 0
@@ -47,11 +46,6 @@ unfolding batchItems
 items-read c b items w r z =
     let p : parse (batchWords c b) 0 0 ≡ Entries (placed 0 items) = ap (λ (l : List ℕ). parse l 0 0) (w ∙ sym (append-nil (encodeAll items))) ∙ parse-batch items 0 0 r in
     ap (λ (q : Parsed). map (moved 0) (listed q)) p ∙ moved-back items 0 z
-
--- a batch within the room is the buffer's first words
-pub words-within : (c : Control) (b : List ℕ) → c .words ≤ batchRoom → batchWords c b ≡ bufferPart b 0 (c .words)
-unfolding batchWords
-words-within c b l = let m : min (c .words) batchRoom ≡ c .words = omega arith in ap (bufferPart b 0) m
 
 pub right-more : (items : List Entry) (e : Entry) → AllRight items → Right e → AllRight (items ++ (e ∷ []))
 right-more [] e a r = (r, tt)

@@ -7,11 +7,8 @@ use native.Mathlib.Nat.{add-zero, zero-add}
 use native.Mathlib.Omega.{arith}
 use lib.ListN.{length, getD}
 use Rattle.session.specs.State.{bufferPart}
+use Rattle.session.proofs.Part.{part-agree}
 use Rattle.words.specs.Overlay.{overlay, getD-overlay-outside, getD-overlay-inside}
-
-pub length-part : (b : List ℕ) (i n : ℕ) → length (bufferPart b i n) ≡ n
-length-part b i zero = refl
-length-part b i (suc n) = ap suc (length-part b (suc i) n)
 
 pub part-append : (b : List ℕ) (i m n : ℕ) → bufferPart b i (m + n) ≡ bufferPart b i m ++ bufferPart b (i + m) n
 part-append b i zero n = rw (zero-add n, add-zero i)
@@ -28,14 +25,6 @@ part-behind b i (suc n) (x ∷ xs) ys e =
     let f : i + suc (length xs) ≡ suc i + length xs = omega arith in
     let g : suc n - suc (length xs) ≡ n - length xs = omega arith in
     rw (f, g) (part-behind b (suc i) n xs ys cc)
-
--- parts that agree word by word
-pub part-agree : (a b : List ℕ) (i n : ℕ) → ((j : ℕ) → i ≤ j → j < i + n → getD a j 0 ≡ getD b j 0) → bufferPart a i n ≡ bufferPart b i n
-part-agree a b i zero h = refl
-part-agree a b i (suc n) h =
-    let x = h i (omega arith) (omega arith) in
-    let r = part-agree a b (suc i) n (λ j l u. h j (omega arith) (omega arith)) in
-    cc
 
 -- the words laid over the buffer, where all have room
 part-laid : (b xs : List ℕ) (i : ℕ) → ((k j : ℕ) → j ≡ i + k → k < length xs → getD b j 0 ≡ getD xs k 0) → bufferPart b i (length xs) ≡ xs

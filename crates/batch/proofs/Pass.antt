@@ -12,10 +12,11 @@ use Rattle.theory_log.specs.Batch.{AllRight}
 use Rattle.theory_log.specs.Fold.{foldE}
 use Rattle.theory_log.proofs.Batch.{first-right}
 use Rattle.session.specs.State.{batchRoom, bufferPart}
+use Rattle.session.proofs.Part.{length-part}
 use Rattle.batch.specs.declared.Item.{Item}
 use Rattle.batch.specs.declared.Latest.{Latest}
 use Rattle.batch.specs.Items.{StagedIn, itemBy, laterOf, pass}
-use Rattle.batch.proofs.Part.{length-part, part-behind}
+use Rattle.batch.proofs.Part.{part-behind}
 
 -- from word `at` to word `end` stand these items
 pub record Reached (b : List ℕ) (end at : ℕ) (items : List Entry) : Type 0 where

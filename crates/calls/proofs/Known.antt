@@ -28,12 +28,15 @@ use Rattle.batch.specs.Items.{latestOf, LastStaged}
 use Rattle.batch.proofs.Last.{KeyStaged, KeyUnstaged, key-staged, key-unstaged}
 use Rattle.batch.proofs.Count.{isOld}
 use Rattle.calls.specs.declared.Newest.{Newest}
-use Rattle.calls.specs.Staging.{newestBy, NewestOf, putIn, presentBy}
+use Rattle.calls.specs.Staging.{newestBy, NewestOf, VersionOf, putIn, presentBy}
 
--- what is said of a key: its highest version, whether it is staged or known, and whether it is present
+-- what is said of a key: its highest version and whether it is staged or known; and whether it is present
+pub record Numbered (k : ℕ) (es items : List Entry) (v : ℕ) : Type 0 where
+  pub version : v ≡ highest k (es ++ items)
+  pub old : isOld k es items ≡ negate (eqb v 0)
+
 pub record Says (k : ℕ) (es items : List Entry) (ws : List ℕ) (n : Newest) : Type 0 where
-  pub version : n .version ≡ highest k (es ++ items)
-  pub old : isOld k es items ≡ negate (eqb (n .version) 0)
+  pub numbered : Numbered k es items (n .version)
   pub shown : presentBy ws n ≡ present k es items
 
 module _ (k chunks : ℕ) (ws : List ℕ) (es items : List Entry) (parsed : imageEntries 12 chunks ws ≡ Entries es) (small : Bounded es) (counts : CountsOn es items)
@@ -45,8 +48,7 @@ module _ (k chunks : ℕ) (ws : List ℕ) (es items : List Entry) (parsed : imag
       let s : KeyStaged k es items = key-staged k es items counts (λ z. nz (sym (ap (λ (l : Latest). l .version) e) ∙ z)) in
       let v : eqb (last .version) 0 ≡ false = ne-eqb (last .version) 0 nz in
       record {
-        version = sym (ap (λ (l : Latest). l .version) e) ∙ s .version;
-        old = rw (s .among, v);
+        numbered = record { version = sym (ap (λ (l : Latest). l .version) e) ∙ s .version; old = rw (s .among, v) };
         shown = rw v (sym (ap (λ (l : Latest). eqb (l .op) 1) e) ∙ s .put);
       }
 
@@ -63,8 +65,7 @@ module _ (k chunks : ℕ) (ws : List ℕ) (es items : List Entry) (parsed : imag
     by-none z =
         let c : chosen k es ≡ none = found-none table keys es inv small k word is z in
         record {
-          version = sym (u .version ∙ sym (highest-best k es) ∙ ap versionOf (sym (chosen-best k es) ∙ c));
-          old = all-keys ∙ rw c;
+          numbered = record { version = sym (u .version ∙ sym (highest-best k es) ∙ ap versionOf (sym (chosen-best k es) ∙ c)); old = all-keys ∙ rw c };
           shown = sym (shows ∙ rw c);
         }
 
@@ -80,8 +81,7 @@ module _ (k chunks : ℕ) (ws : List ℕ) (es items : List Entry) (parsed : imag
         let nv : eqb (unpackOf word .version) 0 ≡ false = ne-eqb (unpackOf word .version) 0 (λ q. omega arith) in
         let s = image-stands 12 (omega arith) (omega arith) chunks ws es parsed e m in
         record {
-          version = v ∙ sym (u .version ∙ sym (highest-best k es) ∙ ap versionOf (sym (chosen-best k es) ∙ f .1));
-          old = all-keys ∙ rw (f .1, nv);
+          numbered = record { version = v ∙ sym (u .version ∙ sym (highest-best k es) ∙ ap versionOf (sym (chosen-best k es) ∙ f .1)); old = all-keys ∙ rw (f .1, nv) };
           shown = rw nv (ap (λ (p : ℕ). putIn (firstOf (getD ws p 0))) a ∙ ap putIn (s .first) ∙ sym (shows ∙ rw (f .1)));
         }
 
@@ -92,6 +92,9 @@ module _ (k chunks : ℕ) (ws : List ℕ) (es items : List Entry) (parsed : imag
       go (no nz) q = rw (ne-eqb (latestOf k items .version) 0 nz) (by-staged (latestOf k items) refl nz)
       go (yes z) (yes q) = rw (eq-eqb (latestOf k items .version) 0 z, eq-eqb (get table k) 0 q) (by-none (key-unstaged k es items counts z) (get table k) refl q)
       go (yes z) (no q) = rw (eq-eqb (latestOf k items .version) 0 z, ne-eqb (get table k) 0 q) (by-chosen (key-unstaged k es items counts z) (get table k) refl q)
+
+  pub version-says : (v : ℕ) → v ≡ newestBy (latestOf k items) (get table k) .version → Numbered k es items v
+  version-says v is = rw is (newest-says _ refl .numbered)
 
 -- ## What the code shows
 
@@ -108,6 +111,17 @@ module _ (b : List ℕ) (words : ℕ) (table : List ℕ) (key : ℕ) (last : Lat
 
   pub known-staged : (last .version ≡ 0 → ⊥) → NewestOf b words table key (record { version = last .version; staged = true; op = last .op; place = 0 })
   known-staged z = found (get table key) refl _ (sym (rw (ne-eqb (last .version) 0 z)))
+
+  pub version-staged : (last .version ≡ 0 → ⊥) → VersionOf b words table key (last .version)
+  version-staged z items st = ap (λ (n : Newest). n .version) (known-staged z items st)
+
+  -- 0 unpacks to the version 0
+  pub version-committed : (word : ℕ) (info : Info) → word ≡ get table key → info ≡ unpackOf word → last .version ≡ 0 → VersionOf b words table key (info .version)
+  version-committed word info is i z items st = go (ℕ-discrete word 0)
+    where
+      go : Dec (word ≡ 0) → info .version ≡ newestBy (latestOf key items) (get table key) .version
+      go (no w) = ap (λ (n : Newest). n .version) (known-committed word info is i z w items st)
+      go (yes w) = ap (λ (j : Info). j .version) (i ∙ ap unpackOf w) ∙ ap (λ (n : Newest). n .version) (known-unknown word is z w items st)
 
 -- an entry by its first word
 pub put-read : (word stored : ℕ) (f h : FirstWord) → word ≡ stored → f ≡ firstOf word → f ≡ h → putIn h ≡ putIn (firstOf stored)

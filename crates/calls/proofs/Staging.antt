@@ -44,10 +44,10 @@ use Rattle.recovery.proofs.Gates.{refused, AtRest}
 use Rattle.calls.specs.declared.Newest.{Newest}
 use Rattle.calls.specs.declared.Admission.{Admission}
 use Rattle.calls.specs.declared.Admission.the-variants as A
-use Rattle.calls.specs.declared.Moved.{Moved}
-use Rattle.calls.specs.Staging.{NewestOf, presentBy, admitOf, Staged}
+use Rattle.calls.specs.declared.Staged.{Staged}
+use Rattle.calls.specs.Staging.{NewestOf, VersionOf, presentBy, admitOf, refusedWith, oneMore}
 use Rattle.calls.proofs.Shows as Shows
-use Rattle.calls.proofs.Known.{Says, newest-says}
+use Rattle.calls.proofs.Known.{Numbered, Says, newest-says, version-says}
 use Rattle.calls.proofs.Admits.{planBy, Admitting, admitted, turned, fresh-then, plan-admits}
 
 -- ## The new entries are right
@@ -87,6 +87,14 @@ module _ (c : Control) (k : Setup) (b bytes table : List ℕ) where
   abbrev chunks : ℕ
   chunks = chunksIn 12 (length bytes)
 
+  abbrev room : ℕ
+  room = capacity (length table)
+
+  -- a refusal that is answered leaves the record
+  pub left : (call : Call) (n : Refusal) (r : Staged) → r ≡ refusedWith c n → Called stateOf Fits 12 256 call s s bytes bytes table table (R.Refused n)
+      → Called stateOf Fits 12 256 call s (record { control = r .control; setup = k; buffer = b }) bytes bytes table table (r .report)
+  left call n r e h = rw e h
+
   module _ (g : Gated) (asks : Asking c k (length bytes) (length table) g) (passes : g ≡ G.Open) where
     opened : gate (stateOf s) (length bytes) (length table) ≡ none
     opened = Shows.opened c k b bytes table g asks passes
@@ -118,6 +126,9 @@ module _ (c : Control) (k : Setup) (b bytes table : List ℕ) where
       small : Bounded es
       small = image-bounded 12 (omega arith) (omega arith) (chunksIn 12 (k .image)) ws es (ok .parsed) (ok .most)
 
+      numbered : (key v : ℕ) → VersionOf b (c .words) table key v → Numbered key es items v
+      numbered key v is = version-says key chunks ws es items parsed small (batch .counts) table (c .keys) (rests .fits .built .indexed) v (is items (fits-staged c b es items batch))
+
       says : (key : ℕ) (n : Newest) → NewestOf b (c .words) table key n → Says key es items ws n
       says key n is = newest-says key chunks ws es items parsed small (batch .counts) table (c .keys) (rests .fits .built .indexed) n (is items (fits-staged c b es items batch))
 
@@ -129,13 +140,11 @@ module _ (c : Control) (k : Setup) (b bytes table : List ℕ) where
         refused 12 256 s bytes table N.TooLong (Put key v) refl (λ f. f) (λ f. sym (rw (opened, lt-leb (length v) 256 l)))
         (barred (R.Refused N.TooLong)) (inr (inr (inr (inl refl)))) (refl, refl)
 
-    module _ (key : ℕ) (n : Newest) (is : NewestOf b (c .words) table key n) where
-      abbrev room : ℕ
-      room = capacity (length table)
-
+    -- `last` is the key's highest version so far
+    module _ (key last : ℕ) (is : VersionOf b (c .words) table key last) where
       -- ## One more item
 
-      module _ (e : Entry) (fresh : ℕ) (adm : Admitting c (n .version) (2 + length (e .value)) room fresh) (after : List ℕ) (words : ℕ) (added : Added b after (c .words) words e) where
+      module _ (e : Entry) (fresh : ℕ) (adm : Admitting c last (2 + length (e .value)) room fresh) (after : List ℕ) (words : ℕ) (added : Added b after (c .words) words e) where
         abbrev s′ : Session
         s′ = record { control = record { phase = 2; next = 0; items = c .items + 1; words = words; keys = c .keys; fresh = fresh }; setup = k; buffer = after }
 
@@ -144,18 +153,18 @@ module _ (c : Control) (k : Setup) (b bytes table : List ℕ) where
         unfolding stateAt
         steps = refl
 
-        module _ (right : Right e) (in-log : e .placement ≡ 0) (at-zero : e .at ≡ 0) (version : e .version ≡ suc (n .version)) (of-key : e .key ≡ key) (f : Fits s ws table) where
+        module _ (right : Right e) (in-log : e .placement ≡ 0) (at-zero : e .at ≡ 0) (version : e .version ≡ suc last) (of-key : e .key ≡ key) (f : Fits s ws table) where
           abbrev more : List Entry
           more = items f ++ (e ∷ [])
 
           counted : fresh ≡ freshWith (isOld (e .key) (es f) (items f)) (c .fresh)
           counted =
-              let y = says f key n is in
-              rw of-key (adm .counted ∙ sym (fresh-then (isOld key (es f) (items f)) (n .version) (c .fresh) (y .old)))
+              let y = numbered f key last is in
+              rw of-key (adm .counted ∙ sym (fresh-then (isOld key (es f) (items f)) last (c .fresh) (y .old)))
 
           batch-then : BatchFits (s′ .control) after (es f) more
           batch-then =
-              let y = says f key n is in
+              let y = numbered f key last is in
               let v : e .version ≡ suc (highest (e .key) (es f ++ items f)) = rw of-key (version ∙ ap suc (y .version)) in
               batch-more c b (es f) (items f) (batch f) (s′ .control) after e added (adm .fits) (adm .few) right in-log v refl refl counted
 
@@ -189,7 +198,7 @@ module _ (c : Control) (k : Setup) (b bytes table : List ℕ) where
 
         -- the call, by what it answers and leaves
         staged : (call : Call) → (Ready stateOf Fits 12 256 call s ws table → Fits s ws table) → ((Fit : Type 0) → Fit → Again call (R.Begun 0) Fit) → Barred stateOf Fits 12 256 call s bytes table (R.Begun 0)
-            → Right e → e .placement ≡ 0 → e .at ≡ 0 → e .version ≡ suc (n .version) → e .key ≡ key
+            → Right e → e .placement ≡ 0 → e .at ≡ 0 → e .version ≡ suc last → e .key ≡ key
             → ((f : Fits s ws table) → (answer 12 256 call (stateOf s) ws (length bytes) (length table) ≡ R.Begun 0)
             × (next 12 256 call (stateOf s) ws (length bytes) (length table) ≡ Busy (k .image) (k .table) (items f ++ (e ∷ [])) Staging []))
             → Called stateOf Fits 12 256 call s s′ bytes bytes table table (R.Begun 0)
@@ -213,52 +222,57 @@ module _ (c : Control) (k : Setup) (b bytes table : List ℕ) where
 
         put-plan : (l : length v ≤ 256) (f : Fits s ws table)
             → planPut 12 256 chunks ws (length table) (entriesIn 12 chunks ws) (itemsOf (stateOf s)) key v
-            ≡ planBy (admitOf c (n .version) need-words room) (Begin (items f ++ (entry 1 0 (suc (n .version)) (length v) key (packed v) ∷ [])) Staging [])
+            ≡ planBy (admitOf c last need-words room) (Begin (items f ++ (entry 1 0 (suc last) (length v) key (packed v) ∷ [])) Staging [])
         unfolding planPut
         put-plan l f =
-            let y = says f key n is in
+            let y = numbered f key last is in
             rw (parsed f, rests f .state, le-leb (length v) 256 l)
-            (plan-admits c b (es f) (items f) (batch f) key (n .version) need-words (length table) (y .version) (y .old) _
-            ∙ ap (λ (h : ℕ). planBy (admitOf c (n .version) need-words room) (Begin (items f ++ (entry 1 0 (suc h) (length v) key (packed v) ∷ [])) Staging [])) (sym (y .version)))
+            (plan-admits c b (es f) (items f) (batch f) key last need-words (length table) (y .version) (y .old) _
+            ∙ ap (λ (h : ℕ). planBy (admitOf c last need-words room) (Begin (items f ++ (entry 1 0 (suc h) (length v) key (packed v) ∷ [])) Staging [])) (sym (y .version)))
 
-        module _ (l : length v ≤ 256) (a : Admission) (told : a ≡ admitOf c (n .version) need-words room) where
+        module _ (l : length v ≤ 256) (a : Admission) (told : a ≡ admitOf c last need-words room) where
           pub put-refused : (x : Refusal) → a ≡ A.Refused x → Called stateOf Fits 12 256 (Put key v) s s bytes bytes table table (R.Refused x)
           put-refused x e =
               refused 12 256 s bytes table x (Put key v) refl (λ f. f) (λ f. sym (rw (opened, put-plan l f, sym told ∙ e)))
-              (barred (R.Refused x)) (inr (inr (inr (inr (turned c (n .version) need-words room x (sym told ∙ e)))))) (refl, refl)
+              (barred (R.Refused x)) (inr (inr (inr (inr (turned c last need-words room x (sym told ∙ e)))))) (refl, refl)
 
-          pub put-done : (small : AreBytes v) (fresh : ℕ) → a ≡ A.Admitted fresh → (after : List ℕ) (m : Moved)
-              → Staged c k b after fresh (entry 1 0 (n .version + 1) (length v) key (packed v)) m
-              → Called stateOf Fits 12 256 (Put key v) s (record { control = m .control; setup = m .setup; buffer = after }) bytes bytes table table (m .report)
+          pub put-done : (small : AreBytes v) (fresh : ℕ) → a ≡ A.Admitted fresh → (after : List ℕ) (words : ℕ)
+              → Added b after (c .words) words (entry 1 0 (last + 1) (length v) key (packed v)) → (r : Staged) → r ≡ oneMore c words fresh
+              → Called stateOf Fits 12 256 (Put key v) s (record { control = r .control; setup = k; buffer = after }) bytes bytes table table (r .report)
           unfolding next
-          put-done small fresh e after m st = rw (st .control, st .setup, st .report)
-              (staged item fresh adm after (st .words) (st .added) (Put key v) (λ f. f) (λ Fit f. f) (barred (R.Begun 0)) right refl refl next-is refl
+          put-done small fresh e after words added r is-r = rw is-r
+              (staged item fresh adm after words added (Put key v) (λ f. f) (λ Fit f. f) (barred (R.Begun 0)) right refl refl next-is refl
               (λ f. (rw (opened, plan f), rw (opened, plan f, rests f .state))))
             where
-              next-is : n .version + 1 ≡ suc (n .version)
+              next-is : last + 1 ≡ suc last
               next-is = omega arith
 
               item : Entry
-              item = entry 1 0 (n .version + 1) (length v) key (packed v)
+              item = entry 1 0 (last + 1) (length v) key (packed v)
 
-              adm : Admitting c (n .version) (2 + length (packed v)) room fresh
-              adm = rw (length-packed v) (admitted c (n .version) need-words room fresh (sym told ∙ e))
+              adm : Admitting c last (2 + length (packed v)) room fresh
+              adm = rw (length-packed v) (admitted c last need-words room fresh (sym told ∙ e))
 
               right : Right item
-              right = let u = adm .unspent in put-right v small (n .version + 1) key (omega arith) (omega arith) l
+              right = let u = adm .unspent in put-right v small (last + 1) key (omega arith) (omega arith) l
 
               plan : (f : Fits s ws table) → planPut 12 256 chunks ws (length table) (entriesIn 12 chunks ws) (itemsOf (stateOf s)) key v ≡ Begin (items f ++ (item ∷ [])) Staging []
               plan f = put-plan l f ∙ rw (sym told ∙ e, next-is)
 
-      -- ## Delete
+    -- ## Delete
+
+    module _ (key : ℕ) (n : Newest) (is : NewestOf b (c .words) table key n) where
+      version-is : VersionOf b (c .words) table key (n .version)
+      version-is items st = ap (λ (m : Newest). m .version) (is items st)
 
       delete-plan : presentBy ws n ≡ true → (f : Fits s ws table)
           → planDelete (length table) (entriesIn 12 chunks ws) (itemsOf (stateOf s)) key
           ≡ planBy (admitOf c (n .version) 2 room) (Begin (items f ++ (entry 2 0 (suc (n .version)) 0 key [] ∷ [])) Staging [])
       unfolding planDelete
       delete-plan h f =
-          let y = says f key n is in
-          rw (parsed f, rests f .state, sym (y .shown) ∙ h)
+          let x = says f key n is in
+          let y = x .numbered in
+          rw (parsed f, rests f .state, sym (x .shown) ∙ h)
           (plan-admits c b (es f) (items f) (batch f) key (n .version) 2 (length table) (y .version) (y .old) _
           ∙ ap (λ (h′ : ℕ). planBy (admitOf c (n .version) 2 room) (Begin (items f ++ (entry 2 0 (suc h′) 0 key [] ∷ [])) Staging [])) (sym (y .version)))
 
@@ -274,11 +288,12 @@ module _ (c : Control) (k : Setup) (b bytes table : List ℕ) where
             refused 12 256 s bytes table x (Delete key) refl (λ f. f) (λ f. sym (rw (opened, delete-plan h f, sym told ∙ e)))
             (barred (R.Refused x)) (inr (inr (inr (inr (turned c (n .version) 2 room x (sym told ∙ e)))))) (refl, refl)
 
-        pub delete-done : (fresh : ℕ) → a ≡ A.Admitted fresh → (after : List ℕ) (m : Moved) → Staged c k b after fresh (entry 2 0 (n .version + 1) 0 key []) m
-            → Called stateOf Fits 12 256 (Delete key) s (record { control = m .control; setup = m .setup; buffer = after }) bytes bytes table table (m .report)
+        pub delete-done : (fresh : ℕ) → a ≡ A.Admitted fresh → (after : List ℕ) (words : ℕ)
+            → Added b after (c .words) words (entry 2 0 (n .version + 1) 0 key []) → (r : Staged) → r ≡ oneMore c words fresh
+            → Called stateOf Fits 12 256 (Delete key) s (record { control = r .control; setup = k; buffer = after }) bytes bytes table table (r .report)
         unfolding next
-        delete-done fresh e after m st = rw (st .control, st .setup, st .report)
-            (staged item fresh adm after (st .words) (st .added) (Delete key) (λ f. f) (λ Fit f. f) (barred (R.Begun 0)) right refl refl next-is refl
+        delete-done fresh e after words added r is-r = rw is-r
+            (staged key (n .version) version-is item fresh adm after words added (Delete key) (λ f. f) (λ Fit f. f) (barred (R.Begun 0)) right refl refl next-is refl
             (λ f. (rw (opened, plan f), rw (opened, plan f, rests f .state))))
           where
             next-is : n .version + 1 ≡ suc (n .version)

@@ -10,9 +10,9 @@ use Rattle.spec.specs.Basics.{pick, both}
 use Rattle.spec.specs.Log.{Entry, firstOf}
 use Rattle.spec.specs.Calls.{maxItems, maxVersion}
 use Rattle.spec.specs.declared.Control.{Control}
-use Rattle.spec.specs.declared.Setup.{Setup}
 use Rattle.spec.specs.declared.FirstWord.{FirstWord}
 use Rattle.spec.specs.declared.FirstWord.the-variants as F
+use Rattle.spec.specs.declared.Refusal.{Refusal}
 use Rattle.spec.specs.declared.Refusal.the-variants as N
 use Rattle.spec.specs.declared.Report.the-variants as R
 use Rattle.index.specs.Index.{get}
@@ -20,11 +20,10 @@ use Rattle.index.specs.Packed.{unpackOf}
 use Rattle.session.specs.State.{batchRoom}
 use Rattle.batch.specs.declared.Latest.{Latest}
 use Rattle.batch.specs.Items.{StagedIn, latestOf}
-use Rattle.batch.specs.Added.{Added}
 use Rattle.calls.specs.declared.Newest.{Newest}
 use Rattle.calls.specs.declared.Admission.{Admission}
 use Rattle.calls.specs.declared.Admission.the-variants as A
-use Rattle.calls.specs.declared.Moved.{Moved}
+use Rattle.calls.specs.declared.Staged.{Staged}
 
 -- by what the last staged item says and by the table's word of the key
 abbrev pub committedBy : ℕ → Newest
@@ -37,6 +36,10 @@ newestBy last word = pick (eqb (last .version) 0) (committedBy word) (record { v
 
 abbrev pub NewestOf : List ℕ → ℕ → List ℕ → ℕ → Newest → Type 0
 NewestOf buffer words table key r = (items : List Entry) → StagedIn buffer words items → r ≡ newestBy (latestOf key items) (get table key)
+
+-- the version alone
+abbrev pub VersionOf : List ℕ → ℕ → List ℕ → ℕ → ℕ → Type 0
+VersionOf buffer words table key r = (items : List Entry) → StagedIn buffer words items → r ≡ newestBy (latestOf key items) (get table key) .version
 
 -- a put by its first word; a key that is present
 abbrev pub putIn : FirstWord → Bool
@@ -60,10 +63,9 @@ admitOf c version more room =
     (A.Refused N.BatchFull))
     (A.Refused N.VersionSpent)
 
--- the item is behind the others, and the record says so
-pub record Staged (c : Control) (k : Setup) (before after : List ℕ) (fresh : ℕ) (e : Entry) (r : Moved) : Type 0 where
-  pub words : ℕ
-  pub added : Added before after (c .words) words e
-  pub control : r .control ≡ record { phase = 2; next = 0; items = c .items + 1; words = words; keys = c .keys; fresh = fresh }
-  pub setup : r .setup ≡ k
-  pub report : r .report ≡ R.Begun 0
+-- what a staging answers: a refusal leaves the control, and an item more, with so many words and new keys in all, begins a call with no action
+abbrev pub refusedWith : Control → Refusal → Staged
+refusedWith c n = record { control = c; report = R.Refused n }
+
+abbrev pub oneMore : Control → ℕ → ℕ → Staged
+oneMore c words fresh = record { control = record { phase = 2; next = 0; items = c .items + 1; words = words; keys = c .keys; fresh = fresh }; report = R.Begun 0 }

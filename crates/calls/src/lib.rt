@@ -3,15 +3,15 @@
 ghost use mathlib.Core.Path.{_≡_};
 ghost use Prim.Native.Nat.{_≤_, _<_};
 ghost use lib.ListN.{getD};
-ghost use Rattle.spec.specs.Words.{wordsOf, packed};
+ghost use Rattle.spec.specs.Words.{wordsOf};
 ghost use Rattle.spec.specs.Header.{bitOf, headerMap};
 ghost use Rattle.spec.specs.Log.{firstOf};
-ghost use Rattle.spec.specs.Calls.{Format, Put, Delete, Abandon, entry};
+ghost use Rattle.spec.specs.Calls.{Format, Put, Delete, Abandon};
 ghost use Rattle.spec.specs.Contract.{Called};
 ghost use Rattle.session.specs.State.{stateOf};
 ghost use Rattle.session.specs.Fits.{Fits};
 ghost use Rattle.calls.specs.Begun.{given, numberIn, unfinishedAt, formattingAt};
-ghost use Rattle.calls.specs.Staging.{NewestOf, putIn, presentBy, newKeys, admitOf, Staged};
+ghost use Rattle.calls.specs.Staging.{NewestOf, VersionOf, putIn, presentBy, newKeys, admitOf, refusedWith, oneMore};
 use recovery::Gated;
 use spec::Control;
 use spec::FirstWord;
@@ -241,6 +241,18 @@ fn known_of(buffer: &[u64; 1152], words: usize, table: &[u64], key: u64) -> Newe
     }
 }
 
+// The highest version of a key, staged items counted, 0 where it has none.
+fn version_of(buffer: &[u64; 1152], words: usize, table: &[u64], key: u64) -> u64
+    ensures { λ r. ⌜ VersionOf (now (buffer .entry)) words (now (table .entry)) key r ⌝ }
+{
+    let latest = batch::last_staged(buffer, words, key);
+    if latest.version == 0 {
+        let info = index::unpack(index::look(table, key));
+        return info.version;
+    }
+    latest.version
+}
+
 // Whether the entry at a word of the image is a put.
 fn is_put(image: &[u8], place: usize) -> bool
     ensures { λ r. ⌜ r ≡ putIn (firstOf (getD (wordsOf (now (image .entry))) place 0)) ⌝ }
@@ -315,22 +327,26 @@ fn admit(control: Control, version: u64, more: usize, room: usize) -> Admission
     Admission::Admitted(fresh + new)
 }
 
-// One more item behind the others; the call then has no action, and ends with its next step.
-fn stage(
-    control: Control,
-    setup: Setup,
-    buffer: &mut [u64; 1152],
-    fresh: usize,
-    op: u64,
-    version: u64,
-    field: u64,
-    key: u64,
-    value: &[u8],
-) -> Moved
-    requires { ⌜ control .items < 16 ⌝ }
-    ensures { λ r. ⌜ Staged control setup (now (buffer .entry)) (now (buffer .exit)) fresh (entry op 0 version field key (packed (now (value .entry)))) r ⌝ }
+// The record's control after a staging, and its report: the rest of its small parts stays.
+pub struct Staged {
+    pub control: Control,
+    pub report: Report,
+}
+
+fn refused(control: Control, n: Refusal) -> Staged
+    ensures { λ r. ⌜ r ≡ refusedWith control n ⌝ }
 {
-    let words = batch::add_entry(buffer, control.words, op, 0, version, field, key, value);
+    Staged {
+        control,
+        report: Report::Refused(n),
+    }
+}
+
+// One more item, with so many words in all; the call then has no action, and ends with its next step.
+fn one_more(control: Control, words: usize, fresh: usize) -> Staged
+    requires { ⌜ control .items < 16 ⌝ }
+    ensures { λ r. ⌜ r ≡ oneMore control words fresh ⌝ }
+{
     let next = Control {
         phase: 2,
         next: 0,
@@ -339,9 +355,8 @@ fn stage(
         keys: control.keys,
         fresh,
     };
-    Moved {
+    Staged {
         control: next,
-        setup,
         report: Report::Begun(0),
     }
 }
@@ -355,45 +370,28 @@ pub fn put_core(
     table: &[u64],
     key: u64,
     value: &[u8],
-) -> Moved
-    ensures { λ r. ⌜ Called stateOf Fits 12 256 (Put key (now (value .entry))) (record { control = control; setup = setup; buffer = now (buffer .entry) }) (record { control = r .control; setup = r .setup; buffer = now (buffer .exit) }) (now (image .entry)) (now (image .entry)) (now (table .entry)) (now (table .entry)) (r .report) ⌝ }
+) -> Staged
+    ensures { λ r. ⌜ Called stateOf Fits 12 256 (Put key (now (value .entry))) (record { control = control; setup = setup; buffer = now (buffer .entry) }) (record { control = r .control; setup = setup; buffer = now (buffer .exit) }) (now (image .entry)) (now (image .entry)) (now (table .entry)) (now (table .entry)) (r .report) ⌝ }
 {
     let g = recovery::gate(control, setup, image.len(), table.len());
     match g {
-        Gated::Refused(n) => Moved {
-            control,
-            setup,
-            report: Report::Refused(n),
-        },
+        Gated::Refused(n) => refused(control, n),
         Gated::Open => {
             let bytes = value.len();
             if 256 < bytes {
-                return Moved {
-                    control,
-                    setup,
-                    report: Report::Refused(Refusal::TooLong),
-                };
+                return refused(control, Refusal::TooLong);
             }
-            let known = known_of(buffer, control.words, table, key);
+            let words = control.words;
+            let version = version_of(buffer, words, table, key);
             let more = 2 + (bytes + 7) / 8;
-            let a = admit(control, known.version, more, index::capacity(table.len()));
+            let a = admit(control, version, more, index::capacity(table.len()));
             match a {
-                Admission::Refused(n) => Moved {
-                    control,
-                    setup,
-                    report: Report::Refused(n),
-                },
-                Admission::Admitted(fresh) => stage(
-                    control,
-                    setup,
-                    buffer,
-                    fresh,
-                    1,
-                    known.version + 1,
-                    bytes as u64,
-                    key,
-                    value,
-                ),
+                Admission::Refused(n) => refused(control, n),
+                Admission::Admitted(fresh) => {
+                    let field = bytes as u64;
+                    let end = batch::add_entry(buffer, words, 1, 0, version + 1, field, key, value);
+                    one_more(control, end, fresh)
+                }
             }
         }
     }
@@ -407,44 +405,28 @@ pub fn delete_core(
     image: &[u8],
     table: &[u64],
     key: u64,
-) -> Moved
-    ensures { λ r. ⌜ Called stateOf Fits 12 256 (Delete key) (record { control = control; setup = setup; buffer = now (buffer .entry) }) (record { control = r .control; setup = r .setup; buffer = now (buffer .exit) }) (now (image .entry)) (now (image .entry)) (now (table .entry)) (now (table .entry)) (r .report) ⌝ }
+) -> Staged
+    ensures { λ r. ⌜ Called stateOf Fits 12 256 (Delete key) (record { control = control; setup = setup; buffer = now (buffer .entry) }) (record { control = r .control; setup = setup; buffer = now (buffer .exit) }) (now (image .entry)) (now (image .entry)) (now (table .entry)) (now (table .entry)) (r .report) ⌝ }
 {
     let g = recovery::gate(control, setup, image.len(), table.len());
     match g {
-        Gated::Refused(n) => Moved {
-            control,
-            setup,
-            report: Report::Refused(n),
-        },
+        Gated::Refused(n) => refused(control, n),
         Gated::Open => {
-            let known = known_of(buffer, control.words, table, key);
+            let words = control.words;
+            let known = known_of(buffer, words, table, key);
             if is_present(image, known) {
                 let a = admit(control, known.version, 2, index::capacity(table.len()));
                 match a {
-                    Admission::Refused(n) => Moved {
-                        control,
-                        setup,
-                        report: Report::Refused(n),
-                    },
-                    Admission::Admitted(fresh) => stage(
-                        control,
-                        setup,
-                        buffer,
-                        fresh,
-                        2,
-                        known.version + 1,
-                        0,
-                        key,
-                        &image[0..0],
-                    ),
+                    Admission::Refused(n) => refused(control, n),
+                    Admission::Admitted(fresh) => {
+                        let next = known.version + 1;
+                        let none = &image[0..0];
+                        let end = batch::add_entry(buffer, words, 2, 0, next, 0, key, none);
+                        one_more(control, end, fresh)
+                    }
                 }
             } else {
-                Moved {
-                    control,
-                    setup,
-                    report: Report::Refused(Refusal::KeyAbsent),
-                }
+                refused(control, Refusal::KeyAbsent)
             }
         }
     }

@@ -10,9 +10,11 @@ ghost use Rattle.spec.specs.Contract.{Called};
 ghost use Rattle.session.specs.State.{stateOf};
 ghost use Rattle.session.specs.Fits.{Fits};
 ghost use Rattle.calls.specs.Begun.{given};
+ghost use Rattle.stepping.specs.Inner.{Run};
 ghost use Rattle.store.specs.Look.{Reported};
 ghost use Rattle.stat.specs.Counts.{linesUsed, Known};
 ghost use Rattle.capi.specs.Answers.{answerOf, Told, isGiven, ShownBy, Shown};
+use spec::Refusal;
 use spec::Report;
 use spec::Session;
 
@@ -164,31 +166,84 @@ pub extern "C" fn zkv_abandon(s: &mut Session, image: &[u8], table: &[u64]) -> A
     told(report)
 }
 
-// One step of the call that is begun (`store::step`).
-#[no_mangle]
-pub extern "C" fn zkv_step(s: &mut Session, image: &mut [u8], table: &mut [u64]) -> Answer
+// STEPS
+// The step in numbers, whatever is begun (`store::step`).
+fn step_whole(s: &mut Session, image: &mut [u8], table: &mut [u64]) -> Answer
     ensures { λ r. ⌜ Told (Called stateOf Fits 12 256 Step (now (s .entry)) (now (s .exit)) (now (image .entry)) (now (image .exit)) (now (table .entry)) (now (table .exit))) r ⌝ }
 {
     let report = store::step(s, image, table);
     told(report)
 }
 
-// A look-up's report in numbers: 0 or the refusal's number, and the part's first byte and length, 0 where there is none.
+// The same numbers, taken out of the place where a call left them: those of the short way then need no place in memory.
+fn same(a: Answer) -> Answer
+    ensures { λ r. ⌜ r ≡ a ⌝ }
+{
+    Answer {
+        kind: a.kind,
+        first: a.first,
+        second: a.second,
+    }
+}
+
+// One step of the call that is begun: on the short way where it may be gone (`store::step_inner`), else `store::step`.
+#[no_mangle]
+pub extern "C" fn zkv_step(s: &mut Session, image: &mut [u8], table: &mut [u64]) -> Answer
+    ensures { λ r. ⌜ Told (Called stateOf Fits 12 256 Step (now (s .entry)) (now (s .exit)) (now (image .entry)) (now (image .exit)) (now (table .entry)) (now (table .exit))) r ⌝ }
+{
+    let c = s.control;
+    let k = s.setup;
+    let short = stepping::is_inner(c, k, image.len(), table.len());
+    if short {
+        let report = store::step_inner(s, image, table);
+        return told(report);
+    } else {
+        let answer = step_whole(s, image, table);
+        return same(answer);
+    }
+}
+
+// Several steps in one: in a commit the stores that come next and the action behind them (`store::run_inner`), else one (`store::step`).
+#[no_mangle]
+pub extern "C" fn zkv_run(s: &mut Session, image: &mut [u8], table: &mut [u64]) -> Answer
+    ensures { λ r. ⌜ Told (Run (now (s .entry)) (now (s .exit)) (now (image .entry)) (now (image .exit)) (now (table .entry)) (now (table .exit))) r ⌝ }
+{
+    let c = s.control;
+    let k = s.setup;
+    let short = stepping::is_inner(c, k, image.len(), table.len());
+    if short {
+        let report = store::run_inner(s, image, table);
+        return told(report);
+    } else {
+        let answer = step_whole(s, image, table);
+        return same(answer);
+    }
+}
+
+// A look-up's report in numbers: 0 or the refusal's number, and the part's first byte and length, 0 where there is none. An absent key has
+// an arm of its own, and neighbouring arms store in another order: so the compiler keeps them apart, and a key that is found pays for neither.
 fn shown(report: Report, start: &mut u64, length: &mut u64) -> u64
     ensures { λ r. ⌜ ShownBy report r (now (start .exit)) (now (length .exit)) ⌝ }
 {
     match report {
-        Report::Refused(n) => {
-            *start = 0;
-            *length = 0;
-            recovery::number(n)
-        }
+        Report::Refused(n) => match n {
+            Refusal::KeyAbsent => {
+                *length = 0;
+                *start = 0;
+                11
+            }
+            _ => {
+                *start = 0;
+                *length = 0;
+                recovery::number(n)
+            }
+        },
         Report::Part {
             start: a,
             length: n,
         } => {
-            *start = a as u64;
             *length = n as u64;
+            *start = a as u64;
             0
         }
         _ => {

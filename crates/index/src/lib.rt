@@ -1,6 +1,6 @@
 // The key table: a hash index with open addressing in a lent table of words, a finite map from a key to a nonzero word.
 ghost use mathlib.Core.Path.{_≡_};
-ghost use Prim.Native.Nat.{_<_};
+ghost use Prim.Native.Nat.{_*_, _<_};
 ghost use lib.ListN.{length};
 ghost use Rattle.index.specs.Index.{infoAt, mixOf, hashOf, next, stopOf, get, insert, putAt, foundOf, putOf, zeros, used, capacity, Removal};
 ghost use Rattle.index.specs.Distance.{dist};
@@ -95,44 +95,53 @@ pub fn stop(table: &[u64], key: u64) -> usize
     n
 }
 
+// The word of the table at which the first slot for a key starts, of n slots.
+fn start_of(key: u64, n: usize) -> usize
+    requires { ⌜ 0 < n ⌝ }
+    ensures { λ r. ⌜ r ≡ 2 * hashOf key n ⌝ }
+{
+    let m = mix(key) as usize;
+    m * (n % 0x1_0000_0000) / 0x1_0000_0000 * 2
+}
+
 // The word of a key, 0 where it has none. It probes as `stop` does, and answers with the word that it has read: the first slot, those
-// behind it, and then those before it.
+// behind it, and then those before it. The loops count words of the table and are bounded by its length, so that they keep few numbers.
 pub fn look(table: &[u64], key: u64) -> u64
     ensures { λ r. ⌜ r ≡ get (now (table .entry)) key ⌝ }
 {
-    let n = table.len() / 2;
+    let words = table.len();
+    let n = words / 2;
     if n == 0 {
         return 0;
     }
-    let home = hash(key, n);
-    let first = table[2 * home + 1];
-    if first == 0 {
+    let at = start_of(key, n);
+    if table[at] == key {
+        return table[at + 1];
+    }
+    if table[at + 1] == 0 {
         return 0;
     }
-    if table[2 * home] == key {
-        return first;
-    }
-    let mut slot = home + 1;
-    while slot < n {
-        let info = table[2 * slot + 1];
+    let mut slot = at + 2;
+    while slot + 1 < words {
+        let info = table[slot + 1];
         if info == 0 {
             return 0;
         }
-        if table[2 * slot] == key {
+        if table[slot] == key {
             return info;
         }
-        slot += 1;
+        slot += 2;
     }
     let mut low = 0;
-    while low < home {
-        let info = table[2 * low + 1];
+    while low + 1 < words {
+        let info = table[low + 1];
         if info == 0 {
             return 0;
         }
-        if table[2 * low] == key {
+        if table[low] == key {
             return info;
         }
-        low += 1;
+        low += 2;
     }
     0
 }

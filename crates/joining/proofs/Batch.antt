@@ -8,7 +8,7 @@ use native.Mathlib.Omega.{arith}
 use lib.Dec.{eqb}
 use lib.ListN.{length}
 use lib.Seq.{append-snoc}
-use Rattle.spec.specs.Places.{basePower, maxChunks}
+use Rattle.spec.specs.Places.{basePower, maxChunks, chunkWords, base}
 use Rattle.spec.specs.Log.{Entry, Entries, imageEntries, encodeAll, moved, placed}
 use Rattle.spec.specs.Contents.{keysOf, capacity}
 use Rattle.spec.specs.declared.Control.{Control}
@@ -21,12 +21,13 @@ use Rattle.bits.specs.Bits.{WordsKept}
 use Rattle.bits.proofs.Laws.{kept-all, kept-then}
 use Rattle.session.specs.State.{bufferPart, batchWords}
 use Rattle.session.specs.Fits.{batchPlace}
+use Rattle.session.proofs.Part.{part-agree, chunk-in, lines-in}
 use Rattle.joining.specs.declared.Item.{Item}
 use Rattle.joining.specs.declared.Item.the-variants as I
 use Rattle.joining.specs.Blocks.{NoBlocks}
 use Rattle.joining.specs.Joining.{Shown, Awaited, OneJoined, Taken, StagedFrom, Staged, placeOf, Fenced, Joining}
 use Rattle.joining.proofs.Freeing.{both-none}
-use Rattle.joining.proofs.Staging.{part-same, told-none, told-fits, told-entry}
+use Rattle.joining.proofs.Staging.{told-none, told-fits, told-entry}
 
 -- Items in the log are in no block.
 no-blocks : (at : ℕ) (es : List Entry) → ((e : Entry) → Mem e es → e .placement ≡ 0) → NoBlocks (placed at es)
@@ -52,10 +53,8 @@ pub record Left (n : ℕ) (ws buffer table : List ℕ) (keys place at end : ℕ)
 -- ## The beginning
 
 place-is : (k : Setup) → k .chunk ≤ 503 → k .lines ≤ 64 → placeOf k ≡ batchPlace k
-place-is k c l =
-    let p : min (k .chunk) 503 ≡ k .chunk = omega arith in
-    let q : min (k .lines) 64 ≡ k .lines = omega arith in
-    rw (p, q)
+unfolding base chunkWords
+place-is k c l = rw (chunk-in k c, lines-in k l) (omega arith)
 
 left-start : (c : Control) (k : Setup) (buffer ws table : List ℕ) (front back items : List Entry) → Fenced c k buffer ws table front back items
     → Left (k .image / 4096) ws buffer table (c .keys) (placeOf k) 0 (min (c .words) 512) (front ++ (placed (batchPlace k) items ++ back)) back
@@ -87,7 +86,7 @@ left-next n ws buffer buffer′ table table′ keys keys′ place at end key ver
   joined = l .joined ++ e ∷ [];
   rest = es;
   parts = parts ∙ sym (append-snoc (l .joined) e (placed (place + (at + (2 + words))) es ++ back));
-  words = part-same buffer buffer′ (at + (2 + words)) (end - (at + (2 + words))) (λ j h. one .kept .below j (omega arith)) ∙ t .behind;
+  words = part-agree buffer′ buffer (at + (2 + words)) (end - (at + (2 + words))) (λ j l h. one .kept .below j (omega arith)) ∙ t .behind;
   right = (rw (t .all) at (l .right)) .1;
   counts = counts-same (t .entry ∷ (l .joined ++ back)) ((l .joined ++ e ∷ []) ++ back) es (λ k. rw append-snoc (highest-insert k (l .joined) back e)) (counts .1);
   in-log = λ f m. l .in-log f (rw (t .all) (inr m));

@@ -16,8 +16,9 @@ use Rattle.spec.specs.Contents.{chosen, keysOf, capacity}
 use Rattle.theory_log.proofs.Contents.{none-of}
 use Rattle.theory_log.proofs.Keys.{mem-known, known-mem, keys-fewer}
 use Rattle.index.specs.declared.Info.{Info}
-use Rattle.index.specs.Index.{get, insert, capacity as tableRoom}
+use Rattle.index.specs.Index.{infoAt, stopOf, get, insert, putAt, capacity as tableRoom}
 use Rattle.index.specs.Laws.{insert-length}
+use Rattle.index.specs.Answers.{look-in, put-insert}
 use Rattle.index.specs.Packed.{unpackOf}
 use Rattle.bits.specs.Bits.{hasBit}
 use Rattle.bits.proofs.Laws.{kept-all}
@@ -41,7 +42,11 @@ bounded-around xs more ys b =
 keys-around : (xs more ys : List Entry) → length (keysOf (xs ++ ys)) ≤ length (keysOf (xs ++ (more ++ ys)))
 keys-around xs more ys = keys-fewer (xs ++ ys) (xs ++ (more ++ ys)) (λ k t. let r = known-mem k (xs ++ ys) t in mem-known k (xs ++ (more ++ ys)) (r .0) (mem-around (r .0) xs more ys (r .1)) (r .2))
 
-module _ (n : ℕ) (ws buffer buffer′ table table′ : List ℕ) (keys key version place old info : ℕ) (is-old : old ≡ get table key) (is-info : info ≡ noted old place version) where
+-- An entry of a key whose probing stops at `slot`, where the table holds `old`.
+module _ (n : ℕ) (ws buffer buffer′ table table′ : List ℕ) (keys key version place slot old info : ℕ) (is-slot : slot ≡ stopOf table key) (is-word : old ≡ infoAt table slot) (is-info : info ≡ noted old place version) where
+  is-old : old ≡ get table key
+  is-old = is-word ∙ look-in table key slot is-slot
+
   -- what the entry, its place and its key give
   module _ (xs more ys : List Entry) (e : Entry) (k : e .key ≡ key) (v : e .version ≡ version) (a : e .at ≡ place) (awaits : Awaited n ws table xs more ys e) (shown : Shown buffer table keys (xs ++ ys)) where
     whole : Bounded (xs ++ (e ∷ (more ++ ys)))
@@ -89,7 +94,10 @@ module _ (n : ℕ) (ws buffer buffer′ table table′ : List ℕ) (keys key ver
       apart = apart-above xs ys e (awaits .above) plain (shown .apart);
     }
 
-  module _ (is-table : table′ ≡ insert table key info) where
+  module _ (is-put : table′ ≡ putAt table slot key info) where
+    is-table : table′ ≡ insert table key info
+    is-table = is-put ∙ put-insert table key slot is-slot info
+
     long : length table′ ≡ length table
     long = ap length is-table ∙ insert-length table key info
 
@@ -108,13 +116,13 @@ module _ (n : ℕ) (ws buffer buffer′ table table′ : List ℕ) (keys key ver
     }
 
   -- a new key
-  pub joined-new : length buffer ≡ 1152 → buffer′ ≡ buffer → table′ ≡ insert table key info → old ≡ 0 → OneJoined n ws buffer buffer′ table table′ keys key version place (keys + 1)
-  joined-new size same is-table z = record {
+  pub joined-new : length buffer ≡ 1152 → buffer′ ≡ buffer → table′ ≡ putAt table slot key info → old ≡ 0 → OneJoined n ws buffer buffer′ table table′ keys key version place (keys + 1)
+  joined-new size same is-put z = record {
     kept = rw same (kept-all buffer size);
-    sized = long is-table;
+    sized = long is-put;
     joins = λ xs more ys e k v a awaits shown.
         shows xs more ys e k v a awaits shown (keys + 1)
-        (indexed-new (xs ++ ys) (xs ++ e ∷ ys) e table table′ keys old info (shown .indexed) (grows xs more ys e k v a awaits shown) (rw k is-old) (rw (a, v) is-info) (rw k is-table) z (room xs more ys e k v a awaits shown z))
+        (indexed-new (xs ++ ys) (xs ++ e ∷ ys) e table table′ keys old info (shown .indexed) (grows xs more ys e k v a awaits shown) (rw k is-old) (rw (a, v) is-info) (rw k (is-table is-put)) z (room xs more ys e k v a awaits shown z))
         (λ u. rw (same, no-blocks xs more ys e k v a awaits shown z u) (sym (both-true (hasBit buffer u))));
   }
 

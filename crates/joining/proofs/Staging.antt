@@ -13,25 +13,18 @@ use Rattle.spec.specs.Log.{Entry, firstOf, wordsFor, encode, encodeAll}
 use Rattle.theory_log.specs.Batch.{Right}
 use Rattle.theory_log.proofs.Batch.{first-right}
 use Rattle.session.specs.State.{bufferPart}
+use Rattle.session.proofs.Part.{length-part}
 use Rattle.joining.specs.declared.Item.{Item}
 use Rattle.joining.specs.declared.Item.the-variants as I
 use Rattle.joining.specs.Joining.{Taken, StagedFrom, Staged}
 
 -- A part of the buffer.
-part-length : (b : List ℕ) (i n : ℕ) → length (bufferPart b i n) ≡ n
-part-length b i zero = refl
-part-length b i (suc n) = ap suc (part-length b (suc i) n)
-
 part-drop : (b : List ℕ) (i m n : ℕ) → drop m (bufferPart b i (m + n)) ≡ bufferPart b (i + m) n
 part-drop b i zero n = rw (zero-add n, add-zero i)
 part-drop b i (suc m) n =
     let p : suc m + n ≡ suc (m + n) = omega arith in
     let q : i + suc m ≡ suc i + m = omega arith in
     rw (p, q) (part-drop b (suc i) m n)
-
-pub part-same : (b d : List ℕ) (i n : ℕ) → ((j : ℕ) → j < i + n → getD d j 0 ≡ getD b j 0) → bufferPart d i n ≡ bufferPart b i n
-part-same b d i zero h = refl
-part-same b d i (suc n) h = rw (h i (omega arith)) (ap (λ (l : List ℕ). getD b i 0 ∷ l) (part-same b d (suc i) n (λ j l. h j (omega arith))))
 
 -- an entry at its head
 record Headed (b : List ℕ) (at end : ℕ) (e : Entry) (es : List Entry) : Type 0 where
@@ -44,7 +37,7 @@ headed : (b : List ℕ) (at end : ℕ) (e : Entry) (es : List Entry) → Right e
 headed b at end e es r h =
     let m = 2 + length (e .value) in
     let n = ap length h in
-    let l = part-length b at (end - at) in
+    let l = length-part b at (end - at) in
     let k = length-append (e .value) (encodeAll es) in
     let fits : at + m ≤ end = omega arith in
     let two : end - at ≡ suc (suc (end - at - 2)) = omega arith in
@@ -93,7 +86,7 @@ module _ (b : List ℕ) (at end : ℕ) where
       staged-entry l m = (omega arith, entry)
         where
           entry : (rest : List Entry) → StagedFrom b at end rest → Taken b at end (getD b (at + 1) 0) v words rest
-          entry [] s = let n = ap length (s .1) in let k = part-length b at (end - at) in absurd (omega arith)
+          entry [] s = let n = ap length (s .1) in let k = length-part b at (end - at) in absurd (omega arith)
           entry (e ∷ es) s =
               let d = headed b at end e es (s .0 .0) (s .1) in
               let m = own-size e es (s .0 .0) d in

@@ -3,10 +3,10 @@
 use mathlib.Core.Path.{_≡_}
 use mathlib.Core.Option.{some}
 use mathlib.Core.List.{List, [], _∷_, _++_}
-use Prim.Native.Nat.{ℕ, _+_, _-_, _*_, _/_, _≤_, _<_, min}
+use Prim.Native.Nat.{ℕ, _+_, _-_, _*_, _/_, _≤_, _<_}
 use lib.ListN.{length}
 use Rattle.spec.specs.Basics.{any, isIn}
-use Rattle.spec.specs.Places.{basePower, maxChunks, base}
+use Rattle.spec.specs.Places.{basePower, maxChunks}
 use Rattle.spec.specs.Log.{Entry, Entries, imageEntries, encodeAll, placed}
 use Rattle.spec.specs.Contents.{highest, chosen, keysOf, capacity, liveBlocks}
 use Rattle.spec.specs.declared.Control.{Control}
@@ -17,7 +17,7 @@ use Rattle.index.specs.declared.Info.{Info}
 use Rattle.bits.specs.Bits.{hasBit, WordsKept}
 use Rattle.volatile.specs.Known.{Indexed}
 use Rattle.volatile.proofs.Info.{said}
-use Rattle.session.specs.State.{bufferPart, batchWords}
+use Rattle.session.specs.State.{bufferPart, batchWords, chunkIn, linesIn}
 use Rattle.session.specs.Fits.{Built, batchPlace}
 use Rattle.joining.specs.Blocks.{frees, topBlock, Freed, BlocksApart, NoBlocks}
 use Rattle.joining.specs.declared.Item.{Item}
@@ -74,7 +74,7 @@ Staged buffer at end (I.Entry key version words) = (at + (2 + words) ≤ end) ×
 
 -- where the batch begins, for any record
 abbrev pub placeOf : Setup → ℕ
-placeOf k = base basePower (min (k .chunk) 503) + 8 * min (k .lines) 64
+placeOf k = 512 * chunkIn k + 8 * linesIn k
 
 -- THE BATCH: what holds at a commit's last fence. The image shows the batch between front and back; table and bits know front and back alone.
 pub record Fenced (c : Control) (k : Setup) (buffer ws table : List ℕ) (front back items : List Entry) : Type 0 where

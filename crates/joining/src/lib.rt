@@ -1,12 +1,10 @@
 // A commit's items join the key table, and the blocks of the entries that they supersede leave the bits.
-ghost use mathlib.Core.Path.{_≡_};
-ghost use Prim.Native.Nat.{_≤_, _<_, min};
+ghost use Prim.Native.Nat.{_≤_};
 ghost use Rattle.spec.specs.Words.{wordsOf};
 ghost use Rattle.spec.specs.Log.{firstOf};
 ghost use lib.ListN.{getD};
-ghost use Rattle.volatile.specs.Known.{raised, noted};
 ghost use Rattle.joining.specs.Blocks.{blockAt, namedBy, twinBlock, Freed};
-ghost use Rattle.joining.specs.Joining.{Scanned, Superseded, OneJoined, Staged, placeOf, Joining};
+ghost use Rattle.joining.specs.Joining.{Scanned, Superseded, OneJoined, Staged, Joining};
 use index::Info;
 use log::Next;
 use spec::Control;
@@ -111,50 +109,6 @@ fn release_tops(buffer: &mut [u64; 1152], image: &[u8], count: usize, key: u64, 
 }
 
 // ONE ITEM
-// One more entry of a key, of which the table holds `info`.
-fn raised(info: Info, place: usize, version: u64) -> Info
-    requires { ⌜ info .entries < 0x20_0000 ⌝ }
-    ensures { λ r. ⌜ r ≡ raised info place version ⌝ }
-{
-    if info.version < version {
-        return Info {
-            place: place as u64,
-            version,
-            entries: info.entries + 1,
-            several: 0,
-        };
-    }
-    if info.version == version {
-        return Info {
-            place: info.place,
-            version: info.version,
-            entries: info.entries + 1,
-            several: 1,
-        };
-    }
-    Info {
-        place: info.place,
-        version: info.version,
-        entries: info.entries + 1,
-        several: info.several,
-    }
-}
-
-// What the table is to hold of a key, of which it holds `word`, with one more entry.
-fn noted(word: u64, place: usize, version: u64) -> u64
-    ensures { λ r. ⌜ r ≡ noted word place version ⌝ }
-{
-    if word == 0 {
-        return index::pack(Info {
-            place: place as u64,
-            version,
-            entries: 1,
-            several: 0,
-        });
-    }
-    index::pack(raised(index::unpack(word), place, version))
-}
-
 // An entry at word `place` joins the table, which has so many keys: how many it has then.
 fn join_one(
     image: &[u8],
@@ -169,17 +123,17 @@ fn join_one(
     ensures { λ r. ⌜ OneJoined count (wordsOf (now (image .entry))) (now (buffer .entry)) (now (buffer .exit)) (now (table .entry)) (now (table .exit)) keys key version place r ⌝ }
 {
     bits::buffer_length(buffer);
-    let old = index::look(table, key);
-    let info = noted(old, place, version);
+    let slot = index::stop(table, key);
+    let old = index::word_at(table, slot);
     if old == 0 {
         if keys < index::capacity(table.len()) {
-            index::insert_or_update(table, key, info);
+            index::put_at(table, slot, key, noting::noted(0, place, version));
             return keys + 1;
         }
         return keys;
     }
+    index::put_at(table, slot, key, noting::noted(old, place, version));
     release_tops(buffer, image, count, key, index::unpack(old));
-    index::insert_or_update(table, key, info);
     keys
 }
 
@@ -224,19 +178,6 @@ fn item_at(buffer: &[u64; 1152], at: usize, end: usize) -> Item
     }
 }
 
-fn lesser(a: usize, b: usize) -> usize
-    ensures { λ r. ⌜ r ≡ min a b ⌝ }
-{
-    if a < b { a } else { b }
-}
-
-// The word at which the batch begins; chunk and lines out of range count as the highest.
-fn batch_place(setup: Setup) -> usize
-    ensures { λ r. ⌜ (r ≡ placeOf setup) × (r ≤ 0x4_0000) ⌝ }
-{
-    512 * lesser(setup.chunk, 503) + 8 * lesser(setup.lines, 64)
-}
-
 // At a commit's last fence the staged items join: how many keys the table has then.
 pub fn join(
     control: Control,
@@ -249,8 +190,8 @@ pub fn join(
 {
     bits::buffer_length(buffer);
     let count = setup.image / 4096;
-    let place = batch_place(setup);
-    let end = lesser(control.words, 512);
+    let place = acts::batch_start(setup);
+    let end = acts::at_most(control.words, 512);
     let mut keys = control.keys;
     let mut at: usize = 0;
     loop {

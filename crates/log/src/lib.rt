@@ -120,8 +120,7 @@ pub fn next_entry(img: &[u8], at: usize, end: usize) -> LogStep
 pub fn role_at(img: &[u8], c: usize) -> Role
     ensures { λ r. ⌜ r ≡ roleAt 12 (wordsOf (now (img .entry))) c ⌝ }
 {
-    let n = img.len() / 8;
-    if c < n {
+    if c < 0x8000_0000_0000_0000 {
         return role_of(load(img, 8 + c));
     }
     role_of(0)

@@ -163,7 +163,17 @@ fn committed(m: stepping::Moved) -> Answer {
     }
 }
 
-// A step leaves the setup as it was.
+// A staging and a step leave the setup as it was.
+fn staged(setup: Setup, m: calls::Staged) -> Answer {
+    let control = m.control;
+    let report = m.report;
+    Answer {
+        control,
+        setup,
+        report,
+    }
+}
+
 fn stepped(setup: Setup, m: stepping::Stepped) -> Answer {
     let control = m.control;
     let report = m.report;
@@ -192,9 +202,10 @@ fn put_part(
     n: usize,
 ) -> Answer {
     if n <= value.len() {
-        return begun(calls::put_core(c, s, buffer, image, table, key, &value[0..n]));
+        let part = &value[0..n];
+        return staged(s, calls::put_core(c, s, buffer, image, table, key, part));
     }
-    begun(calls::put_core(c, s, buffer, image, table, key, value))
+    staged(s, calls::put_core(c, s, buffer, image, table, key, value))
 }
 
 // A put of so many bytes, counted up from one; at most 4,096.
@@ -232,7 +243,7 @@ fn delete(
     l: Line,
 ) -> Answer {
     let key = l.first;
-    begun(calls::delete_core(c, s, buffer, image, table, key.value))
+    staged(s, calls::delete_core(c, s, buffer, image, table, key.value))
 }
 
 fn format(

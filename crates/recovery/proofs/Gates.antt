@@ -1,16 +1,17 @@
 -- The gate of a call on an open register, read off the record; what a refusal at the gate shows, once for all calls that ask there;
 -- and what is known behind the gate.
 -- Assumes nothing.
-use mathlib.Core.Path.{_≡_, refl, sym}
-use mathlib.Core.Logic.{_⊎_, inl, inr}
+use mathlib.Core.Path.{_≡_, refl, sym, _∙_}
+use mathlib.Core.Logic.{_⊎_, inl, inr, by-cases}
 use mathlib.Core.Bool.{Bool, true, false}
 use mathlib.Core.Option.{none, some}
 use mathlib.Core.List.{List, []}
-use Prim.Native.Nat.{ℕ}
+use Prim.Native.Nat.{ℕ, _≤_}
+use native.Mathlib.Decide.{ℕ-discrete}
 use native.Mathlib.Omega.{arith}
 use lib.Dec.{eqb}
 use lib.ListN.{length}
-use borrow.Author.Tests.{eqb-true, ne-eqb}
+use borrow.Author.Tests.{eqb-true, eq-eqb, ne-eqb}
 use Rattle.spec.specs.Basics.{pick, both, either}
 use Rattle.spec.specs.Words.{wordsOf}
 use Rattle.spec.specs.Medium.{Action}
@@ -27,7 +28,7 @@ use Rattle.spec.specs.declared.Report.the-variants as R
 use Rattle.theory_medium.proofs.Lists.{both-l, both-r}
 use Rattle.session.specs.State.{stateAt, stateOf}
 use Rattle.session.specs.Fits.{RestFits, FitsAt, Fits}
-use Rattle.recovery.specs.Asks.{gateFor, sameLengths}
+use Rattle.recovery.specs.Asks.{gateFor, closedOr, sameLengths}
 
 -- ## The record's gate
 
@@ -49,6 +50,45 @@ gate-state c k b bytes words = go (eqb (c .phase) 1) (eqb (c .phase) 2) (eqb (c 
     go false false false true b5 h items a3 a4 a5 = rw (h refl)
     go false false false false true h items a3 a4 a5 = refl
     go false false false false false h items a3 a4 a5 = refl
+
+-- the phases with nothing open, and the others
+module _ (phase : ℕ) (n : Refusal) where
+  pub closed-yes : (phase ≡ 1 → ⊥) → (phase ≡ 2 → ⊥) → (phase ≡ 3 → ⊥) → (phase ≡ 5 → ⊥) → N.NotOpen ≡ closedOr phase n
+  closed-yes a b c d = rw (ne-eqb phase 1 a, ne-eqb phase 2 b, ne-eqb phase 3 c, ne-eqb phase 5 d)
+
+  pub closed-no : phase ≤ 5 → (phase ≡ 0 → ⊥) → (phase ≡ 4 → ⊥) → n ≡ closedOr phase n
+  closed-no l z f =
+      by-cases (ℕ-discrete phase 1) (λ a. rw (eq-eqb phase 1 a)) (λ a.
+      by-cases (ℕ-discrete phase 2) (λ b. rw (ne-eqb phase 1 a, eq-eqb phase 2 b)) (λ b.
+      by-cases (ℕ-discrete phase 3) (λ c. rw (ne-eqb phase 1 a, ne-eqb phase 2 b, eq-eqb phase 3 c)) (λ c.
+      let d : phase ≡ 5 = omega arith in
+      rw (ne-eqb phase 1 a, ne-eqb phase 2 b, ne-eqb phase 3 c, eq-eqb phase 5 d))))
+
+-- the record's gate by its phase, as the code asks
+module _ (c : Control) (k : Setup) (b : List ℕ) (bytes words : ℕ) where
+  pub gate-open : k .image ≡ bytes → k .table ≡ words → c .phase ≡ 1 → gate (stateAt c k b) bytes words ≡ none
+  gate-open i t p = gate-state c k b bytes words ∙ rw (eq-eqb _ _ i, eq-eqb _ _ t, eq-eqb _ _ p)
+
+  pub gate-unfinished : k .image ≡ bytes → k .table ≡ words → (c .phase ≡ 1 → ⊥) → gate (stateAt c k b) bytes words ≡ some (closedOr (c .phase) N.Unfinished)
+  gate-unfinished i t p = gate-state c k b bytes words ∙ rw (eq-eqb _ _ i, eq-eqb _ _ t, ne-eqb _ _ p) (go (either (eqb (c .phase) 2) (either (eqb (c .phase) 3) (eqb (c .phase) 5))))
+    where
+      go : (x : Bool) → pick x (some N.Unfinished) (some N.NotOpen) ≡ some (pick x N.Unfinished N.NotOpen)
+      go true = refl
+      go false = refl
+
+  unlike : sameLengths k bytes words ≡ false → gate (stateAt c k b) bytes words ≡ some (closedOr (c .phase) N.ImageLength)
+  unlike s = gate-state c k b bytes words ∙ rw s (go (eqb (c .phase) 1) (either (eqb (c .phase) 2) (either (eqb (c .phase) 3) (eqb (c .phase) 5))))
+    where
+      go : (x y : Bool) → pick x (some N.ImageLength) (pick y (some N.ImageLength) (some N.NotOpen)) ≡ some (pick (either x y) N.ImageLength N.NotOpen)
+      go true y = refl
+      go false true = refl
+      go false false = refl
+
+  pub gate-table : k .image ≡ bytes → (k .table ≡ words → ⊥) → gate (stateAt c k b) bytes words ≡ some (closedOr (c .phase) N.ImageLength)
+  gate-table i t = unlike (rw (eq-eqb _ _ i, ne-eqb _ _ t))
+
+  pub gate-image : (k .image ≡ bytes → ⊥) → gate (stateAt c k b) bytes words ≡ some (closedOr (c .phase) N.ImageLength)
+  gate-image i = unlike (rw (ne-eqb _ _ i))
 
 -- ## A refusal at the gate
 

@@ -50,7 +50,7 @@ use Rattle.recovery.specs.declared.Located.the-variants as L
 use Rattle.recovery.specs.declared.Gated.{Gated}
 use Rattle.recovery.specs.declared.Gated.the-variants as G
 use Rattle.recovery.specs.Asks.{gateOf, Asking}
-use Rattle.recovery.specs.Look.{reportOf, within, blockPart, partBy, partAt, PartIn, InImage, Looking, sessionOf, Locating, Showing}
+use Rattle.recovery.specs.Look.{reportOf, within, blockPart, partBy, firstWord, partAt, PartIn, InImage, Looking, sessionOf, Locating, Showing}
 use Rattle.recovery.proofs.Gates.{turned-down, at-rest}
 
 -- ## Any memory: 11, or a part of the image
@@ -84,18 +84,19 @@ kind-part bytes ws place w op pl x (put l) a b = rw (a, b)
 kind-part bytes ws place w op pl x block a b = rw (a, b)
 kind-part bytes ws place w op pl x delete a b = rw a
 
-entry-part : (bytes : ℕ) (ws : List ℕ) (e : Entry) → StandsIn ws e
+entry-part : (bytes : ℕ) (ws : List ℕ) (e : Entry) → StandsIn ws e → 8 * (e .at + 2) ≤ bytes
     → (pointed e ≡ true → 8 * (unitWord (e .field) + 1) + getD ws (unitWord (e .field)) 0 ≤ bytes)
     → (eqb (e .op) 1 ≡ true → eqb (e .placement) 1 ≡ false → 8 * (e .at + 2) + e .field ≤ bytes)
     → reportOf (partAt bytes ws (e .at)) ≡ partOr ws (some e)
-entry-part bytes ws e stands blocks logs =
+entry-part bytes ws e stands has blocks logs =
     let w = getD ws (e .at) 0 in
     let h = head-first w (e .op) (e .placement) (e .version) (e .field) (stands .first) in
     let k = kind-small (e .op) (e .placement) (e .field) (stands .right .kind) in
     let v = stands .right .high in
     let a : w % 16 ≡ e .op + 4 * e .placement = omega arith in
     let b : w / 16777216 ≡ e .field = omega arith in
-    ap reportOf (kind-part bytes ws (e .at) w (e .op) (e .placement) (e .field) (stands .right .kind) a b) ∙ go (eqb (e .op) 1) (eqb (e .placement) 1) blocks logs
+    let f : firstWord bytes ws (e .at) ≡ w = rw (le-leb _ _ has) in
+    ap (λ x. reportOf (partBy bytes ws (e .at) x)) f ∙ ap reportOf (kind-part bytes ws (e .at) w (e .op) (e .placement) (e .field) (stands .right .kind) a b) ∙ go (eqb (e .op) 1) (eqb (e .placement) 1) blocks logs
   where
     kind-small : (op pl x : ℕ) → Kind op pl x → op + 4 * pl < 16
     kind-small op pl x (put l) = omega arith
@@ -127,7 +128,7 @@ module _ (n : ℕ) (bytes : List ℕ) (es : List Entry) (ok : Ok 12 n (wordsOf b
 
   chosen-part : (k : ℕ) (e : Entry) → chosen k es ≡ some e → reportOf (partAt (length bytes) ws (e .at)) ≡ lookUp ws es k
   unfolding lookUp
-  chosen-part k e h = rw h (entry-part (length bytes) ws e stands in-block in-log)
+  chosen-part k e h = rw h (entry-part (length bytes) ws e stands (let f = stands .fits in let l = long in omega arith) in-block in-log)
     where
       stands : StandsIn ws e
       stands = image-stands 12 (omega arith) (omega arith) n ws es (ok .parsed) e (chosen-is k es e h .in-list)
@@ -163,7 +164,7 @@ module _ (bytes a n : ℕ) where
   pub within-all : a + n ≤ bytes → L.Part a n ≡ within bytes a n
   within-all h = sym (rw (le-leb (a + n) bytes h))
 
-module _ (bytes : ℕ) (ws : List ℕ) (place word : ℕ) (is-word : word ≡ getD ws place 0) where
+module _ (bytes : ℕ) (ws : List ℕ) (place word : ℕ) (is-word : word ≡ firstWord bytes ws place) where
   pub part-log : (r : Located) → word % 16 ≡ 1 → r ≡ within bytes (8 * (place + 2)) (word / 16777216) → r ≡ partAt bytes ws place
   part-log r k h = h ∙ rw (← is-word, k)
 
@@ -180,7 +181,7 @@ module _ (key : ℕ) (bytes table : List ℕ) (word : ℕ) (is : word ≡ get ta
 
   pub looking-part : (info : Info) (r : Located) → (word ≡ 0 → ⊥) → info ≡ unpackOf word → r ≡ partAt (length bytes) (wordsOf bytes) (info .place) → Looking key bytes table r
   looking-part info r nz i e = record {
-    inside = rw e (part-in (length bytes) (wordsOf bytes) (info .place) (getD (wordsOf bytes) (info .place) 0));
+    inside = rw e (part-in (length bytes) (wordsOf bytes) (info .place) (firstWord (length bytes) (wordsOf bytes) (info .place)));
     exact = λ n keys es ok ix.
         let f = found-chosen table keys es ix (small n bytes es ok) key word is nz in
         let place : info .place ≡ f .0 .at = ap (λ (j : Info). j .place) (i ∙ f .2) in

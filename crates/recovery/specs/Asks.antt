@@ -23,6 +23,10 @@ gateFor phase same =
     (pick (either (eqb phase 2) (either (eqb phase 3) (eqb phase 5))) (pick same (some N.Unfinished) (some N.ImageLength))
     (some N.NotOpen))
 
+-- 2 for a phase with nothing open, and else another refusal
+abbrev pub closedOr : ℕ → Refusal → Refusal
+closedOr phase n = pick (either (eqb phase 1) (either (eqb phase 2) (either (eqb phase 3) (eqb phase 5)))) n N.NotOpen
+
 abbrev pub sameLengths : Setup → ℕ → ℕ → Bool
 sameLengths k bytes words = both (eqb (k .image) bytes) (eqb (k .table) words)
 

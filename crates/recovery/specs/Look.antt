@@ -42,8 +42,12 @@ partBy bytes ws place w =
     pick (eqb (w % 16) 1) (within bytes (8 * (place + 2)) (w / 16777216))
     (pick (eqb (w % 16) 5) (blockPart bytes ws (w / 16777216)) (L.Refused N.KeyAbsent))
 
+-- that first word, 0 where an image of so many bytes does not have the entry's first two words
+abbrev pub firstWord : ℕ → List ℕ → ℕ → ℕ
+firstWord bytes ws place = pick (leb (8 * (place + 2)) bytes) (getD ws place 0) 0
+
 abbrev pub partAt : ℕ → List ℕ → ℕ → Located
-partAt bytes ws place = partBy bytes ws place (getD ws place 0)
+partAt bytes ws place = partBy bytes ws place (firstWord bytes ws place)
 
 -- 11, or a part of an image of so many bytes
 abbrev pub PartIn : ℕ → Located → Type 0
@@ -70,6 +74,13 @@ LookedUp c k key bytes table r = (b : List ℕ) → Called stateOf Fits 12 256 (
 pub record Locating (c : Control) (k : Setup) (key : ℕ) (bytes table : List ℕ) (r : Located) : Type 0 where
   pub called : LookedUp c k key bytes table (reportOf r)
   pub inside : InImage (length bytes) r
+
+-- the call with its report: for any memory a refusal or a part of the image
+pub record Reporting (c : Control) (k : Setup) (key : ℕ) (bytes table : List ℕ) (r : Report) : Type 0 where
+  pub called : LookedUp c k key bytes table r
+  pub located : Located
+  pub is-report : r ≡ reportOf located
+  pub inside : InImage (length bytes) located
 
 -- the call with the part itself, and 0 or the refusal's number: `located` is what it answers
 abbrev pub numberOf : Located → ℕ

@@ -13,14 +13,12 @@ ghost use Rattle.spec.specs.Opening.{directoryTest};
 ghost use Rattle.spec.specs.Calls.{Open, number};
 ghost use Rattle.spec.specs.Contract.{Called};
 ghost use Rattle.index.specs.Index.{zeros};
-ghost use Rattle.volatile.specs.Known.{raised, noted};
 ghost use Rattle.session.specs.State.{stateOf};
 ghost use Rattle.session.specs.Fits.{Fits};
 ghost use Rattle.recovery.specs.Pass.{Entering, Filling};
 ghost use Rattle.recovery.specs.Judged.{firstRefusal, JudgingLog, Judging};
-ghost use Rattle.recovery.specs.Asks.{gateFor, sameLengths, gateOf, Asking};
-ghost use Rattle.recovery.specs.Look.{within, blockPart, partAt, Looking, Locating, LookedUp, Showing};
-use index::Info;
+ghost use Rattle.recovery.specs.Asks.{closedOr, Asking};
+ghost use Rattle.recovery.specs.Look.{within, blockPart, firstWord, partAt, Looking, Locating, Reporting, Showing};
 use spec::Control;
 use spec::LogStep;
 use spec::Refusal;
@@ -100,50 +98,6 @@ pub fn directory_fits(image: &[u8], count: usize) -> bool
 }
 
 // THE FIRST PASS: every entry goes into the key table
-// One more entry of a key, of which the table holds `info`.
-fn raised(info: Info, place: usize, version: u64) -> Info
-    requires { ⌜ info .entries < 0x20_0000 ⌝ }
-    ensures { λ r. ⌜ r ≡ raised info place version ⌝ }
-{
-    if info.version < version {
-        return Info {
-            place: place as u64,
-            version,
-            entries: info.entries + 1,
-            several: 0,
-        };
-    }
-    if info.version == version {
-        return Info {
-            place: info.place,
-            version: info.version,
-            entries: info.entries + 1,
-            several: 1,
-        };
-    }
-    Info {
-        place: info.place,
-        version: info.version,
-        entries: info.entries + 1,
-        several: info.several,
-    }
-}
-
-// What the table is to hold of a key, of which it holds `word`, with one more entry.
-pub fn noted(word: u64, place: usize, version: u64) -> u64
-    ensures { λ r. ⌜ r ≡ noted word place version ⌝ }
-{
-    if word == 0 {
-        return index::pack(Info {
-            place: place as u64,
-            version,
-            entries: 1,
-            several: 0,
-        });
-    }
-    index::pack(raised(index::unpack(word), place, version))
-}
-
 // Whether entries are still plain: a word of the table without the bit of several top entries, and no value in a block.
 fn single(plain: bool, info: u64) -> bool
     ensures { λ r. ⌜ r ≡ both plain (ltb info 0x8000_0000_0000_0000) ⌝ }
@@ -187,7 +141,7 @@ fn enter(
         let old = index::word_at(table, slot);
         if old == 0 {
             if keys < index::capacity(table.len()) {
-                let info = noted(0, place, version);
+                let info = noting::noted(0, place, version);
                 index::put_at(table, slot, key, info);
                 return Entered {
                     keys: keys + 1,
@@ -201,7 +155,7 @@ fn enter(
                 plain: false,
             };
         }
-        let info = noted(old, place, version);
+        let info = noting::noted(old, place, version);
         index::put_at(table, slot, key, info);
         return Entered {
             keys,
@@ -437,52 +391,38 @@ pub enum Gated {
     Refused(Refusal),
 }
 
-fn same_lengths(setup: Setup, bytes: usize, words: usize) -> bool
-    ensures { λ r. ⌜ r ≡ sameLengths setup bytes words ⌝ }
+// 2 for a phase with nothing open, and else another refusal. 1, 2, 3 and 5 are at rest, a staging, a commit, and a formatting begun on an
+// open register.
+fn closed_or(phase: u64, refusal: Refusal) -> Refusal
+    ensures { λ r. ⌜ r ≡ closedOr phase refusal ⌝ }
 {
-    if setup.image == bytes {
-        return setup.table == words;
+    if 5 < phase {
+        return Refusal::NotOpen;
     }
-    false
+    if phase == 0 {
+        return Refusal::NotOpen;
+    }
+    if phase == 4 {
+        return Refusal::NotOpen;
+    }
+    refusal
 }
 
-// A staging, a commit, or a formatting begun on an open register.
-fn is_begun(phase: u64) -> bool
-    ensures { λ r. ⌜ r ≡ either (eqb phase 2) (either (eqb phase 3) (eqb phase 5)) ⌝ }
-{
-    if phase == 2 {
-        return true;
-    }
-    if phase == 3 {
-        return true;
-    }
-    phase == 5
-}
-
-fn gate_for(phase: u64, same: bool) -> Gated
-    ensures { λ r. ⌜ gateOf r ≡ gateFor phase same ⌝ }
-{
-    if phase == 1 {
-        if same {
-            return Gated::Open;
-        }
-        return Gated::Refused(Refusal::ImageLength);
-    }
-    if is_begun(phase) {
-        if same {
-            return Gated::Refused(Refusal::Unfinished);
-        }
-        return Gated::Refused(Refusal::ImageLength);
-    }
-    Gated::Refused(Refusal::NotOpen)
-}
-
-// 2, 1, 8: nothing open, lengths unlike those at the opening, a call unfinished.
+// 2, 1, 8: nothing open, lengths unlike those at the opening, a call unfinished. An open register at rest is found by three comparisons.
 pub fn gate(control: Control, setup: Setup, bytes: usize, words: usize) -> Gated
     ensures { λ r. ⌜ Asking control setup bytes words r ⌝ }
 {
-    let same = same_lengths(setup, bytes, words);
-    gate_for(control.phase, same)
+    let phase = control.phase;
+    if setup.image == bytes {
+        if setup.table == words {
+            if phase == 1 {
+                return Gated::Open;
+            }
+            return Gated::Refused(closed_or(phase, Refusal::Unfinished));
+        }
+        return Gated::Refused(closed_or(phase, Refusal::ImageLength));
+    }
+    Gated::Refused(closed_or(phase, Refusal::ImageLength))
 }
 
 // What a look-up finds: a refusal, or the part of the image that holds the value.
@@ -526,12 +466,19 @@ fn log_part(bytes: usize, place: usize, length: u64) -> Located
     Located::Refused(Refusal::KeyAbsent)
 }
 
+// The first word of the entry at word `place`, 0 where the image does not have the entry's first two words.
+fn first_word(image: &[u8], place: usize) -> u64
+    ensures { λ r. ⌜ r ≡ firstWord (length (now (image .entry))) (wordsOf (now (image .entry))) place ⌝ }
+{
+    words::load_leading(image, place)
+}
+
 // The part that holds the value of the entry at word `place`: a put with its value in the log, or one with its value in a block.
 fn part_at(image: &[u8], place: usize) -> Located
     requires { ⌜ place < 0x40_0000 ⌝ }
     ensures { λ r. ⌜ r ≡ partAt (length (now (image .entry))) (wordsOf (now (image .entry))) place ⌝ }
 {
-    let word = words::load(image, place);
+    let word = first_word(image, place);
     let kind = word % 16;
     let field = word / 16777216;
     if kind == 1 {
@@ -568,7 +515,7 @@ pub fn locate(control: Control, setup: Setup, image: &[u8], table: &[u64], key: 
 
 // Look-up, with its report.
 pub fn find(control: Control, setup: Setup, image: &[u8], table: &[u64], key: u64) -> Report
-    ensures { λ r. ⌜ LookedUp control setup key (now (image .entry)) (now (table .entry)) r ⌝ }
+    ensures { λ r. ⌜ Reporting control setup key (now (image .entry)) (now (table .entry)) r ⌝ }
 {
     let r = locate(control, setup, image, table, key);
     match r {

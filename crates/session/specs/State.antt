@@ -1,4 +1,5 @@
--- The state that a station record stands for, whatever numbers it holds. A field out of range is read as its bound.
+-- The state that a station record stands for, whatever numbers it holds: more staged words than there is room for are read as that many,
+-- a chunk or a number of committed lines by its remainder.
 -- Assumes nothing.
 --
 --   control.phase | state
@@ -43,9 +44,16 @@ batchWords c b = bufferPart b 0 (min (c .words) batchRoom)
 unfoldable pub batchItems : Control → List ℕ → List Entry
 batchItems c b = map (moved 0) (listed (parse (batchWords c b) 0 0))
 
--- a commit's actions: chunk and lines within bounds
+-- the chunk that a commit writes to, and the lines committed there
+abbrev pub chunkIn : Setup → ℕ
+chunkIn k = k .chunk % 512
+
+abbrev pub linesIn : Setup → ℕ
+linesIn k = k .lines % 128
+
+-- a commit's actions
 unfoldable pub commitActions : Control → Setup → List ℕ → List Action
-commitActions c k b = appendOf basePower (min (k .chunk) 503) (k .old) (min (k .lines) 64) (batchWords c b)
+commitActions c k b = appendOf basePower (chunkIn k) (k .old) (linesIn k) (batchWords c b)
 
 -- a formatting's actions: what it was told, by the header's map
 abbrev pub givenBy : ℕ → ℕ → Given

@@ -29,13 +29,14 @@ use Rattle.spec.specs.declared.Report.the-variants as R
 use Rattle.theory_medium.proofs.Lists.{not-both}
 use Rattle.session.specs.State.{batchRoom, batchWords, batchItems, commitActions, formatActions, stateAt, stateOf}
 use Rattle.session.specs.Fits.{NoneBelow, RestFits, CommitFits, Fits}
+use Rattle.session.proofs.Part.{length-part, chunk-in, lines-in, words-counted}
 use Rattle.batch.specs.Items.{OnlyDeletes}
 use Rattle.placing.specs.declared.Place.{Place}
 use Rattle.placing.specs.declared.Placed.{Placed}
 use Rattle.placing.specs.Found.{placeOf, Searched, Searching}
 use Rattle.placing.proofs.Hint.{same-space}
 use Rattle.acts.specs.Nth.{nth, commitCount}
-use Rattle.acts.proofs.Committing.{length-part, length-commit, commit-next}
+use Rattle.acts.proofs.Committing.{length-commit, commit-next}
 use Rattle.recovery.specs.declared.Gated.{Gated}
 use Rattle.recovery.specs.declared.Gated.the-variants as G
 use Rattle.recovery.specs.Asks.{gateOf, Asking}
@@ -85,11 +86,7 @@ module _ (c : Control) (k : Setup) (b ws table : List ℕ) (f : Entry) (fs : Lis
   k′ = writingTo k d old lines first′ least′
 
   staged : length (encodeAll items) ≤ batchRoom
-  unfolding batchWords
-  staged =
-      let e : length (batchWords c b) ≡ length (encodeAll items) = ap length (r .batch .written) in
-      let q : length (batchWords c b) ≡ min (c .words) batchRoom = length-part b 0 (min (c .words) batchRoom) in
-      omega arith
+  staged = let e = words-counted c b (r .entries) items (r .batch) in let h = r .batch .room in omega arith
 
   ahead : Forward (k .image) (k .table) ws (r .entries) items d old
   ahead =
@@ -103,11 +100,7 @@ module _ (c : Control) (k : Setup) (b ws table : List ℕ) (f : Entry) (fs : Lis
   pub begun-acts : commitActions c′ k′ b ≡ appendOf basePower d old lines (encodeAll items)
   unfolding commitActions
   begun-acts =
-      let x = ahead .chunk in
-      let y = ahead .lines in
-      let p : min d 503 ≡ d = omega arith in
-      let q : min lines 64 ≡ lines = omega arith in
-      rw (p, q, written)
+      rw (chunk-in k′ (ahead .chunk), lines-in k′ (ahead .lines), written)
 
   some-words : 0 < commitCount (c .words)
   some-words = omega arith

@@ -3,3 +3,4 @@ mod States
 mod Keeping
 mod Shows
 mod Begins
+mod Inner

@@ -22,15 +22,16 @@ use Rattle.spec.specs.declared.Refusal.the-variants as N
 use Rattle.spec.specs.declared.Report.{Report}
 use Rattle.spec.specs.declared.Report.the-variants as R
 use Rattle.words.specs.Image.{Saved}
-use Rattle.session.specs.State.{bufferPart, batchRoom, batchWords, batchItems, commitActions, formatActions, stateAt, stateOf}
+use Rattle.session.specs.State.{bufferPart, batchRoom, batchWords, batchItems, chunkIn, linesIn, commitActions, formatActions, stateAt, stateOf}
 use Rattle.session.specs.Fits.{Fits}
+use Rattle.session.proofs.Kept.{words-kept, same-items, same-acts, emptied, staged, end-kept, staging-kept}
 use Rattle.acts.specs.Nth.{nth, nthReport, commitCount, formatCount}
 use Rattle.acts.proofs.Committing.{commit-next, commit-done, shows-store}
 use Rattle.acts.proofs.Formatting.{format-next, format-done}
 use Rattle.acts.proofs.Performed.{changed-store, changed-words}
 use Rattle.joining.specs.Joining.{Joining}
 use Rattle.stepping.proofs.States.{busy, formatting, at-2, at-3, at-4, at-5, nothing-begun, in-call, table-kept, step-idle, step-refused, step-acts, step-ends}
-use Rattle.stepping.proofs.Keeping.{words-kept, same-items, same-acts, acted, emptied, staged, action-kept, last-kept, end-kept, staging-kept}
+use Rattle.stepping.proofs.Keeping.{acted, action-kept, last-kept}
 
 -- NOTHING BEGUN, and lengths unlike those at the begin
 module _ (c : Control) (k : Setup) (b bytes table : List ℕ) where
@@ -131,11 +132,11 @@ module _ (c : Control) (k : Setup) (b bytes table : List ℕ) (same-bytes : k .i
           fits f = (j .kept .long ∙ f .0, rw (after, none, words) (last-kept c k b (wordsOf bytes) table (batchItems c b) act (rw (here (omega arith), none) at (f .1)) b′ table′ keys (rw words at j)))
 
     -- a store of one of the batch's words
-    pub commit-stores : (bytes′ : List ℕ) (w v : ℕ) → c .next < 8 * linesFor (min (c .words) batchRoom) → w ≡ 512 * min (k .chunk) 503 + 8 * min (k .lines) 64 + c .next
+    pub commit-stores : (bytes′ : List ℕ) (w v : ℕ) → c .next < 8 * linesFor (min (c .words) batchRoom) → w ≡ 512 * chunkIn k + 8 * linesIn k + c .next
         → v ≡ getD (padded (bufferPart b 0 (min (c .words) batchRoom))) (c .next) 0 → Saved bytes bytes′ w v
         → Called stateOf Fits 12 256 Step s (with′ (acted c (c .keys) (c .fresh)) b) bytes bytes′ table table (R.Store w v)
     commit-stores bytes′ w v h ew ev saved =
-        commit-acts bytes′ (R.Store w v) (shows-store c k b (c .next) (min (c .words) batchRoom) (min (k .chunk) 503) (min (k .lines) 64) refl refl refl w v h ew ev)
+        commit-acts bytes′ (R.Store w v) (shows-store c k b (c .next) (min (c .words) batchRoom) refl w v h ew ev)
         (changed-store (R.Store w v) bytes bytes′ w v refl saved) (omega arith)
 
     pub commit-ends : commitCount (c .words) ≤ c .next → Called stateOf Fits 12 256 Step s (with′ (emptied c) b) bytes bytes table table (R.End 0)

@@ -1,6 +1,7 @@
 // The begin of a commit; and the step: the next action of the call that is begun, or its end. A core takes the record's small parts
 // by value and its buffer lent, and answers the next ones with the report.
 ghost use mathlib.Core.Path.{_≡_};
+ghost use mathlib.Core.Bool.{true, false};
 ghost use Prim.Native.Nat.{_≤_, min};
 ghost use lib.ListN.{length};
 ghost use Rattle.spec.specs.Basics.{pick};
@@ -10,6 +11,7 @@ ghost use Rattle.spec.specs.Contract.{Called};
 ghost use Rattle.session.specs.State.{batchRoom, stateOf};
 ghost use Rattle.session.specs.Fits.{Fits};
 ghost use Rattle.stepping.specs.Planned.{PlaceFor, CommitPlanned};
+ghost use Rattle.stepping.specs.Inner.{Inner, RunsOn, ShortWay, Stores};
 use placing::Placed;
 use recovery::Gated;
 use spec::Control;
@@ -169,7 +171,7 @@ pub struct Stepped {
     pub report: Report,
 }
 
-// A commit's next action: first the stores of the batch's words; with the last, a fence, the batch joins the key table. Its end leaves nothing staged.
+// A commit's next action; with the last, a fence, the batch joins the key table. Its end leaves nothing staged.
 fn commit_step(
     control: Control,
     setup: Setup,
@@ -181,24 +183,6 @@ fn commit_step(
     ensures { λ r. ⌜ Called stateOf Fits 12 256 Step (record { control = control; setup = setup; buffer = now (buffer .entry) }) (record { control = r .control; setup = setup; buffer = now (buffer .exit) }) (now (image .entry)) (now (image .exit)) (now (table .entry)) (now (table .exit)) (r .report) ⌝ }
 {
     let at = control.next;
-    let stores = acts::commit_stores(control.words);
-    if at < stores {
-        let word = acts::batch_start(setup) + at;
-        let value = acts::batch_word(buffer, control.words, at);
-        words::save(image, word, value);
-        let stored = Control {
-            phase: 3,
-            next: at + 1,
-            items: control.items,
-            words: control.words,
-            keys: control.keys,
-            fresh: control.fresh,
-        };
-        return Stepped {
-            control: stored,
-            report: Report::Store { word, value },
-        };
-    }
     let count = acts::commit_count(control.words);
     if count <= at {
         let items = 0;
@@ -343,4 +327,108 @@ pub fn step_core(
         return commit_step(control, setup, buffer, image, table);
     }
     format_step(control, setup, buffer, image, table)
+}
+
+// THE SHORT WAY
+// The number of the next action after an action on the short way, which alters nothing else of the record, and its report.
+pub struct Advanced {
+    pub next: usize,
+    pub report: Report,
+}
+
+// Whether the next action is one of a commit's but not its last. Then a step needs neither key table nor bits.
+pub fn is_inner(control: Control, setup: Setup, bytes: usize, words: usize) -> bool
+    ensures { λ r. ⌜ (r ≡ true → Inner control setup bytes words) × (r ≡ false → Inner control setup bytes words → ⊥) ⌝ }
+{
+    if control.phase == 3 {
+        if setup.image == bytes {
+            if setup.table == words {
+                if control.next < acts::commit_count(control.words) - 1 {
+                    return true;
+                }
+            }
+        }
+    }
+    false
+}
+
+// A step on the short way.
+pub fn inner_step(
+    control: Control,
+    setup: Setup,
+    buffer: &[u64; 1152],
+    image: &mut [u8],
+    table: &mut [u64],
+) -> Advanced
+    ensures { λ r. ⌜ ShortWay (Called stateOf Fits 12 256 Step) control setup (now (buffer .entry)) (now (image .entry)) (now (image .exit)) (now (table .entry)) (now (table .exit)) (r .next) (r .report) ⌝ }
+{
+    let at = control.next;
+    let actions = acts::commit_count(control.words);
+    if actions <= at {
+        return Advanced {
+            next: at,
+            report: Report::Idle,
+        };
+    }
+    let action = acts::commit_action(control, setup, buffer, at);
+    acts::perform(image, action);
+    let next = at + 1;
+    Advanced {
+        next,
+        report: action,
+    }
+}
+
+// The batch's stores from the next one on: the number of the action behind them.
+fn store_batch(control: Control, setup: Setup, buffer: &[u64; 1152], image: &mut [u8]) -> usize
+    ensures { λ r. ⌜ Stores control setup (now (buffer .entry)) (now (image .entry)) (now (image .exit)) r ⌝ }
+{
+    let stores = acts::commit_stores(control.words);
+    let start = acts::batch_start(setup);
+    let mut at = control.next;
+    while at < stores {
+        let value = acts::batch_word(buffer, control.words, at);
+        words::save(image, start + at, value);
+        at += 1;
+    }
+    at
+}
+
+// The stores that come next, in one go, and then the action behind them, whose report is told: a flush or a fence.
+pub fn inner_run(
+    control: Control,
+    setup: Setup,
+    buffer: &[u64; 1152],
+    image: &mut [u8],
+    table: &mut [u64],
+) -> Advanced
+    ensures { λ r. ⌜ ShortWay RunsOn control setup (now (buffer .entry)) (now (image .entry)) (now (image .exit)) (now (table .entry)) (now (table .exit)) (r .next) (r .report) ⌝ }
+{
+    let actions = acts::commit_count(control.words);
+    let at = store_batch(control, setup, buffer, image);
+    if actions - 1 <= at {
+        return Advanced {
+            next: at,
+            report: Report::Idle,
+        };
+    }
+    if at == actions - 3 {
+        let seal = acts::commit_action(control, setup, buffer, at);
+        acts::perform(image, seal);
+        let behind = at + 1;
+        let flush = acts::commit_action(control, setup, buffer, behind);
+        acts::perform(image, flush);
+        let next = behind + 1;
+        return Advanced {
+            next,
+            report: flush,
+        };
+    }
+    let action = acts::commit_action(control, setup, buffer, at);
+    acts::perform(image, action);
+    let next = at + 1;
+    Advanced {
+        next,
+        report: action,
+    }
 }

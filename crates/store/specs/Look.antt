@@ -6,15 +6,13 @@ use Prim.Native.Nat.{ℕ, _+_, _≤_}
 use lib.ListN.{length}
 use Rattle.spec.specs.Calls.{LookUp}
 use Rattle.spec.specs.Contract.{Called, partBytes}
-use Rattle.spec.specs.declared.Control.{Control}
-use Rattle.spec.specs.declared.Setup.{Setup}
 use Rattle.spec.specs.declared.Session.{Session}
 use Rattle.spec.specs.declared.Report.{Report}
 use Rattle.spec.specs.declared.Report.the-variants as R
 use Rattle.session.specs.State.{stateOf}
 use Rattle.session.specs.Fits.{Fits}
 use Rattle.recovery.specs.declared.Located.{Located}
-use Rattle.recovery.specs.Look.{reportOf, InImage, numberOf, LookedUp}
+use Rattle.recovery.specs.Look.{reportOf, InImage, numberOf}
 
 -- the call's report, for any memory a refusal or a part of the image
 pub record Reported (s : Session) (key : ℕ) (bytes table : List ℕ) (r : Report) : Type 0 where
@@ -30,7 +28,3 @@ pub record Shown (s : Session) (key : ℕ) (bytes table part : List ℕ) (answer
   pub inside : InImage (length bytes) located
   pub is-part : part ≡ partBytes (reportOf located) bytes
   pub is-number : answer ≡ numberOf located
-
--- the report of a record of which the small parts are known, whatever its buffer holds
-abbrev pub ReportedFor : Control → Setup → ℕ → List ℕ → List ℕ → Report → Type 0
-ReportedFor c k key bytes table r = (b : List ℕ) → Reported (record { control = c; setup = k; buffer = b }) key bytes table r

@@ -7,12 +7,10 @@ ghost use Rattle.spec.specs.Contract.{Called};
 ghost use Rattle.session.specs.State.{stateOf};
 ghost use Rattle.session.specs.Fits.{Fits};
 ghost use Rattle.calls.specs.Begun.{given};
-ghost use Rattle.store.specs.Look.{Reported, ReportedFor, Shown};
-use recovery::Located;
-use spec::Control;
+ghost use Rattle.stepping.specs.Inner.{RunsOn, OnShortWay};
+ghost use Rattle.store.specs.Look.{Reported, Shown};
 use spec::Report;
 use spec::Session;
-use spec::Setup;
 
 // Begins a formatting; the register's numbers are told each with a mark whether it is given.
 pub fn format(
@@ -64,7 +62,6 @@ pub fn stage_put(s: &mut Session, image: &[u8], table: &[u64], key: u64, value: 
     let k = s.setup;
     let m = calls::put_core(c, k, &mut s.buffer, image, table, key, value);
     s.control = m.control;
-    s.setup = m.setup;
     m.report
 }
 
@@ -76,7 +73,6 @@ pub fn stage_delete(s: &mut Session, image: &[u8], table: &[u64], key: u64) -> R
     let k = s.setup;
     let m = calls::delete_core(c, k, &mut s.buffer, image, table, key);
     s.control = m.control;
-    s.setup = m.setup;
     m.report
 }
 
@@ -115,25 +111,37 @@ pub fn step(s: &mut Session, image: &mut [u8], table: &mut [u64]) -> Report
     m.report
 }
 
-// LOOK-UP
-// The report by the record's small parts.
-fn found(control: Control, setup: Setup, image: &[u8], table: &[u64], key: u64) -> Report
-    ensures { λ r. ⌜ ReportedFor control setup key (now (image .entry)) (now (table .entry)) r ⌝ }
+// THE SHORT WAY: the same step where `stepping::is_inner` says that it may be gone; nothing is promised elsewhere. Of the record it
+// alters the number of the next action alone.
+pub fn step_inner(s: &mut Session, image: &mut [u8], table: &mut [u64]) -> Report
+    ensures { λ r. ⌜ OnShortWay (Called stateOf Fits 12 256 Step) (now (s .entry)) (now (s .exit)) (now (image .entry)) (now (image .exit)) (now (table .entry)) (now (table .exit)) r ⌝ }
 {
-    let r = recovery::locate(control, setup, image, table, key);
-    match r {
-        Located::Refused(n) => Report::Refused(n),
-        Located::Part { start, length } => Report::Part { start, length },
-    }
+    let c = s.control;
+    let k = s.setup;
+    let m = stepping::inner_step(c, k, &s.buffer, image, table);
+    s.control.next = m.next;
+    m.report
 }
 
+// The stores that come next, and the action behind them, whose report is told.
+pub fn run_inner(s: &mut Session, image: &mut [u8], table: &mut [u64]) -> Report
+    ensures { λ r. ⌜ OnShortWay RunsOn (now (s .entry)) (now (s .exit)) (now (image .entry)) (now (image .exit)) (now (table .entry)) (now (table .exit)) r ⌝ }
+{
+    let c = s.control;
+    let k = s.setup;
+    let m = stepping::inner_run(c, k, &s.buffer, image, table);
+    s.control.next = m.next;
+    m.report
+}
+
+// LOOK-UP
 // Look-up, with its report: a refusal, or where in the image the value lies. The record is only read.
 pub fn find(s: &Session, image: &[u8], table: &[u64], key: u64) -> Report
     ensures { λ r. ⌜ Reported (now (s .entry)) key (now (image .entry)) (now (table .entry)) r ⌝ }
 {
     let c = s.control;
     let k = s.setup;
-    found(c, k, image, table, key)
+    recovery::find(c, k, image, table, key)
 }
 
 // Look-up: the part of the image that holds the value, the empty part on a refusal; `answer` gets 0 or the refusal's number.

@@ -1,7 +1,9 @@
 // Little-endian words of an image of bytes, and the words of a value's bytes.
 ghost use mathlib.Core.Path.{_≡_};
 ghost use Prim.Native.Nat.{_+_, _-_, _*_, _≤_, _<_, min};
+ghost use lib.Dec.{leb};
 ghost use lib.ListN.{length, getD, take};
+ghost use Rattle.spec.specs.Basics.{pick};
 ghost use Rattle.spec.specs.Words.{wordAt, wordsOf, packed};
 ghost use Rattle.words.specs.Overlay.{overlay};
 ghost use Rattle.words.specs.Store.{setWord};
@@ -62,6 +64,18 @@ pub fn load(img: &[u8], w: usize) -> u64
     0
 }
 
+// The word w of an image that has the word behind it too, else 0: one comparison asks for both.
+pub fn load_leading(img: &[u8], w: usize) -> u64
+    ensures { λ r. ⌜ r ≡ pick (leb (8 * (w + 2)) (length (now (img .entry)))) (getD (wordsOf (now (img .entry))) w 0) 0 ⌝ }
+{
+    if w < 0x1FFF_FFFF_FFFF_FFFE {
+        if 8 * (w + 2) <= img.len() {
+            return read_word(img, w);
+        }
+    }
+    0
+}
+
 // The word w of the image set to v; past the end nothing changes.
 pub fn save(img: &mut [u8], w: usize, v: u64)
     ensures { λ _. ⌜ Saved (now (img .entry)) (now (img .exit)) w v ⌝ }
@@ -75,42 +89,19 @@ pub fn save(img: &mut [u8], w: usize, v: u64)
 // What a value's last word is filled with.
 const FILL: u64 = 0;
 
-// A byte of a value, the fill past its end.
-fn byte_at(value: &[u8], i: usize) -> u64
-    ensures { λ r. ⌜ (r ≡ getD (now (value .entry)) i 0) × (r < 256) ⌝ }
+// The word i of a value that has fewer than eight bytes from there on, zero-filled. The last byte is taken first.
+fn last_word(value: &[u8], i: usize) -> u64
+    requires { ⌜ (8 * i ≤ length (now value)) × (length (now value) < 8 * i + 8) ⌝ }
+    ensures { λ r. ⌜ r ≡ wordAt (now (value .entry)) i ⌝ }
 {
-    if i < value.len() {
-        return wide(value[i]);
+    let from = 8 * i;
+    let mut v = FILL;
+    let mut at = value.len();
+    while from < at {
+        at -= 1;
+        v = 256 * v + wide(value[at]);
     }
-    FILL
-}
-
-// The word i of a value's bytes, zero-filled; 0 past its end.
-pub fn pack_word(value: &[u8], i: usize) -> u64
-    ensures { λ r. ⌜ r ≡ getD (packed (now (value .entry))) i 0 ⌝ }
-{
-    let n = value.len() / 8;
-    if i < n {
-        return read_word(value, i);
-    }
-    if n < i {
-        return 0;
-    }
-    let at = 8 * i;
-    let b0 = byte_at(value, at);
-    let b1 = byte_at(value, at + 1);
-    let b2 = byte_at(value, at + 2);
-    let b3 = byte_at(value, at + 3);
-    let b4 = byte_at(value, at + 4);
-    let b5 = byte_at(value, at + 5);
-    let b6 = byte_at(value, at + 6);
-    b0
-        + b1 * 0x100
-        + b2 * 0x1_0000
-        + b3 * 0x100_0000
-        + b4 * 0x1_0000_0000
-        + b5 * 0x100_0000_0000
-        + b6 * 0x1_0000_0000_0000
+    v
 }
 
 // How many words of a value are copied to place `at` of the record's buffer: all, or as many as fit.
@@ -129,10 +120,16 @@ pub fn pack_into(value: &[u8], buffer: &mut [u64; 1152], at: usize)
     ensures { λ _. ⌜ now (buffer .exit) ≡ overlay (now (buffer .entry)) at (take (1152 - at) (packed (now (value .entry)))) ⌝ }
 {
     let count = copied((value.len() + 7) / 8, at);
+    let whole = copied(value.len() / 8, at);
     let mut i = 0;
-    while i < count {
-        let v = pack_word(value, i);
+    while i < whole {
+        let v = read_word(value, i);
         buffer[at + i] = v;
         i += 1;
     }
+    if count <= i {
+        return;
+    }
+    let v = last_word(value, i);
+    buffer[at + i] = v;
 }

@@ -12,12 +12,6 @@ at-most-requires c κs = search needs
 add-lines : tie.Need-add-lines
 add-lines c = search needs
 
-at-most-requires-2 : tie.Need-at-most-requires-2
-at-most-requires-2 c κs = search needs
-
-at-most-requires-3 : tie.Need-at-most-requires-3
-at-most-requires-3 c κs = search needs
-
 mul-stores : tie.Need-mul-stores
 mul-stores c = search needs
 
@@ -49,9 +43,7 @@ returns : tie.Need-returns
 returns c =
     let a = c .before .before .before .before .before .args in
     let m = c .before .before .before .before .at-most in
-    let n = c .before .before .before .at-most2 in
-    let o = c .before .before .at-most3 in
-    shows-store (a .control) (a .setup) (a .buffer .now) (a .at) (m .result) (n .result) (o .result) (m .ensures) (n .ensures) (o .ensures) _ _ (omega arith) (omega arith) (c .batch-word .ensures)
+    shows-store (a .control) (a .setup) (a .buffer .now) (a .at) (m .result) (m .ensures) _ _ (omega arith) (omega arith) (c .batch-word .ensures)
 
 mul-line : tie.Need-mul-line
 mul-line c = search needs
@@ -66,17 +58,13 @@ returns-2 : tie.Need-returns-2
 returns-2 c =
     let a = c .before .before .before .before .before .args in
     let m = c .before .before .before .before .at-most in
-    let n = c .before .before .before .at-most2 in
-    let o = c .before .before .at-most3 in
-    shows-flush (a .control) (a .setup) (a .buffer .now) (a .at) (m .result) (n .result) (o .result) (m .ensures) (n .ensures) (o .ensures) _ (omega arith) (omega arith) (omega arith)
+    shows-flush (a .control) (a .setup) (a .buffer .now) (a .at) (m .result) (m .ensures) _ (omega arith) (omega arith) (omega arith)
 
 returns-3 : tie.Need-returns-3
 returns-3 c =
     let a = c .before .before .before .before .before .before .args in
     let m = c .before .before .before .before .before .at-most in
-    let n = c .before .before .before .before .at-most2 in
-    let o = c .before .before .before .at-most3 in
-    shows-fence (a .control) (a .setup) (a .buffer .now) (a .at) (m .result) (n .result) (o .result) (m .ensures) (n .ensures) (o .ensures) (omega arith)
+    shows-fence (a .control) (a .setup) (a .buffer .now) (a .at) (m .result) (m .ensures) (omega arith)
 
 add-word-3 : tie.Need-add-word-3
 add-word-3 c = search needs
@@ -91,9 +79,7 @@ returns-4 : tie.Need-returns-4
 returns-4 c =
     let a = c .before .before .before .before .before .before .before .before .args in
     let m = c .before .before .before .before .before .before .before .at-most in
-    let n = c .before .before .before .before .before .before .at-most2 in
-    let o = c .before .before .before .before .before .at-most3 in
-    shows-seal (a .control) (a .setup) (a .buffer .now) (a .at) (m .result) (n .result) (o .result) (m .ensures) (n .ensures) (o .ensures) _ _ _ (omega arith) (omega arith) (omega arith) (c .log-word .ensures)
+    shows-seal (a .control) (a .setup) (a .buffer .now) (a .at) (m .result) (m .ensures) _ _ _ (omega arith) (omega arith) (omega arith) (c .log-word .ensures)
 
 add-line-3 : tie.Need-add-line-3
 add-line-3 c = search needs
@@ -102,17 +88,13 @@ returns-5 : tie.Need-returns-5
 returns-5 c =
     let a = c .before .before .before .before .before .before .before .before .args in
     let m = c .before .before .before .before .before .before .before .at-most in
-    let n = c .before .before .before .before .before .before .at-most2 in
-    let o = c .before .before .before .before .before .at-most3 in
-    shows-seal-flush (a .control) (a .setup) (a .buffer .now) (a .at) (m .result) (n .result) (o .result) (m .ensures) (n .ensures) (o .ensures) _ (omega arith) (omega arith)
+    shows-seal-flush (a .control) (a .setup) (a .buffer .now) (a .at) (m .result) (m .ensures) _ (omega arith) (omega arith)
 
 returns-6 : tie.Need-returns-6
 returns-6 c =
     let a = c .before .before .before .before .before .before .before .before .args in
     let m = c .before .before .before .before .before .before .before .at-most in
-    let n = c .before .before .before .before .before .before .at-most2 in
-    let o = c .before .before .before .before .before .at-most3 in
-    shows-last (a .control) (a .setup) (a .buffer .now) (a .at) (m .result) (n .result) (o .result) (m .ensures) (n .ensures) (o .ensures) (omega arith)
+    shows-last (a .control) (a .setup) (a .buffer .now) (a .at) (m .result) (m .ensures) (omega arith)
 
 pub commit-action-spec : {M : Type 1} → statement M
 commit-action-spec =
@@ -120,8 +102,6 @@ commit-action-spec =
     (tie.spec
     at-most-requires
     add-lines
-    at-most-requires-2
-    at-most-requires-3
     mul-stores
     mul-fence
     add-seal

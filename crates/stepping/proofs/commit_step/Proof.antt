@@ -6,36 +6,11 @@ use Rattle.stepping.proofs.Shows as S
 use Rattle.stepping.proofs.commit_step.Statement.{statement}
 use Rattle.stepping.proofs.commit_step.Tie as tie
 
-commit-stores-requires : tie.Need-commit-stores-requires
-commit-stores-requires c κs = search needs
-
-batch-start-requires : tie.Need-batch-start-requires
-batch-start-requires c κs = search needs
-
-add-word : tie.Need-add-word
-add-word c = search needs
-
-batch-word-requires : tie.Need-batch-word-requires
-batch-word-requires c κs = search needs
-
-save-requires : tie.Need-save-requires
-save-requires c κs = search needs
-
-add-t20 : tie.Need-add-t20
-add-t20 c = search needs
-
-same-length : tie.Need-same-length
-same-length c = search needs
-
-returns : tie.Need-returns
-returns c =
-    S.commit-stores _ _ _ _ _ (omega arith) (omega arith) (omega arith) _ _ _ (omega arith) (omega arith) (c .before .before .before .before .batch-word .ensures) (c .before .before .save .ensures)
-
 commit-count-requires : tie.Need-commit-count-requires
 commit-count-requires c κs = search needs
 
-returns-2 : tie.Need-returns-2
-returns-2 c = S.commit-ends _ _ _ _ _ (omega arith) (omega arith) (omega arith) (omega arith)
+returns : tie.Need-returns
+returns c = S.commit-ends _ _ _ _ _ (omega arith) (omega arith) (omega arith) (omega arith)
 
 commit-action-requires : tie.Need-commit-action-requires
 commit-action-requires c κs = search needs
@@ -46,46 +21,38 @@ perform-requires c κs = search needs
 add-next : tie.Need-add-next
 add-next c = search needs
 
-same-length-2 : tie.Need-same-length-2
-same-length-2 c = search needs
+same-length : tie.Need-same-length
+same-length c = search needs
 
-returns-3 : tie.Need-returns-3
-returns-3 c =
+returns-2 : tie.Need-returns-2
+returns-2 c =
     S.commit-acts _ _ _ _ _ (omega arith) (omega arith) (omega arith) _ _ (c .before .before .before .before .before .commit-action .ensures) (c .before .before .before .perform .ensures) (omega arith)
 
 join-requires : tie.Need-join-requires
 join-requires c κs = search needs
 
+same-length-2 : tie.Need-same-length-2
+same-length-2 c = search needs
+
 same-length-3 : tie.Need-same-length-3
 same-length-3 c = search needs
 
-same-length-4 : tie.Need-same-length-4
-same-length-4 c = search needs
-
-returns-4 : tie.Need-returns-4
-returns-4 c =
+returns-3 : tie.Need-returns-3
+returns-3 c =
     S.commit-joins _ _ _ _ _ (omega arith) (omega arith) (omega arith) _ _ (c .before .before .before .before .before .before .before .before .before .before .before .commit-action .ensures) (c .before .before .before .before .before .before .before .before .before .perform .ensures) _ _ _ (omega arith) (c .before .before .join .ensures)
 
 pub commit-step-spec : {M : Type 1} → statement M
 commit-step-spec =
     tie.close
     (tie.spec
-    commit-stores-requires
-    batch-start-requires
-    add-word
-    batch-word-requires
-    save-requires
-    add-t20
-    same-length
-    returns
     commit-count-requires
-    returns-2
+    returns
     commit-action-requires
     perform-requires
     add-next
-    same-length-2
-    returns-3
+    same-length
+    returns-2
     join-requires
+    same-length-2
     same-length-3
-    same-length-4
-    returns-4)
+    returns-3)

@@ -12,7 +12,6 @@ use Rattle.spec.specs.Words.{wordsOf, packed}
 use Rattle.spec.specs.Header.{bitOf, headerMap}
 use Rattle.spec.specs.Log.{firstOf}
 use Rattle.calls.specs.Begun.{numberIn, unfinishedAt, formattingAt}
-use Rattle.calls.specs.Staging.{NewestOf, putIn, presentBy, newKeys, admitOf, Staged}
 use mathlib.Core.Path.{refl, ap}
 use mathlib.Core.Bool.{Bool}
 use Prim.Native.Nat.{ℕ, _+_, _^_}

@@ -1,7 +1,8 @@
--- `store::find` meets its contract: a walk of its MIR, made by walk_read.py. The borrow of the record is looked into, `control` and `setup` copied out, and shut again; all other references are given to `found` for good, and what it returns is the result.
--- All that the proof knows of `found` is that it meets its contract.
+-- `store::find` meets its contract: a walk of its MIR, made by walk_read.py. The borrow of the record is looked into, `control` and `setup` copied out, and shut again; all other references are given to `recovery::find` for good, and what it returns is the result.
+-- All that the proof knows of `recovery::find` is that it meets its contract.
 -- Assumes nothing.
-use Rattle.store.specs.Look.{Reported, ReportedFor}
+use Rattle.store.specs.Look.{Reported}
+use Rattle.recovery.specs.Look.{Reporting}
 use mathlib.Core.Path.{_≡_, refl}
 use mathlib.Core.Bool.{Bool}
 use Prim.Native.Nat.{ℕ, _<_, _^_}
@@ -56,10 +57,10 @@ use Rattle.spec.proofs.Report as P
 use Rattle.spec.proofs.Report.Laws as P′
 use Rattle.spec.proofs.Session as T
 use Rattle.spec.proofs.Session.Laws as T′
-use Rattle.store.proofs.found as core
-use Rattle.store.proofs.found.Symbol as core-def
-use Rattle.store.proofs.found.Symbol.{name as #core}
-use Rattle.store.proofs.found.Met as core-thm
+use Rattle.recovery.proofs.find as core
+use Rattle.recovery.proofs.find.Symbol as core-def
+use Rattle.recovery.proofs.find.Symbol.{name as #core}
+use Rattle.recovery.proofs.find.Met as core-thm
 use Rattle.store.proofs.find.Key.{name as #step}
 use Rattle.store.proofs.find as step
 use Rattle.store.proofs.find.Statement as stated
@@ -74,7 +75,7 @@ Core 𝓤 H A mem run = tripleOf 𝓤 H A core.signature (core.spec 𝓤 H A mem
 
 -- what it ensures
 abbrev Said : Report → Control → Setup → List ℕ → List ℕ → ℕ → Type 0
-Said r control setup x-image x-table key = ReportedFor control setup key (x-image) (x-table) r
+Said r control setup x-image x-table key = Reporting control setup key (x-image) (x-table) r
 
 -- the record's machine value, and what is known of its parts
 abbrev mach : Session → Val
@@ -115,7 +116,7 @@ module _ {M : Type 1} (𝓤 : URA M) (H : Heap 𝓤) (A : Atoms 𝓤) (W : Given
   exits : (r : Report) (w : Val) → Said r (h .control) (h .setup) x-image x-table x-key → ent 𝓤 (⋆ 𝓤 H A (‵ (P.the-row .own r (w ∷ [])) ∷ ‵ (flft κ q) ∷ ‵ (flft κ-image q-image) ∷ ‵ (flft κ-table q-table) ∷ [])) (Post w)
   exits r w e =
       qed W (‵ (P.the-row .own r (w ∷ [])) ∷ ‵ (flft κ q) ∷ ‵ (flft κ-image q-image) ∷ ‵ (flft κ-table q-table) ∷ []) ∵
-      suffices ! _ (ends-at 𝓤 H A step.ended stayed (step.clauses 𝓤 H A at-mem run) W (((κ, (κ-image, (κ-table, tt))), (q, (q-image, (q-table, tt))), bounds, a, vals), tt) w r (tt, (tt, (tt, (tt, tt)))) (tt, (tt, (tt, (tt, tt))))) $ says ! (e (h .buffer)) $
+      suffices ! _ (ends-at 𝓤 H A step.ended stayed (step.clauses 𝓤 H A at-mem run) W (((κ, (κ-image, (κ-table, tt))), (q, (q-image, (q-table, tt))), bounds, a, vals), tt) w r (tt, (tt, (tt, (tt, tt)))) (tt, (tt, (tt, (tt, tt))))) $ says ! (record { called = e .called (h .buffer); located = e .located; is-report = e .is-report; inside = e .inside }) $
       nothing ! $ move ! (4 ∷ 0 ∷ []) $ join ! $ move ! (3 ∷ 0 ∷ []) $ join ! $ move ! (2 ∷ 0 ∷ []) $ join ! $ frame ! $
       nothing ! $ nothing ! $ fjoin ! $ nothing ! $ fjoin ! $ nothing ! $ fjoin ! $ nothing ! $ fjoin ! $ done !
 
@@ -163,4 +164,4 @@ find-spec 𝓤 H 𝓜 𝓖 𝓡 =
     entered 𝓤 H (tripleOf 𝓤 H (𝓖 .A) step.signature (step.spec 𝓤 H (𝓖 .A) (𝓜 .mem) (𝓡 .run)))
     (tables 𝓤 H 𝓜 𝓡 code.env .C) (tables 𝓤 H 𝓜 𝓡 code.env .Λ) #step code.function (code.unfolded 𝓤 H 𝓜 𝓡)
     (step-meets 𝓤 H (𝓖 .A) (givenOf 𝓤 H 𝓜 𝓖) (𝓜 .mem) (𝓡 .run) (tablesOf 𝓤 H 𝓜 (tables 𝓤 H 𝓜 𝓡 code.env))
-    (cited 𝓤 H (Core 𝓤 H (𝓖 .A) (𝓜 .mem) (𝓡 .run)) 𝓜 𝓡 code.env #core core-def.routine code.calls-store·found (core-thm.met 𝓤 H 𝓜 𝓖 𝓡)))
+    (cited 𝓤 H (Core 𝓤 H (𝓖 .A) (𝓜 .mem) (𝓡 .run)) 𝓜 𝓡 code.env #core core-def.routine code.calls-recovery·find (core-thm.met 𝓤 H 𝓜 𝓖 𝓡)))

@@ -1,0 +1,90 @@
+-- What the record says of its batch and of memory stays so where the staged words do; a commit whose actions are done leaves memory at rest.
+-- Assumes nothing.
+use mathlib.Core.Path.{_≡_, refl, _∙_, ap}
+use mathlib.Core.List.{List, [], _++_, map}
+use Prim.Native.Nat.{ℕ, _+_, min}
+use native.Mathlib.Omega.{arith}
+use Rattle.spec.specs.Places.{basePower}
+use Rattle.spec.specs.Log.{Entry, moved, placed, parse}
+use Rattle.spec.specs.Contents.{listed}
+use Rattle.spec.specs.Actions.{appendOf}
+use Rattle.spec.specs.declared.Control.{Control}
+use Rattle.spec.specs.declared.Setup.{Setup}
+use Rattle.spec.specs.declared.Session.{Session}
+use Rattle.bits.specs.Bits.{WordsKept}
+use Rattle.session.specs.State.{batchRoom, batchWords, batchItems, chunkIn, linesIn, commitActions}
+use Rattle.session.specs.Fits.{BatchFits, Built, RestFits, batchPlace, CommitFits}
+use Rattle.session.proofs.Part.{part-agree}
+
+-- THE STAGED WORDS stay where the buffer's first words do.
+pub words-kept : (c c′ : Control) (b b′ : List ℕ) → WordsKept b b′ → c′ .words ≡ c .words → batchWords c′ b′ ≡ batchWords c b
+unfolding batchWords
+words-kept c c′ b b′ w e = rw e (part-agree b′ b 0 (min (c .words) batchRoom) (λ j l u. w .below j (omega arith)))
+
+-- so do the items that they say, and a commit's actions
+pub same-items : (c c′ : Control) (b b′ : List ℕ) → batchWords c′ b′ ≡ batchWords c b → batchItems c′ b′ ≡ batchItems c b
+unfolding batchItems
+same-items c c′ b b′ e = ap (λ (l : List ℕ). map (moved 0) (listed (parse l 0 0))) e
+
+pub same-acts : (c c′ : Control) (k : Setup) (b b′ : List ℕ) → batchWords c′ b′ ≡ batchWords c b → commitActions c′ k b′ ≡ commitActions c k b
+unfolding commitActions
+same-acts c c′ k b b′ e = ap (appendOf basePower (chunkIn k) (k .old) (linesIn k)) e
+
+-- a batch in another record with the same words and items, and as many keys
+pub batch-kept : (c c′ : Control) (b b′ : List ℕ) (es items : List Entry) → c′ .words ≡ c .words → c′ .items ≡ c .items → batchWords c′ b′ ≡ batchWords c b
+    → c′ .keys + c′ .fresh ≡ c .keys + c .fresh → BatchFits c b es items → BatchFits c′ b′ es items
+batch-kept c c′ b b′ es items ew ei e ek f = record {
+  room = rw ew (f .room);
+  written = e ∙ f .written;
+  count = ei ∙ f .count;
+  few = f .few;
+  right = f .right;
+  counts = f .counts;
+  in-log = f .in-log;
+  keys = ek ∙ f .keys;
+}
+
+pub built-kept : (c c′ : Control) (b table : List ℕ) (es : List Entry) → c′ .keys ≡ c .keys → Built c b table es → Built c′ b table es
+built-kept c c′ b table es e f = record { indexed = rw e (f .indexed); blocks = f .blocks }
+
+-- at rest with nothing staged; at rest with what is staged
+abbrev pub emptied : Control → Control
+emptied c = record { phase = 1; next = 0; items = 0; words = 0; keys = c .keys; fresh = 0 }
+
+abbrev pub staged : Control → Control
+staged c = record { phase = 1; next = 0; items = c .items; words = c .words; keys = c .keys; fresh = c .fresh }
+
+module _ (c : Control) (k : Setup) (b ws table : List ℕ) (items : List Entry) where
+  abbrev s : Session
+  s = record { control = c; setup = k; buffer = b }
+
+  -- A COMMIT'S END
+  pub end-kept : CommitFits s ws table items [] → RestFits (record { control = emptied c; setup = k; buffer = b }) ws table []
+  unfolding batchWords
+  end-kept f =
+      let n = f .built .indexed .count in
+      let r = f .table-room in
+      record {
+        entries = f .front ++ (placed (batchPlace k) items ++ f .back);
+        accepted = f .accepted;
+        long = f .long;
+        lent = f .lent;
+        built = record { indexed = f .built .indexed; blocks = f .built .blocks };
+        batch = record { room = omega arith; written = refl; count = refl; few = omega arith; right = tt; counts = tt; in-log = λ e m. absurd m; keys = omega arith };
+        table-room = omega arith;
+        hint = f .hint;
+      }
+
+  -- A STAGING'S END
+  pub staging-kept : RestFits s ws table items → RestFits (record { control = staged c; setup = k; buffer = b }) ws table items
+  unfolding batchWords
+  staging-kept f = record {
+    entries = f .entries;
+    accepted = f .accepted;
+    long = f .long;
+    lent = f .lent;
+    built = record { indexed = f .built .indexed; blocks = f .built .blocks };
+    batch = batch-kept c (staged c) b b (f .entries) items refl refl refl refl (f .batch);
+    table-room = f .table-room;
+    hint = f .hint;
+  }

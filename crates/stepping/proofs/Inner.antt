@@ -1,0 +1,103 @@
+-- What the code on the short way shows is what its contracts say: one action of a commit that is not its last, and several with the stores before it.
+-- Assumes nothing.
+use mathlib.Core.Path.{_≡_, refl, sym, _∙_, ap, subst}
+use mathlib.Core.Bool.{false}
+use mathlib.Core.List.{List}
+use Prim.Native.Nat.{ℕ, zero, suc, _+_, _-_, _*_, _≤_, _<_, min}
+use native.Mathlib.Omega.{arith}
+use native.Mathlib.Decide.{decLt, ℕ-discrete}
+use lib.ListN.{length, getD}
+use Rattle.spec.specs.Medium.{Action}
+use Rattle.spec.specs.Actions.{linesFor, padded}
+use Rattle.spec.specs.Calls.{Step, asReport}
+use Rattle.spec.specs.Contract.{Changed, Called}
+use Rattle.spec.specs.declared.Control.{Control}
+use Rattle.spec.specs.declared.Setup.{Setup}
+use Rattle.spec.specs.declared.Session.{Session}
+use Rattle.spec.specs.declared.Report.{Report}
+use Rattle.spec.specs.declared.Report.the-variants as R
+use Rattle.words.specs.Image.{Saved}
+use Rattle.session.specs.State.{bufferPart, batchRoom, batchWords, chunkIn, linesIn, commitActions, stateOf}
+use Rattle.session.specs.Fits.{Fits}
+use Rattle.acts.specs.Nth.{nthReport, commitCount}
+use Rattle.acts.proofs.Committing.{commit-flush, commit-fence, commit-seal, commit-seal-flush}
+use Rattle.acts.proofs.Performed.{changed-length}
+use Rattle.stepping.specs.Inner.{Inner, toNext, Runs, isStore, RunsOn, StoresTo}
+use Rattle.stepping.proofs.Keeping.{acted}
+use Rattle.stepping.proofs.Shows.{commit-acts, commit-stores}
+
+-- one step that stored a word, before a run
+pub stored-first : {s s₁ s′ : Session} {bytes bytes₁ bytes′ table table₁ table′ : List ℕ} {w v : ℕ} {r : Report}
+    → Called stateOf Fits 12 256 Step s s₁ bytes bytes₁ table table₁ (R.Store w v) → Runs s₁ s′ bytes₁ bytes′ table₁ table′ r → Runs s s′ bytes bytes′ table table′ r
+stored-first q (n, ran) = (suc n, (_, (_, (_, (_, (_, (q, ran)))))))
+
+-- the record after an action
+counted : (c : Control) → c .phase ≡ 3 → acted c (c .keys) (c .fresh) ≡ toNext (c .next + 1) c
+counted c e = ap (λ (p : ℕ). record { phase = p; next = c .next + 1; items = c .items; words = c .words; keys = c .keys; fresh = c .fresh }) (sym e)
+
+-- ONE ACTION
+module _ (c : Control) (k : Setup) (b bytes bytes′ table : List ℕ) (h : Inner c k (length bytes) (length table)) where
+  abbrev Stepping : Report → Control → Type 0
+  Stepping r x = Called stateOf Fits 12 256 Step (record { control = c; setup = k; buffer = b }) (record { control = x; setup = k; buffer = b }) bytes bytes′ table table r
+
+  pub inner-acts : (r : Report) → r ≡ nthReport (commitActions c k b) (c .next) → Changed r bytes bytes′ → Stepping r (toNext (c .next + 1) c)
+  inner-acts r e changed = subst (Stepping r) (counted c (h .0)) (commit-acts c k b bytes table (h .1 .0) (h .1 .1 .0) (h .0) bytes′ r e changed (h .1 .1 .1))
+
+  pub inner-stores : (w v : ℕ) → c .next < 8 * linesFor (min (c .words) batchRoom) → w ≡ 512 * chunkIn k + 8 * linesIn k + c .next
+      → v ≡ getD (padded (bufferPart b 0 (min (c .words) batchRoom))) (c .next) 0 → Saved bytes bytes′ w v → Stepping (R.Store w v) (toNext (c .next + 1) c)
+  inner-stores w v l ew ev saved = subst (Stepping (R.Store w v)) (counted c (h .0)) (commit-stores c k b bytes table (h .1 .0) (h .1 .1 .0) (h .0) bytes′ w v l ew ev saved)
+
+-- SEVERAL
+-- a commit's actions, whichever of them is the next
+acts-same : (c : Control) (k : Setup) (b : List ℕ) (n : ℕ) → commitActions (toNext n c) k b ≡ commitActions c k b
+unfolding commitActions batchWords
+acts-same c k b n = refl
+
+-- behind the batch's words only one action is a store, the third from the end
+no-store : (c : Control) (k : Setup) (b : List ℕ) (n : ℕ) → 8 * linesFor (min (c .words) batchRoom) ≤ n → (n + 3 ≡ commitCount (c .words) → ⊥) → n + 1 < commitCount (c .words)
+    → isStore (nthReport (commitActions c k b) n) ≡ false
+no-store c k b n behind unsealed l = go (decLt n (9 * linesFor (min (c .words) batchRoom))) (ℕ-discrete n (9 * linesFor (min (c .words) batchRoom)))
+  where
+    go : Dec (n < 9 * linesFor (min (c .words) batchRoom)) → Dec (n ≡ 9 * linesFor (min (c .words) batchRoom)) → isStore (nthReport (commitActions c k b) n) ≡ false
+    go (yes h) d = ap (λ (x : Action). isStore (asReport x)) (commit-flush c k b n (n - 8 * linesFor (min (c .words) batchRoom)) _ (omega arith) (omega arith) refl)
+    go (no h) (yes e) = ap (λ (x : Action). isStore (asReport x)) (commit-fence c k b n e)
+    go (no h) (no e) = ap (λ (x : Action). isStore (asReport x)) (commit-seal-flush c k b n (omega (arith, unsealed)))
+
+module _ (c : Control) (k : Setup) (b bytes : List ℕ) where
+  -- before a run, no store is made
+  pub no-stores : StoresTo c k b bytes bytes (c .next)
+  no-stores = record { sized = refl; before-last = λ h. h; run = λ table h s′ bytes″ table″ r q. q }
+
+  module _ (bytes₁ : List ℕ) (n : ℕ) (so-far : StoresTo c k b bytes bytes₁ n) where
+    still : (table : List ℕ) → Inner c k (length bytes) (length table) → Inner (toNext n c) k (length bytes₁) (length table)
+    still table h = (h .0, (h .1 .0 ∙ sym (so-far .sized), (h .1 .1 .0, so-far .before-last (h .1 .1 .1))))
+
+    -- one more
+    pub one-more : (bytes₂ : List ℕ) (start v : ℕ) → n < 8 * linesFor (min (c .words) batchRoom) → start ≡ 512 * chunkIn k + 8 * linesIn k
+        → v ≡ getD (padded (bufferPart b 0 (min (c .words) batchRoom))) n 0 → Saved bytes₁ bytes₂ (start + n) v → StoresTo c k b bytes bytes₂ (n + 1)
+    one-more bytes₂ start v l es ev saved = record {
+      sized = saved .size ∙ so-far .sized;
+      before-last = λ h. omega arith;
+      run = λ table h s′ bytes″ table″ r q.
+          so-far .run table h s′ bytes″ table″ r (stored-first (inner-stores (toNext n c) k b bytes₁ bytes₂ table (still table h) (start + n) v l (omega arith) ev saved) q);
+    }
+
+    -- then an action that is none, whose report is told
+    pub run-acts : 8 * linesFor (min (c .words) batchRoom) ≤ n → (n + 3 ≡ commitCount (c .words) → ⊥) → (bytes₂ table : List ℕ) (r : Report) → r ≡ nthReport (commitActions c k b) n → Changed r bytes₁ bytes₂
+        → Inner c k (length bytes) (length table)
+        → RunsOn (record { control = c; setup = k; buffer = b }) (record { control = toNext (n + 1) c; setup = k; buffer = b }) bytes bytes₂ table table r
+    run-acts behind unsealed bytes₂ table r e changed h = (
+      so-far .run table h _ bytes₂ table r (zero, inner-acts (toNext n c) k b bytes₁ bytes₂ table (still table h) r (e ∙ ap (λ (l : List Action). nthReport l n) (sym (acts-same c k b n))) changed),
+      ap isStore e ∙ no-store c k b n behind unsealed (so-far .before-last (h .1 .1 .1)),
+    )
+
+    -- the store of the directory word is one more
+    pub sealed : (bytes₂ : List ℕ) (r : Report) → n + 3 ≡ commitCount (c .words) → r ≡ nthReport (commitActions c k b) n → Changed r bytes₁ bytes₂ → StoresTo c k b bytes bytes₂ (n + 1)
+    sealed bytes₂ r last e changed = record {
+      sized = changed-length r bytes₁ bytes₂ changed ∙ so-far .sized;
+      before-last = λ h. omega arith;
+      run = λ table h s′ bytes″ table″ r′ q.
+          so-far .run table h s′ bytes″ table″ r′
+          (stored-first (inner-acts (toNext n c) k b bytes₁ bytes₂ table (still table h) _ (ap asReport (sym (commit-seal c k b n last)) ∙ ap (λ (l : List Action). nthReport l n) (sym (acts-same c k b n)))
+          (subst (λ (x : Report). Changed x bytes₁ bytes₂) (e ∙ ap asReport (commit-seal c k b n last)) changed)) q);
+    }

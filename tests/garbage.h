@@ -1,0 +1,829 @@
+/* Garbage for the library: records, buffers, tables and images, wild and near the right ones, played through every call. For
+ * tests/robust.c and tests/runs.c.
+ *
+ * Every lent area lies directly before or directly behind a page that cannot be touched, and what is left of its pages holds a
+ * pattern. Each call is held to what holds for any memory (see the head of robust.c). zkv_run is held to zkv_step: steps on a
+ * copy must come to the same report, image, table and record, to the byte.
+ *
+ * A program that includes this defines PROGRAM (its name), and go_on. Built with -DWRONG the copy makes one step fewer;
+ * differences are then counted and the program goes on. */
+#ifndef ZKV_GARBAGE_H
+#define ZKV_GARBAGE_H
+
+#include <inttypes.h>
+#include <signal.h>
+#include <stdarg.h>
+#include <stdbool.h>
+#include <stdio.h>
+#include <stdlib.h>
+#include <string.h>
+#include <sys/mman.h>
+#include <unistd.h>
+
+#include "zitskvoze.h"
+
+enum {
+    PAGE = 4096,
+    IMAGE_MAX = (ZKV_CHUNKS_MAX + 1) * ZKV_CHUNK_BYTES,
+    TABLE_MAX = 8192,
+    VALUE_MAX = 8192,
+    CHUNK_WORDS = 512,
+    BUFFER = 16,              /* word of the record at which its buffer starts */
+    COMMITTING = 3,           /* word 0 of a record in a commit */
+    STEPS_MAX = 583,
+    SECONDS = 300             /* far more than a run takes */
+};
+
+/* ---- what is tried, for the messages */
+static const char *kind_of_case = "", *call = "";
+static uint64_t case_number;
+
+/* How often each call was accepted and refused; each must have been both. */
+enum { FORMAT, OPEN, PUT, DELETE, COMMIT, ABANDON, STEP, RUN, LOOK_UP, CALLS };
+
+static const char *const call_name[CALLS] = {"format", "open", "put", "delete", "commit", "abandon", "step", "run", "look_up"};
+static uint64_t tally[CALLS][2];
+
+__attribute__((noreturn, format(printf, 1, 2))) static void fault(const char *format, ...)
+{
+    va_list arguments;
+    va_start(arguments, format);
+    fprintf(stderr, PROGRAM ": %s, case %" PRIu64 ", %s: ", kind_of_case, case_number, call);
+    vfprintf(stderr, format, arguments);
+    fputc('\n', stderr);
+    va_end(arguments);
+    exit(1);
+}
+
+static void on_signal(int signal)
+{
+    static const char access[] = "an access outside what is lent", late[] = "a call that does not return";
+    static const char at[] = PROGRAM ": ", in[] = ", ";
+    const char *what = signal == SIGALRM ? late : access;
+    (void)!write(2, at, sizeof at - 1);
+    (void)!write(2, what, strlen(what));
+    (void)!write(2, in, sizeof in - 1);
+    (void)!write(2, kind_of_case, strlen(kind_of_case));
+    (void)!write(2, in, sizeof in - 1);
+    (void)!write(2, call, strlen(call));
+    (void)!write(2, "\n", 1);
+    _exit(1);
+}
+
+/* ---- draws */
+static uint64_t state;
+
+static uint64_t draw(void)
+{
+    state ^= state << 13;
+    state ^= state >> 7;
+    state ^= state << 17;
+    return state * 0x2545F4914F6CDD1Dull;
+}
+
+/* A number below n; 0 where n is 0. */
+static uint64_t below(uint64_t n)
+{
+    return n == 0 ? 0 : (draw() >> 11) % n;
+}
+
+static bool one_in(uint64_t n)
+{
+    return below(n) == 0;
+}
+
+static void wild(void *at, size_t bytes)
+{
+    uint8_t *p = at;
+    for (size_t i = 0; i < bytes; i += 8) {
+        uint64_t x = draw();
+        memcpy(p + i, &x, bytes - i < 8 ? bytes - i : 8);
+    }
+}
+
+/* ---- areas between guard pages */
+struct area {
+    uint8_t *pages, *at;
+    size_t room, bytes;
+};
+
+static struct area image, table, record, value, start, length;
+static uint8_t *image_before;
+static uint64_t *table_before;
+static zkv_record record_before;
+
+static void make_area(struct area *a, size_t most)
+{
+    a->room = (most + PAGE - 1) / PAGE * PAGE;
+    uint8_t *p = mmap(NULL, a->room + 2 * PAGE, PROT_NONE, MAP_PRIVATE | MAP_ANONYMOUS, -1, 0);
+    if (p == MAP_FAILED || mprotect(p + PAGE, a->room, PROT_READ | PROT_WRITE) != 0) {
+        perror(PROGRAM ": guard pages");
+        exit(2);
+    }
+    a->pages = p + PAGE;
+}
+
+/* The area becomes `bytes` bytes, at its pages' end or start. So that a case costs little, the pattern stands in 64 bytes. */
+static void place(struct area *a, size_t bytes)
+{
+    a->bytes = bytes;
+    bool at_end = one_in(2);
+    a->at = at_end ? a->pages + (a->room - bytes) : a->pages;
+    size_t rest = a->room - bytes < 64 ? a->room - bytes : 64;
+    memset(at_end ? a->at - rest : a->at + bytes, 0xA5, rest);
+}
+
+static void around(const struct area *a)
+{
+    size_t rest = a->room - a->bytes < 64 ? a->room - a->bytes : 64;
+    const uint8_t *p = a->at == a->pages ? a->at + a->bytes : a->at - rest;
+    for (size_t i = 0; i < rest; i++) {
+        if (p[i] != 0xA5) {
+            fault("a byte beside a lent area was changed");
+        }
+    }
+}
+
+static zkv_record *the_record(void)
+{
+    return (zkv_record *)(void *)record.at;
+}
+
+static uint64_t *the_table(void)
+{
+    return (uint64_t *)(void *)table.at;
+}
+
+static size_t table_words(void)
+{
+    return table.bytes / 8;
+}
+
+/* A word of the image, 0 past its end. */
+static uint64_t get_word(size_t w)
+{
+    uint64_t x = 0;
+    if (8 * w + 8 <= image.bytes) {
+        memcpy(&x, image.at + 8 * w, 8);
+    }
+    return x;
+}
+
+static void set_word(size_t w, uint64_t x)
+{
+    if (8 * w + 8 <= image.bytes) {
+        memcpy(image.at + 8 * w, &x, 8);
+    }
+}
+
+/* ---- the calls, each held to what holds for any memory */
+static void remember(void)
+{
+    memcpy(image_before, image.at, image.bytes);
+    memcpy(table_before, table.at, table.bytes);
+    memcpy(&record_before, record.at, sizeof record_before);
+}
+
+static void image_kept(void)
+{
+    if (memcmp(image_before, image.at, image.bytes) != 0) {
+        fault("the image was changed");
+    }
+}
+
+static void table_kept(void)
+{
+    if (memcmp(table_before, table.at, table.bytes) != 0) {
+        fault("the key table was changed");
+    }
+}
+
+static void record_kept(void)
+{
+    if (memcmp(&record_before, record.at, sizeof record_before) != 0) {
+        fault("the record was changed");
+    }
+}
+
+/* A refusal is one of the call's numbers, given as bits. */
+static void refused(uint64_t number, uint64_t numbers)
+{
+    if (number > 16 || !(numbers >> number & 1)) {
+        fault("refused with %" PRIu64, number);
+    }
+    image_kept();
+    table_kept();
+    record_kept();
+}
+
+#define N(number) (1ull << (number))
+
+static zkv_report step(void)
+{
+    call = "zkv_step";
+    remember();
+    zkv_report r = zkv_step(the_record(), image.at, image.bytes, the_table(), table_words());
+    tally[STEP][r.kind == ZKV_REFUSED]++;
+    switch (r.kind) {
+    case ZKV_REFUSED:
+        refused(r.first, N(1));
+        break;
+    case ZKV_STORE:
+        if (r.first < image.bytes / 8) {
+            if (get_word(r.first) != r.second) {
+                fault("the word reported is not stored");
+            }
+            memcpy(image_before + 8 * r.first, &r.second, 8);
+        }
+        image_kept();
+        break;
+    case ZKV_IDLE:
+        table_kept();
+        record_kept();
+        image_kept();
+        break;
+    case ZKV_FLUSH:
+    case ZKV_FENCE:
+    case ZKV_END:
+        image_kept();
+        break;
+    default:
+        fault("answered kind %" PRIu64, r.kind);
+    }
+    return r;
+}
+
+/* ---- zkv_run beside zkv_step */
+static struct {
+    uint64_t runs, steps, longest;          /* calls of zkv_run, the steps that they took, the most of one call */
+    uint64_t report, image, table, record;  /* how many ended otherwise than the steps on the copy, and in what */
+} beside;
+
+static void differs(bool is_other, uint64_t *count, const char *what)
+{
+    *count += is_other;
+#ifndef WRONG
+    if (is_other) {
+        fault("%s differs from that of steps", what);
+    }
+#else
+    (void)what;
+#endif
+}
+
+/* Steps on the copy: one, and in a commit on until one that is no store. Their number; *last is the last one's report. */
+static uint64_t step_copy(bool commit, zkv_report *last)
+{
+    uint64_t n = 0;
+    do {
+        *last = zkv_step(&record_before, image_before, image.bytes, table_before, table_words());
+        n++;
+    } while (commit && last->kind == ZKV_STORE);
+    return n;
+}
+
+/* A call of zkv_run, and the steps that are the same on a copy; their number is added to *steps. */
+static zkv_report run_call(uint64_t *steps)
+{
+    zkv_report last;
+    bool commit = the_record()->word[0] == COMMITTING;
+    call = "zkv_run";
+    remember();
+    uint64_t n = step_copy(commit, &last);
+#ifdef WRONG
+    remember();
+    for (uint64_t i = 1; i < n; i++) {
+        last = zkv_step(&record_before, image_before, image.bytes, table_before, table_words());
+    }
+#endif
+    zkv_report r = zkv_run(the_record(), image.at, image.bytes, the_table(), table_words());
+    tally[RUN][r.kind == ZKV_REFUSED]++;
+    beside.runs++;
+    beside.steps += n;
+    beside.longest = n > beside.longest ? n : beside.longest;
+    *steps += n;
+    differs(memcmp(&r, &last, sizeof r) != 0, &beside.report, "the report");
+    differs(memcmp(image_before, image.at, image.bytes) != 0, &beside.image, "the image");
+    differs(memcmp(table_before, table.at, table.bytes) != 0, &beside.table, "the key table");
+    differs(memcmp(&record_before, record.at, sizeof record_before) != 0, &beside.record, "the record");
+    return r;
+}
+
+/* Goes on with what is begun, by zkv_step or zkv_run as the program likes; the number of steps is added to *steps. */
+static zkv_report go_on(uint64_t *steps);
+
+/* Alters some bytes of image and table behind the calls' back, unless they are to be left as the calls made them. */
+static bool altering = true;
+
+static void alter(void)
+{
+    if (!altering) {
+        return;
+    }
+    for (uint64_t n = below(4); n > 0; n--) {
+        if (image.bytes > 0) {
+            image.at[one_in(2) ? below(image.bytes) : below(image.bytes < PAGE ? image.bytes : PAGE)] = (uint8_t)draw();
+        }
+    }
+    if (table.bytes > 0 && one_in(3)) {
+        the_table()[below(table_words())] = draw();
+    }
+}
+
+static void run(uint64_t actions)
+{
+    uint64_t steps = 0;
+    zkv_report r;
+    do {
+        alter();
+        r = go_on(&steps);
+        if (steps > actions + 1 || (r.kind == ZKV_END) != (steps == actions + 1)) {
+            fault("step %" PRIu64 " of a call of %" PRIu64 " actions answered kind %" PRIu64, steps, actions, r.kind);
+        }
+    } while (r.kind != ZKV_END);
+    if (step().kind != ZKV_IDLE || run_call(&steps).kind != ZKV_IDLE) {
+        fault("a step or run after the end is not idle");
+    }
+}
+
+/* A begun call's answer: begun, with at most so many actions, or one of the refusals. Then it is run, or left unfinished. */
+static void begun(int which, zkv_report r, uint64_t most, uint64_t numbers)
+{
+    tally[which][r.kind == ZKV_REFUSED]++;
+    image_kept();
+    table_kept();
+    if (r.kind == ZKV_REFUSED) {
+        refused(r.first, numbers);
+    } else if (r.kind != ZKV_BEGUN || r.first > most) {
+        fault("answered kind %" PRIu64 ", %" PRIu64, r.kind, r.first);
+    } else if (!one_in(20)) {
+        run(r.first);
+    }
+}
+
+static void format_call(void)
+{
+    call = "zkv_format";
+    remember();
+    begun(FORMAT,
+          zkv_format(the_record(), image.at, image.bytes, the_table(), table_words(), below(2), draw(), below(2), draw()), 582,
+          N(1) | N(8));
+}
+
+static void open_call(void)
+{
+    call = "zkv_open";
+    remember();
+    zkv_report r = zkv_open(the_record(), image.at, image.bytes, the_table(), table_words());
+    tally[OPEN][r.kind == ZKV_REFUSED]++;
+    image_kept();
+    if (r.kind == ZKV_OPENED) {
+        return;
+    }
+    if (r.kind != ZKV_REFUSED || r.first < 1 || r.first > 7) {
+        fault("answered kind %" PRIu64 ", %" PRIu64, r.kind, r.first);
+    }
+    for (size_t i = 0; i < table_words(); i++) {
+        if (the_table()[i] != 0) {
+            fault("a refused opening left something in the key table");
+        }
+    }
+    if (step().kind != ZKV_IDLE) {
+        fault("a step after a refused opening is not idle");
+    }
+}
+
+static uint64_t some_key(void)
+{
+    return one_in(4) ? draw() : below(12);
+}
+
+static void put_call(void)
+{
+    static const size_t lengths[] = {0, 1, 7, 8, 9, 255, 256, 257, 4088, 4089, VALUE_MAX};
+    call = "zkv_put";
+    place(&value, one_in(2) ? lengths[below(sizeof lengths / sizeof *lengths)] : below(300));
+    wild(value.at, value.bytes);
+    remember();
+    begun(PUT,
+          zkv_put(the_record(), image.at, image.bytes, the_table(), table_words(), some_key(), value.at, value.bytes), 0,
+          N(1) | N(2) | N(7) | N(8) | N(9) | N(10) | N(12));
+    around(&value);
+}
+
+static void delete_call(void)
+{
+    call = "zkv_delete";
+    remember();
+    begun(DELETE, zkv_delete(the_record(), image.at, image.bytes, the_table(), table_words(), some_key()), 0,
+          N(1) | N(2) | N(7) | N(8) | N(10) | N(11) | N(12));
+}
+
+static void commit_call(void)
+{
+    call = "zkv_commit";
+    remember();
+    begun(COMMIT, zkv_commit(the_record(), image.at, image.bytes, the_table(), table_words()), 580,
+          N(1) | N(2) | N(8) | N(13) | N(14));
+}
+
+static void abandon_call(void)
+{
+    call = "zkv_abandon";
+    remember();
+    zkv_report r = zkv_abandon(the_record(), image.at, image.bytes, the_table(), table_words());
+    tally[ABANDON][r.kind == ZKV_REFUSED]++;
+    image_kept();
+    table_kept();
+    if (r.kind == ZKV_REFUSED) {
+        refused(r.first, N(1) | N(2) | N(8) | N(14));
+    } else if (r.kind != ZKV_ABANDONED) {
+        fault("answered kind %" PRIu64, r.kind);
+    }
+}
+
+static void look_up_call(void)
+{
+    call = "zkv_look_up";
+    uint64_t *s = (uint64_t *)(void *)start.at, *l = (uint64_t *)(void *)length.at;
+    *s = *l = 1;
+    remember();
+    uint64_t number = zkv_look_up(the_record(), image.at, image.bytes, the_table(), table_words(), some_key(), s, l);
+    tally[LOOK_UP][number != 0]++;
+    image_kept();
+    table_kept();
+    record_kept();
+    if (number == 0) {
+        if (*s > image.bytes || *l > image.bytes - *s) {
+            fault("a part outside the image");
+        }
+    } else if (*s != 0 || *l != 0) {
+        fault("a refusal with a part that is not empty");
+    } else {
+        refused(number, N(1) | N(2) | N(8) | N(11));
+    }
+}
+
+static void count_calls(void)
+{
+    call = "zkv_keys, zkv_free_chunks, zkv_lines_used";
+    remember();
+    (void)zkv_keys(the_record());
+    uint64_t free_chunks = zkv_free_chunks(image.at, image.bytes), lines = zkv_lines_used(image.at, image.bytes);
+    if (free_chunks > ZKV_CHUNKS_MAX || lines > 64 * (uint64_t)ZKV_CHUNKS_MAX) {
+        fault("counted %" PRIu64 " free chunks, %" PRIu64 " lines", free_chunks, lines);
+    }
+    image_kept();
+    record_kept();
+}
+
+/* A call that the record may be in the middle of comes to its end. */
+static void finish(void)
+{
+    for (uint64_t steps = 0; steps < STEPS_MAX;) {
+        zkv_report r = go_on(&steps);
+        if (r.kind != ZKV_STORE && r.kind != ZKV_FLUSH && r.kind != ZKV_FENCE) {
+            return;
+        }
+        alter();
+    }
+    fault("%d steps and no end", STEPS_MAX);
+}
+
+/* Every call, in any order, an opening rarely: it makes the record right. */
+static void all_calls(bool openings)
+{
+    for (int n = 0; n < 14; n++) {
+        switch (below(openings ? 9 : 8)) {
+        case 0:
+            if (one_in(12)) {
+                format_call();
+            }
+            break;
+        case 1:
+        case 2:
+            put_call();
+            break;
+        case 3:
+            delete_call();
+            break;
+        case 4:
+            commit_call();
+            break;
+        case 5:
+            if (one_in(3)) {
+                abandon_call();
+            }
+            break;
+        case 6:
+            look_up_call();
+            break;
+        case 7:
+            count_calls();
+            finish();
+            break;
+        default:
+            open_call();
+        }
+    }
+    around(&image);
+    around(&table);
+    around(&record);
+}
+
+/* ---- near-valid things */
+static uint64_t first_word(uint64_t op, uint64_t placement, uint64_t version, uint64_t tail)
+{
+    return op | placement << 2 | version << 4 | tail << 24;
+}
+
+/* Entries one behind the other in so many words, now and then a wrong one; where `tidy`, a few keys with rising versions and
+ * nothing wrong. */
+static bool tidy;
+static uint64_t last_version;
+
+static void entries(uint64_t *w, size_t words, uint64_t units)
+{
+    size_t at = 0;
+    memset(w, 0, 8 * words);
+    while (at + 2 <= words) {
+        uint64_t size = one_in(3) ? 256 : below(40), op = one_in(5) ? 2 : 1;
+        uint64_t version = one_in(9) ? 1048575 - below(2) : 1 + below(3);
+        bool block = op == 1 && !tidy && one_in(6);
+        if (tidy) {
+            version = ++last_version;
+        }
+        size_t follow = op == 2 || block ? 0 : (size + 7) / 8;
+        if (at + 2 + follow > words && (tidy || !one_in(4))) {
+            return;
+        }
+        w[at] = first_word(op, block, version, op == 2 ? 0 : block ? 16 + below(units) : size);
+        w[at + 1] = tidy ? below(12) : some_key();
+        for (size_t i = 0; i < follow && at + 2 + i < words; i++) {
+            w[at + 2 + i] = size % 8 != 0 && i == follow - 1 ? 7 : draw();
+        }
+        if (!tidy && one_in(40)) {
+            w[at] ^= 1ull << below(64);
+        }
+        at += 2 + follow + (one_in(4) ? below(8) : 0);
+    }
+}
+
+/* An image with a right header, directory words that are mostly right, and logs and blocks that may be. */
+static void near_image(void)
+{
+    static const uint64_t sizes[] = {2, 3, 4, 5, 8, 16};
+    size_t chunks = image.bytes / ZKV_CHUNK_BYTES;
+    uint64_t log[CHUNK_WORDS];
+    tidy = one_in(2);
+    last_version = 0;
+    memset(image.at, 0, image.bytes);
+    uint64_t map = 1 | below(4) << 1, sum = map + chunks;
+    set_word(0, map);
+    set_word(1, chunks);
+    for (size_t i = 2; i < 2 + (size_t)(map >> 1 & 1) + (map >> 2 & 1); i++) {
+        uint64_t x = draw();
+        set_word(i, x);
+        sum += x;
+    }
+    set_word(7, -sum);
+    for (size_t c = 1; c < chunks; c++) {
+        uint64_t role = below(5), s = sizes[below(6)], lines = one_in(3) ? 64 : 1 + below(20);
+        if (role == 0) {
+            set_word(8 + c, 2 | s << 8);
+            for (uint64_t u = 0; u + s <= 16; u += s) {
+                set_word(CHUNK_WORDS * c + 32 * u, 257 + below(256 * s - 264));
+            }
+        } else if (role <= 2) {
+            set_word(8 + c, 1 | lines << 8);
+            entries(log, 8 * lines, 16 * chunks);
+            for (size_t i = 0; i < 8 * lines; i++) {
+                set_word(CHUNK_WORDS * c + i, log[i]);
+            }
+        }
+    }
+    for (uint64_t n = tidy || one_in(2) ? 0 : below(4); n > 0; n--) {
+        size_t w = one_in(2) ? below(8 + chunks) : below(image.bytes / 8 + 1);
+        set_word(w, one_in(2) ? get_word(w) ^ 1ull << below(64) : draw());
+    }
+}
+
+/* A record with numbers in range, of this image and table, in any phase. */
+static void near_record(void)
+{
+    uint64_t *w = the_record()->word, chunks = image.bytes / ZKV_CHUNK_BYTES;
+    w[0] = below(7);
+    w[1] = one_in(2) ? 0 : below(600);
+    w[2] = below(18);
+    w[3] = one_in(3) ? below(514) : below(60);
+    w[4] = below(table_words() / 4 + 2);
+    w[5] = below(3);
+    w[6] = image.bytes;
+    w[7] = table_words();
+    w[8] = one_in(8) ? 503 + below(2) : below(chunks + 2);
+    w[9] = one_in(4) ? draw() : get_word(8 + w[8]);
+    w[10] = below(66);
+    w[11] = one_in(4) ? draw() : below(chunks + 2);
+    w[12] = one_in(4) ? draw() : below(66);
+    w[13] = below(8);
+    w[14] = draw();
+    w[15] = draw();
+    if (one_in(3)) {
+        wild(w + BUFFER, 8 * 1152);
+    } else {
+        entries(w + BUFFER, 512, 16 * chunks);
+        memset(w + BUFFER + 512, 0, 8 * 640);
+    }
+    for (uint64_t n = one_in(2) ? 0 : below(3); n > 0; n--) {
+        w[below(BUFFER)] = one_in(2) ? draw() : UINT64_MAX - below(3);
+    }
+}
+
+/* A table whose words look like keys and places. */
+static void near_table(void)
+{
+    for (size_t i = 0; i < table_words(); i++) {
+        uint64_t packed = one_in(3) ? draw() : first_word(0, 0, 1 + below(3), below(512)) | 1;
+        the_table()[i] = one_in(2) ? 0 : i % 2 == 0 ? some_key() : packed;
+    }
+}
+
+/* ---- the cases */
+static void lend(void)
+{
+    static const size_t lengths[] = {0, 1, 7, 8, 64, 4095, 4096, 12288, 16383, 16384, 16385, 16392, 20480};
+    static const size_t tables[] = {0, 1, 2, 3, 4, 5, 8, 40, 48, 64, 65};
+    size_t bytes = ZKV_CHUNK_BYTES * (4 + below(5));
+    if (one_in(10)) {
+        bytes = lengths[below(sizeof lengths / sizeof *lengths)];
+    }
+    if (one_in(100)) {
+        bytes = ZKV_CHUNK_BYTES * (503 + below(3));
+    }
+    place(&image, bytes);
+    place(&table, 8 * (one_in(3) ? tables[below(sizeof tables / sizeof *tables)] : below(one_in(10) ? TABLE_MAX : 600)));
+    place(&record, sizeof(zkv_record));
+    wild(image.at, image.bytes);
+    wild(table.at, table.bytes);
+    wild(record.at, record.bytes);
+}
+
+static void nothing_open(void)
+{
+    memset(record.at, 0, record.bytes);
+}
+
+static void wild_record(void)
+{
+    near_image();
+    if (one_in(2)) {
+        the_record()->word[0] = below(7);
+    }
+    if (one_in(2)) {
+        the_record()->word[6] = image.bytes;
+        the_record()->word[7] = table_words();
+    }
+    all_calls(false);
+}
+
+static void near_records(void)
+{
+    near_image();
+    near_table();
+    near_record();
+    if (one_in(2)) {
+        finish();
+    }
+    all_calls(false);
+}
+
+static void wild_image(void)
+{
+    open_call();
+    nothing_open();
+    if (one_in(2)) {
+        near_record();
+    }
+    all_calls(true);
+}
+
+static void near_images(void)
+{
+    near_image();
+    open_call();
+    all_calls(true);
+}
+
+static void wild_table(void)
+{
+    near_image();
+    nothing_open();
+    open_call();
+    uint64_t how = below(4);
+    if (how == 0) {
+        wild(table.at, table.bytes);
+    } else if (how == 1) {
+        near_table();
+    } else {
+        for (uint64_t n = below(12); n > 0 && table.bytes > 0; n--) {
+            the_table()[below(table_words())] ^= one_in(4) ? draw() : 1ull << below(64);
+        }
+    }
+    all_calls(false);
+}
+
+/* A register of the library's own, with image, buffer or control altered once it is open. */
+static void altered(void)
+{
+    uint64_t steps = 0;
+    call = "zkv_format";
+    place(&image, ZKV_CHUNK_BYTES * (4 + below(5)));
+    memset(image.at, 0, image.bytes);
+    nothing_open();
+    zkv_format(the_record(), image.at, image.bytes, the_table(), table_words(), 0, 0, 0, 0);
+    while (go_on(&steps).kind != ZKV_END) {
+    }
+    open_call();
+    all_calls(false);
+    for (uint64_t n = below(4); n > 0; n--) {
+        uint64_t what = below(3);
+        if (what == 0) {
+            the_record()->word[BUFFER + below(512)] = draw();
+        } else if (what == 1) {
+            the_record()->word[below(6)] = one_in(2) ? below(600) : draw();
+        } else {
+            alter();
+        }
+    }
+    all_calls(false);
+}
+
+static const struct {
+    const char *name;
+    void (*play)(void);
+} cases[] = {
+    {"wild records and buffers", wild_record},   {"near-valid records and buffers", near_records},
+    {"wild images", wild_image},                 {"near-valid images", near_images},
+    {"garbage key tables", wild_table},          {"memory altered under an open register", altered},
+};
+
+/* ---- playing them */
+
+/* Leaks are not asked for here, and looking for them needs rights that a container may lack. */
+const char *__asan_default_options(void);
+
+const char *__asan_default_options(void)
+{
+    return "detect_leaks=0";
+}
+
+static void set_up(void)
+{
+    struct sigaction act = {.sa_handler = on_signal};
+    sigaction(SIGSEGV, &act, NULL);
+    sigaction(SIGBUS, &act, NULL);
+    sigaction(SIGFPE, &act, NULL);
+    sigaction(SIGILL, &act, NULL);
+    sigaction(SIGALRM, &act, NULL);
+    alarm(SECONDS);
+    make_area(&image, IMAGE_MAX);
+    make_area(&table, 8 * TABLE_MAX);
+    make_area(&record, sizeof(zkv_record));
+    make_area(&value, VALUE_MAX);
+    make_area(&start, 8);
+    make_area(&length, 8);
+    place(&start, 8);
+    place(&length, 8);
+    image_before = malloc(IMAGE_MAX);
+    table_before = malloc(8 * TABLE_MAX);
+    if (image_before == NULL || table_before == NULL) {
+        exit(2);
+    }
+}
+
+/* So many cases of a kind, from fixed seeds. */
+static void play_cases(uint64_t number, const char *name, void (*play)(void), uint64_t count)
+{
+    kind_of_case = name;
+    for (case_number = 1; case_number <= count; case_number++) {
+        state = 0x9E3779B97F4A7C15ull * (1000003 * number + case_number) | 1;
+        lend();
+        play();
+    }
+    around(&start);
+    around(&length);
+}
+
+/* Prints how often each call was accepted and refused. Whether each was both. */
+static bool print_tally(void)
+{
+    bool both = true;
+    fputs(PROGRAM ": accepted and refused:", stdout);
+    for (int c = 0; c < CALLS; c++) {
+        printf(" %s %" PRIu64 " %" PRIu64 "%s", call_name[c], tally[c][0], tally[c][1], c < CALLS - 1 ? "," : "\n");
+        both = both && tally[c][0] > 0 && tally[c][1] > 0;
+    }
+    return both;
+}
+
+#endif
