@@ -58,9 +58,14 @@ pub record Run (s s′ : Session) (bytes bytes′ table table′ : List ℕ) (r 
   pub within : Inner (s .control) (s .setup) (length bytes) (length table) → RunsOn s s′ bytes bytes′ table table′ r
   pub without : (Inner (s .control) (s .setup) (length bytes) (length table) → ⊥) → Called stateOf Fits 12 256 Step s s′ bytes bytes′ table table′ r
 
--- P of record, image and table before and after, and of the report, if the short way may be gone
-abbrev pub OnShortWay : ((s s′ : Session) (bytes bytes′ table table′ : List ℕ) → Report → Type 0) → (s s′ : Session) (bytes bytes′ table table′ : List ℕ) → Report → Type 0
-OnShortWay P s s′ bytes bytes′ table table′ r = Inner (s .control) (s .setup) (length bytes) (length table) → P s s′ bytes bytes′ table table′ r
+-- nothing done
+abbrev pub Idles : (s s′ : Session) (bytes bytes′ table table′ : List ℕ) → Report → Type 0
+Idles s s′ bytes bytes′ table table′ r = (s′ ≡ s) × ((bytes′ ≡ bytes) × ((table′ ≡ table) × (r ≡ R.Idle)))
+
+-- P of record, image and table before and after, and of the report, where the short way may be gone; elsewhere nothing is done
+pub record OnShortWay (P : (s s′ : Session) (bytes bytes′ table table′ : List ℕ) → Report → Type 0) (s s′ : Session) (bytes bytes′ table table′ : List ℕ) (r : Report) : Type 0 where
+  pub within : Inner (s .control) (s .setup) (length bytes) (length table) → P s s′ bytes bytes′ table table′ r
+  pub without : (Inner (s .control) (s .setup) (length bytes) (length table) → ⊥) → Idles s s′ bytes bytes′ table table′ r
 
 -- the same of a core, which has the record by its parts
 abbrev pub ShortWay : ((s s′ : Session) (bytes bytes′ table table′ : List ℕ) → Report → Type 0) → Control → Setup → (buffer bytes bytes′ table table′ : List ℕ) → (next : ℕ) → Report → Type 0

@@ -352,7 +352,7 @@ pub fn is_inner(control: Control, setup: Setup, bytes: usize, words: usize) -> b
     false
 }
 
-// A step on the short way.
+// A step on the short way; elsewhere nothing is done.
 pub fn inner_step(
     control: Control,
     setup: Setup,
@@ -363,19 +363,18 @@ pub fn inner_step(
     ensures { λ r. ⌜ ShortWay (Called stateOf Fits 12 256 Step) control setup (now (buffer .entry)) (now (image .entry)) (now (image .exit)) (now (table .entry)) (now (table .exit)) (r .next) (r .report) ⌝ }
 {
     let at = control.next;
-    let actions = acts::commit_count(control.words);
-    if actions <= at {
+    if is_inner(control, setup, image.len(), table.len()) {
+        let action = acts::commit_action(control, setup, buffer, at);
+        acts::perform(image, action);
+        let next = at + 1;
         return Advanced {
-            next: at,
-            report: Report::Idle,
+            next,
+            report: action,
         };
     }
-    let action = acts::commit_action(control, setup, buffer, at);
-    acts::perform(image, action);
-    let next = at + 1;
     Advanced {
-        next,
-        report: action,
+        next: at,
+        report: Report::Idle,
     }
 }
 
@@ -394,7 +393,7 @@ fn store_batch(control: Control, setup: Setup, buffer: &[u64; 1152], image: &mut
     at
 }
 
-// The stores that come next, in one go, and then the action behind them, whose report is told: a flush or a fence.
+// The stores that come next, in one go, and then the action behind them, whose report is told: a flush or a fence. Elsewhere nothing is done.
 pub fn inner_run(
     control: Control,
     setup: Setup,
@@ -404,31 +403,31 @@ pub fn inner_run(
 ) -> Advanced
     ensures { λ r. ⌜ ShortWay RunsOn control setup (now (buffer .entry)) (now (image .entry)) (now (image .exit)) (now (table .entry)) (now (table .exit)) (r .next) (r .report) ⌝ }
 {
-    let actions = acts::commit_count(control.words);
-    let at = store_batch(control, setup, buffer, image);
-    if actions - 1 <= at {
-        return Advanced {
-            next: at,
-            report: Report::Idle,
-        };
-    }
-    if at == actions - 3 {
-        let seal = acts::commit_action(control, setup, buffer, at);
-        acts::perform(image, seal);
-        let behind = at + 1;
-        let flush = acts::commit_action(control, setup, buffer, behind);
-        acts::perform(image, flush);
-        let next = behind + 1;
+    if is_inner(control, setup, image.len(), table.len()) {
+        let actions = acts::commit_count(control.words);
+        let at = store_batch(control, setup, buffer, image);
+        if at == actions - 3 {
+            let seal = acts::commit_action(control, setup, buffer, at);
+            acts::perform(image, seal);
+            let behind = at + 1;
+            let flush = acts::commit_action(control, setup, buffer, behind);
+            acts::perform(image, flush);
+            let next = behind + 1;
+            return Advanced {
+                next,
+                report: flush,
+            };
+        }
+        let action = acts::commit_action(control, setup, buffer, at);
+        acts::perform(image, action);
+        let next = at + 1;
         return Advanced {
             next,
-            report: flush,
+            report: action,
         };
     }
-    let action = acts::commit_action(control, setup, buffer, at);
-    acts::perform(image, action);
-    let next = at + 1;
     Advanced {
-        next,
-        report: action,
+        next: control.next,
+        report: Report::Idle,
     }
 }

@@ -111,8 +111,8 @@ pub fn step(s: &mut Session, image: &mut [u8], table: &mut [u64]) -> Report
     m.report
 }
 
-// THE SHORT WAY: the same step where `stepping::is_inner` says that it may be gone; nothing is promised elsewhere. Of the record it
-// alters the number of the next action alone.
+// THE SHORT WAY: the same step where `stepping::is_inner` says that it may be gone; elsewhere nothing is done, and the report is idle. Of
+// the record it alters the number of the next action alone.
 pub fn step_inner(s: &mut Session, image: &mut [u8], table: &mut [u64]) -> Report
     ensures { λ r. ⌜ OnShortWay (Called stateOf Fits 12 256 Step) (now (s .entry)) (now (s .exit)) (now (image .entry)) (now (image .exit)) (now (table .entry)) (now (table .exit)) r ⌝ }
 {
@@ -123,7 +123,7 @@ pub fn step_inner(s: &mut Session, image: &mut [u8], table: &mut [u64]) -> Repor
     m.report
 }
 
-// The stores that come next, and the action behind them, whose report is told.
+// The stores that come next, and the action behind them, whose report is told; elsewhere nothing, as before.
 pub fn run_inner(s: &mut Session, image: &mut [u8], table: &mut [u64]) -> Report
     ensures { λ r. ⌜ OnShortWay RunsOn (now (s .entry)) (now (s .exit)) (now (image .entry)) (now (image .exit)) (now (table .entry)) (now (table .exit)) r ⌝ }
 {

@@ -201,7 +201,7 @@ module _ {M : Type 1} (𝓤 : URA M) (H : Heap 𝓤) (A : Atoms 𝓤) (W : Given
       → ent 𝓤 (⋆ 𝓤 H A (‵ (flft κ-s q-s) ∷ ‵ (flft κ-image q-image) ∷ ‵ (flft κ-table q-table) ∷ ‵ (fres γ-s (T-Session.the-row .coded .code z-s)) ∷ ‵ (finally u8 γ-image z-image) ∷ ‵ (finally u64 γ-table z-table) ∷ ‵ (T-Answer.the-row .own r (w ∷ [])) ∷ [])) (Post w)
   exits-1 r-short r-report r w z-s z-image z-table e-short held e-report e l-image l-table =
       qed W (‵ (flft κ-s q-s) ∷ ‵ (flft κ-image q-image) ∷ ‵ (flft κ-table q-table) ∷ ‵ (fres γ-s (T-Session.the-row .coded .code z-s)) ∷ ‵ (finally u8 γ-image z-image) ∷ ‵ (finally u64 γ-table z-table) ∷ ‵ (T-Answer.the-row .own r (w ∷ [])) ∷ []) ∵
-      suffices ! _ (ends-at 𝓤 H A self.ended stayed (self.clauses 𝓤 H A at-mem run) W (((κ-s, (κ-image, (κ-table, tt))), (q-s, (q-image, (q-table, tt))), bounds, a, vals), tt) w r (z-s, (z-image, (z-table, tt))) (tt, (l-image, (l-table, tt)))) $ says ! ((r-report, (record { within = e-report; without = λ no. absurd (no (e-short .0 (is-true r-short held))) }, e))) $
+      suffices ! _ (ends-at 𝓤 H A self.ended stayed (self.clauses 𝓤 H A at-mem run) W (((κ-s, (κ-image, (κ-table, tt))), (q-s, (q-image, (q-table, tt))), bounds, a, vals), tt) w r (z-s, (z-image, (z-table, tt))) (tt, (l-image, (l-table, tt)))) $ says ! ((r-report, (record { within = e-report .within; without = λ no. absurd (no (e-short .0 (is-true r-short held))) }, e))) $
       nothing ! $ move ! (3 ∷ 0 ∷ []) $ join ! $ move ! (2 ∷ 0 ∷ []) $ join ! $ move ! (1 ∷ 0 ∷ []) $ join ! $ frame ! $
       nothing ! $ move ! (3 ∷ 0 ∷ []) $ fjoin ! $ move ! (2 ∷ 0 ∷ []) $ fjoin ! $ move ! (1 ∷ 0 ∷ []) $ fjoin ! $ done !
 

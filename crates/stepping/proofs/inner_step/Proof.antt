@@ -1,16 +1,14 @@
 -- `stepping::inner_step` meets its contract.
 -- Assumes nothing.
+use mathlib.Core.Path.{refl}
 use native.Mathlib.Omega.{arith}
 use borrow.Author.Needs.{needs}
 use Rattle.stepping.proofs.Inner as I
 use Rattle.stepping.proofs.inner_step.Statement.{statement}
 use Rattle.stepping.proofs.inner_step.Tie as tie
 
-commit-count-requires : tie.Need-commit-count-requires
-commit-count-requires c κs = search needs
-
-returns : tie.Need-returns
-returns c = λ h. absurd (omega arith)
+is-inner-requires : tie.Need-is-inner-requires
+is-inner-requires c κs = search needs
 
 commit-action-requires : tie.Need-commit-action-requires
 commit-action-requires c κs = search needs
@@ -19,22 +17,29 @@ perform-requires : tie.Need-perform-requires
 perform-requires c κs = search needs
 
 add-next : tie.Need-add-next
-add-next c = search needs
+add-next c = let l = (c .before .before .before .before .before .before .is-inner .ensures .0 (c .before .before .before .before .before .if1 .taken)) .1 .1 .1 in omega arith
 
 same-length : tie.Need-same-length
 same-length c = search needs
 
+returns : tie.Need-returns
+returns c =
+    record {
+      within = λ h. I.inner-acts _ _ _ _ _ _ h _ (c .before .before .before .before .commit-action .ensures) (c .before .before .perform .ensures);
+      without = λ no. absurd (no (c .before .before .before .before .before .before .is-inner .ensures .0 (c .before .before .before .before .before .if1 .taken)));
+    }
+
 returns-2 : tie.Need-returns-2
-returns-2 c = λ h. I.inner-acts _ _ _ _ _ _ h _ (c .before .before .before .before .commit-action .ensures) (c .before .before .perform .ensures)
+returns-2 c = record { within = λ h. absurd (c .before .is-inner .ensures .1 (c .if1 .left) h); without = λ no. (refl, (refl, (refl, refl))) }
 
 pub inner-step-spec : {M : Type 1} → statement M
 inner-step-spec =
     tie.close
     (tie.spec
-    commit-count-requires
-    returns
+    is-inner-requires
     commit-action-requires
     perform-requires
     add-next
     same-length
+    returns
     returns-2)
