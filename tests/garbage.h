@@ -639,11 +639,15 @@ static void near_record(void)
     }
 }
 
-/* A table whose words look like keys and places. */
+/* A table whose words look like keys and what the table holds of them: an extent, a place, a version, a number of entries, several tops. */
 static void near_table(void)
 {
     for (size_t i = 0; i < table_words(); i++) {
-        uint64_t packed = one_in(3) ? draw() : first_word(0, 0, 1 + below(3), below(512)) | 1;
+        uint64_t packed = draw();
+        if (!one_in(3)) {
+            packed = (one_in(2) ? below(256) : 0) | (below(image.bytes / 8 + 4) & 0x3FFFF) << 8 | (1 + below(3)) << 26 | (1 + below(3)) << 46;
+            packed |= one_in(8) ? (uint64_t)1 << 63 : 0;
+        }
         the_table()[i] = one_in(2) ? 0 : i % 2 == 0 ? some_key() : packed;
     }
 }

@@ -124,7 +124,7 @@ module _ (c : Control) (k : Setup) (b bytes table : List ℕ) where
       parsed = rw (ap (chunksIn 12) (rests .same-bytes)) at (ok .parsed)
 
       small : Bounded es
-      small = image-bounded 12 (omega arith) (omega arith) (chunksIn 12 (k .image)) ws es (ok .parsed) (ok .most)
+      small = image-bounded (chunksIn 12 (k .image)) ws es (ok .parsed) (ok .most)
 
       numbered : (key v : ℕ) → VersionOf b (c .words) table key v → Numbered key es items v
       numbered key v is = version-says key chunks ws es items parsed small (batch .counts) table (c .keys) (rests .fits .built .indexed) v (is items (fits-staged c b es items batch))

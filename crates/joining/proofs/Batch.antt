@@ -19,6 +19,7 @@ use Rattle.theory_log.proofs.Contents.{counts-same, highest-insert}
 use Rattle.theory_log.proofs.Clean.{mem-placed}
 use Rattle.bits.specs.Bits.{WordsKept}
 use Rattle.bits.proofs.Laws.{kept-all, kept-then}
+use Rattle.volatile.specs.Known.{alone, ownOf}
 use Rattle.session.specs.State.{bufferPart, batchWords}
 use Rattle.session.specs.Fits.{batchPlace}
 use Rattle.session.proofs.Part.{part-agree, chunk-in, lines-in}
@@ -78,11 +79,11 @@ left-start c k buffer ws table front back items f =
 
 -- ## One more item
 
-left-next : (n : ℕ) (ws buffer buffer′ table table′ : List ℕ) (keys keys′ place at end key version words : ℕ) (whole back : List Entry) → end ≤ 512
-    → ((rest : List Entry) → StagedFrom buffer at end rest → Taken buffer at end key version words rest) → at + (2 + words) ≤ end
-    → OneJoined n ws buffer buffer′ table table′ keys key version (place + at) keys′
+left-next : (n : ℕ) (ws buffer buffer′ table table′ : List ℕ) (keys keys′ place at end key extent version words own : ℕ) (whole back : List Entry) → end ≤ 512
+    → ((rest : List Entry) → StagedFrom buffer at end rest → Taken buffer at end key extent version words rest) → at + (2 + words) ≤ end
+    → own ≡ alone extent (place + at) version → OneJoined n ws buffer buffer′ table table′ keys key own keys′
     → Left n ws buffer table keys place at end whole back → Left n ws buffer′ table′ keys′ place (at + (2 + words)) end whole back
-left-next n ws buffer buffer′ table table′ keys keys′ place at end key version words whole back short taken fits one l = record {
+left-next n ws buffer buffer′ table table′ keys keys′ place at end key extent version words own whole back short taken fits is-own one l = record {
   joined = l .joined ++ e ∷ [];
   rest = es;
   parts = parts ∙ sym (append-snoc (l .joined) e (placed (place + (at + (2 + words))) es ++ back));
@@ -90,13 +91,13 @@ left-next n ws buffer buffer′ table table′ keys keys′ place at end key ver
   right = (rw (t .all) at (l .right)) .1;
   counts = counts-same (t .entry ∷ (l .joined ++ back)) ((l .joined ++ e ∷ []) ++ back) es (λ k. rw append-snoc (highest-insert k (l .joined) back e)) (counts .1);
   in-log = λ f m. l .in-log f (rw (t .all) (inr m));
-  shown = rw append-snoc (one .joins (l .joined) more back e (t .of-key) (t .of-version) refl awaits (l .shown));
+  shown = rw append-snoc (one .joins (l .joined) more back e (t .of-key) own-here awaits (l .shown));
   most = l .most;
   image = l .image;
   room = rw (one .sized) (l .room);
 }
   where
-    t : Taken buffer at end key version words (l .rest)
+    t : Taken buffer at end key extent version words (l .rest)
     t = taken (l .rest) (l .right, l .words)
 
     es : List Entry
@@ -104,6 +105,9 @@ left-next n ws buffer buffer′ table table′ keys keys′ place at end key ver
 
     e : Entry
     e = moved (place + at) (t .entry)
+
+    own-here : ownOf e ≡ own
+    own-here = ap (λ (x : ℕ). alone x (place + at) (t .entry .version)) (t .of-extent) ∙ ap (alone extent (place + at)) (t .of-version) ∙ sym is-own
 
     more : List Entry
     more = placed (place + (at + (2 + words))) es
@@ -136,14 +140,15 @@ going-start n ws buffer table keys place at end long = record { kept = kept-all 
 
 module _ (n : ℕ) (ws buffer₀ table₀ : List ℕ) (keys₀ place at₀ end : ℕ) (buffer table : List ℕ) (keys at : ℕ) (inv : Going n ws buffer₀ table₀ keys₀ place at₀ end buffer table keys at)
     (r : Item) (told : Staged buffer at end r) where
-  pub going-next : (key version words : ℕ) → r ≡ I.Entry key version words → end ≤ 512 → (buffer′ table′ : List ℕ) (keys′ : ℕ) → OneJoined n ws buffer buffer′ table table′ keys key version (place + at) keys′
+  pub going-next : (key extent version words : ℕ) → r ≡ I.Entry key extent version words → end ≤ 512 → (own : ℕ) → own ≡ alone extent (place + at) version
+      → (buffer′ table′ : List ℕ) (keys′ : ℕ) → OneJoined n ws buffer buffer′ table table′ keys key own keys′
       → Going n ws buffer₀ table₀ keys₀ place at₀ end buffer′ table′ keys′ (at + (2 + words))
-  going-next key version words e short buffer′ table′ keys′ one = record {
+  going-next key extent version words e short own is-own buffer′ table′ keys′ one = record {
     kept = kept-then buffer₀ buffer buffer′ (inv .kept) (one .kept);
     sized = one .sized ∙ inv .sized;
     goes = λ whole back l.
-        left-next n ws buffer buffer′ table table′ keys keys′ place at end key version words whole back short
-        (told-entry buffer at end r told key version words e) (told-fits buffer at end r told key version words e) one (inv .goes whole back l);
+        left-next n ws buffer buffer′ table table′ keys keys′ place at end key extent version words own whole back short
+        (told-entry buffer at end r told key extent version words e) (told-fits buffer at end r told key extent version words e) is-own one (inv .goes whole back l);
   }
 
   -- the end

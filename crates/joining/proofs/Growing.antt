@@ -22,7 +22,7 @@ use Rattle.index.specs.Answers.{look-in, put-insert}
 use Rattle.index.specs.Packed.{unpackOf}
 use Rattle.bits.specs.Bits.{hasBit}
 use Rattle.bits.proofs.Laws.{kept-all}
-use Rattle.volatile.specs.Known.{noted, Bounded, Indexed}
+use Rattle.volatile.specs.Known.{ownOf, noted, Bounded, Indexed}
 use Rattle.volatile.proofs.Image.{image-bounded}
 use Rattle.volatile.proofs.Grow.{Grows, grows-above, capacity-same, found-none, found-chosen, was-unknown, indexed-old, indexed-new}
 use Rattle.joining.specs.Blocks.{topBlock, NoBlocks}
@@ -43,14 +43,14 @@ keys-around : (xs more ys : List Entry) → length (keysOf (xs ++ ys)) ≤ lengt
 keys-around xs more ys = keys-fewer (xs ++ ys) (xs ++ (more ++ ys)) (λ k t. let r = known-mem k (xs ++ ys) t in mem-known k (xs ++ (more ++ ys)) (r .0) (mem-around (r .0) xs more ys (r .1)) (r .2))
 
 -- An entry of a key whose probing stops at `slot`, where the table holds `old`.
-module _ (n : ℕ) (ws buffer buffer′ table table′ : List ℕ) (keys key version place slot old info : ℕ) (is-slot : slot ≡ stopOf table key) (is-word : old ≡ infoAt table slot) (is-info : info ≡ noted old place version) where
+module _ (n : ℕ) (ws buffer buffer′ table table′ : List ℕ) (keys key own slot old info : ℕ) (is-slot : slot ≡ stopOf table key) (is-word : old ≡ infoAt table slot) (is-info : info ≡ noted old own) where
   is-old : old ≡ get table key
   is-old = is-word ∙ look-in table key slot is-slot
 
   -- what the entry, its place and its key give
-  module _ (xs more ys : List Entry) (e : Entry) (k : e .key ≡ key) (v : e .version ≡ version) (a : e .at ≡ place) (awaits : Awaited n ws table xs more ys e) (shown : Shown buffer table keys (xs ++ ys)) where
+  module _ (xs more ys : List Entry) (e : Entry) (k : e .key ≡ key) (o : ownOf e ≡ own) (awaits : Awaited n ws table xs more ys e) (shown : Shown buffer table keys (xs ++ ys)) where
     whole : Bounded (xs ++ (e ∷ (more ++ ys)))
-    whole = image-bounded 12 (omega arith) (omega arith) n ws (xs ++ (e ∷ (more ++ ys))) (awaits .shown) (awaits .most)
+    whole = image-bounded n ws (xs ++ (e ∷ (more ++ ys))) (awaits .shown) (awaits .most)
 
     small : Bounded (xs ++ e ∷ ys)
     small = rw (append-snoc xs e ys) at (bounded-around (xs ++ e ∷ []) more ys (rw (append-snoc xs e (more ++ ys)) whole))
@@ -64,8 +64,8 @@ module _ (n : ℕ) (ws buffer buffer′ table table′ : List ℕ) (keys key ver
     old-here : old ≡ get table (e .key)
     old-here = rw k is-old
 
-    info-here : info ≡ noted old (e .at) (e .version)
-    info-here = rw (a, v) is-info
+    info-here : info ≡ noted old (ownOf e)
+    info-here = rw o is-info
 
     -- a new key has room
     room : old ≡ 0 → keys < capacity (length table)
@@ -102,34 +102,34 @@ module _ (n : ℕ) (ws buffer buffer′ table table′ : List ℕ) (keys key ver
     long = ap length is-table ∙ insert-length table key info
 
     -- a key that the table has
-    pub joined-old : (i : Info) → i ≡ unpackOf old → Superseded n ws buffer buffer′ key i → (old ≡ 0 → ⊥) → OneJoined n ws buffer buffer′ table table′ keys key version place keys
+    pub joined-old : (i : Info) → i ≡ unpackOf old → Superseded n ws buffer buffer′ key i → (old ≡ 0 → ⊥) → OneJoined n ws buffer buffer′ table table′ keys key own keys
     joined-old i is-i freed no-zero = record {
       kept = freed .kept;
       sized = long;
-      joins = λ xs more ys e k v a awaits shown.
-          let small = grows xs more ys e k v a awaits shown .small in
+      joins = λ xs more ys e k o awaits shown.
+          let small = grows xs more ys e k o awaits shown .small in
           let found = found-chosen table keys (xs ++ ys) (shown .indexed) small key old is-old no-zero in
           let rest : NoBlocks (e ∷ more) = awaits .plain in
-          shows xs more ys e k v a awaits shown keys
-          (indexed-old (xs ++ ys) (xs ++ e ∷ ys) e table table′ keys old info (shown .indexed) (grows xs more ys e k v a awaits shown) (rw k is-old) (rw (a, v) is-info) (rw k is-table) no-zero)
+          shows xs more ys e k o awaits shown keys
+          (indexed-old (xs ++ ys) (xs ++ e ∷ ys) e table table′ keys old info (shown .indexed) (grows xs more ys e k o awaits shown) (rw k is-old) (rw o is-info) (rw k is-table) no-zero)
           (rw k (freed .freed xs (e ∷ more) ys (found .0) (awaits .shown) rest (found .1) (is-i ∙ found .2) .bits));
     }
 
   -- a new key
-  pub joined-new : length buffer ≡ 1152 → buffer′ ≡ buffer → table′ ≡ putAt table slot key info → old ≡ 0 → OneJoined n ws buffer buffer′ table table′ keys key version place (keys + 1)
+  pub joined-new : length buffer ≡ 1152 → buffer′ ≡ buffer → table′ ≡ putAt table slot key info → old ≡ 0 → OneJoined n ws buffer buffer′ table table′ keys key own (keys + 1)
   joined-new size same is-put z = record {
     kept = rw same (kept-all buffer size);
     sized = long is-put;
-    joins = λ xs more ys e k v a awaits shown.
-        shows xs more ys e k v a awaits shown (keys + 1)
-        (indexed-new (xs ++ ys) (xs ++ e ∷ ys) e table table′ keys old info (shown .indexed) (grows xs more ys e k v a awaits shown) (rw k is-old) (rw (a, v) is-info) (rw k (is-table is-put)) z (room xs more ys e k v a awaits shown z))
-        (λ u. rw (same, no-blocks xs more ys e k v a awaits shown z u) (sym (both-true (hasBit buffer u))));
+    joins = λ xs more ys e k o awaits shown.
+        shows xs more ys e k o awaits shown (keys + 1)
+        (indexed-new (xs ++ ys) (xs ++ e ∷ ys) e table table′ keys old info (shown .indexed) (grows xs more ys e k o awaits shown) (rw k is-old) (rw o is-info) (rw k (is-table is-put)) z (room xs more ys e k o awaits shown z))
+        (λ u. rw (same, no-blocks xs more ys e k o awaits shown z u) (sym (both-true (hasBit buffer u))));
   }
 
   -- a new key where the table is full: there is room, so this is never the case
-  pub joined-full : length buffer ≡ 1152 → buffer′ ≡ buffer → table′ ≡ table → old ≡ 0 → tableRoom (length table) ≤ keys → OneJoined n ws buffer buffer′ table table′ keys key version place keys
+  pub joined-full : length buffer ≡ 1152 → buffer′ ≡ buffer → table′ ≡ table → old ≡ 0 → tableRoom (length table) ≤ keys → OneJoined n ws buffer buffer′ table table′ keys key own keys
   joined-full size same kept z full = record {
     kept = rw same (kept-all buffer size);
     sized = ap length kept;
-    joins = λ xs more ys e k v a awaits shown. let r = room xs more ys e k v a awaits shown z in let c = capacity-same (length table) in absurd (omega arith);
+    joins = λ xs more ys e k o awaits shown. let r = room xs more ys e k o awaits shown z in let c = capacity-same (length table) in absurd (omega arith);
   }

@@ -15,7 +15,7 @@ use Rattle.theory_log.specs.Batch.{AllRight}
 use Rattle.theory_log.specs.Contents.{Mem, CountsOn}
 use Rattle.index.specs.declared.Info.{Info}
 use Rattle.bits.specs.Bits.{hasBit, WordsKept}
-use Rattle.volatile.specs.Known.{Indexed}
+use Rattle.volatile.specs.Known.{extentOf, ownOf, Indexed}
 use Rattle.volatile.proofs.Info.{said}
 use Rattle.session.specs.State.{bufferPart, batchWords, chunkIn, linesIn}
 use Rattle.session.specs.Fits.{Built, batchPlace}
@@ -48,19 +48,20 @@ pub record Awaited (n : ℕ) (ws table : List ℕ) (xs more ys : List Entry) (e 
   pub plain : NoBlocks (e ∷ more)
   pub room : length (keysOf (xs ++ (e ∷ (more ++ ys)))) ≤ capacity (length table)
 
--- before and after an entry of this key and version, which stands at `place`, joined: of any memory, and where it was awaited
-pub record OneJoined (n : ℕ) (ws buffer buffer′ table table′ : List ℕ) (keys key version place keys′ : ℕ) : Type 0 where
+-- before and after an entry of this key joined, `own` being what the table would hold with it alone: of any memory, and where it was awaited
+pub record OneJoined (n : ℕ) (ws buffer buffer′ table table′ : List ℕ) (keys key own keys′ : ℕ) : Type 0 where
   pub kept : WordsKept buffer buffer′
   pub sized : length table′ ≡ length table
-  pub joins : (xs more ys : List Entry) (e : Entry) → e .key ≡ key → e .version ≡ version → e .at ≡ place
+  pub joins : (xs more ys : List Entry) (e : Entry) → e .key ≡ key → ownOf e ≡ own
       → Awaited n ws table xs more ys e → Shown buffer table keys (xs ++ ys) → Shown buffer′ table′ keys′ (xs ++ e ∷ ys)
 
 -- what stands in the buffer's words from `at` to `end`, if they are those of entries: none, or one with so many words of value, and the others behind it
-pub record Taken (buffer : List ℕ) (at end key version words : ℕ) (rest : List Entry) : Type 0 where
+pub record Taken (buffer : List ℕ) (at end key extent version words : ℕ) (rest : List Entry) : Type 0 where
   pub entry : Entry
   pub others : List Entry
   pub all : rest ≡ entry ∷ others
   pub of-key : entry .key ≡ key
+  pub of-extent : extentOf (entry .placement) (entry .field) ≡ extent
   pub of-version : entry .version ≡ version
   pub size : length (entry .value) ≡ words
   pub behind : bufferPart buffer (at + (2 + words)) (end - (at + (2 + words))) ≡ encodeAll others
@@ -70,7 +71,7 @@ StagedFrom buffer at end rest = AllRight rest × (bufferPart buffer at (end - at
 
 abbrev pub Staged : List ℕ → (at end : ℕ) → Item → Type 0
 Staged buffer at end I.Nothing = (rest : List Entry) → StagedFrom buffer at end rest → rest ≡ []
-Staged buffer at end (I.Entry key version words) = (at + (2 + words) ≤ end) × ((rest : List Entry) → StagedFrom buffer at end rest → Taken buffer at end key version words rest)
+Staged buffer at end (I.Entry key extent version words) = (at + (2 + words) ≤ end) × ((rest : List Entry) → StagedFrom buffer at end rest → Taken buffer at end key extent version words rest)
 
 -- where the batch begins, for any record
 abbrev pub placeOf : Setup → ℕ

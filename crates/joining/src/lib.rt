@@ -109,7 +109,7 @@ fn release_tops(buffer: &mut [u64; 1152], image: &[u8], count: usize, key: u64, 
 }
 
 // ONE ITEM
-// An entry at word `place` joins the table, which has so many keys: how many it has then.
+// An entry joins the table, which has so many keys: how many it has then. `own` is what it would hold of the key with this entry alone.
 fn join_one(
     image: &[u8],
     count: usize,
@@ -117,22 +117,21 @@ fn join_one(
     table: &mut [u64],
     keys: usize,
     key: u64,
-    version: u64,
-    place: usize,
+    own: u64,
 ) -> usize
-    ensures { λ r. ⌜ OneJoined count (wordsOf (now (image .entry))) (now (buffer .entry)) (now (buffer .exit)) (now (table .entry)) (now (table .exit)) keys key version place r ⌝ }
+    ensures { λ r. ⌜ OneJoined count (wordsOf (now (image .entry))) (now (buffer .entry)) (now (buffer .exit)) (now (table .entry)) (now (table .exit)) keys key own r ⌝ }
 {
     bits::buffer_length(buffer);
     let slot = index::stop(table, key);
     let old = index::word_at(table, slot);
     if old == 0 {
         if keys < index::capacity(table.len()) {
-            index::put_at(table, slot, key, noting::noted(0, place, version));
+            index::put_at(table, slot, key, own);
             return keys + 1;
         }
         return keys;
     }
-    index::put_at(table, slot, key, noting::noted(old, place, version));
+    index::put_at(table, slot, key, noting::noted(old, own));
     release_tops(buffer, image, count, key, index::unpack(old));
     keys
 }
@@ -143,6 +142,7 @@ enum Item {
     Nothing,
     Entry {
         key: u64,
+        extent: u64,
         version: u64,
         words: usize,
     },
@@ -171,6 +171,7 @@ fn item_at(buffer: &[u64; 1152], at: usize, end: usize) -> Item
             }
             Item::Entry {
                 key: buffer[at + 1],
+                extent: noting::extent_of(placement, field),
                 version,
                 words,
             }
@@ -202,10 +203,12 @@ pub fn join(
             }
             Item::Entry {
                 key,
+                extent,
                 version,
                 words,
             } => {
-                keys = join_one(image, count, buffer, table, keys, key, version, place + at);
+                let own = noting::alone(extent, place + at, version);
+                keys = join_one(image, count, buffer, table, keys, key, own);
                 at += 2 + words;
             }
         }

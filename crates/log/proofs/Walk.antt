@@ -19,7 +19,7 @@ use Rattle.log.specs.declared.Cursor.{Cursor}
 use Rattle.log.specs.declared.Next.{Next}
 use Rattle.log.specs.declared.Next.the-variants as N
 use Rattle.log.specs.Stands.{entryIn}
-use Rattle.log.specs.Cursor.{start, remaining, left, Opened, Handed, Advanced}
+use Rattle.log.specs.Cursor.{cursorAt, start, remaining, left, Opened, Handed, Advanced}
 use Rattle.log.proofs.Stands.{take-drop, found-stands}
 
 join-cons : (e : Entry) (q r : Parsed) → join (cons e q) r ≡ cons e (join q r)
@@ -44,8 +44,6 @@ unfolding remaining
 remaining-chunk ws c n r h o = let e = o .chunk in let z : n - suc (r .chunk) ≡ 0 = omega arith in rw (z, o .entries) (join-none (chunkEntries 12 ws c))
 
 -- The steps, at a place of a chunk.
-abbrev pub cursorAt : (chunk at end : ℕ) → Cursor
-cursorAt chunk at end = record { chunk = chunk; at = at; end = end }
 
 module _ (n : ℕ) (ws : List ℕ) (chunk at end : ℕ) where
   pub next-none : stepOf (slice at end ws) ≡ S.End → n ≤ suc chunk → remaining 12 n ws (cursorAt chunk at end) ≡ Entries []

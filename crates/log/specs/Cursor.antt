@@ -11,6 +11,10 @@ use Rattle.log.specs.declared.Cursor.{Cursor}
 use Rattle.log.specs.declared.Next.{Next}
 use Rattle.log.specs.declared.Next.the-variants as N
 
+-- a place of a chunk, before the end of its committed words
+abbrev pub cursorAt : (chunk at end : ℕ) → Cursor
+cursorAt chunk at end = record { chunk = chunk; at = at; end = end }
+
 -- the beginning of the log
 abbrev pub start : Cursor
 start = record { chunk = 0; at = 0; end = 0 }

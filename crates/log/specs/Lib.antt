@@ -1,3 +1,4 @@
 pub mod Stands
 pub mod Cursor
 pub mod Best
+pub mod Short

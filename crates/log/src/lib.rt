@@ -8,6 +8,7 @@ ghost use Rattle.spec.specs.Directory.{roleAt, linesOf, sizeOf};
 ghost use Rattle.spec.specs.Log.{wordsFor, filled, stepOf};
 ghost use Rattle.log.specs.Cursor.{Opened, Advanced, start};
 ghost use Rattle.log.specs.Best.{raise, bestIn};
+ghost use Rattle.log.specs.Short.{ShortAt};
 use codec::first_of;
 use codec::role_of;
 use spec::FirstWord;
@@ -36,6 +37,17 @@ pub enum Next {
         place: usize,
         cursor: Cursor,
     },
+}
+
+// A put with its value in the log that stands at a word, or anything else: for a pass that goes by the common case first.
+pub enum Short {
+    Put {
+        version: u64,
+        field: u64,
+        key: u64,
+        words: usize,
+    },
+    Other,
 }
 
 // A top entry: its version and its first word, both 0 where there is none.
@@ -114,6 +126,41 @@ pub fn next_entry(img: &[u8], at: usize, end: usize) -> LogStep
             }
         }
     }
+}
+
+// The put with its value in the log that stands at word `at` of the committed words before `end`, if one does and is right.
+pub fn short_put(img: &[u8], at: usize, end: usize) -> Short
+    ensures { λ r. ⌜ ShortAt (wordsOf (now (img .entry))) at end r ⌝ }
+{
+    let stop = lesser(end, img.len() / 8);
+    if stop <= at {
+        return Short::Other;
+    }
+    let word = load(img, at);
+    let version = word / 16 % 1048576;
+    let field = word / 16777216;
+    if word % 16 == 1 {
+        if version == 0 {
+            return Short::Other;
+        }
+        if 256 < field {
+            return Short::Other;
+        }
+        let words = (field as usize + 7) / 8;
+        if stop - at < 2 + words {
+            return Short::Other;
+        }
+        if fill_right(img, at, 0, field, words) {
+            let key = load(img, at + 1);
+            return Short::Put {
+                version,
+                field,
+                key,
+                words,
+            };
+        }
+    }
+    Short::Other
 }
 
 // What the directory says of chunk c; a directory word past the image reads 0.

@@ -1,5 +1,6 @@
 pub mod Tests
 pub mod Pass
+pub mod Runs
 pub mod Opens
 pub mod Gates
 pub mod Looks

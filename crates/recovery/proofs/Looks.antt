@@ -40,7 +40,7 @@ use Rattle.log.proofs.Stands.{take-drop, image-stands}
 use Rattle.index.specs.declared.Info.{Info}
 use Rattle.index.specs.Index.{get}
 use Rattle.index.specs.Packed.{unpackOf}
-use Rattle.volatile.specs.Known.{Bounded}
+use Rattle.volatile.specs.Known.{extentOf, Bounded}
 use Rattle.volatile.proofs.Image.{image-bounded}
 use Rattle.volatile.proofs.Grow.{found-none, found-chosen}
 use Rattle.session.specs.State.{stateOf}
@@ -110,6 +110,12 @@ entry-part bytes ws e stands has blocks logs =
     go true true x y = rw (le-leb _ _ (x refl))
     go true false x y = rw (le-leb _ _ (y refl refl))
 
+-- an extent is that of a put with its value in the log, of more than one byte
+extent-kind : (op pl x : ℕ) → Kind op pl x → 0 < extentOf pl x → (eqb op 1 ≡ true) × (eqb pl 1 ≡ false) × (extentOf pl x + 1 ≡ x)
+extent-kind op pl x (put l) m = (refl, refl, omega arith)
+extent-kind op pl x block m = absurd (omega arith)
+extent-kind op pl x delete m = absurd (omega arith)
+
 log-words : (op pl x : ℕ) → Kind op pl x → eqb pl 1 ≡ false → x ≤ 8 * wordsFor pl x
 log-words op pl x (put l) h = omega arith
 log-words op pl x block h = absurd (let z : _≡_ {A = ℕ} 0 1 = cc in omega arith)
@@ -120,26 +126,34 @@ module _ (n : ℕ) (bytes : List ℕ) (es : List Entry) (ok : Ok 12 n (wordsOf b
   ws = wordsOf bytes
 
   small : Bounded es
-  small = image-bounded 12 (omega arith) (omega arith) n ws es (ok .parsed) (ok .most)
+  small = image-bounded n ws es (ok .parsed) (ok .most)
 
   -- the words of the image lie in its bytes
   long : 8 * length ws ≤ length bytes
   long = let l = length-wordsOf bytes in omega arith
 
+  module _ (k : ℕ) (e : Entry) (h : chosen k es ≡ some e) where
+    stands : StandsIn ws e
+    stands = image-stands 12 (omega arith) (omega arith) n ws es (ok .parsed) e (chosen-is k es e h .in-list)
+
+    in-log : eqb (e .op) 1 ≡ true → eqb (e .placement) 1 ≡ false → 8 * (e .at + 2) + e .field ≤ length bytes
+    in-log o l =
+        let a = log-words (e .op) (e .placement) (e .field) (stands .right .kind) l in
+        let b = stands .fits in
+        let c = long in
+        omega arith
+
+    -- the part of a value whose extent the table holds
+    chosen-extent : 0 < extentOf (e .placement) (e .field) → reportOf (within (length bytes) (8 * (e .at + 2)) (extentOf (e .placement) (e .field) + 1)) ≡ lookUp ws es k
+    unfolding lookUp
+    chosen-extent m =
+        let q = extent-kind (e .op) (e .placement) (e .field) (stands .right .kind) m in
+        rw (h, q .2, q .0, q .1, le-leb _ _ (in-log (q .0) (q .1)))
+
   chosen-part : (k : ℕ) (e : Entry) → chosen k es ≡ some e → reportOf (partAt (length bytes) ws (e .at)) ≡ lookUp ws es k
   unfolding lookUp
-  chosen-part k e h = rw h (entry-part (length bytes) ws e stands (let f = stands .fits in let l = long in omega arith) in-block in-log)
+  chosen-part k e h = rw h (entry-part (length bytes) ws e (stands k e h) (let f = stands k e h .fits in let l = long in omega arith) in-block (in-log k e h))
     where
-      stands : StandsIn ws e
-      stands = image-stands 12 (omega arith) (omega arith) n ws es (ok .parsed) e (chosen-is k es e h .in-list)
-
-      in-log : eqb (e .op) 1 ≡ true → eqb (e .placement) 1 ≡ false → 8 * (e .at + 2) + e .field ≤ length bytes
-      in-log o l =
-          let a = log-words (e .op) (e .placement) (e .field) (stands .right .kind) l in
-          let b = stands .fits in
-          let c = long in
-          omega arith
-
       in-block : pointed e ≡ true → 8 * (unitWord (e .field) + 1) + getD ws (unitWord (e .field)) 0 ≤ length bytes
       in-block q =
           let f = Blocks.block-fits 12 n (e .field) (sizeOf 12 ws (unitChunk 12 (e .field))) (getD ws (unitWord (e .field)) 0) _ (pick-e (pointed e) _ (ok .blocks e (chosen-top k es e h)) q) in
@@ -179,14 +193,31 @@ module _ (key : ℕ) (bytes table : List ℕ) (word : ℕ) (is : word ≡ get ta
   unfolding lookUp
   looking-none z = record { inside = refl; exact = λ n keys es ok ix. sym (rw (found-none table keys es ix (small n bytes es ok) key word is z)) }
 
-  pub looking-part : (info : Info) (r : Located) → (word ≡ 0 → ⊥) → info ≡ unpackOf word → r ≡ partAt (length bytes) (wordsOf bytes) (info .place) → Looking key bytes table r
-  looking-part info r nz i e = record {
-    inside = rw e (part-in (length bytes) (wordsOf bytes) (info .place) (firstWord (length bytes) (wordsOf bytes) (info .place)));
-    exact = λ n keys es ok ix.
-        let f = found-chosen table keys es ix (small n bytes es ok) key word is nz in
-        let place : info .place ≡ f .0 .at = ap (λ (j : Info). j .place) (i ∙ f .2) in
-        ap reportOf (e ∙ ap (partAt (length bytes) (wordsOf bytes)) place) ∙ chosen-part n bytes es ok key (f .0) (f .1);
-  }
+  module _ (info : Info) (i : info ≡ unpackOf word) where
+    -- the entry itself is read
+    pub looking-part : (r : Located) → (word ≡ 0 → ⊥) → r ≡ partAt (length bytes) (wordsOf bytes) (info .place) → Looking key bytes table r
+    looking-part r nz e = record {
+      inside = rw e (part-in (length bytes) (wordsOf bytes) (info .place) (firstWord (length bytes) (wordsOf bytes) (info .place)));
+      exact = λ n keys es ok ix.
+          let f = found-chosen table keys es ix (small n bytes es ok) key word is nz in
+          let place : info .place ≡ f .0 .at = ap (λ (j : Info). j .place) (i ∙ f .2) in
+          ap reportOf (e ∙ ap (partAt (length bytes) (wordsOf bytes)) place) ∙ chosen-part n bytes es ok key (f .0) (f .1);
+    }
+
+    -- the table's word says enough
+    pub looking-extent : (r : Located) → 0 < info .extent → r ≡ within (length bytes) (8 * (info .place + 2)) (info .extent + 1) → Looking key bytes table r
+    looking-extent r more e = record {
+      inside = rw e (within-in (length bytes) (8 * (info .place + 2)) (info .extent + 1));
+      exact = λ n keys es ok ix.
+          let f = found-chosen table keys es ix (small n bytes es ok) key word is some-word in
+          let place : info .place ≡ f .0 .at = ap (λ (j : Info). j .place) (i ∙ f .2) in
+          let extent : info .extent ≡ extentOf (f .0 .placement) (f .0 .field) = ap (λ (j : Info). j .extent) (i ∙ f .2) in
+          ap reportOf (e ∙ ap (λ (x : ℕ). within (length bytes) (8 * (x + 2)) (info .extent + 1)) place ∙ ap (λ (x : ℕ). within (length bytes) (8 * (f .0 .at + 2)) (x + 1)) extent)
+          ∙ chosen-extent n bytes es ok key (f .0) (f .1) (rw extent at more);
+    }
+      where
+        some-word : word ≡ 0 → ⊥
+        some-word z = let x : info .extent ≡ 0 = ap (λ (j : Info). j .extent) (i ∙ ap unpackOf z) in omega arith
 
 -- ## The call
 

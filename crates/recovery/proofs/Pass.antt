@@ -9,7 +9,6 @@ use lib.Dec.{eqb, ltb}
 use lib.ListN.{length, length-replicate}
 use borrow.Author.Tests.{ltb-true}
 use Rattle.spec.specs.Basics.{pick, both}
-use Rattle.spec.specs.Places.{maxChunks}
 use Rattle.spec.specs.Log.{Entry, Parsed, Wrong, Entries, prepend, imageEntries}
 use Rattle.spec.specs.Blocks.{pointed}
 use Rattle.theory_medium.proofs.Lists.{not-both, both-l, both-r}
@@ -17,8 +16,7 @@ use Rattle.theory_log.proofs.Parse.{cons-inv}
 use Rattle.index.specs.Index.{infoAt, stopOf, get, insert, putAt, zeros, capacity as tableRoom}
 use Rattle.index.specs.Laws.{insert-length}
 use Rattle.index.specs.Answers.{look-in, put-insert}
-use Rattle.volatile.specs.Known.{infoOf, noted, FillInv}
-use Rattle.volatile.specs.Plain.{PlainInv}
+use Rattle.volatile.specs.Known.{extentOf, infoOf, alone, ownOf, noted, FillInv}
 use Rattle.volatile.proofs.Info.{bounded-front}
 use Rattle.volatile.proofs.Grow.{capacity-same}
 use Rattle.volatile.proofs.Image.{image-bounded}
@@ -29,58 +27,56 @@ use Rattle.log.specs.declared.Next.the-variants as N
 use Rattle.log.specs.Stands.{entryIn}
 use Rattle.log.specs.Cursor.{start, remaining, Handed}
 use Rattle.log.proofs.Walk.{remaining-start, passed-entry, passed-done, passed-wrong}
-use Rattle.recovery.specs.Pass.{Entering, Filling}
+use Rattle.recovery.specs.Pass.{Entering, Passing, Filling}
 
 -- One more entry, of a key whose probing stops at `slot`, where the table holds `old`.
-module _ (table : List ℕ) (keys : ℕ) (fits plain : Bool) (key version place slot old : ℕ) (is-slot : slot ≡ stopOf table key) (is-word : old ≡ infoAt table slot) (so : fits ≡ true) where
+module _ (table : List ℕ) (keys : ℕ) (fits plain : Bool) (key own slot old : ℕ) (is-slot : slot ≡ stopOf table key) (is-word : old ≡ infoAt table slot) (so : fits ≡ true) where
   is-old : old ≡ get table key
   is-old = is-word ∙ look-in table key slot is-slot
 
-  pub enter-full : old ≡ 0 → tableRoom (length table) ≤ keys → Entering table table keys fits plain key version place keys false false
+  pub enter-full : old ≡ 0 → tableRoom (length table) ≤ keys → Entering table table keys fits plain key own keys false false
   enter-full z c = rw so (record {
     sized = refl;
-    enters = λ xs e k v a b inv. fill-full (length table) xs e table table keys old 0 inv b (rw k is-old) z (rw (capacity-same (length table)) c);
+    enters = λ xs e k o b inv. fill-full (length table) xs e table table keys old 0 inv b (rw k is-old) z (rw (capacity-same (length table)) c);
     plainly = λ f. absurd (not-both true refl (sym f));
   })
 
-  module _ (table′ : List ℕ) (info : ℕ) (is-info : info ≡ noted old place version) (is-put : table′ ≡ putAt table slot key info) (plain′ : Bool) (is-plain : plain′ ≡ both plain (ltb info 0x8000_0000_0000_0000)) where
+  module _ (table′ : List ℕ) (info : ℕ) (is-info : info ≡ noted old own) (is-put : table′ ≡ putAt table slot key info) (plain′ : Bool) (is-plain : plain′ ≡ both plain (ltb info 0x8000_0000_0000_0000)) where
     is-table : table′ ≡ insert table key info
     is-table = is-put ∙ put-insert table key slot is-slot info
 
     long : length table′ ≡ length table
     long = ap length is-table ∙ insert-length table key info
 
-    low : plain′ ≡ true → (plain ≡ true) × (fits ≡ true) × (true ≡ true) × (noted (get table key) place version < 0x8000_0000_0000_0000)
+    low : plain′ ≡ true → (plain ≡ true) × (fits ≡ true) × (true ≡ true) × (noted (get table key) own < 0x8000_0000_0000_0000)
     low t =
         let q : both plain (ltb info 0x8000_0000_0000_0000) ≡ true = sym is-plain ∙ t in
         let l : info < 0x8000_0000_0000_0000 = ltb-true info 0x8000_0000_0000_0000 (both-r plain _ q) in
         (both-l plain _ q, so, refl, rw (← is-old, ← is-info) l)
 
-    pub enter-new : old ≡ 0 → keys < tableRoom (length table) → Entering table table′ keys fits plain key version place (keys + 1) true plain′
+    pub enter-new : old ≡ 0 → keys < tableRoom (length table) → Entering table table′ keys fits plain key own (keys + 1) true plain′
     enter-new z c = record {
       sized = long;
-      enters = rw so (λ xs e k v a b inv. fill-new (length table) xs e table table′ keys old info inv b (rw k is-old) (rw (a, v) is-info) (rw k is-table) z (rw (capacity-same (length table)) c));
+      enters = rw so (λ xs e k o b inv. fill-new (length table) xs e table table′ keys old info inv b (rw k is-old) (rw o is-info) (rw k is-table) z (rw (capacity-same (length table)) c));
       plainly = low;
     }
 
-    pub enter-old : (old ≡ 0 → ⊥) → Entering table table′ keys fits plain key version place keys true plain′
+    pub enter-old : (old ≡ 0 → ⊥) → Entering table table′ keys fits plain key own keys true plain′
     enter-old n = record {
       sized = long;
-      enters = rw so (λ xs e k v a b inv. fill-old (length table) xs e table table′ keys old info inv b (rw k is-old) (rw (a, v) is-info) (rw k is-table) n);
+      enters = rw so (λ xs e k o b inv. fill-old (length table) xs e table table′ keys old info inv b (rw k is-old) (rw o is-info) (rw k is-table) n);
       plainly = low;
     }
 
-pub enter-over : (table : List ℕ) (keys : ℕ) (fits plain : Bool) (key version place : ℕ) → fits ≡ false → Entering table table keys fits plain key version place keys false false
-enter-over table keys fits plain key version place so =
-    record { sized = refl; enters = rw so (λ xs e k v a b inv. fill-over (length table) xs e table keys inv); plainly = λ f. absurd (not-both true refl (sym f)) }
+pub enter-over : (table : List ℕ) (keys : ℕ) (fits plain : Bool) (key own : ℕ) → fits ≡ false → Entering table table keys fits plain key own keys false false
+enter-over table keys fits plain key own so =
+    record { sized = refl; enters = rw so (λ xs e k o b inv. fill-over (length table) xs e table keys inv); plainly = λ f. absurd (not-both true refl (sym f)) }
 
--- THE PASS: the entries xs are passed, the rest is what remains from the cursor.
-pub record Passing (n : ℕ) (ws : List ℕ) (words : ℕ) (table : List ℕ) (keys : ℕ) (fits plain : Bool) (c : Cursor) : Type 0 where
-  pub sized : length table ≡ words
-  pub passed : List Entry
-  pub so-far : imageEntries 12 n ws ≡ prepend passed (remaining 12 n ws c)
-  pub holds : n ≤ maxChunks → (es : List Entry) → imageEntries 12 n ws ≡ Entries es → FillInv words passed table keys fits × PlainInv passed plain fits
+-- what an entry of the log would give alone
+pub own-alone : (pl x extent a v own : ℕ) → extent ≡ extentOf pl x → own ≡ alone extent a v → own ≡ alone (extentOf pl x) a v
+own-alone pl x extent a v own is-extent is-own = is-own ∙ ap (λ (y : ℕ). alone y a v) is-extent
 
+-- THE PASS: its steps.
 pub pass-start : (n : ℕ) (ws : List ℕ) (words : ℕ) (table : List ℕ) → table ≡ zeros words → Passing n ws (length table) table 0 true true start
 pass-start n ws words table e = record {
   sized = refl;
@@ -113,17 +109,17 @@ no-pointer op pl plain h = go (eqb pl 1) h (eqb op 1)
 
 module _ (n : ℕ) (ws : List ℕ) (words : ℕ) (table : List ℕ) (keys : ℕ) (fits plain : Bool) (c : Cursor) (inv : Passing n ws words table keys fits plain c) where
   pub pass-entry : (op pl v x k m a : ℕ) (behind : Cursor) → Handed n ws c op pl v x k m a behind → (so : Bool) → so ≡ pick (eqb pl 1) false plain
-      → (table′ : List ℕ) (keys′ : ℕ) (fits′ plain′ : Bool) → Entering table table′ keys fits so k v a keys′ fits′ plain′
+      → (own : ℕ) → own ≡ alone (extentOf pl x) a v → (table′ : List ℕ) (keys′ : ℕ) (fits′ plain′ : Bool) → Entering table table′ keys fits so k own keys′ fits′ plain′
       → Passing n ws words table′ keys′ fits′ plain′ behind
-  pass-entry op pl v x k m a behind told so is-so table′ keys′ fits′ plain′ entered = record {
+  pass-entry op pl v x k m a behind told so is-so own is-own table′ keys′ fits′ plain′ entered = record {
     sized = entered .sized ∙ inv .sized;
     passed = inv .passed ++ f ∷ [];
     so-far = more;
     holds = λ most es h.
         let front = prepend-front (inv .passed ++ f ∷ []) (remaining 12 n ws behind) es (sym more ∙ h) in
-        let small = bounded-front (inv .passed ++ f ∷ []) (front .0) (rw (front .1) at (image-bounded 12 (omega arith) (omega arith) n ws es h most)) in
+        let small = bounded-front (inv .passed ++ f ∷ []) (front .0) (rw (front .1) at (image-bounded n ws es h most)) in
         let held = inv .holds most es h in
-        (rw (inv .sized) at (entered .enters (inv .passed) f refl refl refl small (rw (inv .sized) (held .0))), plain-next (inv .passed) f plain fits plain′ fits′ small (held .1) (plainer (held .0)));
+        (rw (inv .sized) at (entered .enters (inv .passed) f refl (sym is-own) small (rw (inv .sized) (held .0))), plain-next (inv .passed) f plain fits plain′ fits′ small (held .1) (plainer (held .0)));
   }
     where
       f : Entry
@@ -133,11 +129,11 @@ module _ (n : ℕ) (ws : List ℕ) (words : ℕ) (table : List ℕ) (keys : ℕ)
       more = passed-entry n ws c (N.Entry op pl v x k m a behind) told (imageEntries 12 n ws) (inv .passed) (inv .so-far) op pl v x k m a behind refl
 
       plainer : FillInv words (inv .passed) table keys fits → plain′ ≡ true
-          → (plain ≡ true) × (fits′ ≡ true) × (noted (infoOf k (inv .passed)) a v < 0x8000_0000_0000_0000) × (pointed f ≡ false)
+          → (plain ≡ true) × (fits′ ≡ true) × (noted (infoOf k (inv .passed)) (ownOf f) < 0x8000_0000_0000_0000) × (pointed f ≡ false)
       plainer held t =
           let p = entered .plainly t in
           let q = no-pointer op pl plain (sym is-so ∙ p .0) in
-          (q .0, p .2, rw (held .whole (p .1) .0 k) at (p .3), q .1)
+          (q .0, p .2, rw (held .whole (p .1) .0 k, is-own) at (p .3), q .1)
 
   module _ (before : List ℕ) (cleared : words ≡ length (zeros (length before))) where
     same : words ≡ length before

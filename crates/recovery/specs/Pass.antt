@@ -1,4 +1,4 @@
--- What the first pass over the log does to the key table: one more entry, and all of them.
+-- What the first pass over the log does to the key table: one more entry, a run of them, and all of them.
 -- Assumes nothing.
 use mathlib.Core.Path.{_≡_}
 use mathlib.Core.Bool.{Bool, true, false}
@@ -6,17 +6,32 @@ use mathlib.Core.List.{List, [], _∷_, _++_}
 use Prim.Native.Nat.{ℕ, _≤_, _<_}
 use lib.ListN.{length}
 use Rattle.spec.specs.Places.{maxChunks}
-use Rattle.spec.specs.Log.{Entry, Wrong, Entries, imageEntries}
+use Rattle.spec.specs.Log.{Entry, Wrong, Entries, prepend, imageEntries}
 use Rattle.index.specs.Index.{get}
-use Rattle.volatile.specs.Known.{noted, Bounded, FillInv}
-use Rattle.volatile.specs.Plain.{Plain}
+use Rattle.volatile.specs.Known.{ownOf, noted, Bounded, FillInv}
+use Rattle.volatile.specs.Plain.{Plain, PlainInv}
+use Rattle.log.specs.declared.Cursor.{Cursor}
+use Rattle.log.specs.Cursor.{cursorAt, remaining, left}
 
--- the table before and after one more entry, with the numbers before and after
-pub record Entering (table table′ : List ℕ) (keys : ℕ) (fits plain : Bool) (key version place keys′ : ℕ) (fits′ plain′ : Bool) : Type 0 where
+-- the table before and after one more entry of a key, of which it would hold `own` with this entry alone; with the numbers before and after
+pub record Entering (table table′ : List ℕ) (keys : ℕ) (fits plain : Bool) (key own keys′ : ℕ) (fits′ plain′ : Bool) : Type 0 where
   pub sized : length table′ ≡ length table
-  pub enters : (xs : List Entry) (e : Entry) → e .key ≡ key → e .version ≡ version → e .at ≡ place → Bounded (xs ++ e ∷ [])
+  pub enters : (xs : List Entry) (e : Entry) → e .key ≡ key → ownOf e ≡ own → Bounded (xs ++ e ∷ [])
       → FillInv (length table) xs table keys fits → FillInv (length table) (xs ++ e ∷ []) table′ keys′ fits′
-  pub plainly : plain′ ≡ true → (plain ≡ true) × (fits ≡ true) × (fits′ ≡ true) × (noted (get table key) place version < 0x8000_0000_0000_0000)
+  pub plainly : plain′ ≡ true → (plain ≡ true) × (fits ≡ true) × (fits′ ≡ true) × (noted (get table key) own < 0x8000_0000_0000_0000)
+
+-- the pass on its way: some entries are passed, and the rest is what remains from the cursor
+pub record Passing (n : ℕ) (ws : List ℕ) (words : ℕ) (table : List ℕ) (keys : ℕ) (fits plain : Bool) (c : Cursor) : Type 0 where
+  pub sized : length table ≡ words
+  pub passed : List Entry
+  pub so-far : imageEntries 12 n ws ≡ prepend passed (remaining 12 n ws c)
+  pub holds : n ≤ maxChunks → (es : List Entry) → imageEntries 12 n ws ≡ Entries es → FillInv words passed table keys fits × PlainInv passed plain fits
+
+-- the table before and after a run of the pass up to word `end` of any chunk: the pass is then farther, by the table's new numbers
+pub record Hastened (ws : List ℕ) (end : ℕ) (fits : Bool) (table : List ℕ) (keys at : ℕ) (table′ : List ℕ) (keys′ at′ : ℕ) : Type 0 where
+  pub sized : length table′ ≡ length table
+  pub nearer : (n c : ℕ) → left n ws (cursorAt c at′ end) ≤ left n ws (cursorAt c at end)
+  pub passes : (n c words : ℕ) (plain : Bool) → Passing n ws words table keys fits plain (cursorAt c at end) → Passing n ws words table′ keys′ fits plain (cursorAt c at′ end)
 
 -- the table before and after the pass over the log of an image of n chunks
 pub record Filling (n : ℕ) (ws table table′ : List ℕ) (right fits plain : Bool) (keys : ℕ) : Type 0 where

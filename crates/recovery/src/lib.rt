@@ -15,10 +15,11 @@ ghost use Rattle.spec.specs.Contract.{Called};
 ghost use Rattle.index.specs.Index.{zeros};
 ghost use Rattle.session.specs.State.{stateOf};
 ghost use Rattle.session.specs.Fits.{Fits};
-ghost use Rattle.recovery.specs.Pass.{Entering, Filling};
+ghost use Rattle.recovery.specs.Pass.{Entering, Hastened, Filling};
 ghost use Rattle.recovery.specs.Judged.{firstRefusal, JudgingLog, Judging};
 ghost use Rattle.recovery.specs.Asks.{closedOr, Asking};
 ghost use Rattle.recovery.specs.Look.{within, blockPart, firstWord, partAt, Looking, Locating, Reporting, Showing};
+use log::Short;
 use spec::Control;
 use spec::LogStep;
 use spec::Refusal;
@@ -124,29 +125,20 @@ struct Entered {
     plain: bool,
 }
 
-// One more entry in the table. Once the keys do not fit the table stays.
-fn enter(
-    table: &mut [u64],
-    keys: usize,
-    fits: bool,
-    plain: bool,
-    key: u64,
-    version: u64,
-    place: usize,
-) -> Entered
-    ensures { λ r. ⌜ Entering (now (table .entry)) (now (table .exit)) keys fits plain key version place (r .keys) (r .fits) (r .plain) ⌝ }
+// One more entry in the table; `own` is what it would hold of the key with this entry alone. Once the keys do not fit the table stays.
+fn enter(table: &mut [u64], keys: usize, fits: bool, plain: bool, key: u64, own: u64) -> Entered
+    ensures { λ r. ⌜ Entering (now (table .entry)) (now (table .exit)) keys fits plain key own (r .keys) (r .fits) (r .plain) ⌝ }
 {
     if fits {
         let slot = index::stop(table, key);
         let old = index::word_at(table, slot);
         if old == 0 {
             if keys < index::capacity(table.len()) {
-                let info = noting::noted(0, place, version);
-                index::put_at(table, slot, key, info);
+                index::put_at(table, slot, key, own);
                 return Entered {
                     keys: keys + 1,
                     fits: true,
-                    plain: single(plain, info),
+                    plain: single(plain, own),
                 };
             }
             return Entered {
@@ -155,7 +147,7 @@ fn enter(
                 plain: false,
             };
         }
-        let info = noting::noted(old, place, version);
+        let info = noting::noted(old, own);
         index::put_at(table, slot, key, info);
         return Entered {
             keys,
@@ -170,6 +162,61 @@ fn enter(
     }
 }
 
+// A run of the pass: how many keys the table has then, and how far it came.
+struct Ran {
+    keys: usize,
+    at: usize,
+}
+
+// The pass over puts with new keys and values in the log, from word `at` on, as long as the table has room: all else is left to `fill`.
+fn run(image: &[u8], at: usize, end: usize, table: &mut [u64], keys: usize, fits: bool) -> Ran
+    ensures { λ r. ⌜ Hastened (wordsOf (now (image .entry))) end fits (now (table .entry)) keys at (now (table .exit)) (r .keys) (r .at) ⌝ }
+{
+    let room = index::capacity(table.len());
+    let mut place = at;
+    let mut count = keys;
+    while fits {
+        let s = log::short_put(image, place, end);
+        match s {
+            Short::Other => {
+                return Ran {
+                    keys: count,
+                    at: place,
+                };
+            }
+            Short::Put {
+                version,
+                field,
+                key,
+                words,
+            } => {
+                let slot = index::stop(table, key);
+                let old = index::word_at(table, slot);
+                if old != 0 {
+                    return Ran {
+                        keys: count,
+                        at: place,
+                    };
+                }
+                if room <= count {
+                    return Ran {
+                        keys: count,
+                        at: place,
+                    };
+                }
+                let own = noting::alone(noting::extent_of(0, field), place, version);
+                index::put_at(table, slot, key, own);
+                count += 1;
+                place += 2 + words;
+            }
+        }
+    }
+    Ran {
+        keys: count,
+        at: place,
+    }
+}
+
 // What the pass finds: whether every entry is right, whether the keys fit and the entries are plain, and how many keys the table has.
 struct Filled {
     right: bool,
@@ -178,7 +225,8 @@ struct Filled {
     keys: usize,
 }
 
-// The pass over the log of an image of `count` chunks, from an empty table. It walks as `log::next_in_log` does.
+// The pass over the log of an image of `count` chunks, from an empty table. It walks as `log::next_in_log` does, the common entries
+// by a run first.
 fn fill(image: &[u8], count: usize, table: &mut [u64]) -> Filled
     ensures { λ r. ⌜ Filling count (wordsOf (now (image .entry))) (now (table .entry)) (now (table .exit)) (r .right) (r .fits) (r .plain) (r .keys) ⌝ }
 {
@@ -190,6 +238,9 @@ fn fill(image: &[u8], count: usize, table: &mut [u64]) -> Filled
     let mut at: usize = 0;
     let mut end: usize = 0;
     loop {
+        let r = run(image, at, end, table, keys, fits);
+        keys = r.keys;
+        at = r.at;
         let s = log::next_entry(image, at, end);
         match s {
             LogStep::End => {
@@ -229,12 +280,13 @@ fn fill(image: &[u8], count: usize, table: &mut [u64]) -> Filled
                 op: _,
                 placement,
                 version,
-                field: _,
+                field,
                 key,
                 words,
             } => {
                 let so = unpointed(plain, placement);
-                let e = enter(table, keys, fits, so, key, version, at);
+                let own = noting::alone(noting::extent_of(placement, field), at, version);
+                let e = enter(table, keys, fits, so, key, own);
                 keys = e.keys;
                 fits = e.fits;
                 plain = e.plain;
@@ -455,7 +507,7 @@ fn block_part(image: &[u8], unit: u64) -> Located
 
 // The part that holds a value in the log of an entry at word `place`.
 fn log_part(bytes: usize, place: usize, length: u64) -> Located
-    requires { ⌜ (place < 0x40_0000) × (length < 2 ^ 40) ⌝ }
+    requires { ⌜ (place < 0x4_0000) × (length < 2 ^ 40) ⌝ }
     ensures { λ r. ⌜ r ≡ within bytes (8 * (place + 2)) length ⌝ }
 {
     let start = 8 * (place + 2);
@@ -475,7 +527,7 @@ fn first_word(image: &[u8], place: usize) -> u64
 
 // The part that holds the value of the entry at word `place`: a put with its value in the log, or one with its value in a block.
 fn part_at(image: &[u8], place: usize) -> Located
-    requires { ⌜ place < 0x40_0000 ⌝ }
+    requires { ⌜ place < 0x4_0000 ⌝ }
     ensures { λ r. ⌜ r ≡ partAt (length (now (image .entry))) (wordsOf (now (image .entry))) place ⌝ }
 {
     let word = first_word(image, place);
@@ -490,16 +542,21 @@ fn part_at(image: &[u8], place: usize) -> Located
     Located::Refused(Refusal::KeyAbsent)
 }
 
-// The value of a key, by one probe of the table and one read of the entry that it names.
+// The value of a key, by one probe of the table, which tells the extent of a short value in the log; else the entry is read.
 fn value_of(image: &[u8], table: &[u64], key: u64) -> Located
     ensures { λ r. ⌜ Looking key (now (image .entry)) (now (table .entry)) r ⌝ }
 {
     let held = index::look(table, key);
+    let info = index::unpack(held);
+    let extent = info.extent;
+    let place = info.place as usize;
+    if 0 < extent {
+        return log_part(image.len(), place, extent + 1);
+    }
     if held == 0 {
         return Located::Refused(Refusal::KeyAbsent);
     }
-    let info = index::unpack(held);
-    part_at(image, info.place as usize)
+    part_at(image, place)
 }
 
 // 2, 1, 8, 11, or the part of the image that holds the value of a key.

@@ -39,7 +39,7 @@ module _ (n : ℕ) (ws table : List ℕ) (fits : Bool) (key : ℕ) where
   shows-table t word info is-word is-info es l = ap bestIs is-info ∙ go (ℕ-discrete word 0)
     where
       small : Bounded es
-      small = image-bounded 12 (omega arith) (omega arith) n ws es (l .entries) (l .few)
+      small = image-bounded n ws es (l .entries) (l .few)
 
       go : Dec (word ≡ 0) → bestIs (unpackOf word) ≡ bestOf (chosen key es)
       go (yes z) = rw (found-none table (l .keys) es (l .indexed t) small key word is-word z, z)

@@ -15,7 +15,7 @@ use Rattle.theory_log.proofs.Contents.{chosen-none}
 use Rattle.theory_log.proofs.Keys.{keys-fewer, known-append}
 use Rattle.index.specs.Index.{get, insert, zeros}
 use Rattle.index.specs.Laws.{empty-get, empty-probed, empty-used}
-use Rattle.volatile.specs.Known.{noted, Bounded, Indexed, FillInv}
+use Rattle.volatile.specs.Known.{ownOf, noted, Bounded, Indexed, FillInv}
 use Rattle.volatile.proofs.Info.{info-none}
 use Rattle.volatile.proofs.Grow.{Grows, grows-last, was-unknown, same-length, indexed-old, indexed-new}
 
@@ -69,7 +69,7 @@ module _ (words : ℕ) (xs : List Entry) (e : Entry) (table table′ : List ℕ)
   grows : Grows xs (xs ++ e ∷ []) e
   grows = grows-last xs e small
 
-  module _ (is-info : info ≡ noted old (e .at) (e .version)) (is-table : table′ ≡ insert table (e .key) info) where
+  module _ (is-info : info ≡ noted old (ownOf e)) (is-table : table′ ≡ insert table (e .key) info) where
     long : length table′ ≡ words
     long = same-length xs (xs ++ e ∷ []) e table table′ keys old info now grows is-old is-info is-table ∙ inv .sized
 

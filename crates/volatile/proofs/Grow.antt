@@ -21,7 +21,7 @@ use Rattle.theory_log.proofs.Keys.{keyList, mem-known, keys-known, keys-equal, 
 use Rattle.index.specs.Index.{get, room, insert, used, capacity as tableRoom}
 use Rattle.index.specs.Laws.{capacity-room, room-stored, insert-same, insert-other, insert-probed, insert-old, insert-new, insert-length}
 use Rattle.index.specs.Packed.{unpackOf}
-use Rattle.volatile.specs.Known.{infoOf, noted, Bounded, Indexed}
+use Rattle.volatile.specs.Known.{infoOf, ownOf, noted, Bounded, Indexed}
 use Rattle.volatile.proofs.Info.{said, info-other, info-above, info-next, nonzero-chosen, zero-chosen, zero-unknown, unknown-zero}
 
 -- the table's capacity and that of opening are one number
@@ -70,7 +70,7 @@ pub record Grows (es es′ : List Entry) (e : Entry) : Type 0 where
   pub small : Bounded es
   pub small′ : Bounded es′
   pub present : known (e .key) es′ ≡ true
-  pub info : (k : ℕ) → infoOf k es′ ≡ pick (eqb (e .key) k) (noted (infoOf k es) (e .at) (e .version)) (infoOf k es)
+  pub info : (k : ℕ) → infoOf k es′ ≡ pick (eqb (e .key) k) (noted (infoOf k es) (ownOf e)) (infoOf k es)
   pub old : known (e .key) es ≡ true → length (keysOf es′) ≡ length (keysOf es)
   pub new : known (e .key) es ≡ false → length (keysOf es′) ≡ length (keysOf es) + 1
 
@@ -81,7 +81,7 @@ bounded-without xs ys e b = record { each = λ f m. b .each f (go f (mem-cases f
     go f (inl m) = mem-l f xs (e ∷ ys) m
     go f (inr m) = mem-r f xs (e ∷ ys) (inr m)
 
-    few : length (xs ++ ys) < 0x20_0000
+    few : length (xs ++ ys) < 0x2_0000
     few = let a = length-append xs ys in let c = length-append xs (e ∷ ys) in let l = b .few in omega arith
 
 -- above all of its key, anywhere
@@ -95,8 +95,8 @@ grows-above xs ys e b l = record {
   new = keys-new xs ys e;
 }
   where
-    go : (k : ℕ) (t : Bool) → (t ≡ true → e .key ≡ k) → (t ≡ false → e .key ≡ k → ⊥) → infoOf k (xs ++ e ∷ ys) ≡ pick t (noted (infoOf k (xs ++ ys)) (e .at) (e .version)) (infoOf k (xs ++ ys))
-    go k true y n = info-above k xs ys e (bounded-without xs ys e b) (y refl) (rw (y refl) at l)
+    go : (k : ℕ) (t : Bool) → (t ≡ true → e .key ≡ k) → (t ≡ false → e .key ≡ k → ⊥) → infoOf k (xs ++ e ∷ ys) ≡ pick t (noted (infoOf k (xs ++ ys)) (ownOf e)) (infoOf k (xs ++ ys))
+    go k true y n = info-above k xs ys e (bounded-without xs ys e b) (b .each e (mem-r e xs (e ∷ ys) (inl refl))) (y refl) (rw (y refl) at l)
     go k false y n = info-other k xs ys e (n refl)
 
 -- behind all others
@@ -107,7 +107,7 @@ grows-last xs e b =
       small = front;
       small′ = b;
       present = mem-known (e .key) (xs ++ e ∷ []) e (mem-r e xs (e ∷ []) (inl refl)) refl;
-      info = λ k. info-next k xs e front (b .each e (mem-r e xs (e ∷ []) (inl refl)) .version-low);
+      info = λ k. info-next k xs e front (b .each e (mem-r e xs (e ∷ []) (inl refl)));
       old = λ h. keys-old xs [] e (rw (append-nil xs) h) ∙ rw (append-nil xs);
       new = λ h. keys-new xs [] e (rw (append-nil xs) h) ∙ rw (append-nil xs);
     }
@@ -128,9 +128,9 @@ module _ (es es′ : List Entry) (e : Entry) (table table′ : List ℕ) (keys o
       go true h = refl
       go false h = absurd (n (before ∙ unknown-zero (e .key) es (grows .small) h))
 
-  module _ (is-info : info ≡ noted old (e .at) (e .version)) (is-table : table′ ≡ insert table (e .key) info) where
+  module _ (is-info : info ≡ noted old (ownOf e)) (is-table : table′ ≡ insert table (e .key) info) where
     own : info ≡ infoOf (e .key) es′
-    own = is-info ∙ ap (λ (w : ℕ). noted w (e .at) (e .version)) before ∙ sym (grows .info (e .key) ∙ rw (eq-eqb (e .key) (e .key) refl))
+    own = is-info ∙ ap (λ (w : ℕ). noted w (ownOf e)) before ∙ sym (grows .info (e .key) ∙ rw (eq-eqb (e .key) (e .key) refl))
 
     nonzero : info ≡ 0 → ⊥
     nonzero z = not-both (known (e .key) es′) (grows .present) (zero-unknown (e .key) es′ (grows .small′) (sym own ∙ z))

@@ -2,23 +2,24 @@
 -- Assumes nothing.
 use mathlib.Core.Path.{_≡_, refl, _∙_, ap}
 use mathlib.Core.List.{List, [], _∷_}
-use Prim.Native.Nat.{ℕ, zero, suc, _+_, _-_, _*_, _≤_}
+use Prim.Native.Nat.{ℕ, zero, suc, _+_, _-_, _*_, _≤_, _<_}
 use native.Mathlib.Omega.{arith}
 use lib.ListN.{length, length-append}
 use lib.Seq.{slice}
 use Rattle.spec.specs.declared.LogStep.{LogStep}
 use Rattle.spec.specs.declared.LogStep.the-variants as S
-use Rattle.spec.specs.Places.{base, maxChunks}
+use Rattle.spec.specs.Places.{basePower, chunkWords, base, maxChunks}
 use Rattle.spec.specs.Directory.{linesOf}
 use Rattle.spec.specs.Log.{Entry, Wrong, Entries, stepOf, after, parse, chunkEntries, allFrom, imageEntries}
-use Rattle.theory_medium.proofs.Places.{base-low, base-next, base-rises, lines-words, words-most}
+use Rattle.theory_medium.proofs.Places.{base-low, base-next, lines-words}
+use Rattle.theory_log.specs.Batch.{Kind, put, block, delete}
 use Rattle.theory_log.specs.Contents.{Apart}
 use Rattle.theory_log.proofs.Parse.{found, cons-inv}
 use Rattle.theory_log.proofs.Walk.{slice-long}
 use Rattle.theory_log.proofs.Directory.{lines-most}
 use Rattle.theory_log.proofs.Image.{Joined, join-inv}
 use Rattle.theory_log.proofs.Places.{Sound, all-sound, rising-in, rising-apart, right-in}
-use Rattle.volatile.specs.Known.{Bounded}
+use Rattle.volatile.specs.Known.{extentOf, Bounded}
 
 -- an entry takes two words at least
 parse-few : (l : List ℕ) (skip at : ℕ) (es : List Entry) → skip ≤ length l → parse l skip at ≡ Entries es → 2 * length es + skip ≤ length l
@@ -56,10 +57,6 @@ module _ (p : ℕ) (low : 12 ≤ p) (high : p ≤ 16) where
           let m = ap length (j .whole) ∙ length-append (j .left) (j .right) in
           rw (← t) (omega arith)
 
-  base-most : (c : ℕ) → c ≤ maxChunks → base p c ≤ 4128768
-  unfolding base
-  base-most c h = let a = base-rises p low high c maxChunks h in let b = words-most p low high in omega arith
-
   module _ (n : ℕ) (ws : List ℕ) (es : List Entry) (h : imageEntries p n ws ≡ Entries es) where
     sound : Sound (base p 1) (base p (1 + (n - 1))) es
     sound = all-sound p low high (n - 1) 1 ws es h
@@ -67,15 +64,28 @@ module _ (p : ℕ) (low : 12 ≤ p) (high : p ≤ 16) where
     pub image-apart : Apart es
     image-apart = rising-apart (base p 1) (base p (1 + (n - 1))) es (sound .rising)
 
-    pub image-bounded : n ≤ maxChunks → Bounded es
-    image-bounded most =
-        let end = base-most (1 + (n - 1)) (omega arith) in
-        let first = base-low p low high 1 (omega arith) in
-        let few = all-few (n - 1) 1 ws es h in
-        record {
-          each = λ e m.
-              let a = rising-in (base p 1) (base p (1 + (n - 1))) es e (sound .rising) m in
-              let r = right-in es e (sound .right) m in
-              record { place-low = omega arith; place-high = omega arith; version-low = r .low; version-high = r .high };
-          few = omega arith;
-        }
+-- the numbers of the table's word are wide enough for chunks of 4,096 bytes
+extent-most : (op pl x : ℕ) → Kind op pl x → extentOf pl x < 0x100
+extent-most op pl x (put l) = omega arith
+extent-most op pl x block = omega arith
+extent-most op pl x delete = omega arith
+
+base-most : (c : ℕ) → c ≤ maxChunks → base basePower c ≤ 258048
+unfolding base chunkWords
+base-most c h = omega arith
+
+pub image-bounded : (n : ℕ) (ws : List ℕ) (es : List Entry) → imageEntries basePower n ws ≡ Entries es → n ≤ maxChunks → Bounded es
+image-bounded n ws es h most =
+    let lo : 12 ≤ basePower = omega arith in
+    let hi : basePower ≤ 16 = omega arith in
+    let end = base-most (1 + (n - 1)) (omega arith) in
+    let first = base-low basePower lo hi 1 (omega arith) in
+    let few = all-few basePower lo hi (n - 1) 1 ws es h in
+    let s = sound basePower lo hi n ws es h in
+    record {
+      each = λ e m.
+          let a = rising-in (base basePower 1) (base basePower (1 + (n - 1))) es e (s .rising) m in
+          let r = right-in es e (s .right) m in
+          record { extent-high = extent-most (e .op) (e .placement) (e .field) (r .kind); place-low = omega arith; place-high = omega arith; version-low = r .low; version-high = r .high };
+      few = omega arith;
+    }

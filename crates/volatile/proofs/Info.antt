@@ -19,8 +19,8 @@ use Rattle.theory_log.specs.Contents.{Mem}
 use Rattle.theory_log.proofs.Contents.{versionOf, chosen-best, highest-best, highest-append, highest-insert, below-highest, larger-l, larger-r, chosen-is, none-of, mem-l, mem-r}
 use Rattle.theory_log.proofs.Tops.{in-all}
 use Rattle.index.specs.declared.Info.{Info}
-use Rattle.index.specs.Packed.{packOf, unpackOf, unpack-pack, pack-nonzero}
-use Rattle.volatile.specs.Known.{entryCount, several, infoFor, infoOf, raised, noted, Small, Bounded}
+use Rattle.index.specs.Packed.{Narrow, packOf, unpackOf, unpack-pack, pack-nonzero}
+use Rattle.volatile.specs.Known.{entryCount, several, extentOf, infoFor, infoOf, alone, ownOf, raised, noted, Small, Bounded}
 
 -- Bounds.
 pub bounded-front : (xs ys : List Entry) → Bounded (xs ++ ys) → Bounded xs
@@ -40,8 +40,14 @@ several-most k es = go (leb 2 (length (tops k es)))
     go false = omega arith
 
 -- What the word says of a known key, and of one that is not known.
+abbrev of : Entry → ℕ → ℕ → Info
+of e entries twins = record { extent = extentOf (e .placement) (e .field); place = e .at; version = e .version; entries = entries; several = twins }
+
 abbrev pub said : ℕ → List Entry → Entry → Info
-said k es e = record { place = e .at; version = e .version; entries = entryCount k es; several = several k es }
+said k es e = of e (entryCount k es) (several k es)
+
+narrow : (e : Entry) (entries twins : ℕ) → Small e → entries < 0x2_0000 → twins < 2 → Narrow (of e entries twins)
+narrow e entries twins s n t = record { extent-fits = s .extent-high; place-fits = s .place-high; version-fits = s .version-high; entries-fits = n; several-fits = t }
 
 module _ (k : ℕ) (es : List Entry) where
   pub info-chosen : (e : Entry) → chosen k es ≡ some e → infoOf k es ≡ packOf (said k es e)
@@ -61,7 +67,7 @@ module _ (k : ℕ) (es : List Entry) where
         let s = chosen-small e h in
         let n = count-most k es in
         let f = b .few in
-        ap unpackOf (info-chosen e h) ∙ unpack-pack (said k es e) (record { place-fits = s .place-high; version-fits = s .version-high; entries-fits = omega arith; several-fits = several-most k es })
+        ap unpackOf (info-chosen e h) ∙ unpack-pack (said k es e) (narrow e (entryCount k es) (several k es) s (omega arith) (several-most k es))
 
     pub info-nonzero : (e : Entry) → chosen k es ≡ some e → infoOf k es ≡ 0 → ⊥
     info-nonzero e h z = let s = chosen-small e h in pack-nonzero (said k es e) (s .place-low) (s .place-high) (sym (info-chosen e h) ∙ z)
@@ -93,13 +99,21 @@ module _ (k : ℕ) (es : List Entry) where
         go (some e) h = (e, refl, info-says e h)
 
 -- A word, with one more entry.
-noted-first : (place version : ℕ) → noted 0 place version ≡ packOf (record { place = place; version = version; entries = 1; several = 0 })
-unfolding noted
-noted-first place version = refl
+pub own-says : (e : Entry) → Small e → unpackOf (ownOf e) ≡ of e 1 0
+unfolding alone
+own-says e s = unpack-pack (of e 1 0) (narrow e 1 0 s (omega arith) (omega arith))
 
-noted-next : (word place version : ℕ) (i : Info) → (word ≡ 0 → ⊥) → unpackOf word ≡ i → noted word place version ≡ packOf (raised i place version)
+pub noted-new : (word own : ℕ) → word ≡ 0 → own ≡ noted word own
 unfolding noted
-noted-next word place version i n u = rw (ne-eqb word 0 n) (ap (λ (j : Info). packOf (raised j place version)) u)
+noted-new word own z = sym (rw (eq-eqb word 0 z))
+
+noted-first : (e : Entry) → noted 0 (ownOf e) ≡ packOf (of e 1 0)
+unfolding noted alone
+noted-first e = refl
+
+noted-next : (word : ℕ) (e : Entry) (i : Info) → (word ≡ 0 → ⊥) → unpackOf word ≡ i → Small e → noted word (ownOf e) ≡ packOf (raised i (of e 1 0))
+unfolding noted
+noted-next word e i n u s = rw (ne-eqb word 0 n) (ap (λ (j : Info). packOf (raised (unpackOf word) j)) (own-says e s) ∙ ap (λ (j : Info). packOf (raised j (of e 1 0))) u)
 
 -- A filter, with one more entry.
 module _ (test : Entry → Bool) (xs ys : List Entry) (e : Entry) where
@@ -188,17 +202,17 @@ info-other k xs ys e n =
     ∙ sym (info-from k (entryCount k (xs ++ ys)) (xs ++ ys) (tops k (xs ++ ys)) refl refl)
 
 -- of the key, above all others, anywhere
-pub info-above : (k : ℕ) (xs ys : List Entry) (e : Entry) → Bounded (xs ++ ys) → e .key ≡ k → highest k (xs ++ ys) < e .version → infoOf k (xs ++ e ∷ ys) ≡ noted (infoOf k (xs ++ ys)) (e .at) (e .version)
-info-above k xs ys e b q l = info-from k n (xs ++ e ∷ ys) (e ∷ []) (tops-above k xs ys e q l) (count-more k xs ys e q) ∙ go (chosen k (xs ++ ys)) refl
+pub info-above : (k : ℕ) (xs ys : List Entry) (e : Entry) → Bounded (xs ++ ys) → Small e → e .key ≡ k → highest k (xs ++ ys) < e .version → infoOf k (xs ++ e ∷ ys) ≡ noted (infoOf k (xs ++ ys)) (ownOf e)
+info-above k xs ys e b small q l = info-from k n (xs ++ e ∷ ys) (e ∷ []) (tops-above k xs ys e q l) (count-more k xs ys e q) ∙ go (chosen k (xs ++ ys)) refl
   where
     n : ℕ
     n = entryCount k (xs ++ ys) + 1
 
-    go : (c : Option Entry) → chosen k (xs ++ ys) ≡ c → packOf (record { place = e .at; version = e .version; entries = n; several = 0 }) ≡ noted (infoOf k (xs ++ ys)) (e .at) (e .version)
-    go none h = rw (info-none k (xs ++ ys) h, noted-first (e .at) (e .version), count-none k (xs ++ ys) h)
+    go : (c : Option Entry) → chosen k (xs ++ ys) ≡ c → packOf (of e n 0) ≡ noted (infoOf k (xs ++ ys)) (ownOf e)
+    go none h = rw (info-none k (xs ++ ys) h, noted-first e, count-none k (xs ++ ys) h)
     go (some f) h =
         let v : f .version ≡ highest k (xs ++ ys) = chosen-version k (xs ++ ys) (some f) h in
-        let r = noted-next (infoOf k (xs ++ ys)) (e .at) (e .version) (said k (xs ++ ys) f) (info-nonzero k (xs ++ ys) b f h) (info-says k (xs ++ ys) b f h) in
+        let r = noted-next (infoOf k (xs ++ ys)) e (said k (xs ++ ys) f) (info-nonzero k (xs ++ ys) b f h) (info-says k (xs ++ ys) b f h) small in
         sym (r ∙ rw (lt-ltb (f .version) (e .version) (omega arith)))
 
 -- of the key, behind all others
@@ -210,8 +224,11 @@ chosen-first k es f h = first-is (tops k es) f h
     first-is [] f h = absurd (let z : _≡_ {A = ℕ} 0 1 = cc in omega arith)
     first-is (t ∷ ts) f h = (ts, ap (λ (x : Entry). x ∷ ts) cc)
 
-module _ (k : ℕ) (xs : List Entry) (e : Entry) (b : Bounded xs) (q : e .key ≡ k) (low : 1 ≤ e .version) where
-  info-known : (f : Entry) → chosen k xs ≡ some f → e .version ≤ f .version → infoOf k (xs ++ e ∷ []) ≡ noted (infoOf k xs) (e .at) (e .version)
+module _ (k : ℕ) (xs : List Entry) (e : Entry) (b : Bounded xs) (q : e .key ≡ k) (small : Small e) where
+  low : 1 ≤ e .version
+  low = small .version-low
+
+  info-known : (f : Entry) → chosen k xs ≡ some f → e .version ≤ f .version → infoOf k (xs ++ e ∷ []) ≡ noted (infoOf k xs) (ownOf e)
   info-known f h l = go (ℕ-discrete (f .version) (e .version))
     where
       v : f .version ≡ highest k xs
@@ -220,8 +237,8 @@ module _ (k : ℕ) (xs : List Entry) (e : Entry) (b : Bounded xs) (q : e .key �
       i : Info
       i = said k xs f
 
-      r : noted (infoOf k xs) (e .at) (e .version) ≡ packOf (raised i (e .at) (e .version))
-      r = noted-next (infoOf k xs) (e .at) (e .version) i (info-nonzero k xs b f h) (info-says k xs b f h)
+      r : noted (infoOf k xs) (ownOf e) ≡ packOf (raised i (of e 1 0))
+      r = noted-next (infoOf k xs) e i (info-nonzero k xs b f h) (info-says k xs b f h) small
 
       t : (rest : List Entry) × (tops k xs ≡ f ∷ rest)
       t = chosen-first k xs f h
@@ -229,7 +246,7 @@ module _ (k : ℕ) (xs : List Entry) (e : Entry) (b : Bounded xs) (q : e .key �
       n : ℕ
       n = entryCount k xs + 1
 
-      go : Dec (f .version ≡ e .version) → infoOf k (xs ++ e ∷ []) ≡ noted (infoOf k xs) (e .at) (e .version)
+      go : Dec (f .version ≡ e .version) → infoOf k (xs ++ e ∷ []) ≡ noted (infoOf k xs) (ownOf e)
       go (yes s) =
           let a : tops k (xs ++ e ∷ []) ≡ f ∷ (t .0 ++ e ∷ []) = tops-twin k xs e q (sym s ∙ v) ∙ rw (t .1) in
           let m = length-append (t .0) (e ∷ []) in
@@ -240,17 +257,17 @@ module _ (k : ℕ) (xs : List Entry) (e : Entry) (b : Bounded xs) (q : e .key �
           info-from k n (xs ++ e ∷ []) (f ∷ t .0) a (count-last k xs e q)
           ∙ sym (r ∙ rw (le-ltb (f .version) (e .version) (omega arith), ne-eqb (f .version) (e .version) s, t .1))
 
-  info-last : infoOf k (xs ++ e ∷ []) ≡ noted (infoOf k xs) (e .at) (e .version)
+  info-last : infoOf k (xs ++ e ∷ []) ≡ noted (infoOf k xs) (ownOf e)
   info-last = go (decLt (highest k xs) (e .version)) (chosen k xs) refl
     where
-      go : Dec (highest k xs < e .version) → (c : Option Entry) → chosen k xs ≡ c → infoOf k (xs ++ e ∷ []) ≡ noted (infoOf k xs) (e .at) (e .version)
-      go (yes l) c h = info-above k xs [] e (rw (append-nil xs) b) q (rw (append-nil xs) l) ∙ rw (append-nil xs)
+      go : Dec (highest k xs < e .version) → (c : Option Entry) → chosen k xs ≡ c → infoOf k (xs ++ e ∷ []) ≡ noted (infoOf k xs) (ownOf e)
+      go (yes l) c h = info-above k xs [] e (rw (append-nil xs) b) small q (rw (append-nil xs) l) ∙ rw (append-nil xs)
       go (no l) none h = let v : 0 ≡ highest k xs = chosen-version k xs none h in absurd (omega arith)
       go (no l) (some f) h = let v : f .version ≡ highest k xs = chosen-version k xs (some f) h in info-known f h (omega arith)
 
-pub info-next : (k : ℕ) (xs : List Entry) (e : Entry) → Bounded xs → 1 ≤ e .version → infoOf k (xs ++ e ∷ []) ≡ pick (eqb (e .key) k) (noted (infoOf k xs) (e .at) (e .version)) (infoOf k xs)
-info-next k xs e b low = go (eqb (e .key) k) (eqb-true (e .key) k) (eqb-false (e .key) k)
+pub info-next : (k : ℕ) (xs : List Entry) (e : Entry) → Bounded xs → Small e → infoOf k (xs ++ e ∷ []) ≡ pick (eqb (e .key) k) (noted (infoOf k xs) (ownOf e)) (infoOf k xs)
+info-next k xs e b small = go (eqb (e .key) k) (eqb-true (e .key) k) (eqb-false (e .key) k)
   where
-    go : (t : Bool) → (t ≡ true → e .key ≡ k) → (t ≡ false → e .key ≡ k → ⊥) → infoOf k (xs ++ e ∷ []) ≡ pick t (noted (infoOf k xs) (e .at) (e .version)) (infoOf k xs)
-    go true y n = info-last k xs e b (y refl) low
+    go : (t : Bool) → (t ≡ true → e .key ≡ k) → (t ≡ false → e .key ≡ k → ⊥) → infoOf k (xs ++ e ∷ []) ≡ pick t (noted (infoOf k xs) (ownOf e)) (infoOf k xs)
+    go true y n = info-last k xs e b (y refl) small
     go false y n = info-other k xs [] e (n refl) ∙ rw (append-nil xs)

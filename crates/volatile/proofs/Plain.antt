@@ -20,7 +20,7 @@ use Rattle.theory_log.specs.Contents.{Mem}
 use Rattle.theory_log.proofs.Contents.{filter-mem, mem-cases, chosen-none}
 use Rattle.theory_log.proofs.Tops.{in-all}
 use Rattle.index.specs.Packed.{packed}
-use Rattle.volatile.specs.Known.{several, infoOf, noted, Bounded}
+use Rattle.volatile.specs.Known.{several, infoOf, ownOf, noted, Bounded}
 use Rattle.volatile.specs.Check.{CheckInv}
 use Rattle.volatile.specs.Plain.{Plain, PlainInv}
 use Rattle.volatile.proofs.Info.{several-most, info-chosen, info-none, chosen-first}
@@ -28,8 +28,8 @@ use Rattle.volatile.proofs.Grow.{grows-last}
 use Rattle.volatile.proofs.Check.{same-held}
 
 -- A word without the bit is that of a key with one top entry at most.
-bit-low : (place version entries twins : ℕ) → twins < 2 → packed place version entries twins < 0x8000_0000_0000_0000 → twins ≡ 0
-bit-low place version entries twins m l = omega arith
+bit-low : (extent place version entries twins : ℕ) → twins < 2 → packed extent place version entries twins < 0x8000_0000_0000_0000 → twins ≡ 0
+bit-low extent place version entries twins m l = omega arith
 
 first-nil : (ts : List Entry) → first ts ≡ none → ts ≡ []
 first-nil [] h = refl
@@ -44,7 +44,7 @@ low-single k es l = go (chosen k es) refl
   where
     go : (q : Option Entry) → chosen k es ≡ q → several k es ≡ 0
     go none h = rw (tops-nil k es h)
-    go (some f) h = bit-low _ _ _ (several k es) (several-most k es) (rw (info-chosen k es f h) at l)
+    go (some f) h = bit-low _ _ _ _ (several k es) (several-most k es) (rw (info-chosen k es f h) at l)
 
 -- A top entry is then the chosen one of its key.
 alone : (f : Entry) (rest : List Entry) → _≡_ {A = ℕ} (pick (leb 2 (length (f ∷ rest))) 1 0) 0 → rest ≡ []
@@ -105,16 +105,16 @@ pub plain-end : (es : List Entry) (plain fits : Bool) → PlainInv es plain fits
 plain-end es plain fits inv t = record { single = λ k. low-single k es (inv .low t k); unpointed = inv .unpointed t }
 
 -- One more entry.
-low-next : (xs : List Entry) (e : Entry) → Bounded (xs ++ e ∷ []) → ((k : ℕ) → infoOf k xs < 0x8000_0000_0000_0000) → noted (infoOf (e .key) xs) (e .at) (e .version) < 0x8000_0000_0000_0000
+low-next : (xs : List Entry) (e : Entry) → Bounded (xs ++ e ∷ []) → ((k : ℕ) → infoOf k xs < 0x8000_0000_0000_0000) → noted (infoOf (e .key) xs) (ownOf e) < 0x8000_0000_0000_0000
     → (k : ℕ) → infoOf k (xs ++ e ∷ []) < 0x8000_0000_0000_0000
 low-next xs e b low l k = rw (grows-last xs e b .info k) (go (eqb (e .key) k) (eqb-true (e .key) k))
   where
-    go : (t : Bool) → (t ≡ true → e .key ≡ k) → pick t (noted (infoOf k xs) (e .at) (e .version)) (infoOf k xs) < 0x8000_0000_0000_0000
+    go : (t : Bool) → (t ≡ true → e .key ≡ k) → pick t (noted (infoOf k xs) (ownOf e)) (infoOf k xs) < 0x8000_0000_0000_0000
     go true y = rw (← y refl) l
     go false y = low k
 
 pub plain-next : (xs : List Entry) (e : Entry) (plain fits plain′ fits′ : Bool) → Bounded (xs ++ e ∷ []) → PlainInv xs plain fits
-    → (plain′ ≡ true → (plain ≡ true) × (fits′ ≡ true) × (noted (infoOf (e .key) xs) (e .at) (e .version) < 0x8000_0000_0000_0000) × (pointed e ≡ false))
+    → (plain′ ≡ true → (plain ≡ true) × (fits′ ≡ true) × (noted (infoOf (e .key) xs) (ownOf e) < 0x8000_0000_0000_0000) × (pointed e ≡ false))
     → PlainInv (xs ++ e ∷ []) plain′ fits′
 plain-next xs e plain fits plain′ fits′ b inv so = record {
   held = λ t. so t .1;

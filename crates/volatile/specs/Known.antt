@@ -4,7 +4,7 @@ use mathlib.Core.Path.{_≡_}
 use mathlib.Core.Bool.{Bool, true, false}
 use mathlib.Core.Option.{Option, none, some}
 use mathlib.Core.List.{List}
-use Prim.Native.Nat.{ℕ, _+_, _≤_, _<_}
+use Prim.Native.Nat.{ℕ, _+_, _-_, _≤_, _<_}
 use lib.Dec.{eqb, leb, ltb}
 use lib.ListN.{length}
 use Rattle.spec.specs.Basics.{pick, filter}
@@ -22,37 +22,46 @@ entryCount k es = length (filter (λ (e : Entry). eqb (e .key) k) es)
 abbrev pub several : ℕ → List Entry → ℕ
 several k es = pick (leb 2 (length (tops k es))) 1 0
 
--- what the table holds of a key: its chosen entry's place and version, and those two; nothing of a key that is not known
+-- one less than the bytes of a value in the log that is longer than a byte; 0 for every other entry: it must be read itself
+abbrev pub extentOf : (placement field : ℕ) → ℕ
+extentOf placement field = pick (eqb placement 0) (field - 1) 0
+
+-- what the table holds of a key: its chosen entry's extent, place and version, and those two; nothing of a key that is not known
 abbrev pub infoFor : Option Entry → ℕ → ℕ → ℕ
 infoFor none entries twins = 0
-infoFor (some e) entries twins = packOf (record { place = e .at; version = e .version; entries = entries; several = twins })
+infoFor (some e) entries twins = packOf (record { extent = extentOf (e .placement) (e .field); place = e .at; version = e .version; entries = entries; several = twins })
 
 unfoldable pub infoOf : ℕ → List Entry → ℕ
 infoOf k es = infoFor (chosen k es) (entryCount k es) (several k es)
 
--- one more entry of the key, at this place and with this version, behind those that the word speaks of
-abbrev pub raised : Info → ℕ → ℕ → Info
-raised i place version =
-    pick (ltb (i .version) version)
-    (record { place = place; version = version; entries = i .entries + 1; several = 0 })
-    (record { place = i .place; version = i .version; entries = i .entries + 1; several = pick (eqb (i .version) version) 1 (i .several) })
+-- what it holds of a key with this entry alone
+unfoldable pub alone : (extent place version : ℕ) → ℕ
+alone extent place version = packOf (record { extent = extent; place = place; version = version; entries = 1; several = 0 })
 
-unfoldable pub noted : ℕ → ℕ → ℕ → ℕ
-noted word place version =
-    pick (eqb word 0)
-    (packOf (record { place = place; version = version; entries = 1; several = 0 }))
-    (packOf (raised (unpackOf word) place version))
+abbrev pub ownOf : Entry → ℕ
+ownOf e = alone (extentOf (e .placement) (e .field)) (e .at) (e .version)
+
+-- one more entry of the key, of which j speaks, behind those of which i speaks
+abbrev pub raised : Info → Info → Info
+raised i j =
+    pick (ltb (i .version) (j .version))
+    (record { extent = j .extent; place = j .place; version = j .version; entries = i .entries + 1; several = 0 })
+    (record { extent = i .extent; place = i .place; version = i .version; entries = i .entries + 1; several = pick (eqb (i .version) (j .version)) 1 (i .several) })
+
+unfoldable pub noted : (word own : ℕ) → ℕ
+noted word own = pick (eqb word 0) own (packOf (raised (unpackOf word) (unpackOf own)))
 
 -- the entries' numbers fit their parts of the packed word
 pub record Small (e : Entry) : Type 0 where
+  pub extent-high : extentOf (e .placement) (e .field) < 0x100
   pub place-low : 1 ≤ e .at
-  pub place-high : e .at < 0x40_0000
+  pub place-high : e .at < 0x4_0000
   pub version-low : 1 ≤ e .version
   pub version-high : e .version < 0x10_0000
 
 pub record Bounded (es : List Entry) : Type 0 where
   pub each : (e : Entry) → Mem e es → Small e
-  pub few : length es < 0x20_0000
+  pub few : length es < 0x2_0000
 
 -- the table, with so many keys, is that of the entries
 pub record Indexed (table : List ℕ) (keys : ℕ) (es : List Entry) : Type 0 where

@@ -49,6 +49,9 @@ mul-t16 c = search needs
 element-copy-out-t20 : tie.Need-element-copy-out-t20
 element-copy-out-t20 c = search needs
 
+extent-of-requires : tie.Need-extent-of-requires
+extent-of-requires c κs = search needs
+
 returns-3 : tie.Need-returns-3
 returns-3 c =
     let a = c .before .before .before .before .before .args in
@@ -61,8 +64,8 @@ returns-4 c =
 
 returns-5 : tie.Need-returns-5
 returns-5 c =
-    let a = c .before .before .before .before .before .before .before .before .before .args in
-    staged-entry (a .buffer .now) (a .at) (a .end) _ (c .before .before .before .before .before .before .first-of .ensures) _ _ _ _ _ (c .before .before .before .before .first .given .1) (c .before .before .words-for .ensures .0) (c .before .before .before .before .before .before .before .before .if1 .left) (c .before .if2 .left)
+    let a = c .before .before .before .before .before .before .before .before .before .before .args in
+    staged-entry (a .buffer .now) (a .at) (a .end) _ (c .before .before .before .before .before .before .before .first-of .ensures) _ _ _ _ _ (c .before .before .before .before .before .first .given .1) (c .before .before .before .words-for .ensures .0) (c .before .before .before .before .before .before .before .before .before .if1 .left) (c .before .before .if2 .left) _ (c .extent-of .ensures)
 
 pub item-at-spec : {M : Type 1} → statement M
 item-at-spec =
@@ -82,6 +85,7 @@ item-at-spec =
     add-t15
     mul-t16
     element-copy-out-t20
+    extent-of-requires
     returns-3
     returns-4
     returns-5)

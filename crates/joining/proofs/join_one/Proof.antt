@@ -1,6 +1,7 @@
 -- `joining::join_one` meets its contract.
 -- Assumes nothing.
 use mathlib.Core.Path.{refl}
+use Rattle.volatile.proofs.Info.{noted-new}
 use Rattle.joining.proofs.Growing.{joined-new, joined-full, joined-old}
 use borrow.Author.Needs.{needs}
 use Rattle.joining.proofs.join_one.Statement.{statement}
@@ -18,9 +19,6 @@ word-at-requires c κs = search needs
 capacity-requires : tie.Need-capacity-requires
 capacity-requires c κs = search needs
 
-noted-requires : tie.Need-noted-requires
-noted-requires c κs = search needs
-
 put-at-requires : tie.Need-put-at-requires
 put-at-requires c κs = search needs
 
@@ -32,18 +30,18 @@ same-length c = search needs
 
 returns : tie.Need-returns
 returns c =
-    let zero = c .before .before .before .before .before .before .before .if1 .taken in
-    joined-new _ _ _ _ _ _ _ _ _ _ _ _ _ (c .before .before .before .before .before .before .before .before .before .before .stop .ensures) (c .before .before .before .before .before .before .before .before .word-at .ensures) (rw zero (c .before .before .before .noted .ensures)) (c .before .before .before .before .before .before .before .before .before .before .before .before .buffer-length .ensures .1) refl (c .before .before .put-at .ensures) zero
+    let zero = c .before .before .before .before .before .before .if1 .taken in
+    joined-new _ _ _ _ _ _ _ _ _ _ _ _ (c .before .before .before .before .before .before .before .before .before .stop .ensures) (c .before .before .before .before .before .before .before .word-at .ensures) (noted-new _ _ zero) (c .before .before .before .before .before .before .before .before .before .before .before .buffer-length .ensures .1) refl (c .before .before .put-at .ensures) zero
 
 same-length-2 : tie.Need-same-length-2
 same-length-2 c = search needs
 
 returns-2 : tie.Need-returns-2
 returns-2 c =
-    joined-full _ _ _ _ _ _ _ _ _ _ _ _ _ (c .before .before .before .before .before .stop .ensures) (c .before .before .before .word-at .ensures) refl (c .before .before .before .before .before .before .before .buffer-length .ensures .1) refl refl (c .before .before .if1 .taken) (rw (← c .before .capacity .ensures) (c .if2 .left))
+    joined-full _ _ _ _ _ _ _ _ _ _ _ _ (c .before .before .before .before .before .stop .ensures) (c .before .before .before .word-at .ensures) refl (c .before .before .before .before .before .before .before .buffer-length .ensures .1) refl refl (c .before .before .if1 .taken) (rw (← c .before .capacity .ensures) (c .if2 .left))
 
-noted-requires-2 : tie.Need-noted-requires-2
-noted-requires-2 c κs = search needs
+noted-requires : tie.Need-noted-requires
+noted-requires c κs = search needs
 
 put-at-requires-2 : tie.Need-put-at-requires-2
 put-at-requires-2 c κs = search needs
@@ -59,7 +57,7 @@ same-length-3 c = search needs
 
 returns-3 : tie.Need-returns-3
 returns-3 c =
-    joined-old _ _ _ _ _ _ _ _ _ _ _ _ _ (c .before .before .before .before .before .before .before .before .before .before .before .stop .ensures) (c .before .before .before .before .before .before .before .before .before .word-at .ensures) (c .before .before .before .before .before .before .noted2 .ensures) (c .before .before .before .before .before .put-at2 .ensures) _ (c .before .unpack .ensures) (c .release-tops .ensures) (c .before .before .before .before .before .before .before .before .if1 .left)
+    joined-old _ _ _ _ _ _ _ _ _ _ _ _ (c .before .before .before .before .before .before .before .before .before .before .before .stop .ensures) (c .before .before .before .before .before .before .before .before .before .word-at .ensures) (c .before .before .before .before .before .before .noted .ensures) (c .before .before .before .before .before .put-at2 .ensures) _ (c .before .unpack .ensures) (c .release-tops .ensures) (c .before .before .before .before .before .before .before .before .if1 .left)
 
 pub join-one-spec : {M : Type 1} → statement M
 join-one-spec =
@@ -69,14 +67,13 @@ join-one-spec =
     stop-requires
     word-at-requires
     capacity-requires
-    noted-requires
     put-at-requires
     add-result
     same-length
     returns
     same-length-2
     returns-2
-    noted-requires-2
+    noted-requires
     put-at-requires-2
     unpack-requires
     release-tops-requires

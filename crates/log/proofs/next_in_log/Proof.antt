@@ -6,8 +6,8 @@ use native.Mathlib.Omega.{arith}
 use Rattle.spec.specs.Words.{wordsOf}
 use Rattle.words.specs.Image.{length-wordsOf}
 use Rattle.theory_log.proofs.Walk.{room-padding, room-entry}
-use Rattle.log.specs.Cursor.{remaining, left}
-use Rattle.log.proofs.Walk.{cursorAt, next-none, next-wrong, next-chunk, next-padding, next-found, left-chunk, left-padding, handed-from}
+use Rattle.log.specs.Cursor.{cursorAt, remaining, left}
+use Rattle.log.proofs.Walk.{next-none, next-wrong, next-chunk, next-padding, next-found, left-chunk, left-padding, handed-from}
 use borrow.Author.Needs.{needs}
 use Rattle.log.proofs.next_in_log.Statement.{statement}
 use Rattle.log.proofs.next_in_log.Tie as tie
