@@ -385,43 +385,50 @@ static inline uint64_t copied_out(const uint8_t *at, uint64_t length)
     return first;
 }
 
-/* Look-ups of all keys. Where they wait, each key is known only once the look-up before has answered, as for a clerk; else the
- * processor works on several at once. The values are copied out or only found. */
+/* The look-ups of a block of keys, by the floor's hash or, where that is none, by the register; the sum is of what they answered.
+ * Where they wait, each key is known only once the look-up before has answered, as for a clerk; else the processor works on several
+ * at once. The values are copied out or only found. */
+static inline __attribute__((always_inline)) uint64_t look_block(const uint64_t *keys, const uint64_t *hash, bool wait, bool copy)
+{
+    const uint64_t *w = (const uint64_t *)(const void *)image;
+    volatile uint64_t none = 0;
+    uint64_t start = 0, length = 0, answers = 0, mask = none;
+    for (size_t i = 0; i < LOOKS; i++) {
+        uint64_t key = wait ? keys[i + (start & mask)] : keys[i];
+        answers += hash ? floor_look_up(w, hash, key, &start, &length)
+                        : zkv_look_up(&record, image, BYTES, table, TABLE, key, &start, &length);
+        answers += 3 * start + length + (copy ? copied_out(image + start, length) : 0);
+    }
+    return answers;
+}
+
+/* Look-ups of all keys. The two sides take turns in going first: the second finds in the cache what the first has read. */
 static inline __attribute__((always_inline)) void look_all(const char *name, const uint64_t *keys, size_t n,
                                                            const uint64_t *hash, bool wait, bool copy)
 {
-    double our_block[LOOK_BLOCKS_MAX], floor_block[LOOK_BLOCKS_MAX], ours = 0, floor = 0;
-    const uint64_t *w = (const uint64_t *)(const void *)image;
-    volatile uint64_t none = 0;
+    enum { OURS, FLOOR, SIDES };
+    double best[SIDES][LOOK_BLOCKS_MAX], time[SIDES] = {0, 0};
     size_t blocks = n / LOOKS;
     for (int r = 0; r < ROUNDS; r++) {
         for (size_t b = 0; b < blocks; b++) {
-            uint64_t start = 0, length = 0, our_answers = 0, floor_answers = 0, mask = none;
-            double t = now();
-            for (size_t i = b * LOOKS; i < (b + 1) * LOOKS; i++) {
-                uint64_t key = wait ? keys[i + (start & mask)] : keys[i];
-                our_answers += zkv_look_up(&record, image, BYTES, table, TABLE, key, &start, &length);
-                our_answers += 3 * start + length + (copy ? copied_out(image + start, length) : 0);
+            uint64_t answers[SIDES];
+            for (int turn = 0; turn < SIDES; turn++) {
+                int side = (r + turn) % SIDES;
+                double t = now();
+                answers[side] = side == OURS ? look_block(keys + b * LOOKS, NULL, wait, copy) : look_block(keys + b * LOOKS, hash, wait, copy);
+                double took = now() - t;
+                best[side][b] = r == 0 || took < best[side][b] ? took : best[side][b];
             }
-            double u = now();
-            for (size_t i = b * LOOKS; i < (b + 1) * LOOKS; i++) {
-                uint64_t key = wait ? keys[i + (start & mask)] : keys[i];
-                floor_answers += floor_look_up(w, hash, key, &start, &length);
-                floor_answers += 3 * start + length + (copy ? copied_out((const uint8_t *)w + start, length) : 0);
-            }
-            double v = now();
-            if (our_answers != floor_answers) {
+            if (answers[OURS] != answers[FLOOR]) {
                 wrong("look-up and floor answer differently");
             }
-            our_block[b] = r == 0 || u - t < our_block[b] ? u - t : our_block[b];
-            floor_block[b] = r == 0 || v - u < floor_block[b] ? v - u : floor_block[b];
         }
     }
     for (size_t b = 0; b < blocks; b++) {
-        ours += our_block[b];
-        floor += floor_block[b];
+        time[OURS] += best[OURS][b];
+        time[FLOOR] += best[FLOOR][b];
     }
-    note(name, "ns", ours / (double)n, floor / (double)n, false);
+    note(name, "ns", time[OURS] / (double)n, time[FLOOR] / (double)n, false);
 }
 
 /* The three kinds of look-up, each in a loop of its own. */
