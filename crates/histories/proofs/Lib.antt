@@ -4,3 +4,4 @@ pub mod Events
 pub mod Starts
 pub mod Theorem
 pub mod Every
+pub mod Ends

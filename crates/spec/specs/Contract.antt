@@ -4,12 +4,15 @@ use mathlib.Core.Path.{_≡_}
 use mathlib.Core.Logic.{_⊎_}
 use mathlib.Core.Bool.{Bool, true, false}
 use mathlib.Core.Option.{some}
-use mathlib.Core.List.{List, [], _∷_, _++_}
-use Prim.Native.Nat.{ℕ, zero, suc, _+_, _≤_}
+use mathlib.Core.List.{List, [], _∷_, _++_, map}
+use Prim.Native.Nat.{ℕ, zero, suc, _+_, _≤_, _<_}
 use lib.ListN.{length, replicate, set}
 use lib.Seq.{slice}
 use Rattle.spec.specs.Words.{wordsOf}
-use Rattle.spec.specs.Calls.{Call, Format, Open, Put, Delete, Commit, Abandon, LookUp, Choose, Clean, Step, State, Closed, Rest, Busy, Formatting, answer, next, barred, refusals, stepsLeft, isRefused}
+use Rattle.spec.specs.Places.{chunksIn}
+use Rattle.spec.specs.Medium.{Action}
+use Rattle.spec.specs.Log.{Entry}
+use Rattle.spec.specs.Calls.{Call, Format, Open, Put, Delete, Commit, Abandon, LookUp, Choose, Clean, Step, Staging, Committing, Cleaning, State, Closed, Rest, Busy, Formatting, Task, itemsOf, countOf, asReport, answer, next, barred, refusals, stepsLeft, isRefused}
 use Rattle.spec.specs.declared.Session.{Session}
 use Rattle.spec.specs.declared.Refusal.{Refusal}
 use Rattle.spec.specs.declared.Report.{Report}
@@ -66,6 +69,35 @@ Again (LookUp k) r Fit = Fit
 Again Choose r Fit = Fit
 Again (Clean c) r Fit = Fit
 Again Step r Fit = Fit
+
+-- ANY MEMORY AT ALL, by call: which answers the call has, and the state that it leaves. A step is exact, whatever image and table hold.
+abbrev pub Refuses : Report → Type 0
+Refuses r = (n : Refusal) × (r ≡ R.Refused n)
+
+-- begun, with the actions of such a task still to come, all of them
+abbrev pub Begins : (List Action → State → Type 0) → State → Report → Type 0
+Begins Of σ r = (acts : List Action) × (Of acts σ × (r ≡ R.Begun (length acts)))
+
+abbrev pub StagesIn : ℕ → ℕ → List Action → State → Type 0
+StagesIn b t acts σ = (items : List Entry) × (σ ≡ Busy b t items Staging acts)
+
+abbrev pub CommitsIn : ℕ → ℕ → List Entry → List Action → State → Type 0
+CommitsIn b t items acts σ = σ ≡ Busy b t items Committing acts
+
+abbrev pub CleansIn : ℕ → ℕ → List Action → State → Type 0
+CleansIn b t acts σ = (n : ℕ) × (σ ≡ Busy b t [] (Cleaning n) acts)
+
+abbrev pub Anyway : (p limit : ℕ) → Call → (σ σ′ : State) → (ws : List ℕ) → (bytes table : ℕ) → Report → Type 0
+Anyway p limit (Format x y) σ σ′ ws bytes table r = (r ≡ answer p limit (Format x y) σ ws bytes table) × (σ′ ≡ next p limit (Format x y) σ ws bytes table)
+Anyway p limit Open σ σ′ ws bytes table r = Refuses r ⊎ ((r ≡ R.Opened) × (σ′ ≡ Rest bytes table []))
+Anyway p limit (Put k v) σ σ′ ws bytes table r = Refuses r ⊎ Begins (StagesIn bytes table) σ′ r
+Anyway p limit (Delete k) σ σ′ ws bytes table r = Refuses r ⊎ Begins (StagesIn bytes table) σ′ r
+Anyway p limit Commit σ σ′ ws bytes table r = Refuses r ⊎ Begins (CommitsIn bytes table (itemsOf σ)) σ′ r
+Anyway p limit Abandon σ σ′ ws bytes table r = Refuses r ⊎ ((r ≡ R.Abandoned) × (σ′ ≡ Rest bytes table []))
+Anyway p limit (LookUp k) σ σ′ ws bytes table r = Refuses r ⊎ ((a : ℕ) × ((n : ℕ) × (r ≡ R.Part a n)))
+Anyway p limit Choose σ σ′ ws bytes table r = Refuses r ⊎ ((c : ℕ) × ((r ≡ R.Chosen c) × ((1 ≤ c) × (c < chunksIn p bytes))))
+Anyway p limit (Clean c) σ σ′ ws bytes table r = Refuses r ⊎ Begins (CleansIn bytes table) σ′ r
+Anyway p limit Step σ σ′ ws bytes table r = (r ≡ answer p limit Step σ ws bytes table) × (σ′ ≡ next p limit Step σ ws bytes table)
 
 -- An implementation reads its record as a state, and keeps record and table fitting the image's words: "memory as our calls
 -- left it". Nothing is to be believed of either: an opening and a formatting need no more of the record than its type.
@@ -136,3 +168,17 @@ module _ (stateOf : Session → State) (Fits : Session → List ℕ → List ℕ
     pub image : Changed r bytes bytes′
     pub sized : length table′ ≡ length table
     pub outcome : Outcome k s s′ table table′ r
+    pub anyway : Anyway p limit k (stateOf s) (stateOf s′) (wordsOf bytes) (length bytes) (length table) r
+
+  -- EVERY BEGUN CALL ENDS AFTER ITS COUNT. Steps with these reports, each lent any image and any table of the lengths b and t: nothing is
+  -- asked of what these hold, and they may be altered between the steps.
+  abbrev pub SteppedOn : (b t : ℕ) → Session → List Report → Type 0
+  SteppedOn b t s [] = Unit {0}
+  SteppedOn b t s (r ∷ rs) =
+      (s′ : Session) × ((bytes : List ℕ) × ((bytes′ : List ℕ) × ((table : List ℕ) × ((table′ : List ℕ)
+      × ((length bytes ≡ b) × ((length table ≡ t) × (Called Step s s′ bytes bytes′ table table′ r × SteppedOn b t s′ rs)))))))
+
+  -- the next a + 1 steps report the a actions that were to come, in order, and then the end with the call's count
+  abbrev pub Ends : Type 0
+  Ends = (s : Session) (b t : ℕ) (items : List Entry) (task : Task) (acts : List Action) (rs : List Report)
+      → stateOf s ≡ Busy b t items task acts → SteppedOn b t s rs → length rs ≡ suc (length acts) → rs ≡ map asReport acts ++ (R.End (countOf task) ∷ [])

@@ -151,7 +151,7 @@ module _ (p : ℕ) (lo : 12 ≤ p) (hi : p ≤ 16) (n table : ℕ) (C : ℕ → 
       go true e k = absurd (let z : _≡_ {A = ℕ} 0 1 = cc in omega arith)
       go false e k =
           planned items′ task acts 0 (free c ws) k
-          (free-data p lo hi n c old ws es (s .rest .ok) low high (capacity table) C m (s .rest) (s .holds) few (s .flushed) (lines-is p ws c ∙ not-log-says (roleAt p ws c) log) (no-live p c es e))
+          (free-data p lo hi n c old ws es (s .rest .ok) low high m (s .rest) (lines-is p ws c ∙ not-log-says (roleAt p ws c) log) (no-live p c es e) (capacity table) C (s .holds) few (s .flushed))
 
   -- a chunk in use is one or the other
   chunk-goes : (items′ : List Entry) (task : Task) (acts : List Action) → isFree (roleAt p ws c) ≡ false

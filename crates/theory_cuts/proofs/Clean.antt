@@ -8,11 +8,11 @@ use Prim.Native.Nat.{ℕ, _+_, _-_, _*_, _≤_, _<_}
 use native.Mathlib.Omega.{arith}
 use native.Mathlib.Decide.{decLt}
 use lib.Dec.{eqb}
-use lib.ListN.{length, length-append}
+use lib.ListN.{length, getD, set, length-append}
 use Rattle.spec.specs.Basics.{either, filter}
-use Rattle.spec.specs.Places.{chunkWords, chunkLines, base}
-use Rattle.spec.specs.Medium.{Cell, Action, Medium, run, cellAt}
-use Rattle.spec.specs.Directory.{roleOf, sizeIn, linesOf, sizeOf}
+use Rattle.spec.specs.Places.{chunkWords, chunkLines, base, directoryWord}
+use Rattle.spec.specs.Medium.{Cell, Action, Medium, run, latest, cellAt}
+use Rattle.spec.specs.Directory.{roleOf, sizeIn, linesOf, sizeOf, freedWord}
 use Rattle.spec.specs.Log.{Entry, encodeAll, placed}
 use Rattle.spec.specs.Blocks.{pointed}
 use Rattle.spec.specs.Contents.{Held, chosen, known, contentsBy, meaning, keysOf, isKept, keptIn}
@@ -20,7 +20,7 @@ use Rattle.spec.specs.Opening.{fine}
 use Rattle.spec.specs.Actions.{commitOf, freeOf}
 use Rattle.theory_log.specs.Contents.{Mem, Apart, Top}
 use Rattle.theory_medium.proofs.Lists.{both-l}
-use Rattle.theory_medium.proofs.Through.{Through, through-map, through-append}
+use Rattle.theory_medium.proofs.Through.{Through, through-map, through-append, through-end}
 use Rattle.theory_medium.proofs.Places.{lines-words, base-apart}
 use Rattle.theory_log.proofs.Contents.{mem-l, mem-r, mem-cases, mem-filter}
 use Rattle.theory_log.proofs.Clean.{mem-placed, is-at}
@@ -28,13 +28,13 @@ use Rattle.theory_log.proofs.Places.{rising-apart, right-filter, chunk-sound, a
 use Rattle.theory_log.proofs.Tops.{chosen-top, meaning-delete}
 use Rattle.theory_log.proofs.Directory.{size-is}
 use Rattle.theory_log.proofs.Kept.{Parts, parts, kept-is}
-use Rattle.theory_cuts.specs.Accepted.{Needs}
+use Rattle.theory_cuts.specs.Accepted.{Ok, Needs}
 use Rattle.theory_cuts.specs.Rest.{AtRest, Flushed, Rests, Cuts}
 use Rattle.theory_cuts.specs.Batch.{entryWords, Batch}
 use Rattle.theory_cuts.specs.Clean.{Covers}
 use Rattle.theory_cuts.proofs.Effects.{copies}
 use Rattle.theory_cuts.proofs.Commit.{keys-from, Ended, commit-ends}
-use Rattle.theory_cuts.proofs.Free.{free-through}
+use Rattle.theory_cuts.proofs.Free.{lines-this, free-ok, free-through}
 use Rattle.theory_cuts.proofs.Covers.{covers}
 
 -- Members of a list of three parts.
@@ -63,6 +63,29 @@ placed-in at [] f m = absurd m
 placed-in at (e ∷ es) f (inl q) = let b : f .at ≡ at = ap (λ (y : Entry). y .at) q in (omega arith, rw length-append (omega arith))
 placed-in at (e ∷ es) f (inr m) = let r = placed-in (at + (2 + length (e .value))) es f m in let a = r .0 in let b = r .1 in (omega arith, rw length-append (omega arith))
 
+-- THE IMAGES OF A CLEANING: in `vs` the kept entries are published from word `at` on, in chunk d, among `before` and `behind`; then chunk s is freed
+pub record Copied (p : ℕ) (lo : 12 ≤ p) (hi : p ≤ 16) (n s old′ keys at d : ℕ) (ws vs : List ℕ) (es kept : List Entry) : Type 0 where
+  pub entries : List Entry
+  pub before : List Entry
+  pub behind : List Entry
+  pub split′ : es ≡ before ++ behind
+  pub joined : entries ≡ before ++ (placed at kept ++ behind)
+  pub aside : (f : Entry) → Mem f (placed at kept) → (f .at < base p s) ⊎ (base p s + chunkWords p ≤ f .at)
+  pub left : List Entry
+  pub chunk : List Entry
+  pub right : List Entry
+  pub parts′ : Parts p lo hi n s vs entries left chunk right
+  pub ok : Ok p n (set vs (directoryWord s) (freedWord old′)) (left ++ right)
+  pub free : linesOf p (set vs (directoryWord s) (freedWord old′)) s ≡ 0
+  pub few : length (keysOf (left ++ right)) ≤ keys
+  pub chunks : (c : ℕ) → 1 ≤ c → c < n → (c ≡ d → ⊥) → getD vs (directoryWord c) 0 ≡ getD ws (directoryWord c) 0
+
+-- nothing is copied: chunk s is freed at once
+pub record Left (p n s old′ keys : ℕ) (ws : List ℕ) (rest : List Entry) : Type 0 where
+  pub ok : Ok p n (set ws (directoryWord s) (freedWord old′)) rest
+  pub free : linesOf p (set ws (directoryWord s) (freedWord old′)) s ≡ 0
+  pub few : length (keysOf rest) ≤ keys
+
 -- s: the chunk that is cleaned
 module _ (p : ℕ) (lo : 12 ≤ p) (hi : p ≤ 16) (n s old′ keys : ℕ) (C : ℕ → Held) (ws : List ℕ) (es : List Entry) (m : Medium) (r : AtRest p n ws es m)
     (holds : (k : ℕ) → contentsBy (meaning ws) es k ≡ C k) (few : length (keysOf es) ≤ keys) (flushed : Flushed p n m) (low : 1 ≤ s) (high : s < n) (no-data : sizeOf p ws s ≡ 0) where
@@ -86,14 +109,22 @@ module _ (p : ℕ) (lo : 12 ≤ p) (hi : p ≤ 16) (n s old′ keys : ℕ) (C : 
     rest-es f mf = rw (t .whole) (wider f xs chunk ys (inl mf))
 
     -- NOTHING KEPT: the chunk is only freed
-    clean-none : kept ≡ [] → Through (Cuts p n keys C C) (Rests p n keys C) (freeOf s old′) m
-    clean-none e = free-through p lo hi n s old′ ws es (r .ok) low high no-data xs chunk ys t cov keys C m r holds few flushed
+    none-covers : kept ≡ [] → Covers (meaning ws) es rest
+    none-covers e =
+        covers (meaning ws) (meaning-delete ws) es es rest chunk rest 0 es-cases chunk-es (λ f mf. inl mf) (λ f mf. mf) (λ f mf. mf) (λ f mf. absurd (none-placed f mf)) (λ f mf. inl mf) es-apart (r .ok .agree)
       where
         none-placed : (f : Entry) → Mem f (placed 0 kept) → ⊥
         none-placed f mf = rw e at mf
 
-        cov : Covers (meaning ws) es rest
-        cov = covers (meaning ws) (meaning-delete ws) es es rest chunk rest 0 es-cases chunk-es (λ f mf. inl mf) (λ f mf. mf) (λ f mf. mf) (λ f mf. absurd (none-placed f mf)) (λ f mf. inl mf) es-apart (r .ok .agree)
+    clean-none : kept ≡ [] → Through (Cuts p n keys C C) (Rests p n keys C) (freeOf s old′) m
+    clean-none e = free-through p lo hi n s old′ ws es (r .ok) low high no-data xs chunk ys t (none-covers e) keys C m r holds few flushed
+
+    pub clean-left : kept ≡ [] → Left p n s old′ keys ws rest
+    clean-left e = record {
+      ok = free-ok p lo hi n s old′ ws es (r .ok) low high no-data xs chunk ys t (none-covers e);
+      free = lines-this p lo hi n s old′ ws es (r .ok) low high;
+      few = let q = keys-from rest es (λ f mf. (f, rest-es f mf, refl)) in omega arith;
+    }
 
     -- SOME KEPT: they go behind the l committed lines of chunk d, whose directory word is `old`
     module _ (d old l b z : ℕ) (ne : s ≡ d → ⊥) (d-low : 1 ≤ d) (d-high : d < n) (lines : linesOf p ws d ≡ l) (d-no-data : sizeOf p ws d ≡ 0) (some′ : 1 ≤ b) (fit : l + b ≤ chunkLines p)
@@ -228,9 +259,32 @@ module _ (p : ℕ) (lo : 12 ≤ p) (hi : p ≤ 16) (n s old′ keys : ℕ) (C : 
             covers (meaning vs) (meaning-delete vs) es gs rest chunk new at′ es-cases chunk-es gs-cases es-gs (λ f mf. to-new f (es-gs f (rest-es f mf)) (t .outside f mf))
             (λ f mf. to-new f (copy-gs f mf) (side f mf)) new-cases es-apart (mid .rests .ok .agree)
 
+        copied : Copied p lo hi n s old′ keys at′ d ws vs es kept
+        copied = record {
+          entries = gs;
+          before = mid .before;
+          behind = mid .behind;
+          split′ = mid .split;
+          joined = mid .joined;
+          aside = side;
+          left = parts′ .0;
+          chunk = parts′ .1;
+          right = parts′ .2;
+          parts′ = parts′ .3;
+          ok = free-ok p lo hi n s old′ vs gs (mid .rests .ok) low high no-data′ (parts′ .0) (parts′ .1) (parts′ .2) (parts′ .3) cov;
+          free = lines-this p lo hi n s old′ vs gs (mid .rests .ok) low high;
+          few = let q = keys-from new gs (λ f mf. (f, new-gs f mf, refl)) in let w = mid .few′ in omega arith;
+          chunks = λ c a u x. mid .chunks c a u x .1;
+        }
+
         free-part : Flushed p n m′ → Through (Cuts p n keys C C) (Rests p n keys C) (freeOf s old′) m′
         free-part f =
             free-through p lo hi n s old′ vs gs (mid .rests .ok) low high no-data′ (parts′ .0) (parts′ .1) (parts′ .2) (parts′ .3) cov keys C m′ (mid .rests) (mid .holds′) (mid .few′) f
+
+      pub clean-copied : Copied p lo hi n s old′ keys at′ d ws (latest (run acts m)) es kept
+      clean-copied =
+          let e : Mid (run acts m) = through-end (Cuts p n keys C C) (λ m′. Mid m′ × Flushed p n m′) acts m (commit-ends p lo hi n d old l b z keys C ws es kept (λ mean c. c) m r holds batch few-both settled flushed) .0 in
+          rw (e .rests .now) (copied (run acts m) e)
 
       clean-some : Through (Cuts p n keys C C) (Rests p n keys C) (acts ++ freeOf s old′) m
       clean-some =

@@ -111,6 +111,7 @@ module _ (p : ℕ) (lo : 12 ≤ p) (hi : p ≤ 16) (n d old l b z keys : ℕ) (C
     pub split : es ≡ before ++ behind
     pub joined : entries ≡ before ++ (batch ++ behind)
     pub no-blocks : sizeOf p image d ≡ 0
+    pub staged : (e : Entry) → Mem e batch → fine p n image e ≡ true
     pub chunks : (c : ℕ) → 1 ≤ c → c < n → (c ≡ d → ⊥) → (chunkEntries p image c ≡ chunkEntries p ws c) × (getD image (directoryWord c) 0 ≡ getD ws (directoryWord c) 0)
 
   -- SECOND HALF: the switch. ws1 is the image with the words written.
@@ -270,6 +271,7 @@ module _ (p : ℕ) (lo : 12 ≤ p) (hi : p ≤ 16) (n d old l b z keys : ℕ) (C
           split = sh .2;
           joined = refl;
           no-blocks = no-size;
+          staged = λ e t. P.fine-same p lo hi n d old l b z ws1 es fs E (r1 .ok) bt1 here e (as-before e t .0) .0;
           chunks = same-chunks;
         }
 

@@ -53,7 +53,7 @@ module _ (p : ℕ) (lo : 12 ≤ p) (hi : p ≤ 16) (n d old : ℕ) (ws : List �
   this-word : getD freed (directoryWord d) 0 ≡ freedWord old
   this-word = getD-set-same ws (directoryWord d) (freedWord old) 0 (directory-in p lo hi n ws es ok d d-in)
 
-  lines-this : linesOf p freed d ≡ 0
+  pub lines-this : linesOf p freed d ≡ 0
   lines-this = lines-is p freed d ∙ ap (λ (w : ℕ). linesIn (roleOf p w)) this-word ∙ freed-word p n d old low high .0 .1
 
   no-size : sizeOf p freed d ≡ 0
@@ -185,51 +185,51 @@ module _ (p : ℕ) (lo : 12 ≤ p) (hi : p ≤ 16) (n d old : ℕ) (ws : List �
         end r′ = ((freed, gs, r′, few′, now), freed-flushed m r fl (r′ .now))
 
   -- FREEING A DATA CHUNK with no live block: every action keeps the medium at rest
-  pub free-data : (keys : ℕ) (C : ℕ → Held) (m : Medium) → AtRest p n ws es m → ((k : ℕ) → contentsBy (meaning ws) es k ≡ C k) → length (keysOf es) ≤ keys → Flushed p n m
-      → linesOf p ws d ≡ 0 → ((e : Entry) → Top es e → pointed e ≡ true → unitChunk p (e .field) ≡ d → ⊥) → Through (Cuts p n keys C C) (Rests p n keys C) (freeOf d old) m
-  free-data keys C m r h few fl z dead = (
-    stays-old p lo hi n keys C C m (ws, es, r, few, h),
-    (
-      stays-old p lo hi n keys C C m1 (freed, es, r1, few, h1),
-      (stays-old p lo hi n keys C C m2 (freed, es, r2, few, h1), ((freed, es, r3, few, h1), freed-flushed m r fl (r3 .now))),
-    ),
-  )
-    where
-      m1 : Medium
-      m1 = apply (Store (directoryWord d) (freedWord old)) m
+  module _ (m : Medium) (r : AtRest p n ws es m) (z : linesOf p ws d ≡ 0) (dead : (e : Entry) → Top es e → pointed e ≡ true → unitChunk p (e .field) ≡ d → ⊥) where
+    abbrev m1 : Medium
+    m1 = apply (Store (directoryWord d) (freedWord old)) m
 
-      m2 : Medium
-      m2 = apply (Flush (lineOf (directoryWord d))) m1
+    abbrev m2 : Medium
+    m2 = apply (Flush (lineOf (directoryWord d))) m1
 
-      out : Support p n ws es (directoryWord d) → ⊥
-      out (inl s) = omega arith
-      out (inr (inl (c, a, b, l, e))) = let s : c ≡ d = omega arith in let y : linesOf p ws c ≡ 0 = ap (linesOf p ws) s ∙ z in omega arith
-      out (inr (inr (inl (c, a, b, l, u)))) = let f = past-directory p lo hi c (directoryWord d) a l in let g = d-in in omega arith
-      out (inr (inr (inr (e, t, (pt, inl k))))) = dead e t pt (omega arith)
-      out (inr (inr (inr (e, t, (pt, inr (a, b)))))) =
-          let x = live-fits p lo hi n ws es (r .ok) e t pt in
-          let i = fits-in p lo hi n (e .field) _ _ (directoryWord d) x a b in
-          let f = past-directory p lo hi (unitChunk p (e .field)) (directoryWord d) (x .low) (i .0) in
-          let g = d-in in
-          omega arith
+    out : Support p n ws es (directoryWord d) → ⊥
+    out (inl s) = omega arith
+    out (inr (inl (c, a, b, l, e))) = let s : c ≡ d = omega arith in let y : linesOf p ws c ≡ 0 = ap (linesOf p ws) s ∙ z in omega arith
+    out (inr (inr (inl (c, a, b, l, u)))) = let f = past-directory p lo hi c (directoryWord d) a l in let g = d-in in omega arith
+    out (inr (inr (inr (e, t, (pt, inl k))))) = dead e t pt (omega arith)
+    out (inr (inr (inr (e, t, (pt, inr (a, b)))))) =
+        let x = live-fits p lo hi n ws es (r .ok) e t pt in
+        let i = fits-in p lo hi n (e .field) _ _ (directoryWord d) x a b in
+        let f = past-directory p lo hi (unitChunk p (e .field)) (directoryWord d) (x .low) (i .0) in
+        let g = d-in in
+        omega arith
 
-      in-m : directoryWord d < length m
-      in-m = word-in-medium p lo hi n ws es m r d d-in
+    in-m : directoryWord d < length m
+    in-m = word-in-medium p lo hi n ws es m r d d-in
 
-      says : (c : ℕ) → c < maxChunks → directoryWord d ≡ directoryWord c → Calm p n c (freedWord old)
-      says c l e = let s : c ≡ d = omega arith in rw s (freed-word p n d old low high .0)
+    says : (c : ℕ) → c < maxChunks → directoryWord d ≡ directoryWord c → Calm p n c (freedWord old)
+    says c l e = let s : c ≡ d = omega arith in rw s (freed-word p n d old low high .0)
 
-      r1 : AtRest p n freed es m1
-      r1 = rest-store p lo hi n ws es m r (directoryWord d) (freedWord old) in-m out says
+    pub data-rest : AtRest p n freed es (apply (Store (directoryWord d) (freedWord old)) m)
+    data-rest = rest-store p lo hi n ws es m r (directoryWord d) (freedWord old) in-m out says
 
-      h1 : (k : ℕ) → contentsBy (meaning freed) es k ≡ C k
-      h1 k = store-contents p lo hi n ws es m r (directoryWord d) (freedWord old) in-m out says k ∙ h k
+    pub free-data : (keys : ℕ) (C : ℕ → Held) → ((k : ℕ) → contentsBy (meaning ws) es k ≡ C k) → length (keysOf es) ≤ keys → Flushed p n m → Through (Cuts p n keys C C) (Rests p n keys C) (freeOf d old) m
+    free-data keys C h few fl = (
+      stays-old p lo hi n keys C C m (ws, es, r, few, h),
+      (
+        stays-old p lo hi n keys C C m1 (freed, es, data-rest, few, h1),
+        (stays-old p lo hi n keys C C m2 (freed, es, r2, few, h1), ((freed, es, r3, few, h1), freed-flushed m r fl (r3 .now))),
+      ),
+    )
+      where
+        h1 : (k : ℕ) → contentsBy (meaning freed) es k ≡ C k
+        h1 k = store-contents p lo hi n ws es m r (directoryWord d) (freedWord old) in-m out says k ∙ h k
 
-      r2 : AtRest p n freed es m2
-      r2 = rest-quiet p lo hi n freed es m1 r1 (Flush (lineOf (directoryWord d))) tt
+        r2 : AtRest p n freed es m2
+        r2 = rest-quiet p lo hi n freed es m1 data-rest (Flush (lineOf (directoryWord d))) tt
 
-      r3 : AtRest p n freed es (apply Fence m2)
-      r3 = rest-quiet p lo hi n freed es m2 r2 Fence tt
+        r3 : AtRest p n freed es (apply Fence m2)
+        r3 = rest-quiet p lo hi n freed es m2 r2 Fence tt
 
 -- the count of actions
 pub free-count : (d old : ℕ) → length (freeOf d old) ≡ 3

@@ -214,7 +214,7 @@ module _ (p : ℕ) (lo : 12 ≤ p) (hi : p ≤ 16) where
         go (inl a) = inl a
         go (inr a) = inr (a, λ f mf q. above f (still f mf) q)
 
-    fine-same : (e : Entry) → fine p n ws e ≡ true → (fine p n published e ≡ true) × (meaning published e ≡ meaning ws e)
+    pub fine-same : (e : Entry) → fine p n ws e ≡ true → (fine p n published e ≡ true) × (meaning published e ≡ meaning ws e)
     fine-same e f =
         needs-only p lo hi n ws published e (ok .long) (length-set ws (directoryWord d) (logWord old (l + b)))
         (λ k s. other-word k (not-mine n d ws es ok (bt .low) (bt .high) (bt .no-data) e f k s .0)) f

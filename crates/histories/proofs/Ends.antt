@@ -1,0 +1,46 @@
+-- Every begun call ends after its count of steps, whatever image and table are lent to them: from the contract of a step alone.
+-- Assumes nothing.
+use mathlib.Core.Path.{_≡_, refl, sym, _∙_, ap}
+use mathlib.Core.List.{List, [], _∷_, _++_, map}
+use Prim.Native.Nat.{ℕ, suc}
+use native.Mathlib.Omega.{arith}
+use lib.Dec.{eqb}
+use lib.ListN.{length}
+use borrow.Author.Tests.{eq-eqb}
+use mathlib.Core.Bool.{true}
+use Rattle.spec.specs.Basics.{both}
+use Rattle.spec.specs.Words.{wordsOf}
+use Rattle.spec.specs.Medium.{Action, Store, Flush, Fence}
+use Rattle.spec.specs.Log.{Entry}
+use Rattle.spec.specs.Calls.{Step, Task, State, Rest, Busy, itemsThen, countOf, asReport, nextReport, stepAnswer, isRefused, next}
+use Rattle.spec.specs.Contract.{SteppedOn, Ends}
+use Rattle.spec.specs.declared.Session.{Session}
+use Rattle.spec.specs.declared.Report.{Report}
+use Rattle.spec.specs.declared.Report.the-variants as R
+
+module _ (p limit b t : ℕ) (items : List Entry) (task : Task) (ws : List ℕ) (bytes table : ℕ) (eb : bytes ≡ b) (et : table ≡ t) where
+  same : both (eqb b bytes) (eqb t table) ≡ true
+  same = rw (eq-eqb b bytes (sym eb), eq-eqb t table (sym et))
+
+  reports : (acts : List Action) → stepAnswer (Busy b t items task acts) bytes table ≡ nextReport (countOf task) acts
+  reports acts = rw same
+
+  moves : (a : Action) (acts : List Action) → next p limit Step (Busy b t items task (a ∷ acts)) ws bytes table ≡ Busy b t items task acts
+  unfolding next
+  moves (Store w v) acts = rw (reports (Store w v ∷ acts))
+  moves (Flush l) acts = rw (reports (Flush l ∷ acts))
+  moves Fence acts = rw (reports (Fence ∷ acts))
+
+module _ (stateOf : Session → State) (Fits : Session → List ℕ → List ℕ → Type 0) (p limit : ℕ) where
+  pub ends : Ends stateOf Fits p limit
+  ends s b t items task [] [] e w h = absurd (omega arith)
+  ends s b t items task [] (r ∷ r′ ∷ rs) e w h = absurd (omega arith)
+  ends s b t items task [] (r ∷ []) e (s′, (bytes, (bytes′, (table, (table′, (eb, (et, (c, w)))))))) h =
+      ap (λ (x : Report). x ∷ []) (c .anyway .0 ∙ ap (λ (σ : State). stepAnswer σ (length bytes) (length table)) e ∙ reports p limit b t items task [] (length bytes) (length table) eb et [])
+  ends s b t items task (a ∷ acts) [] e w h = absurd (omega arith)
+  ends s b t items task (a ∷ acts) (r ∷ rs) e (s′, (bytes, (bytes′, (table, (table′, (eb, (et, (c, w)))))))) h =
+      let first : r ≡ asReport a = c .anyway .0 ∙ ap (λ (σ : State). stepAnswer σ (length bytes) (length table)) e ∙ reports p limit b t items task [] (length bytes) (length table) eb et (a ∷ acts) in
+      let now : stateOf s′ ≡ Busy b t items task acts =
+      c .anyway .1 ∙ ap (λ (σ : State). next p limit Step σ (wordsOf bytes) (length bytes) (length table)) e ∙ moves p limit b t items task (wordsOf bytes) (length bytes) (length table) eb et a acts in
+      let rest : rs ≡ map asReport acts ++ (R.End (countOf task) ∷ []) = ends s′ b t items task acts rs now w (omega arith) in
+      ap (λ (x : Report). x ∷ rs) first ∙ ap (λ (l : List Report). asReport a ∷ l) rest
