@@ -1,0 +1,62 @@
+-- Assumes nothing.
+use borrow.Author.Needs.{needs}
+use Rattle.list_text.proofs.Prints.{image-refused, image-opened}
+use Rattle.list_text.proofs.list_image.Statement.{statement}
+use Rattle.list_text.proofs.list_image.Tie as tie
+
+no-control-requires : tie.Need-no-control-requires
+no-control-requires c κs = search needs
+
+no-setup-requires : tie.Need-no-setup-requires
+no-setup-requires c κs = search needs
+
+open-core-requires : tie.Need-open-core-requires
+open-core-requires c κs = search needs
+
+enum-known-report : tie.Need-enum-known-report
+enum-known-report c = search needs
+
+put-refusal-requires : tie.Need-put-refusal-requires
+put-refusal-requires c κs = search needs
+
+put-register-requires : tie.Need-put-register-requires
+put-register-requires c κs = search needs
+
+same-length : tie.Need-same-length
+same-length c = search needs
+
+same-length-2 : tie.Need-same-length-2
+same-length-2 c = search needs
+
+returns : tie.Need-returns
+returns c = image-refused _ _ _ _ _ _ _ _ _ _ _ _ _ (c .before .before .before .before .before .before .before .before .before .before .before .open-core .ensures) _ _ (c .before .before .before .before .before .report .given .1) (c .before .before .put-refusal .ensures)
+
+same-length-3 : tie.Need-same-length-3
+same-length-3 c = search needs
+
+same-length-4 : tie.Need-same-length-4
+same-length-4 c = search needs
+
+same-length-5 : tie.Need-same-length-5
+same-length-5 c = search needs
+
+returns-2 : tie.Need-returns-2
+returns-2 c = image-opened _ _ _ _ _ _ _ _ _ _ _ _ _ (c .before .before .before .before .before .before .before .before .before .before .before .before .before .open-core .ensures) _ (c .before .before .before .before .before .before .before .before .match .keys2) (c .before .before .before .before .put-register .ensures)
+
+pub list-image-spec : {M : Type 1} → statement M
+list-image-spec =
+    tie.close
+    (tie.spec
+    no-control-requires
+    no-setup-requires
+    open-core-requires
+    enum-known-report
+    put-refusal-requires
+    put-register-requires
+    same-length
+    same-length-2
+    returns
+    same-length-3
+    same-length-4
+    same-length-5
+    returns-2)

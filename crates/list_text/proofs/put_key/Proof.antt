@@ -1,0 +1,38 @@
+-- Assumes nothing.
+use borrow.Author.Needs.{needs}
+use Rattle.list_text.proofs.Prints.{key-none, key-line}
+use Rattle.list_text.proofs.put_key.Statement.{statement}
+use Rattle.list_text.proofs.put_key.Tie as tie
+
+list-key-requires : tie.Need-list-key-requires
+list-key-requires c κs = search needs
+
+enum-told : tie.Need-enum-told
+enum-told c = search needs
+
+enum-known-listed : tie.Need-enum-known-listed
+enum-known-listed c = search needs
+
+put-line-requires : tie.Need-put-line-requires
+put-line-requires c κs = search needs
+
+returns : tie.Need-returns
+returns c = key-none _ _ _ _ _ _ _ _ (c .before .before .list-key .ensures) _ (c .enum-told .given .1)
+
+same-length : tie.Need-same-length
+same-length c = search needs
+
+returns-2 : tie.Need-returns-2
+returns-2 c = key-line _ _ _ _ _ _ _ _ (c .before .before .before .before .before .before .before .list-key .ensures) _ _ _ _ _ (c .before .before .before .before .before .listed .given .1) (c .before .before .put-line .ensures)
+
+pub put-key-spec : {M : Type 1} → statement M
+put-key-spec =
+    tie.close
+    (tie.spec
+    list-key-requires
+    enum-told
+    enum-known-listed
+    put-line-requires
+    returns
+    same-length
+    returns-2)
