@@ -546,7 +546,7 @@ unfolding code.routine tablesOf
     (tables 𝓤 H 𝓜 𝓡 code.env .C) (tables 𝓤 H 𝓜 𝓡 code.env .Λ) #self code.function (code.unfolded 𝓤 H 𝓜 𝓡)
     (meets 𝓤 H (𝓖 .A) (givenOf 𝓤 H 𝓜 𝓖) (𝓜 .mem) (𝓡 .run) (tablesOf 𝓤 H 𝓜 (tables 𝓤 H 𝓜 𝓡 code.env))''')
 for i, c in enumerate(distinct):
-    path = '·'.join([c.f['crate']] + [ident(z) for z in c.f['mod']] + [ident(c.f['name'])])
+    path = '·'.join([ident(c.f['crate'])] + [ident(z) for z in c.f['mod']] + [ident(c.f['name'])])
     e(f'''    (cited 𝓤 H (Of-{c.alias} 𝓤 H (𝓖 .A) (𝓜 .mem) (𝓡 .run)) 𝓜 𝓡 code.env #{c.alias} {c.alias}-def.routine code.calls-{path} ({c.alias}-thm.met 𝓤 H 𝓜 𝓖 𝓡))''' + (')' if i == len(distinct) - 1 else ''))
 txt = re.sub(r'[ ]+\n', '\n', '\n'.join(o) + '\n')
 d = '/'.join([croot, 'proofs'] + f['mod'] + [FN]); os.makedirs(d, exist_ok=True)

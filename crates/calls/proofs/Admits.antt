@@ -128,7 +128,7 @@ fresh-then old version fresh h = rw h (go (eqb version 0))
     go true = refl
     go false = omega arith
 
-module _ (c : Control) (b : List ℕ) (es items : List Entry) (fits : BatchFits c b es items) (key version more table : ℕ)
+module _ (c : Control) (b : List ℕ) (n : ℕ) (ws : List ℕ) (es items : List Entry) (fits : BatchFits c b n ws es items) (key version more table : ℕ)
     (highest-is : version ≡ highest key (es ++ items)) (old-is : isOld key es items ≡ negate (eqb version 0)) where
   keys-fit : fitsKeys table es items key ≡ leb (c .keys + (c .fresh + newKeys version)) (capacity table)
   keys-fit = fits-keys (c .keys) (c .fresh) es items (fits .keys) table key ∙ rw (fresh-then (isOld key es items) version (c .fresh) old-is)
@@ -141,7 +141,7 @@ module _ (c : Control) (b : List ℕ) (es items : List Entry) (fits : BatchFits 
       ≡ planBy (admitOf c version more (capacity table)) q
   unfolding admitOf
   plan-admits q =
-      rw (version-fits, fits-batch c b es items fits more, keys-fit)
+      rw (version-fits, fits-batch c b n ws es items fits more, keys-fit)
       (go (leb (suc version) maxVersion) (both (ltb (c .items) maxItems) (leb (c .words + more) batchRoom)) (leb (c .keys + (c .fresh + newKeys version)) (capacity table)))
     where
       go : (v w t : Bool) → need v N.VersionSpent (need w N.BatchFull (need t N.TableFull q)) ≡ planBy (admission c version more (capacity table) v w t) q

@@ -17,10 +17,11 @@ use Rattle.spec.specs.Header.{headerMap}
 use Rattle.spec.specs.Medium.{Action}
 use Rattle.spec.specs.Actions.{formatOf}
 use Rattle.spec.specs.Log.{Entry}
-use Rattle.spec.specs.Calls.{Call, Format, Abandon, Closed, Formatting, gate, refusedBy, isUnfinished, isOpen, answer, next}
+use Rattle.spec.specs.Calls.{Rest, Call, Format, Abandon, Formatting, gate, refusedBy, isUnfinished, isOpen, answer, next}
 use Rattle.spec.specs.Contract.{Called}
 use Rattle.spec.specs.declared.Control.{Control}
 use Rattle.spec.specs.declared.Setup.{Setup}
+use Rattle.spec.specs.declared.Source.{Source}
 use Rattle.spec.specs.declared.Session.{Session}
 use Rattle.spec.specs.declared.Given.{Given}
 use Rattle.spec.specs.declared.Given.the-variants as H
@@ -30,12 +31,14 @@ use Rattle.spec.specs.declared.Report.{Report}
 use Rattle.spec.specs.declared.Report.the-variants as R
 use Rattle.theory_medium.proofs.Lists.{not-both}
 use Rattle.theory_cuts.proofs.Format.{format-count}
-use Rattle.session.specs.State.{batchWords, batchItems, givenBy, formatActions, stateBy, stateAt, stateOf}
+use Rattle.session.specs.State.{batchWords, batchItems, givenBy, formatActions, noSource, stateBy, stateAt, stateOf, limit}
 use Rattle.session.specs.Fits.{RestFits, Fits}
+use Rattle.session.proofs.Phases.{past}
+use Rattle.session.proofs.Kept.{none-fit}
 use Rattle.recovery.specs.declared.Gated.{Gated}
 use Rattle.recovery.specs.declared.Gated.the-variants as G
 use Rattle.recovery.specs.Asks.{gateOf, Asking}
-use Rattle.recovery.proofs.Gates.{refused, Gating, turned-down, AtRest, at-rest}
+use Rattle.recovery.proofs.Gates.{refused, Gating, turned-down, AtRest, at-rest, Passed, gate-passed}
 use Rattle.calls.specs.Begun.{numberIn, unfinishedAt, formattingAt}
 
 module _ (c : Control) (k : Setup) (b bytes table : List ℕ) where
@@ -45,8 +48,8 @@ module _ (c : Control) (k : Setup) (b bytes table : List ℕ) where
   -- ## The gate
 
   module _ (g : Gated) (asks : Asking c k (length bytes) (length table) g) where
-    pub at-gate : (call : Call) → Gating call → (n : Refusal) → g ≡ G.Refused n → Called stateOf Fits 12 256 call s s bytes bytes table table (R.Refused n)
-    at-gate call t n e = turned-down 12 256 s bytes table n (asks .asked b ∙ ap gateOf e) call t
+    pub at-gate : (call : Call) → Gating call → (n : Refusal) → g ≡ G.Refused n → Called stateOf Fits 12 limit call s s bytes bytes table table (R.Refused n)
+    at-gate call t n e = turned-down 12 limit s bytes table n (asks .asked b ∙ ap gateOf e) call t
 
     module _ (passes : g ≡ G.Open) where
       pub opened : gate (stateOf s) (length bytes) (length table) ≡ none
@@ -59,6 +62,9 @@ module _ (c : Control) (k : Setup) (b bytes table : List ℕ) where
       pub rests : Fits s (wordsOf bytes) table → AtRest s (length bytes) (length table) (wordsOf bytes) table
       rests f = at-rest s (length bytes) (length table) (wordsOf bytes) table opened f
 
+      lengths : Passed s (length bytes) (length table)
+      lengths = gate-passed s (length bytes) (length table) opened
+
       -- ## Abandoning
 
       empty : (items : List Entry) → length items ≡ 0 → isEmpty items ≡ true
@@ -69,10 +75,10 @@ module _ (c : Control) (k : Setup) (b bytes table : List ℕ) where
       filled [] h = absurd (h refl)
       filled (e ∷ es) h = refl
 
-      pub abandon-none : c .items ≡ 0 → Called stateOf Fits 12 256 Abandon s s bytes bytes table table (R.Refused N.NothingStaged)
-      abandon-none h = refused 12 256 s bytes table N.NothingStaged Abandon refl (λ f. f) answered (passed (R.Refused N.NothingStaged)) (inr (inr (inr (inl refl)))) (refl, refl)
+      pub abandon-none : c .items ≡ 0 → Called stateOf Fits 12 limit Abandon s s bytes bytes table table (R.Refused N.NothingStaged)
+      abandon-none h = refused 12 limit s bytes table N.NothingStaged Abandon refl (λ f. f) answered (passed (R.Refused N.NothingStaged)) (inr (inr (inr (inl refl)))) (refl, refl) (inl (N.NothingStaged, refl))
         where
-          answered : Fits s (wordsOf bytes) table → R.Refused N.NothingStaged ≡ answer 12 256 Abandon (stateOf s) (wordsOf bytes) (length bytes) (length table)
+          answered : Fits s (wordsOf bytes) table → R.Refused N.NothingStaged ≡ answer 12 limit Abandon (stateOf s) (wordsOf bytes) (length bytes) (length table)
           answered f =
               let a = rests f in
               let n = a .fits .batch .count in
@@ -93,12 +99,12 @@ module _ (c : Control) (k : Setup) (b bytes table : List ℕ) where
             long = f .long;
             lent = f .lent;
             built = record { indexed = f .built .indexed; blocks = f .built .blocks };
-            batch = record { room = omega arith; written = refl; count = refl; few = omega arith; right = tt; counts = tt; in-log = λ e m. absurd m; keys = omega arith };
+            batch = record { room = omega arith; written = refl; count = refl; few = omega arith; right = tt; counts = tt; fit = none-fit (chunksIn 12 (k .image)) (wordsOf bytes) (f .entries); keys = omega arith };
             table-room = omega arith;
             hint = f .hint;
           }
 
-      pub abandon-done : (c .items ≡ 0 → ⊥) → Called stateOf Fits 12 256 Abandon s bare bytes bytes table table R.Abandoned
+      pub abandon-done : (c .items ≡ 0 → ⊥) → Called stateOf Fits 12 limit Abandon s bare bytes bytes table table R.Abandoned
       unfolding stateAt batchItems batchWords next
       abandon-done h = record {
         exact = λ f.
@@ -114,6 +120,7 @@ module _ (c : Control) (k : Setup) (b bytes table : List ℕ) where
         image = refl;
         sized = refl;
         outcome = (refl, refl);
+        anyway = inr (refl, ap (λ (i : ℕ). Rest i (k .table) []) (lengths .same-bytes) ∙ ap (λ (i : ℕ). Rest (length bytes) i []) (lengths .same-words));
       }
 
   -- ## Formatting
@@ -127,10 +134,6 @@ module _ (c : Control) (k : Setup) (b bytes table : List ℕ) where
   told H.Absent H.Absent = (refl, refl)
 
   -- the state by the phase
-  past : (phase : ℕ) → 6 ≤ phase → stateBy phase c k b ≡ Closed
-  past phase h =
-      rw (ne-eqb phase 1 (λ q. omega arith), ne-eqb phase 2 (λ q. omega arith), ne-eqb phase 3 (λ q. omega arith), ne-eqb phase 4 (λ q. omega arith), ne-eqb phase 5 (λ q. omega arith))
-
   unfinished-by : (phase : ℕ) → isUnfinished (stateBy phase c k b) ≡ unfinishedAt phase
   unfinished-by zero = refl
   unfinished-by (suc zero) = refl
@@ -138,10 +141,11 @@ module _ (c : Control) (k : Setup) (b bytes table : List ℕ) where
   unfinished-by (suc (suc (suc zero))) = refl
   unfinished-by (suc (suc (suc (suc zero)))) = refl
   unfinished-by (suc (suc (suc (suc (suc zero))))) = refl
-  unfinished-by (suc (suc (suc (suc (suc (suc n)))))) = more (suc (suc (suc (suc (suc (suc n)))))) (omega arith)
+  unfinished-by (suc (suc (suc (suc (suc (suc zero)))))) = refl
+  unfinished-by (suc (suc (suc (suc (suc (suc (suc n))))))) = more (suc (suc (suc (suc (suc (suc (suc n))))))) (omega arith)
     where
-      more : (p : ℕ) → 6 ≤ p → isUnfinished (stateBy p c k b) ≡ unfinishedAt p
-      more p h = ap isUnfinished (past p h) ∙ sym (rw (le-leb 2 p (omega arith), lt-leb p 5 (omega arith)))
+      more : (p : ℕ) → 7 ≤ p → isUnfinished (stateBy p c k b) ≡ unfinishedAt p
+      more p h = ap isUnfinished (past c k b p h) ∙ sym (rw (le-leb 2 p (omega arith), lt-leb p 6 (omega arith)))
 
   open-by : (phase : ℕ) → unfinishedAt phase ≡ false → isOpen (stateBy phase c k b) ≡ eqb phase 1
   open-by zero h = refl
@@ -150,16 +154,17 @@ module _ (c : Control) (k : Setup) (b bytes table : List ℕ) where
   open-by (suc (suc (suc zero))) h = absurd (not-both true refl h)
   open-by (suc (suc (suc (suc zero)))) h = absurd (not-both true refl h)
   open-by (suc (suc (suc (suc (suc zero))))) h = absurd (not-both true refl h)
-  open-by (suc (suc (suc (suc (suc (suc n)))))) h = more (suc (suc (suc (suc (suc (suc n)))))) (omega arith)
+  open-by (suc (suc (suc (suc (suc (suc zero)))))) h = absurd (not-both true refl h)
+  open-by (suc (suc (suc (suc (suc (suc (suc n))))))) h = more (suc (suc (suc (suc (suc (suc (suc n))))))) (omega arith)
     where
-      more : (p : ℕ) → 6 ≤ p → isOpen (stateBy p c k b) ≡ eqb p 1
-      more p h = ap isOpen (past p h) ∙ sym (ne-eqb p 1 (λ q. omega arith))
+      more : (p : ℕ) → 7 ≤ p → isOpen (stateBy p c k b) ≡ eqb p 1
+      more p h = ap isOpen (past c k b p h) ∙ sym (ne-eqb p 1 (λ q. omega arith))
 
   module _ (station centre : Given) where
     abbrev formatting : Session
     formatting = record {
       control = record { phase = formattingAt (c .phase); next = 0; items = 0; words = 0; keys = 0; fresh = 0 };
-      setup = record { image = length bytes; table = length table; chunk = 0; old = 0; lines = 0; first = 0; least = 0; fields = headerMap station centre; station = numberIn station; centre = numberIn centre };
+      setup = record { image = length bytes; table = length table; chunk = 0; old = 0; lines = 0; first = 0; least = 0; fields = headerMap station centre; station = numberIn station; centre = numberIn centre; source = noSource };
       buffer = b;
     }
 
@@ -175,17 +180,18 @@ module _ (c : Control) (k : Setup) (b bytes table : List ℕ) where
         go true = rw (told station centre .0, told station centre .1)
         go false = rw (told station centre .0, told station centre .1)
 
-    pub format-length : lengthAllowed 12 (length bytes) ≡ false → Called stateOf Fits 12 256 (Format station centre) s s bytes bytes table table (R.Refused N.ImageLength)
-    format-length h = refused 12 256 s bytes table N.ImageLength (Format station centre) refl (λ f q. absurd (not-both true refl q)) (λ f. rw h)
-        (λ r q. absurd (let z : _≡_ {A = ℕ} 0 1 = cc in omega arith)) (inl refl) (refl, refl)
+    pub format-length : lengthAllowed 12 (length bytes) ≡ false → Called stateOf Fits 12 limit (Format station centre) s s bytes bytes table table (R.Refused N.ImageLength)
+    unfolding next
+    format-length h = refused 12 limit s bytes table N.ImageLength (Format station centre) refl (λ f q. absurd (not-both true refl q)) (λ f. rw h)
+        (λ r q. absurd (let z : _≡_ {A = ℕ} 0 1 = cc in omega arith)) (inl refl) (refl, refl) (rw h, rw h)
 
-    pub format-unfinished : lengthAllowed 12 (length bytes) ≡ true → unfinishedAt (c .phase) ≡ true → Called stateOf Fits 12 256 (Format station centre) s s bytes bytes table table (R.Refused N.Unfinished)
-    unfolding stateAt
-    format-unfinished h u = refused 12 256 s bytes table N.Unfinished (Format station centre) refl (λ f q. absurd (not-both true refl q)) (λ f. rw (h, unfinished-by (c .phase), u))
-        (λ r q. absurd (let z : _≡_ {A = ℕ} 0 1 = cc in omega arith)) (inr (inl refl)) (refl, refl)
+    pub format-unfinished : lengthAllowed 12 (length bytes) ≡ true → unfinishedAt (c .phase) ≡ true → Called stateOf Fits 12 limit (Format station centre) s s bytes bytes table table (R.Refused N.Unfinished)
+    unfolding stateAt next
+    format-unfinished h u = refused 12 limit s bytes table N.Unfinished (Format station centre) refl (λ f q. absurd (not-both true refl q)) (λ f. rw (h, unfinished-by (c .phase), u))
+        (λ r q. absurd (let z : _≡_ {A = ℕ} 0 1 = cc in omega arith)) (inr (inl refl)) (refl, refl) (rw (h, unfinished-by (c .phase), u), rw (h, unfinished-by (c .phase), u))
 
     begins : lengthAllowed 12 (length bytes) ≡ true → unfinishedAt (c .phase) ≡ false
-        → Called stateOf Fits 12 256 (Format station centre) s formatting bytes bytes table table (R.Begun 582)
+        → Called stateOf Fits 12 limit (Format station centre) s formatting bytes bytes table table (R.Begun 582)
     unfolding stateAt next
     begins h u = record {
       exact = λ proper. record {
@@ -197,14 +203,18 @@ module _ (c : Control) (k : Setup) (b bytes table : List ℕ) where
       image = refl;
       sized = refl;
       outcome = (rw (begun-state, format-count (chunksIn 12 (length bytes)) station centre), refl);
+      anyway = (
+        rw (h, unfinished-by (c .phase), u, format-count (chunksIn 12 (length bytes)) station centre),
+        begun-state ∙ sym (rw (h, unfinished-by (c .phase), u, open-by (c .phase) u)),
+      );
     }
 
-    pub format-begun : (phase fields x y : ℕ) → phase ≡ formattingAt (c .phase) → fields ≡ headerMap station centre → x ≡ numberIn station → y ≡ numberIn centre
+    pub format-begun : (phase fields x y : ℕ) (f : Source) → phase ≡ formattingAt (c .phase) → fields ≡ headerMap station centre → x ≡ numberIn station → y ≡ numberIn centre → f ≡ noSource
         → lengthAllowed 12 (length bytes) ≡ true → unfinishedAt (c .phase) ≡ false
-        → Called stateOf Fits 12 256 (Format station centre) s
+        → Called stateOf Fits 12 limit (Format station centre) s
         (record {
           control = record { phase = phase; next = 0; items = 0; words = 0; keys = 0; fresh = 0 };
-          setup = record { image = length bytes; table = length table; chunk = 0; old = 0; lines = 0; first = 0; least = 0; fields = fields; station = x; centre = y };
+          setup = record { image = length bytes; table = length table; chunk = 0; old = 0; lines = 0; first = 0; least = 0; fields = fields; station = x; centre = y; source = f };
           buffer = b;
         }) bytes bytes table table (R.Begun 582)
-    format-begun phase fields x y p f d e h u = rw (p, f, d, e) (begins h u)
+    format-begun phase fields x y f p q d e g h u = rw (p, q, d, e, g) (begins h u)

@@ -19,7 +19,7 @@ numberIn G.Absent = 0
 
 -- by the record's phase: whether a call is unfinished, and the phase of a formatting that is begun where none is
 abbrev pub unfinishedAt : ℕ → Bool
-unfinishedAt phase = both (leb 2 phase) (leb phase 5)
+unfinishedAt phase = both (leb 2 phase) (leb phase 6)
 
 abbrev pub formattingAt : ℕ → ℕ
 formattingAt phase = pick (eqb phase 1) 5 4

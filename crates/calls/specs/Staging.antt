@@ -17,7 +17,7 @@ use Rattle.spec.specs.declared.Refusal.the-variants as N
 use Rattle.spec.specs.declared.Report.the-variants as R
 use Rattle.index.specs.Index.{get}
 use Rattle.index.specs.Packed.{unpackOf}
-use Rattle.session.specs.State.{batchRoom}
+use Rattle.session.specs.State.{batchRoom, behindAll}
 use Rattle.batch.specs.declared.Latest.{Latest}
 use Rattle.batch.specs.Items.{StagedIn, latestOf}
 use Rattle.calls.specs.declared.Newest.{Newest}
@@ -68,4 +68,4 @@ abbrev pub refusedWith : Control → Refusal → Staged
 refusedWith c n = record { control = c; report = R.Refused n }
 
 abbrev pub oneMore : Control → ℕ → ℕ → Staged
-oneMore c words fresh = record { control = record { phase = 2; next = 0; items = c .items + 1; words = words; keys = c .keys; fresh = fresh }; report = R.Begun 0 }
+oneMore c words fresh = record { control = record { phase = 2; next = behindAll; items = c .items + 1; words = words; keys = c .keys; fresh = fresh }; report = R.Begun 0 }

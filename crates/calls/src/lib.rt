@@ -2,13 +2,13 @@
 // by value and its buffer lent, and answers the next ones with the report.
 ghost use mathlib.Core.Path.{_≡_};
 ghost use Prim.Native.Nat.{_≤_, _<_};
-ghost use lib.ListN.{getD};
+ghost use lib.ListN.{length, getD};
 ghost use Rattle.spec.specs.Words.{wordsOf};
 ghost use Rattle.spec.specs.Header.{bitOf, headerMap};
 ghost use Rattle.spec.specs.Log.{firstOf};
 ghost use Rattle.spec.specs.Calls.{Format, Put, Delete, Abandon};
 ghost use Rattle.spec.specs.Contract.{Called};
-ghost use Rattle.session.specs.State.{stateOf};
+ghost use Rattle.session.specs.State.{stateOf, limit};
 ghost use Rattle.session.specs.Fits.{Fits};
 ghost use Rattle.calls.specs.Begun.{given, numberIn, unfinishedAt, formattingAt};
 ghost use Rattle.calls.specs.Staging.{NewestOf, VersionOf, putIn, presentBy, newKeys, admitOf, refusedWith, oneMore};
@@ -36,7 +36,7 @@ pub fn abandon_core(
     image: &[u8],
     table: &[u64],
 ) -> Moved
-    ensures { λ r. ⌜ Called stateOf Fits 12 256 Abandon (record { control = control; setup = setup; buffer = now (buffer .entry) }) (record { control = r .control; setup = r .setup; buffer = now (buffer .entry) }) (now (image .entry)) (now (image .entry)) (now (table .entry)) (now (table .entry)) (r .report) ⌝ }
+    ensures { λ r. ⌜ Called stateOf Fits 12 limit Abandon (record { control = control; setup = setup; buffer = now (buffer .entry) }) (record { control = r .control; setup = r .setup; buffer = now (buffer .entry) }) (now (image .entry)) (now (image .entry)) (now (table .entry)) (now (table .entry)) (r .report) ⌝ }
 {
     let g = recovery::gate(control, setup, image.len(), table.len());
     match g {
@@ -103,7 +103,7 @@ fn is_unfinished(phase: u64) -> bool
     ensures { λ r. ⌜ r ≡ unfinishedAt phase ⌝ }
 {
     if 2 <= phase {
-        return phase <= 5;
+        return phase <= 6;
     }
     false
 }
@@ -125,7 +125,7 @@ pub fn format_core(
     station: Given,
     centre: Given,
 ) -> Moved
-    ensures { λ r. ⌜ Called stateOf Fits 12 256 (Format station centre) (record { control = control; setup = setup; buffer = now (buffer .entry) }) (record { control = r .control; setup = r .setup; buffer = now (buffer .entry) }) (now (image .entry)) (now (image .entry)) (now (table .entry)) (now (table .entry)) (r .report) ⌝ }
+    ensures { λ r. ⌜ Called stateOf Fits 12 limit (Format station centre) (record { control = control; setup = setup; buffer = now (buffer .entry) }) (record { control = r .control; setup = r .setup; buffer = now (buffer .entry) }) (now (image .entry)) (now (image .entry)) (now (table .entry)) (now (table .entry)) (r .report) ⌝ }
 {
     let bytes = image.len();
     let words = table.len();
@@ -156,6 +156,7 @@ pub fn format_core(
             fields: header_map(station, centre),
             station: number_in(station),
             centre: number_in(centre),
+            source: session::no_source(),
         };
         Moved {
             control: begun,
@@ -194,7 +195,7 @@ pub fn format_told(
     centre_given: bool,
     centre: u64,
 ) -> Moved
-    ensures { λ r. ⌜ Called stateOf Fits 12 256 (Format (given «station_given» station) (given «centre_given» centre)) (record { control = control; setup = setup; buffer = now (buffer .entry) }) (record { control = r .control; setup = r .setup; buffer = now (buffer .entry) }) (now (image .entry)) (now (image .entry)) (now (table .entry)) (now (table .entry)) (r .report) ⌝ }
+    ensures { λ r. ⌜ Called stateOf Fits 12 limit (Format (given «station_given» station) (given «centre_given» centre)) (record { control = control; setup = setup; buffer = now (buffer .entry) }) (record { control = r .control; setup = r .setup; buffer = now (buffer .entry) }) (now (image .entry)) (now (image .entry)) (now (table .entry)) (now (table .entry)) (r .report) ⌝ }
 {
     let a = told(station_given, station);
     let b = told(centre_given, centre);
@@ -349,7 +350,7 @@ fn one_more(control: Control, words: usize, fresh: usize) -> Staged
 {
     let next = Control {
         phase: 2,
-        next: 0,
+        next: 1024,
         items: control.items + 1,
         words,
         keys: control.keys,
@@ -361,8 +362,8 @@ fn one_more(control: Control, words: usize, fresh: usize) -> Staged
     }
 }
 
-// Stages a put: 9, 12, 10, 7. All is asked before the buffer is written.
-pub fn put_core(
+// A put whose value goes into the log: 12, 10, 7. All is asked before the buffer is written.
+fn put_in_log(
     control: Control,
     setup: Setup,
     buffer: &mut [u64; 1152],
@@ -371,16 +372,14 @@ pub fn put_core(
     key: u64,
     value: &[u8],
 ) -> Staged
-    ensures { λ r. ⌜ Called stateOf Fits 12 256 (Put key (now (value .entry))) (record { control = control; setup = setup; buffer = now (buffer .entry) }) (record { control = r .control; setup = setup; buffer = now (buffer .exit) }) (now (image .entry)) (now (image .entry)) (now (table .entry)) (now (table .entry)) (r .report) ⌝ }
+    requires { ⌜ length (now value) ≤ 256 ⌝ }
+    ensures { λ r. ⌜ Called stateOf Fits 12 limit (Put key (now (value .entry))) (record { control = control; setup = setup; buffer = now (buffer .entry) }) (record { control = r .control; setup = setup; buffer = now (buffer .exit) }) (now (image .entry)) (now (image .entry)) (now (table .entry)) (now (table .entry)) (r .report) ⌝ }
 {
     let g = recovery::gate(control, setup, image.len(), table.len());
     match g {
         Gated::Refused(n) => refused(control, n),
         Gated::Open => {
             let bytes = value.len();
-            if 256 < bytes {
-                return refused(control, Refusal::TooLong);
-            }
             let words = control.words;
             let version = version_of(buffer, words, table, key);
             let more = 2 + (bytes + 7) / 8;
@@ -397,6 +396,105 @@ pub fn put_core(
     }
 }
 
+// A put whose value goes into a block: 9, 12, 10, 7, 13; else the call has the block's actions to come.
+fn put_in_block(
+    control: Control,
+    setup: Setup,
+    buffer: &mut [u64; 1152],
+    image: &[u8],
+    table: &[u64],
+    key: u64,
+    value: &[u8],
+) -> Moved
+    requires { ⌜ 256 < length (now value) ⌝ }
+    ensures { λ r. ⌜ Called stateOf Fits 12 limit (Put key (now (value .entry))) (record { control = control; setup = setup; buffer = now (buffer .entry) }) (record { control = r .control; setup = r .setup; buffer = now (buffer .exit) }) (now (image .entry)) (now (image .entry)) (now (table .entry)) (now (table .entry)) (r .report) ⌝ }
+{
+    let g = recovery::gate(control, setup, image.len(), table.len());
+    match g {
+        Gated::Refused(n) => Moved {
+            control,
+            setup,
+            report: Report::Refused(n),
+        },
+        Gated::Open => {
+            if 4088 < value.len() {
+                return Moved {
+                    control,
+                    setup,
+                    report: Report::Refused(Refusal::TooLong),
+                };
+            }
+            let words = control.words;
+            let version = version_of(buffer, words, table, key);
+            let a = admit(control, version, 2, index::capacity(table.len()));
+            match a {
+                Admission::Refused(n) => Moved {
+                    control,
+                    setup,
+                    report: Report::Refused(n),
+                },
+                Admission::Admitted(fresh) => {
+                    let large = large::stage_large(
+                        setup,
+                        buffer,
+                        words,
+                        image,
+                        version + 1,
+                        key,
+                        value,
+                    );
+                    if large.found {
+                        let begun = Control {
+                            phase: 2,
+                            next: 0,
+                            items: control.items + 1,
+                            words: large.words,
+                            keys: control.keys,
+                            fresh,
+                        };
+                        let bound = large.setup;
+                        return Moved {
+                            control: begun,
+                            setup: bound,
+                            report: Report::Begun(large.count),
+                        };
+                    }
+                    Moved {
+                        control,
+                        setup,
+                        report: Report::Refused(Refusal::NoSpace),
+                    }
+                }
+            }
+        }
+    }
+}
+
+// Stages a put: 9, 12, 10, 7, 13.
+pub fn put_core(
+    control: Control,
+    setup: Setup,
+    buffer: &mut [u64; 1152],
+    image: &[u8],
+    table: &[u64],
+    key: u64,
+    value: &[u8],
+) -> Moved
+    ensures { λ r. ⌜ Called stateOf Fits 12 limit (Put key (now (value .entry))) (record { control = control; setup = setup; buffer = now (buffer .entry) }) (record { control = r .control; setup = r .setup; buffer = now (buffer .exit) }) (now (image .entry)) (now (image .entry)) (now (table .entry)) (now (table .entry)) (r .report) ⌝ }
+{
+    if value.len() <= 256 {
+        let staged = put_in_log(control, setup, buffer, image, table, key, value);
+        let next = staged.control;
+        let report = staged.report;
+        return Moved {
+            control: next,
+            setup,
+            report,
+        };
+    }
+    put_in_block(control, setup, buffer, image, table, key, value)
+}
+
 // Stages a delete: 11, 12, 10, 7.
 pub fn delete_core(
     control: Control,
@@ -406,7 +504,7 @@ pub fn delete_core(
     table: &[u64],
     key: u64,
 ) -> Staged
-    ensures { λ r. ⌜ Called stateOf Fits 12 256 (Delete key) (record { control = control; setup = setup; buffer = now (buffer .entry) }) (record { control = r .control; setup = setup; buffer = now (buffer .exit) }) (now (image .entry)) (now (image .entry)) (now (table .entry)) (now (table .entry)) (r .report) ⌝ }
+    ensures { λ r. ⌜ Called stateOf Fits 12 limit (Delete key) (record { control = control; setup = setup; buffer = now (buffer .entry) }) (record { control = r .control; setup = setup; buffer = now (buffer .exit) }) (now (image .entry)) (now (image .entry)) (now (table .entry)) (now (table .entry)) (r .report) ⌝ }
 {
     let g = recovery::gate(control, setup, image.len(), table.len());
     match g {

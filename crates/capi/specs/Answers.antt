@@ -4,10 +4,14 @@ use mathlib.Core.Path.{_≡_}
 use mathlib.Core.Bool.{Bool}
 use Prim.Native.Nat.{ℕ}
 use lib.Dec.{eqb}
-use Rattle.spec.specs.Basics.{negate}
+use Rattle.spec.specs.Basics.{pick, negate}
 use Rattle.spec.specs.Calls.{number}
 use Rattle.spec.specs.declared.Report.{Report}
 use Rattle.spec.specs.declared.Report.the-variants as R
+use Rattle.listing.specs.declared.Counted.{Counted}
+use Rattle.listing.specs.declared.Counted.the-variants as C
+use Rattle.listing.specs.declared.Listed.{Listed}
+use Rattle.listing.specs.declared.Listed.the-variants as L
 use Rattle.capi.specs.declared.Answer.{Answer}
 
 abbrev pub answer : ℕ → ℕ → ℕ → Answer
@@ -81,3 +85,22 @@ ShownBy r number start length = (number ≡ numberIn r) × ((start ≡ startIn r
 -- The numbers are those of a report of which P holds.
 abbrev pub Shown : (Report → Type 0) → ℕ → ℕ → ℕ → Type 0
 Shown P number start length = (r : Report) × (P r × ShownBy r number start length)
+
+-- A listing's numbers: 0 or the refusal's number, and how many keys are present, 0 on a refusal.
+abbrev pub CountedBy : Counted → ℕ → ℕ → Type 0
+CountedBy (C.Refused n) answer count = (answer ≡ number n) × (count ≡ 0)
+CountedBy (C.Keys k) answer count = (answer ≡ 0) × (count ≡ k)
+
+abbrev pub CountTold : (Counted → Type 0) → ℕ → ℕ → Type 0
+CountTold P answer count = (r : Counted) × (P r × CountedBy r answer count)
+
+-- What is listed of a key, in numbers: 0 or the refusal's number; version, length, and 1 for a value in a block, 0 for one in the log; 0 on a refusal.
+abbrev pub bit : Bool → ℕ
+bit b = pick b 1 0
+
+abbrev pub ListedBy : Listed → ℕ → ℕ → ℕ → ℕ → Type 0
+ListedBy (L.Refused n) answer version length block = (answer ≡ number n) × ((version ≡ 0) × ((length ≡ 0) × (block ≡ 0)))
+ListedBy (L.Present v l b) answer version length block = (answer ≡ 0) × ((version ≡ v) × ((length ≡ l) × (block ≡ bit b)))
+
+abbrev pub ListTold : (Listed → Type 0) → ℕ → ℕ → ℕ → ℕ → Type 0
+ListTold P answer version length block = (r : Listed) × (P r × ListedBy r answer version length block)

@@ -5,15 +5,19 @@ ghost use lib.ListN.{length};
 ghost use Rattle.spec.specs.Words.{wordsOf};
 ghost use Rattle.spec.specs.Places.{chunksIn};
 ghost use Rattle.spec.specs.Directory.{freeChunks};
-ghost use Rattle.spec.specs.Calls.{Format, Open, Put, Delete, Commit, Abandon, Step};
+ghost use Rattle.spec.specs.Calls.{Format, Open, Put, Delete, Commit, Abandon, Clean, Step};
 ghost use Rattle.spec.specs.Contract.{Called};
-ghost use Rattle.session.specs.State.{stateOf};
+ghost use Rattle.session.specs.State.{stateOf, limit};
 ghost use Rattle.session.specs.Fits.{Fits};
 ghost use Rattle.calls.specs.Begun.{given};
-ghost use Rattle.stepping.specs.Inner.{Run};
+ghost use Rattle.running.specs.Run.{RestRun, Run};
 ghost use Rattle.store.specs.Look.{Reported};
+ghost use Rattle.store.specs.Choice.{Chosen};
+ghost use Rattle.store.specs.List.{KeysListed, KeyListed};
 ghost use Rattle.stat.specs.Counts.{linesUsed, Known};
-ghost use Rattle.capi.specs.Answers.{answerOf, Told, isGiven, ShownBy, Shown};
+ghost use Rattle.capi.specs.Answers.{answerOf, Told, isGiven, ShownBy, Shown, CountedBy, CountTold, bit, ListedBy, ListTold};
+use listing::Counted;
+use listing::Listed;
 use spec::Refusal;
 use spec::Report;
 use spec::Session;
@@ -107,7 +111,7 @@ pub extern "C" fn zkv_format(
     centre_given: u64,
     centre: u64,
 ) -> Answer
-    ensures { λ r. ⌜ Told (Called stateOf Fits 12 256 (Format (given (isGiven «station_given») station) (given (isGiven «centre_given») centre)) (now (s .entry)) (now (s .exit)) (now (image .entry)) (now (image .entry)) (now (table .entry)) (now (table .entry))) r ⌝ }
+    ensures { λ r. ⌜ Told (Called stateOf Fits 12 limit (Format (given (isGiven «station_given») station) (given (isGiven «centre_given») centre)) (now (s .entry)) (now (s .exit)) (now (image .entry)) (now (image .entry)) (now (table .entry)) (now (table .entry))) r ⌝ }
 {
     let a = is_given(station_given);
     let b = is_given(centre_given);
@@ -118,7 +122,7 @@ pub extern "C" fn zkv_format(
 // Opens the register of the lent image (`store::open_register`).
 #[no_mangle]
 pub extern "C" fn zkv_open(s: &mut Session, image: &[u8], table: &mut [u64]) -> Answer
-    ensures { λ r. ⌜ Told (Called stateOf Fits 12 256 Open (now (s .entry)) (now (s .exit)) (now (image .entry)) (now (image .entry)) (now (table .entry)) (now (table .exit))) r ⌝ }
+    ensures { λ r. ⌜ Told (Called stateOf Fits 12 limit Open (now (s .entry)) (now (s .exit)) (now (image .entry)) (now (image .entry)) (now (table .entry)) (now (table .exit))) r ⌝ }
 {
     let report = store::open_register(s, image, table);
     told(report)
@@ -133,7 +137,7 @@ pub extern "C" fn zkv_put(
     key: u64,
     value: &[u8],
 ) -> Answer
-    ensures { λ r. ⌜ Told (Called stateOf Fits 12 256 (Put key (now (value .entry))) (now (s .entry)) (now (s .exit)) (now (image .entry)) (now (image .entry)) (now (table .entry)) (now (table .entry))) r ⌝ }
+    ensures { λ r. ⌜ Told (Called stateOf Fits 12 limit (Put key (now (value .entry))) (now (s .entry)) (now (s .exit)) (now (image .entry)) (now (image .entry)) (now (table .entry)) (now (table .entry))) r ⌝ }
 {
     let report = store::stage_put(s, image, table, key, value);
     told(report)
@@ -142,7 +146,7 @@ pub extern "C" fn zkv_put(
 // Begins staging a delete (`store::stage_delete`).
 #[no_mangle]
 pub extern "C" fn zkv_delete(s: &mut Session, image: &[u8], table: &[u64], key: u64) -> Answer
-    ensures { λ r. ⌜ Told (Called stateOf Fits 12 256 (Delete key) (now (s .entry)) (now (s .exit)) (now (image .entry)) (now (image .entry)) (now (table .entry)) (now (table .entry))) r ⌝ }
+    ensures { λ r. ⌜ Told (Called stateOf Fits 12 limit (Delete key) (now (s .entry)) (now (s .exit)) (now (image .entry)) (now (image .entry)) (now (table .entry)) (now (table .entry))) r ⌝ }
 {
     let report = store::stage_delete(s, image, table, key);
     told(report)
@@ -151,7 +155,7 @@ pub extern "C" fn zkv_delete(s: &mut Session, image: &[u8], table: &[u64], key: 
 // Begins the commit of the staged items (`store::commit`).
 #[no_mangle]
 pub extern "C" fn zkv_commit(s: &mut Session, image: &[u8], table: &[u64]) -> Answer
-    ensures { λ r. ⌜ Told (Called stateOf Fits 12 256 Commit (now (s .entry)) (now (s .exit)) (now (image .entry)) (now (image .entry)) (now (table .entry)) (now (table .entry))) r ⌝ }
+    ensures { λ r. ⌜ Told (Called stateOf Fits 12 limit Commit (now (s .entry)) (now (s .exit)) (now (image .entry)) (now (image .entry)) (now (table .entry)) (now (table .entry))) r ⌝ }
 {
     let report = store::commit(s, image, table);
     told(report)
@@ -160,16 +164,34 @@ pub extern "C" fn zkv_commit(s: &mut Session, image: &[u8], table: &[u64]) -> An
 // Forgets the staged items (`store::abandon`).
 #[no_mangle]
 pub extern "C" fn zkv_abandon(s: &mut Session, image: &[u8], table: &[u64]) -> Answer
-    ensures { λ r. ⌜ Told (Called stateOf Fits 12 256 Abandon (now (s .entry)) (now (s .exit)) (now (image .entry)) (now (image .entry)) (now (table .entry)) (now (table .entry))) r ⌝ }
+    ensures { λ r. ⌜ Told (Called stateOf Fits 12 limit Abandon (now (s .entry)) (now (s .exit)) (now (image .entry)) (now (image .entry)) (now (table .entry)) (now (table .entry))) r ⌝ }
 {
     let report = store::abandon(s, image, table);
+    told(report)
+}
+
+// The chunk to clean (`store::choose`).
+#[no_mangle]
+pub extern "C" fn zkv_choose(s: &Session, image: &[u8], table: &[u64]) -> Answer
+    ensures { λ r. ⌜ Told (Chosen (now (s .entry)) (now (image .entry)) (now (table .entry))) r ⌝ }
+{
+    let report = store::choose(s, image, table);
+    told(report)
+}
+
+// Begins the cleaning of a chunk (`store::clean`).
+#[no_mangle]
+pub extern "C" fn zkv_clean(s: &mut Session, image: &[u8], table: &[u64], chunk: usize) -> Answer
+    ensures { λ r. ⌜ Told (Called stateOf Fits 12 limit (Clean chunk) (now (s .entry)) (now (s .exit)) (now (image .entry)) (now (image .entry)) (now (table .entry)) (now (table .entry))) r ⌝ }
+{
+    let report = store::clean(s, image, table, chunk);
     told(report)
 }
 
 // STEPS
 // The step in numbers, whatever is begun (`store::step`).
 fn step_whole(s: &mut Session, image: &mut [u8], table: &mut [u64]) -> Answer
-    ensures { λ r. ⌜ Told (Called stateOf Fits 12 256 Step (now (s .entry)) (now (s .exit)) (now (image .entry)) (now (image .exit)) (now (table .entry)) (now (table .exit))) r ⌝ }
+    ensures { λ r. ⌜ Told (Called stateOf Fits 12 limit Step (now (s .entry)) (now (s .exit)) (now (image .entry)) (now (image .exit)) (now (table .entry)) (now (table .exit))) r ⌝ }
 {
     let report = store::step(s, image, table);
     told(report)
@@ -189,7 +211,7 @@ fn same(a: Answer) -> Answer
 // One step of the call that is begun: on the short way where it may be gone (`store::step_inner`), else `store::step`.
 #[no_mangle]
 pub extern "C" fn zkv_step(s: &mut Session, image: &mut [u8], table: &mut [u64]) -> Answer
-    ensures { λ r. ⌜ Told (Called stateOf Fits 12 256 Step (now (s .entry)) (now (s .exit)) (now (image .entry)) (now (image .exit)) (now (table .entry)) (now (table .exit))) r ⌝ }
+    ensures { λ r. ⌜ Told (Called stateOf Fits 12 limit Step (now (s .entry)) (now (s .exit)) (now (image .entry)) (now (image .exit)) (now (table .entry)) (now (table .exit))) r ⌝ }
 {
     let c = s.control;
     let k = s.setup;
@@ -203,7 +225,16 @@ pub extern "C" fn zkv_step(s: &mut Session, image: &mut [u8], table: &mut [u64])
     }
 }
 
-// Several steps in one: in a commit the stores that come next and the action behind them (`store::run_inner`), else one (`store::step`).
+// A run in numbers, where a commit's short way is not gone (`store::run_rest`).
+fn run_whole(s: &mut Session, image: &mut [u8], table: &mut [u64]) -> Answer
+    ensures { λ r. ⌜ Told (RestRun (now (s .entry)) (now (s .exit)) (now (image .entry)) (now (image .exit)) (now (table .entry)) (now (table .exit))) r ⌝ }
+{
+    let report = store::run_rest(s, image, table);
+    told(report)
+}
+
+// Several steps in one: in a commit (`store::run_inner`) or a cleaning (`store::run_rest`) that has not come to its last action the stores
+// that come next and the action behind them, else one step.
 #[no_mangle]
 pub extern "C" fn zkv_run(s: &mut Session, image: &mut [u8], table: &mut [u64]) -> Answer
     ensures { λ r. ⌜ Told (Run (now (s .entry)) (now (s .exit)) (now (image .entry)) (now (image .exit)) (now (table .entry)) (now (table .exit))) r ⌝ }
@@ -215,7 +246,7 @@ pub extern "C" fn zkv_run(s: &mut Session, image: &mut [u8], table: &mut [u64]) 
         let report = store::run_inner(s, image, table);
         return told(report);
     } else {
-        let answer = step_whole(s, image, table);
+        let answer = run_whole(s, image, table);
         return same(answer);
     }
 }
@@ -268,6 +299,85 @@ pub extern "C" fn zkv_look_up(
 {
     let report = store::find(s, image, table, key);
     shown(report, start, length)
+}
+
+// LISTING
+// The numbers of a count: 0, or the refusal's number with a count of 0.
+fn counted(listed: Counted, count: &mut u64) -> u64
+    ensures { λ r. ⌜ CountedBy listed r (now (count .exit)) ⌝ }
+{
+    match listed {
+        Counted::Refused(n) => {
+            *count = 0;
+            recovery::number(n)
+        }
+        Counted::Keys(k) => {
+            *count = k as u64;
+            0
+        }
+    }
+}
+
+// The present keys, rising, into the lent words as far as these reach (`store::list_keys`); `count` gets how many there are.
+#[no_mangle]
+pub extern "C" fn zkv_list_keys(
+    s: &mut Session,
+    image: &[u8],
+    table: &[u64],
+    keys: &mut [u64],
+    count: &mut u64,
+) -> u64
+    ensures { λ r. ⌜ CountTold (KeysListed (now (s .entry)) (now (s .exit)) (now (image .entry)) (now (table .entry)) (now (keys .entry)) (now (keys .exit))) r (now (count .exit)) ⌝ }
+{
+    let listed = store::list_keys(s, image, table, keys);
+    counted(listed, count)
+}
+
+fn bit_of(b: bool) -> u64
+    ensures { λ r. ⌜ r ≡ bit b ⌝ }
+{
+    if b { 1 } else { 0 }
+}
+
+// The numbers of what is listed of a key.
+fn spelt(listed: Listed, version: &mut u64, length: &mut u64, block: &mut u64) -> u64
+    ensures { λ r. ⌜ ListedBy listed r (now (version .exit)) (now (length .exit)) (now (block .exit)) ⌝ }
+{
+    match listed {
+        Listed::Refused(n) => {
+            *version = 0;
+            *length = 0;
+            *block = 0;
+            recovery::number(n)
+        }
+        Listed::Present {
+            version: v,
+            length: l,
+            block: b,
+        } => {
+            *version = v;
+            *length = l;
+            *block = bit_of(b);
+            0
+        }
+    }
+}
+
+// Of a present key its version, its value's length, and 1 where a block has it, 0 where the log has (`store::list_key`).
+#[no_mangle]
+pub extern "C" fn zkv_list_key(
+    s: &Session,
+    image: &[u8],
+    table: &[u64],
+    key: u64,
+    version: &mut u64,
+    length: &mut u64,
+    block: &mut u64,
+) -> u64
+    ensures { λ r. ⌜ ListTold (KeyListed (now (s .entry)) key (now (image .entry)) (now (table .entry))) r (now (version .exit)) (now (length .exit)) (now (block .exit)) ⌝ }
+{
+    let listed = store::list_key(s, image, table, key);
+    spelt(listed, version, length, block)
 }
 
 // COUNTS FOR A DISPLAY

@@ -5,7 +5,7 @@ use mathlib.Core.Logic.{by-cases, inl, inr}
 use mathlib.Core.Bool.{Bool, true, false}
 use mathlib.Core.Option.{some}
 use mathlib.Core.List.{List, [], _∷_, _++_}
-use Prim.Native.Nat.{ℕ, suc}
+use Prim.Native.Nat.{ℕ, suc, _<_}
 use native.Mathlib.Omega.{arith}
 use native.Mathlib.Decide.{decLt, ℕ-discrete}
 use lib.Dec.{eqb, leb}
@@ -29,11 +29,11 @@ use Rattle.log.proofs.Walk.{remaining-start, passed-entry, passed-done, passed-
 use Rattle.index.specs.declared.Info.{Info}
 use Rattle.bits.specs.Bits.{hasBit, BitWritten}
 use Rattle.bits.proofs.Laws.{bit-beyond, kept-all, kept-then}
-use Rattle.volatile.specs.Known.{several}
+use Rattle.volatile.specs.Known.{several, extentOf}
 use Rattle.volatile.proofs.Info.{said}
 use Rattle.volatile.proofs.Marks.{any-last}
-use Rattle.joining.specs.Blocks.{points, namedBy, frees, topBlock, Freed, NoBlocks}
-use Rattle.joining.specs.Joining.{Scanned, Superseded}
+use Rattle.joining.specs.Blocks.{points, namedBy, frees, topBlock, Freed}
+use Rattle.joining.specs.Joining.{Scanned, Later, Superseded}
 use Rattle.joining.proofs.Live.{any-filter, mem-around}
 
 -- Tests.
@@ -146,7 +146,7 @@ module _ (n : ℕ) (ws before : List ℕ) (key version : ℕ) (after : List ℕ)
 
 -- ## The top entries of a key
 
--- entries in no block free none
+-- entries that no test takes
 any-none : (test : Entry → Bool) (es : List Entry) → ((e : Entry) → Mem e es → test e ≡ false) → any test es ≡ false
 any-none test [] h = refl
 any-none test (e ∷ es) h = rw (h e (inl refl)) (any-none test es (λ f m. h f (inr m)))
@@ -159,12 +159,18 @@ any-append test (x ∷ xs) ys = go (test x) (any-append test xs ys)
     go true h = refl
     go false h = h
 
-frees-between : (key version u : ℕ) (xs more ys : List Entry) → NoBlocks more → any (frees key version u) (xs ++ (more ++ ys)) ≡ any (frees key version u) (xs ++ ys)
-frees-between key version u xs more ys plain =
+-- entries above the key's others are no twins of its top ones
+frees-between : (key version u : ℕ) (xs more ys : List Entry) → version ≡ highest key (xs ++ ys) → Later (xs ++ ys) more → any (frees key version u) (xs ++ (more ++ ys)) ≡ any (frees key version u) (xs ++ ys)
+frees-between key version u xs more ys is later =
     any-append (frees key version u) xs (more ++ ys) ∙ ap (either (any (frees key version u) xs)) (any-append (frees key version u) more ys ∙ rw none) ∙ sym (any-append (frees key version u) xs ys)
   where
     none : any (frees key version u) more ≡ false
-    none = any-none (frees key version u) more (λ e m. rw (plain e m) (both-none (isTopOf key version e)))
+    none = any-none (frees key version u) more (λ e m. by-cases (ℕ-discrete (e .key) key) (λ q. above e q (later e m)) (λ n. rw (ne-eqb (e .key) key n)))
+      where
+        above : (e : Entry) → e .key ≡ key → highest (e .key) (xs ++ ys) < e .version → frees key version u e ≡ false
+        above e q l =
+            let h : highest key (xs ++ ys) < e .version = rw q at l in
+            rw (ne-eqb (e .version) version (λ z. omega arith), both-none (eqb (e .key) key))
 
 -- the only top entry
 only-top : (test : Entry → Bool) (ts : List Entry) (f : Entry) → first ts ≡ some f → _≡_ {A = ℕ} (pick (leb 2 (length ts)) 1 0) 0 → any test ts ≡ test f
@@ -172,10 +178,25 @@ only-top test [] f h s = absurd (let z : _≡_ {A = ℕ} 0 1 = cc in omega arith
 only-top test (t ∷ []) f h s = let q : t ≡ f = cc in either-none (test t) ∙ ap test q
 only-top test (t ∷ (r ∷ ts)) f h s = absurd (let z : _≡_ {A = ℕ} 1 0 = rw (le-leb 2 (suc (suc (length ts))) (omega arith)) at s in omega arith)
 
+-- the only top entry has its value in the log: no block leaves
+module _ (n : ℕ) (ws before : List ℕ) (key : ℕ) (info : Info) where
+  pub tops-in-log : length before ≡ 1152 → info .several ≡ 0 → 0 < info .extent → Superseded n ws before before key info
+  unfolding chosen tops
+  tops-in-log long s x = record { kept = kept-all before long; freed = λ xs more ys t shown later c i. freed-none before long _ (none xs ys t c i) }
+    where
+      none : (xs ys : List Entry) (t : Entry) → chosen key (xs ++ ys) ≡ some t → info ≡ said key (xs ++ ys) t → (u : ℕ) → topBlock key (xs ++ ys) u ≡ false
+      none xs ys t c i u =
+          let es = xs ++ ys in
+          let alone : several key es ≡ 0 = sym (ap (λ (j : Info). j .several) i) ∙ s in
+          let told : info .extent ≡ extentOf (t .placement) (t .field) = ap (λ (j : Info). j .extent) i in
+          let away : t .placement ≡ 1 → ⊥ = λ q. let z : info .extent ≡ 0 = told ∙ rw (ne-eqb (t .placement) 0 (λ p. omega arith)) in omega arith in
+          let clear : points u t ≡ false = rw (ne-eqb (t .placement) 1 away, both-none (eqb (t .op) 1)) in
+          sym (any-filter (isTopOf key (highest key es)) (points u) es) ∙ only-top (points u) (tops key es) t c alone ∙ clear
+
 module _ (n : ℕ) (ws before after : List ℕ) (key : ℕ) (info : Info) where
   pub tops-one : info .several ≡ 0 → Freed before after (namedBy (firstOf (getD ws (info .place) 0))) → Superseded n ws before after key info
   unfolding chosen tops
-  tops-one s f = record { kept = f .kept; freed = λ xs more ys t shown plain c i. freed-as before after _ _ (same xs more ys t shown c i) f }
+  tops-one s f = record { kept = f .kept; freed = λ xs more ys t shown later c i. freed-as before after _ _ (same xs more ys t shown c i) f }
     where
       same : (xs more ys : List Entry) (t : Entry) → imageEntries 12 n ws ≡ Entries (xs ++ (more ++ ys)) → chosen key (xs ++ ys) ≡ some t → info ≡ said key (xs ++ ys) t
           → (u : ℕ) → namedBy (firstOf (getD ws (info .place) 0)) u ≡ topBlock key (xs ++ ys) u
@@ -188,12 +209,12 @@ module _ (n : ℕ) (ws before after : List ℕ) (key : ℕ) (info : Info) where
           rw (place, stands .first) (sym (sym (any-filter (isTopOf key (highest key es)) (points u) es) ∙ only-top (points u) (tops key es) t c alone))
 
   pub tops-several : Scanned n ws before after key (info .version) → Superseded n ws before after key info
-  tops-several scan = record { kept = scan .kept; freed = λ xs more ys t shown plain c i. freed-as before after _ _ (same xs more ys t plain c i) (scan .freed (xs ++ (more ++ ys)) shown) }
+  tops-several scan = record { kept = scan .kept; freed = λ xs more ys t shown later c i. freed-as before after _ _ (same xs more ys t later c i) (scan .freed (xs ++ (more ++ ys)) shown) }
     where
-      same : (xs more ys : List Entry) (t : Entry) → NoBlocks more → chosen key (xs ++ ys) ≡ some t → info ≡ said key (xs ++ ys) t
+      same : (xs more ys : List Entry) (t : Entry) → Later (xs ++ ys) more → chosen key (xs ++ ys) ≡ some t → info ≡ said key (xs ++ ys) t
           → (u : ℕ) → any (frees key (info .version) u) (xs ++ (more ++ ys)) ≡ topBlock key (xs ++ ys) u
-      same xs more ys t plain c i u =
+      same xs more ys t later c i u =
           let es = xs ++ ys in
           let k : t .key ≡ key = chosen-is key es t c .of-key in
           let v : info .version ≡ highest key es = ap (λ (j : Info). j .version) i ∙ top-highest es t (chosen-top key es t c) ∙ ap (λ (j : ℕ). highest j es) k in
-          rw v (frees-between key (highest key es) u xs more ys plain)
+          rw v (frees-between key (highest key es) u xs more ys refl later)

@@ -11,7 +11,6 @@ use lib.ListN.{length, length-append}
 use lib.Seq.{append-snoc}
 use Rattle.spec.specs.Basics.{both, negate}
 use Rattle.spec.specs.Log.{Entry}
-use Rattle.spec.specs.Blocks.{pointed}
 use Rattle.spec.specs.Contents.{chosen, keysOf, capacity}
 use Rattle.theory_log.proofs.Contents.{none-of}
 use Rattle.theory_log.proofs.Keys.{mem-known, known-mem, keys-fewer}
@@ -25,9 +24,9 @@ use Rattle.bits.proofs.Laws.{kept-all}
 use Rattle.volatile.specs.Known.{ownOf, noted, Bounded, Indexed}
 use Rattle.volatile.proofs.Image.{image-bounded}
 use Rattle.volatile.proofs.Grow.{Grows, grows-above, capacity-same, found-none, found-chosen, was-unknown, indexed-old, indexed-new}
-use Rattle.joining.specs.Blocks.{topBlock, NoBlocks}
+use Rattle.joining.specs.Blocks.{topBlock}
 use Rattle.joining.specs.Joining.{Superseded, Shown, Awaited, OneJoined}
-use Rattle.joining.proofs.Live.{mem-around, top-block-entry, apart-above, live-above}
+use Rattle.joining.proofs.Live.{mem-around, top-block-entry}
 use Rattle.joining.proofs.Freeing.{both-true}
 
 -- Entries put anywhere into a list: numbers stay small without them, and keys are more with them.
@@ -56,10 +55,7 @@ module _ (n : ℕ) (ws buffer buffer′ table table′ : List ℕ) (keys key own
     small = rw (append-snoc xs e ys) at (bounded-around (xs ++ e ∷ []) more ys (rw (append-snoc xs e (more ++ ys)) whole))
 
     grows : Grows (xs ++ ys) (xs ++ e ∷ ys) e
-    grows = grows-above xs ys e small (awaits .above)
-
-    plain : pointed e ≡ false
-    plain = awaits .plain e (inl refl)
+    grows = grows-above xs ys e small (awaits .later e (inl refl))
 
     old-here : old ≡ get table (e .key)
     old-here = rw k is-old
@@ -87,13 +83,6 @@ module _ (n : ℕ) (ws buffer buffer′ table table′ : List ℕ) (keys key own
         go false h = refl
         go true h = let r = top-block-entry (e .key) (xs ++ ys) u h in absurd (none-of (e .key) (xs ++ ys) (r .0) c (r .1) (r .2))
 
-    shows : (keys′ : ℕ) → Indexed table′ keys′ (xs ++ e ∷ ys) → ((u : ℕ) → hasBit buffer′ u ≡ both (hasBit buffer u) (negate (topBlock (e .key) (xs ++ ys) u))) → Shown buffer′ table′ keys′ (xs ++ e ∷ ys)
-    shows keys′ i b = record {
-      indexed = i;
-      blocks = λ u. b u ∙ ap (λ (t : Bool). both t (negate (topBlock (e .key) (xs ++ ys) u))) (shown .blocks u) ∙ sym (live-above xs ys e (awaits .above) plain (shown .apart) u);
-      apart = apart-above xs ys e (awaits .above) plain (shown .apart);
-    }
-
   module _ (is-put : table′ ≡ putAt table slot key info) where
     is-table : table′ ≡ insert table key info
     is-table = is-put ∙ put-insert table key slot is-slot info
@@ -108,11 +97,10 @@ module _ (n : ℕ) (ws buffer buffer′ table table′ : List ℕ) (keys key own
       sized = long;
       joins = λ xs more ys e k o awaits shown.
           let small = grows xs more ys e k o awaits shown .small in
-          let found = found-chosen table keys (xs ++ ys) (shown .indexed) small key old is-old no-zero in
-          let rest : NoBlocks (e ∷ more) = awaits .plain in
-          shows xs more ys e k o awaits shown keys
-          (indexed-old (xs ++ ys) (xs ++ e ∷ ys) e table table′ keys old info (shown .indexed) (grows xs more ys e k o awaits shown) (rw k is-old) (rw o is-info) (rw k is-table) no-zero)
-          (rw k (freed .freed xs (e ∷ more) ys (found .0) (awaits .shown) rest (found .1) (is-i ∙ found .2) .bits));
+          let found = found-chosen table keys (xs ++ ys) (shown .indexed) small key old is-old no-zero in (
+            indexed-old (xs ++ ys) (xs ++ e ∷ ys) e table table′ keys old info (shown .indexed) (grows xs more ys e k o awaits shown) (rw k is-old) (rw o is-info) (rw k is-table) no-zero,
+            rw k (freed .freed xs (e ∷ more) ys (found .0) (awaits .shown) (awaits .later) (found .1) (is-i ∙ found .2) .bits),
+          );
     }
 
   -- a new key
@@ -120,10 +108,10 @@ module _ (n : ℕ) (ws buffer buffer′ table table′ : List ℕ) (keys key own
   joined-new size same is-put z = record {
     kept = rw same (kept-all buffer size);
     sized = long is-put;
-    joins = λ xs more ys e k o awaits shown.
-        shows xs more ys e k o awaits shown (keys + 1)
-        (indexed-new (xs ++ ys) (xs ++ e ∷ ys) e table table′ keys old info (shown .indexed) (grows xs more ys e k o awaits shown) (rw k is-old) (rw o is-info) (rw k (is-table is-put)) z (room xs more ys e k o awaits shown z))
-        (λ u. rw (same, no-blocks xs more ys e k o awaits shown z u) (sym (both-true (hasBit buffer u))));
+    joins = λ xs more ys e k o awaits shown. (
+      indexed-new (xs ++ ys) (xs ++ e ∷ ys) e table table′ keys old info (shown .indexed) (grows xs more ys e k o awaits shown) (rw k is-old) (rw o is-info) (rw k (is-table is-put)) z (room xs more ys e k o awaits shown z),
+      λ u. rw (same, no-blocks xs more ys e k o awaits shown z u) (sym (both-true (hasBit buffer u))),
+    );
   }
 
   -- a new key where the table is full: there is room, so this is never the case

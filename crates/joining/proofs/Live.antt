@@ -1,4 +1,4 @@
--- The live blocks, and what one more entry above all others of its key does to them.
+-- The live blocks: those of the top puts, and those of one key's.
 -- Assumes nothing.
 use mathlib.Core.Path.{_≡_, refl, sym, _∙_, ap}
 use mathlib.Core.Logic.{_⊎_, inl, inr}
@@ -53,30 +53,30 @@ live-any : (u : ℕ) (es : List Entry) → isIn u (liveBlocks es) ≡ any (λ e.
 live-any u es = pointers-any u (filter (isTop es) es) ∙ any-filter (isTop es) (points u) es
 
 -- a top put in the block at unit u
-record Holder (es : List Entry) (u : ℕ) : Type 0 where
-  entry : Entry
-  top : Top es entry
-  puts : pointed entry ≡ true
-  unit : entry .field ≡ u
+pub record Holder (es : List Entry) (u : ℕ) : Type 0 where
+  pub entry : Entry
+  pub top : Top es entry
+  pub puts : pointed entry ≡ true
+  pub unit : entry .field ≡ u
 
-holder : (es : List Entry) (u : ℕ) (f : Entry) → Top es f → points u f ≡ true → Holder es u
+pub holder : (es : List Entry) (u : ℕ) (f : Entry) → Top es f → points u f ≡ true → Holder es u
 holder es u f t h = record { entry = f; top = t; puts = both-l (pointed f) (eqb (f .field) u) h; unit = eqb-true (f .field) u (both-r (pointed f) (eqb (f .field) u) h) }
 
 pointing : (es : List Entry) (u : ℕ) (h : Holder es u) → points u (h .entry) ≡ true
 pointing es u h = both-i (pointed (h .entry)) (eqb (h .entry .field) u) (h .puts) (eq-eqb (h .entry .field) u (h .unit))
 
-live-holder : (es : List Entry) (u : ℕ) → isIn u (liveBlocks es) ≡ true → Holder es u
+pub live-holder : (es : List Entry) (u : ℕ) → isIn u (liveBlocks es) ≡ true → Holder es u
 live-holder es u h =
     let r = in-any (λ e. both (isTop es e) (points u e)) es (sym (live-any u es) ∙ h) in
     holder es u (r .0) (is-top es (r .0) (r .1) (both-l (isTop es (r .0)) (points u (r .0)) (r .2))) (both-r (isTop es (r .0)) (points u (r .0)) (r .2))
 
-holder-live : (es : List Entry) (u : ℕ) → Holder es u → isIn u (liveBlocks es) ≡ true
+pub holder-live : (es : List Entry) (u : ℕ) → Holder es u → isIn u (liveBlocks es) ≡ true
 holder-live es u h =
     let f = h .entry in
     live-any u es ∙ any-in (λ e. both (isTop es e) (points u e)) es f (h .top .0) (both-i (isTop es f) (points u f) (top-is es f (h .top)) (pointing es u h))
 
 -- and one of key k
-own-holder : (k : ℕ) (es : List Entry) (u : ℕ) → topBlock k es u ≡ true → (h : Holder es u) × (h .entry .key ≡ k)
+pub own-holder : (k : ℕ) (es : List Entry) (u : ℕ) → topBlock k es u ≡ true → (h : Holder es u) × (h .entry .key ≡ k)
 unfolding holder
 own-holder k es u t =
     let r = in-any (frees k (highest k es) u) es t in
@@ -89,61 +89,9 @@ own-holder k es u t =
 pub top-block-entry : (k : ℕ) (es : List Entry) (u : ℕ) → topBlock k es u ≡ true → (f : Entry) × Mem f es × (f .key ≡ k)
 top-block-entry k es u t = let h = own-holder k es u t in (h .0 .entry, h .0 .top .0, h .1)
 
-holder-own : (k : ℕ) (es : List Entry) (u : ℕ) (h : Holder es u) → h .entry .key ≡ k → topBlock k es u ≡ true
+pub holder-own : (k : ℕ) (es : List Entry) (u : ℕ) (h : Holder es u) → h .entry .key ≡ k → topBlock k es u ≡ true
 holder-own k es u h q =
     let f = h .entry in
     let v : f .version ≡ highest k es = top-highest es f (h .top) ∙ ap (λ (j : ℕ). highest j es) q in
     any-in (frees k (highest k es) u) es f (h .top .0)
     (both-i (isTopOf k (highest k es) f) (points u f) (both-i (eqb (f .key) k) (eqb (f .version) (highest k es)) (eq-eqb (f .key) k q) (eq-eqb (f .version) (highest k es) v)) (pointing es u h))
-
--- ## One more entry, above all others of its key, in no block
-
-module _ (xs ys : List Entry) (e : Entry) (above : highest (e .key) (xs ++ ys) < e .version) (plain : pointed e ≡ false) where
-  -- the top puts in blocks are those of the other keys
-  others : (f : Entry) → Top (xs ++ e ∷ ys) f → pointed f ≡ true → (f .key ≡ e .key → ⊥) × Top (xs ++ ys) f
-  others f t p = go (mem-between f xs (e ∷ []) ys (t .0))
-    where
-      go : Mem f (e ∷ []) ⊎ Mem f (xs ++ ys) → (f .key ≡ e .key → ⊥) × Top (xs ++ ys) f
-      go (inl (inl q)) = absurd (not-both (pointed e) (ap pointed (sym q) ∙ p) plain)
-      go (inl (inr m)) = absurd m
-      go (inr m) = (
-        λ q. let a = t .1 e (mem-r e xs (e ∷ ys) (inl refl)) (sym q) in let b = below-highest (e .key) (xs ++ ys) f m q in omega arith,
-        (m, λ g n. t .1 g (mem-around g xs (e ∷ []) ys n)),
-      )
-
-  still : (f : Entry) → (f .key ≡ e .key → ⊥) → Top (xs ++ ys) f → Top (xs ++ e ∷ ys) f
-  still f n t = (mem-around f xs (e ∷ []) ys (t .0), λ g m q. go g q (mem-between g xs (e ∷ []) ys m))
-    where
-      go : (g : Entry) → g .key ≡ f .key → Mem g (e ∷ []) ⊎ Mem g (xs ++ ys) → g .version ≤ f .version
-      go g q (inl (inl r)) = absurd (n (sym q ∙ ap (λ (y : Entry). y .key) r))
-      go g q (inl (inr m)) = absurd m
-      go g q (inr m) = t .1 g m q
-
-  pub apart-above : BlocksApart (xs ++ ys) → BlocksApart (xs ++ e ∷ ys)
-  apart-above apart f g s t p q u = apart f g (others f s p .1) (others g t q .1) p q u
-
-  -- the live blocks are those before, but for the ones of the key's top entries
-  pub live-above : BlocksApart (xs ++ ys) → (u : ℕ) → isIn u (liveBlocks (xs ++ e ∷ ys)) ≡ both (isIn u (liveBlocks (xs ++ ys))) (negate (topBlock (e .key) (xs ++ ys) u))
-  live-above apart u = go (isIn u (liveBlocks (xs ++ e ∷ ys))) refl (isIn u (liveBlocks (xs ++ ys))) refl (topBlock (e .key) (xs ++ ys) u) refl
-    where
-      before : isIn u (liveBlocks (xs ++ e ∷ ys)) ≡ true → (h : Holder (xs ++ ys) u) × (h .entry .key ≡ e .key → ⊥)
-      before l =
-          let h = live-holder (xs ++ e ∷ ys) u l in
-          let o = others (h .entry) (h .top) (h .puts) in
-          (record { entry = h .entry; top = o .1; puts = h .puts; unit = h .unit }, o .0)
-
-      after : (h : Holder (xs ++ ys) u) → (h .entry .key ≡ e .key → ⊥) → isIn u (liveBlocks (xs ++ e ∷ ys)) ≡ true
-      after h n = holder-live (xs ++ e ∷ ys) u (record { entry = h .entry; top = still (h .entry) n (h .top); puts = h .puts; unit = h .unit })
-
-      go : (a : Bool) → isIn u (liveBlocks (xs ++ e ∷ ys)) ≡ a → (b : Bool) → isIn u (liveBlocks (xs ++ ys)) ≡ b → (o : Bool) → topBlock (e .key) (xs ++ ys) u ≡ o → a ≡ both b (negate o)
-      go true p true q false r = refl
-      go false p false q o r = refl
-      go false p true q true r = refl
-      go true p false q o r = absurd (not-both (isIn u (liveBlocks (xs ++ ys))) (holder-live (xs ++ ys) u (before p .0)) q)
-      go true p true q true r =
-          let h = before p in
-          let g = own-holder (e .key) (xs ++ ys) u r in
-          absurd (h .1 (apart (h .0 .entry) (g .0 .entry) (h .0 .top) (g .0 .top) (h .0 .puts) (g .0 .puts) (h .0 .unit ∙ sym (g .0 .unit)) ∙ g .1))
-      go false p true q false r =
-          let h = live-holder (xs ++ ys) u q in
-          absurd (not-both (isIn u (liveBlocks (xs ++ e ∷ ys))) (after h (λ k. not-both (topBlock (e .key) (xs ++ ys) u) (holder-own (e .key) (xs ++ ys) u h k) r)) p)

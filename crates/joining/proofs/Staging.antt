@@ -12,7 +12,6 @@ use Rattle.spec.specs.declared.FirstWord.the-variants as F
 use Rattle.spec.specs.Log.{Entry, firstOf, wordsFor, encode, encodeAll}
 use Rattle.theory_log.specs.Batch.{Right}
 use Rattle.theory_log.proofs.Batch.{first-right}
-use Rattle.volatile.specs.Known.{extentOf}
 use Rattle.session.specs.State.{bufferPart}
 use Rattle.session.proofs.Part.{length-part}
 use Rattle.joining.specs.declared.Item.{Item}
@@ -83,24 +82,24 @@ module _ (b : List ℕ) (at end : ℕ) where
       staged-long l [] s = refl
       staged-long l (e ∷ es) s = let d = headed b at end e es (s .0 .0) (s .1) in let m = own-size e es (s .0 .0) d in let f = d .fits in absurd (omega arith)
 
-      pub staged-entry : at < end → 2 + words ≤ end - at → (extent : ℕ) → extent ≡ extentOf pl x → Staged b at end (I.Entry (getD b (at + 1) 0) extent v words)
-      staged-entry l m extent is-extent = (omega arith, entry)
+      pub staged-entry : at < end → 2 + words ≤ end - at → Staged b at end (I.Entry op pl v x (getD b (at + 1) 0) words)
+      staged-entry l m = (omega arith, entry)
         where
-          entry : (rest : List Entry) → StagedFrom b at end rest → Taken b at end (getD b (at + 1) 0) extent v words rest
+          entry : (rest : List Entry) → StagedFrom b at end rest → Taken b at end op pl v x (getD b (at + 1) 0) words rest
           entry [] s = let n = ap length (s .1) in let k = length-part b at (end - at) in absurd (omega arith)
           entry (e ∷ es) s =
               let d = headed b at end e es (s .0 .0) (s .1) in
               let m = own-size e es (s .0 .0) d in
               let f = d .first in
-              let p : e .placement ≡ pl = cc in
-              let q : e .field ≡ x = cc in
               record {
                 entry = e;
                 others = es;
                 all = refl;
-                of-key = sym (d .key);
-                of-extent = rw (p, q) (sym is-extent);
+                of-op = cc;
+                of-placement = cc;
                 of-version = cc;
+                of-field = cc;
+                of-key = sym (d .key);
                 size = m;
                 behind = rw (← m) (d .behind);
               }
@@ -110,9 +109,9 @@ module _ (b : List ℕ) (at end : ℕ) (r : Item) (told : Staged b at end r) whe
   pub told-none : r ≡ I.Nothing → (rest : List Entry) → StagedFrom b at end rest → rest ≡ []
   told-none e = rw e at told
 
-  module _ (key extent version words : ℕ) (e : r ≡ I.Entry key extent version words) where
+  module _ (op placement version field key words : ℕ) (e : r ≡ I.Entry op placement version field key words) where
     pub told-fits : at + (2 + words) ≤ end
     told-fits = (rw e at told) .0
 
-    pub told-entry : (rest : List Entry) → StagedFrom b at end rest → Taken b at end key extent version words rest
+    pub told-entry : (rest : List Entry) → StagedFrom b at end rest → Taken b at end op placement version field key words rest
     told-entry = (rw e at told) .1

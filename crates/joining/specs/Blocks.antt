@@ -3,16 +3,20 @@
 use mathlib.Core.Path.{_≡_}
 use mathlib.Core.Bool.{Bool, true, false}
 use mathlib.Core.List.{List}
-use Prim.Native.Nat.{ℕ}
+use Prim.Native.Nat.{ℕ, _<_}
 use lib.Dec.{eqb}
-use Rattle.spec.specs.Basics.{both, negate, any}
+use Rattle.spec.specs.Basics.{both, either, negate, any}
 use Rattle.spec.specs.Log.{Entry}
 use Rattle.spec.specs.Blocks.{pointed}
 use Rattle.spec.specs.Contents.{highest}
 use Rattle.spec.specs.declared.FirstWord.{FirstWord}
 use Rattle.spec.specs.declared.FirstWord.the-variants as F
-use Rattle.theory_log.specs.Contents.{Mem, Top}
+use Rattle.theory_log.specs.Contents.{Top}
 use Rattle.bits.specs.Bits.{hasBit, WordsKept}
+
+-- the units that have a bit
+abbrev pub bitRoom : ℕ
+bitRoom = 8064
 
 -- an entry with these parts is a put in the block at unit u
 abbrev pub blockAt : (op placement field u : ℕ) → Bool
@@ -42,9 +46,11 @@ pub record Freed (before after : List ℕ) (gone : ℕ → Bool) : Type 0 where
   pub bits : (u : ℕ) → hasBit after u ≡ both (hasBit before u) (negate (gone u))
   pub kept : WordsKept before after
 
--- no two keys' top puts share a block; no entry is a put in a block
+-- the units that `own` names, which the bits have room for, are in the set, every other is as it was
+pub record Claimed (before after : List ℕ) (own : ℕ → Bool) : Type 0 where
+  pub bits : (u : ℕ) → (own u ≡ true → u < bitRoom) → hasBit after u ≡ either (own u) (hasBit before u)
+  pub kept : WordsKept before after
+
+-- no two keys' top puts share a block
 abbrev pub BlocksApart : List Entry → Type 0
 BlocksApart es = (e f : Entry) → Top es e → Top es f → pointed e ≡ true → pointed f ≡ true → e .field ≡ f .field → e .key ≡ f .key
-
-abbrev pub NoBlocks : List Entry → Type 0
-NoBlocks es = (e : Entry) → Mem e es → pointed e ≡ false

@@ -1,25 +1,27 @@
 -- What the items of a batch do to the key table and to the bits, one by one and all together.
 -- Assumes nothing.
 use mathlib.Core.Path.{_≡_}
+use mathlib.Core.Bool.{true}
 use mathlib.Core.Option.{some}
 use mathlib.Core.List.{List, [], _∷_, _++_}
 use Prim.Native.Nat.{ℕ, _+_, _-_, _*_, _/_, _≤_, _<_}
 use lib.ListN.{length}
-use Rattle.spec.specs.Basics.{any, isIn}
+use Rattle.spec.specs.Basics.{both, negate, any, isIn}
 use Rattle.spec.specs.Places.{basePower, maxChunks}
 use Rattle.spec.specs.Log.{Entry, Entries, imageEntries, encodeAll, placed}
+use Rattle.spec.specs.Blocks.{pointed}
 use Rattle.spec.specs.Contents.{highest, chosen, keysOf, capacity, liveBlocks}
 use Rattle.spec.specs.declared.Control.{Control}
 use Rattle.spec.specs.declared.Setup.{Setup}
 use Rattle.theory_log.specs.Batch.{AllRight}
-use Rattle.theory_log.specs.Contents.{Mem, CountsOn}
+use Rattle.theory_log.specs.Contents.{Mem, Top, CountsOn}
 use Rattle.index.specs.declared.Info.{Info}
 use Rattle.bits.specs.Bits.{hasBit, WordsKept}
-use Rattle.volatile.specs.Known.{extentOf, ownOf, Indexed}
+use Rattle.volatile.specs.Known.{ownOf, Indexed}
 use Rattle.volatile.proofs.Info.{said}
 use Rattle.session.specs.State.{bufferPart, batchWords, chunkIn, linesIn}
-use Rattle.session.specs.Fits.{Built, batchPlace}
-use Rattle.joining.specs.Blocks.{frees, topBlock, Freed, BlocksApart, NoBlocks}
+use Rattle.session.specs.Fits.{ItemsFit, Built, batchPlace}
+use Rattle.joining.specs.Blocks.{frees, topBlock, Freed, BlocksApart}
 use Rattle.joining.specs.declared.Item.{Item}
 use Rattle.joining.specs.declared.Item.the-variants as I
 
@@ -28,10 +30,14 @@ pub record Scanned (n : ℕ) (ws before after : List ℕ) (key version : ℕ) : 
   pub kept : WordsKept before after
   pub freed : (es : List Entry) → imageEntries basePower n ws ≡ Entries es → Freed before after (λ u. any (frees key version u) es)
 
--- the bits without the blocks of a key's top entries, of which the table says so much; `more` are entries that the table does not know yet
+-- these entries are above all of es of their keys
+abbrev pub Later : (es more : List Entry) → Type 0
+Later es more = (g : Entry) → Mem g more → highest (g .key) es < g .version
+
+-- the bits without the blocks of a key's top entries, of which the table says so much; `more` are entries that the table does not know yet, above the key's others
 pub record Superseded (n : ℕ) (ws before after : List ℕ) (key : ℕ) (info : Info) : Type 0 where
   pub kept : WordsKept before after
-  pub freed : (xs more ys : List Entry) (f : Entry) → imageEntries basePower n ws ≡ Entries (xs ++ (more ++ ys)) → NoBlocks more
+  pub freed : (xs more ys : List Entry) (f : Entry) → imageEntries basePower n ws ≡ Entries (xs ++ (more ++ ys)) → Later (xs ++ ys) more
       → chosen key (xs ++ ys) ≡ some f → info ≡ said key (xs ++ ys) f → Freed before after (topBlock key (xs ++ ys))
 
 -- table and bits are those of the entries es, of which no two keys' top puts share a block
@@ -40,29 +46,35 @@ pub record Shown (buffer table : List ℕ) (keys : ℕ) (es : List Entry) : Type
   pub blocks : (u : ℕ) → hasBit buffer u ≡ isIn u (liveBlocks es)
   pub apart : BlocksApart es
 
--- the entry e is to join xs and ys, then `more`: the image shows them all, e is above all others of its key, none is in a block, and the table has room
+-- the entry e is to join xs and ys, then `more`: the image shows them all, each is above all others of its key, e is in no block or in one that no top put points to, and the table has room
 pub record Awaited (n : ℕ) (ws table : List ℕ) (xs more ys : List Entry) (e : Entry) : Type 0 where
   pub most : n ≤ maxChunks
   pub shown : imageEntries basePower n ws ≡ Entries (xs ++ (e ∷ (more ++ ys)))
-  pub above : highest (e .key) (xs ++ ys) < e .version
-  pub plain : NoBlocks (e ∷ more)
+  pub later : Later (xs ++ ys) (e ∷ more)
+  pub dead : (f : Entry) → Top (xs ++ ys) f → pointed e ≡ true → pointed f ≡ true → e .field ≡ f .field → ⊥
   pub room : length (keysOf (xs ++ (e ∷ (more ++ ys)))) ≤ capacity (length table)
+
+-- table and bits are those of the entries xs, e, ys, but for the bit of e's own block
+abbrev pub Superseding : (buffer buffer′ table′ : List ℕ) (keys′ : ℕ) (xs ys : List Entry) (e : Entry) → Type 0
+Superseding buffer buffer′ table′ keys′ xs ys e = Indexed table′ keys′ (xs ++ e ∷ ys) × ((u : ℕ) → hasBit buffer′ u ≡ both (hasBit buffer u) (negate (topBlock (e .key) (xs ++ ys) u)))
 
 -- before and after an entry of this key joined, `own` being what the table would hold with it alone: of any memory, and where it was awaited
 pub record OneJoined (n : ℕ) (ws buffer buffer′ table table′ : List ℕ) (keys key own keys′ : ℕ) : Type 0 where
   pub kept : WordsKept buffer buffer′
   pub sized : length table′ ≡ length table
   pub joins : (xs more ys : List Entry) (e : Entry) → e .key ≡ key → ownOf e ≡ own
-      → Awaited n ws table xs more ys e → Shown buffer table keys (xs ++ ys) → Shown buffer′ table′ keys′ (xs ++ e ∷ ys)
+      → Awaited n ws table xs more ys e → Shown buffer table keys (xs ++ ys) → Superseding buffer buffer′ table′ keys′ xs ys e
 
 -- what stands in the buffer's words from `at` to `end`, if they are those of entries: none, or one with so many words of value, and the others behind it
-pub record Taken (buffer : List ℕ) (at end key extent version words : ℕ) (rest : List Entry) : Type 0 where
+pub record Taken (buffer : List ℕ) (at end op placement version field key words : ℕ) (rest : List Entry) : Type 0 where
   pub entry : Entry
   pub others : List Entry
   pub all : rest ≡ entry ∷ others
-  pub of-key : entry .key ≡ key
-  pub of-extent : extentOf (entry .placement) (entry .field) ≡ extent
+  pub of-op : entry .op ≡ op
+  pub of-placement : entry .placement ≡ placement
   pub of-version : entry .version ≡ version
+  pub of-field : entry .field ≡ field
+  pub of-key : entry .key ≡ key
   pub size : length (entry .value) ≡ words
   pub behind : bufferPart buffer (at + (2 + words)) (end - (at + (2 + words))) ≡ encodeAll others
 
@@ -71,7 +83,8 @@ StagedFrom buffer at end rest = AllRight rest × (bufferPart buffer at (end - at
 
 abbrev pub Staged : List ℕ → (at end : ℕ) → Item → Type 0
 Staged buffer at end I.Nothing = (rest : List Entry) → StagedFrom buffer at end rest → rest ≡ []
-Staged buffer at end (I.Entry key extent version words) = (at + (2 + words) ≤ end) × ((rest : List Entry) → StagedFrom buffer at end rest → Taken buffer at end key extent version words rest)
+Staged buffer at end (I.Entry op placement version field key words) =
+    (at + (2 + words) ≤ end) × ((rest : List Entry) → StagedFrom buffer at end rest → Taken buffer at end op placement version field key words rest)
 
 -- where the batch begins, for any record
 abbrev pub placeOf : Setup → ℕ
@@ -85,7 +98,7 @@ pub record Fenced (c : Control) (k : Setup) (buffer ws table : List ℕ) (front 
   pub written : batchWords c buffer ≡ encodeAll items
   pub right : AllRight items
   pub counts : CountsOn (front ++ back) items
-  pub in-log : (e : Entry) → Mem e items → e .placement ≡ 0
+  pub fit : ItemsFit (k .image / 4096) ws (front ++ back) items
   pub shown : imageEntries basePower (k .image / 4096) ws ≡ Entries (front ++ (placed (batchPlace k) items ++ back))
   pub built : Built c buffer table (front ++ back)
   pub apart : BlocksApart (front ++ back)

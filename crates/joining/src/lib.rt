@@ -1,9 +1,9 @@
-// A commit's items join the key table, and the blocks of the entries that they supersede leave the bits.
+// A commit's items join the key table, their blocks the bits; and the blocks of the entries that they supersede leave the bits.
 ghost use Prim.Native.Nat.{_≤_};
 ghost use Rattle.spec.specs.Words.{wordsOf};
 ghost use Rattle.spec.specs.Log.{firstOf};
 ghost use lib.ListN.{getD};
-ghost use Rattle.joining.specs.Blocks.{blockAt, namedBy, twinBlock, Freed};
+ghost use Rattle.joining.specs.Blocks.{blockAt, namedBy, twinBlock, Freed, Claimed};
 ghost use Rattle.joining.specs.Joining.{Scanned, Superseded, OneJoined, Staged, Joining};
 use index::Info;
 use log::Next;
@@ -101,7 +101,11 @@ fn release_twins(buffer: &mut [u64; 1152], image: &[u8], count: usize, key: u64,
 fn release_tops(buffer: &mut [u64; 1152], image: &[u8], count: usize, key: u64, info: Info)
     ensures { λ _. ⌜ Superseded count (wordsOf (now (image .entry))) (now (buffer .entry)) (now (buffer .exit)) key info ⌝ }
 {
+    bits::buffer_length(buffer);
     if info.several == 0 {
+        if 0 < info.extent {
+            return;
+        }
         release_at(buffer, image, info.place as usize);
         return;
     }
@@ -109,7 +113,20 @@ fn release_tops(buffer: &mut [u64; 1152], image: &[u8], count: usize, key: u64, 
 }
 
 // ONE ITEM
+// The block of an entry with these parts, if it is a put in one, joins the bits.
+fn claim(buffer: &mut [u64; 1152], op: u64, placement: u64, field: u64)
+    ensures { λ _. ⌜ Claimed (now (buffer .entry)) (now (buffer .exit)) (blockAt op placement field) ⌝ }
+{
+    bits::buffer_length(buffer);
+    if placement == 1 {
+        if op == 1 {
+            bits::set_bit(buffer, field as usize);
+        }
+    }
+}
+
 // An entry joins the table, which has so many keys: how many it has then. `own` is what it would hold of the key with this entry alone.
+// The blocks that it supersedes leave the bits; its own is not yet there.
 fn join_one(
     image: &[u8],
     count: usize,
@@ -141,9 +158,11 @@ fn join_one(
 enum Item {
     Nothing,
     Entry {
-        key: u64,
-        extent: u64,
+        op: u64,
+        placement: u64,
         version: u64,
+        field: u64,
+        key: u64,
         words: usize,
     },
 }
@@ -160,7 +179,7 @@ fn item_at(buffer: &[u64; 1152], at: usize, end: usize) -> Item
         FirstWord::Padding => Item::Nothing,
         FirstWord::Wrong => Item::Nothing,
         FirstWord::Entry {
-            op: _,
+            op,
             placement,
             version,
             field,
@@ -170,9 +189,11 @@ fn item_at(buffer: &[u64; 1152], at: usize, end: usize) -> Item
                 return Item::Nothing;
             }
             Item::Entry {
-                key: buffer[at + 1],
-                extent: noting::extent_of(placement, field),
+                op,
+                placement,
                 version,
+                field,
+                key: buffer[at + 1],
                 words,
             }
         }
@@ -202,13 +223,17 @@ pub fn join(
                 return keys;
             }
             Item::Entry {
-                key,
-                extent,
+                op,
+                placement,
                 version,
+                field,
+                key,
                 words,
             } => {
+                let extent = noting::extent_of(placement, field);
                 let own = noting::alone(extent, place + at, version);
                 keys = join_one(image, count, buffer, table, keys, key, own);
+                claim(buffer, op, placement, field);
                 at += 2 + words;
             }
         }

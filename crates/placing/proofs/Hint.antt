@@ -21,7 +21,7 @@ use Rattle.placing.specs.declared.Found.the-variants as F
 use Rattle.placing.specs.declared.Place.{Place}
 use Rattle.placing.specs.declared.Placed.{Placed}
 use Rattle.placing.specs.Found.{foundOf, placeOf, startOf, Stops, Searched, Searching}
-use Rattle.placing.proofs.Search.{taken, taken-before, taken-end, first-here}
+use Rattle.placing.proofs.Search.{taken, taken-before, first-here}
 use Rattle.placing.proofs.Answer.{found-at, found-nothing}
 
 -- no space for some lines is none for more
@@ -68,14 +68,14 @@ module _ (first least lines : ℕ) where
       go (no h) (yes e) = rw (start-zero (omega arith) e) (omega arith)
       go (no h) (no n) = rw (start-hint (omega arith) (omega arith)) (omega arith)
 
-module _ (ws : List ℕ) (count lines needed first′ least next : ℕ) (hint : NoneBelow ws first′ least)
+module _ (ws : List ℕ) (count lines needed first′ least next : ℕ) (hint : NoneBelow count ws first′ least)
     (near : Stops (hasSpace 12 ws (min least lines) 0) (startOf first′ least lines) count next) where
   abbrev room : ℕ
   room = min least lines
 
   -- before the start
-  started : NoneBelow ws (startOf first′ least lines) room
-  started c l u = go (decLt lines least) (ℕ-discrete first′ 0) u
+  started : NoneBelow count ws (startOf first′ least lines) room
+  started c l u m = go (decLt lines least) (ℕ-discrete first′ 0) u
     where
       go : Dec (lines < least) → Dec (first′ ≡ 0) → c < startOf first′ least lines → hasSpace 12 ws room 0 c ≡ false
       go (yes h) d q = absurd (let z : c < 1 = rw (start-few first′ least lines h) at q in omega arith)
@@ -83,35 +83,35 @@ module _ (ws : List ℕ) (count lines needed first′ least next : ℕ) (hint : 
       go (no h) (no n) q =
           let z : c < first′ = rw (start-hint first′ least lines (omega arith) (omega arith)) at q in
           let e : room ≡ least = omega arith in
-          rw e (hint c l z)
+          rw e (hint c l z m)
 
   -- before the chunk that is next
-  pub none-next : NoneBelow ws next room
-  none-next c l u = go (decLt c (startOf first′ least lines))
+  pub none-next : NoneBelow count ws next room
+  none-next c l u m = go (decLt c (startOf first′ least lines))
     where
       go : Dec (c < startOf first′ least lines) → hasSpace 12 ws room 0 c ≡ false
-      go (yes h) = started c l h
+      go (yes h) = started c l h m
       go (no h) = near .before c (omega arith) u
 
   -- the chunk with space for all the lines
   module _ (at′ : ℕ) (wide : Stops (hasSpace 12 ws lines 0) next count at′) where
-    nowhere-before : taken (hasSpace 12 ws lines 0) 1 at′ ≡ []
-    nowhere-before = taken-before (hasSpace 12 ws lines 0) 1 at′ (λ d u l. go d l u (decLt d next))
+    nowhere-before : (m : ℕ) → m ≤ at′ → m ≤ count → taken (hasSpace 12 ws lines 0) 1 m ≡ []
+    nowhere-before m s t = taken-before (hasSpace 12 ws lines 0) 1 m (λ d u l. go d l u (decLt d next))
       where
-        go : (d : ℕ) → 1 ≤ d → d < at′ → Dec (d < next) → hasSpace 12 ws lines 0 d ≡ false
-        go d l u (yes h) = less-space ws room lines d (omega arith) (none-next d l h)
-        go d l u (no h) = wide .before d (omega arith) u
+        go : (d : ℕ) → 1 ≤ d → d < m → Dec (d < next) → hasSpace 12 ws lines 0 d ≡ false
+        go d l u (yes h) = less-space ws room lines d (omega arith) (none-next d l h (omega arith))
+        go d l u (no h) = wide .before d (omega arith) (omega arith)
 
     low′ : 1 ≤ at′
     low′ = let a = start-low first′ least lines in let b = near .behind in let c = wide .behind in omega arith
 
     in-log : at′ < count → logPlace 12 count ws lines 0 needed ≡ some at′
     unfolding logPlace
-    in-log h = rw (first-here (hasSpace 12 ws lines 0) 1 at′ count low′ h nowhere-before (wide .here h))
+    in-log h = rw (first-here (hasSpace 12 ws lines 0) 1 at′ count low′ h (nowhere-before at′ (omega arith) (omega arith)) (wide .here h))
 
     in-free : count ≤ at′ → logPlace 12 count ws lines 0 needed ≡ freeChunk 12 count ws needed
     unfolding logPlace
-    in-free h = rw (taken-end (hasSpace 12 ws lines 0) 1 at′ count low′ h nowhere-before)
+    in-free h = rw (nowhere-before count h (omega arith))
 
     -- THE PLACE, and the next hint
     pub placed-log : (r : Placed) → at′ < count → r .place ≡ placeOf ws (some at′) → r .first ≡ next → r .least ≡ room → Searched ws count lines needed r
@@ -125,7 +125,7 @@ module _ (ws : List ℕ) (count lines needed first′ least next : ℕ) (hint : 
       pub placed-free : (r : Placed) (c : ℕ) → count ≤ at′ → free ≡ F.At c → r .place ≡ placeOf ws (some c) → r .first ≡ min next c → r .least ≡ room → Searched ws count lines needed r
       placed-free r c h q p f l = record {
         place = p ∙ sym (ap (placeOf ws) (in-free h ∙ found-at (freeChunk 12 count ws needed) c (sym told ∙ q)));
-        none = rw (f, l) (λ d v u. none-next d v (omega arith));
+        none = rw (f, l) (λ d v u m. none-next d v (omega arith) m);
         low = λ t. let e : r .place .chunk ≡ c = ap (λ (x : Place). x .chunk) p in omega arith;
       }
 

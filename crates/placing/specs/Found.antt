@@ -39,9 +39,9 @@ startOf first least lines = pick (ltb lines least) 1 (pick (eqb first 0) 1 first
 -- the place is the definition's, and the next hint holds of the image, and also once lines were added to the place
 pub record Searched (ws : List ℕ) (count lines needed : ℕ) (r : Placed) : Type 0 where
   pub place : r .place ≡ placeOf ws (logPlace 12 count ws lines 0 needed)
-  pub none : NoneBelow ws (r .first) (r .least)
+  pub none : NoneBelow count ws (r .first) (r .least)
   pub low : r .place .found ≡ true → r .first ≤ r .place .chunk
 
 -- so it is where the hint given holds
 abbrev pub Searching : (ws : List ℕ) (count lines needed first least : ℕ) → Placed → Type 0
-Searching ws count lines needed first least r = NoneBelow ws first least → Searched ws count lines needed r
+Searching ws count lines needed first least r = NoneBelow count ws first least → Searched ws count lines needed r

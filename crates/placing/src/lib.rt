@@ -99,7 +99,7 @@ fn wider_chunk(image: &[u8], from: usize, count: usize, least: usize, lines: usi
 }
 
 // The first free chunk, if at least `needed` are free.
-fn free_chunk(image: &[u8], count: usize, needed: usize) -> Found
+pub fn free_chunk(image: &[u8], count: usize, needed: usize) -> Found
     ensures { λ r. ⌜ r ≡ foundOf (freeChunk 12 count (wordsOf (now (image .entry))) needed) ⌝ }
 {
     let mut lowest = 0;
@@ -120,7 +120,7 @@ fn free_chunk(image: &[u8], count: usize, needed: usize) -> Found
     Found::Nothing
 }
 
-fn place_at(image: &[u8], c: usize) -> Place
+pub fn place_at(image: &[u8], c: usize) -> Place
     ensures { λ r. ⌜ r ≡ placeOf (wordsOf (now (image .entry))) (some c) ⌝ }
 {
     Place {

@@ -29,6 +29,8 @@ enum Command {
     Delete,
     Commit,
     Abandon,
+    Choose,
+    Clean,
     Step,
     Run,
     Look,
@@ -57,6 +59,8 @@ fn command_of(word: u64) -> Command {
         0x6465_6c65_7465 => Command::Delete, // delete
         0x636f_6d6d_6974 => Command::Commit, // commit
         0x61_6261_6e64_6f6e => Command::Abandon, // abandon
+        0x6368_6f6f_7365 => Command::Choose, // choose
+        0x63_6c65_616e => Command::Clean, // clean
         0x7374_6570 => Command::Step, // step
         0x72_756e => Command::Run, // run
         0x6c6f_6f6b => Command::Look, // look
@@ -101,6 +105,7 @@ fn nothing() -> Setup {
         fields: 0,
         station: 0,
         centre: 0,
+        source: session::no_source(),
     }
 }
 
@@ -163,7 +168,7 @@ fn committed(m: stepping::Moved) -> Answer {
     }
 }
 
-// A staging and a step leave the setup as it was.
+// A staged delete and a step leave the setup as it was.
 fn staged(setup: Setup, m: calls::Staged) -> Answer {
     let control = m.control;
     let report = m.report;
@@ -203,9 +208,9 @@ fn put_part(
 ) -> Answer {
     if n <= value.len() {
         let part = &value[0..n];
-        return staged(s, calls::put_core(c, s, buffer, image, table, key, part));
+        return begun(calls::put_core(c, s, buffer, image, table, key, part));
     }
-    staged(s, calls::put_core(c, s, buffer, image, table, key, value))
+    begun(calls::put_core(c, s, buffer, image, table, key, value))
 }
 
 // A put of so many bytes, counted up from one; at most 4,096.
@@ -257,6 +262,39 @@ fn format(
     let station = l.first;
     let centre = l.second;
     begun(calls::format_core(c, s, buffer, image, table, given(station), given(centre)))
+}
+
+// Choosing leaves the record as it was.
+fn choose(c: Control, s: Setup, image: &[u8], table: &[u64]) -> Answer {
+    let report = choosing::choose_core(c, s, image, table);
+    Answer {
+        control: c,
+        setup: s,
+        report,
+    }
+}
+
+fn cleaned(m: cleaning_begin::Outset) -> Answer {
+    let control = m.control;
+    let setup = m.setup;
+    let report = m.report;
+    Answer {
+        control,
+        setup,
+        report,
+    }
+}
+
+fn clean(
+    c: Control,
+    s: Setup,
+    buffer: &mut [u64; 1152],
+    image: &[u8],
+    table: &[u64],
+    l: Line,
+) -> Answer {
+    let chunk = l.first;
+    cleaned(cleaning_begin::clean_core(c, s, buffer, image, table, chunk.value as usize))
 }
 
 fn is_refused(report: Report) -> bool {
@@ -325,6 +363,8 @@ fn asked(
         Command::Delete => delete(c, s, buffer, image, table, l),
         Command::Commit => committed(stepping::commit_core(c, s, buffer, image, table)),
         Command::Abandon => begun(calls::abandon_core(c, s, buffer, image, table)),
+        Command::Choose => choose(c, s, image, table),
+        Command::Clean => clean(c, s, buffer, image, table, l),
         Command::Run => run(c, s, buffer, image, table),
         _ => stepped(s, stepping::step_core(c, s, buffer, image, table)),
     }
@@ -408,8 +448,8 @@ fn is_opening(command: Command) -> bool {
 }
 
 // Shows what a call answered; and `changed` where it was refused and did not leave what a refused call leaves.
-fn answered(report: Report, kept: bool) {
-    show::report(report);
+fn answered(report: Report, cleaning: bool, kept: bool) {
+    show::report(report, cleaning);
     if is_refused(report) {
         if kept {
             return;
@@ -449,7 +489,7 @@ fn call(
         let memory = same_memory(image, &old_image, table, &old_table);
         record & memory
     };
-    answered(report, kept);
+    answered(report, state.control.phase == 6, kept);
     State {
         control,
         setup,

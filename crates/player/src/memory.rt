@@ -5,6 +5,7 @@ ghost use Prim.Native.Nat.{ℕ, _<_};
 ghost use lib.ListN.{length, getD};
 use spec::Control;
 use spec::Setup;
+use spec::Source;
 
 pub fn zero_bytes(bytes: &mut [u8]) {
     let mut i = 0;
@@ -140,7 +141,26 @@ pub fn same_setup(a: Setup, b: Setup) -> bool {
     if a.station != b.station {
         return false;
     }
-    a.centre == b.centre
+    if a.centre != b.centre {
+        return false;
+    }
+    same_source(a.source, b.source)
+}
+
+fn same_source(a: Source, b: Source) -> bool {
+    if a.chunk != b.chunk {
+        return false;
+    }
+    if a.old != b.old {
+        return false;
+    }
+    if a.lines != b.lines {
+        return false;
+    }
+    if a.words != b.words {
+        return false;
+    }
+    a.entries == b.entries
 }
 
 // Byte i is first + i, modulo 256.

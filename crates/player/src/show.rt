@@ -72,23 +72,23 @@ pub fn value(key: u64, bytes: &[u8], sum: u64) {
     first_bytes(bytes);
 }
 
-// An end with no entries copied shows no number.
-fn end(count: u64) {
-    if count == 0 {
-        text(b"end\n");
+// The end of a cleaning shows the entries copied.
+fn end(count: u64, cleaning: bool) {
+    if cleaning {
+        one(b"end", count);
         return;
     }
-    one(b"end", count);
+    text(b"end\n");
 }
 
-pub fn report(report: Report) {
+pub fn report(report: Report, cleaning: bool) {
     match report {
         Report::Refused(n) => one(b"refused", recovery::number(n)),
         Report::Begun(actions) => one(b"begun", actions as u64),
         Report::Store { word, value } => two(b"store", word as u64, value),
         Report::Flush(line) => one(b"flush", line as u64),
         Report::Fence => text(b"fence\n"),
-        Report::End(count) => end(count as u64),
+        Report::End(count) => end(count as u64, cleaning),
         Report::Idle => text(b"idle\n"),
         Report::Opened => text(b"opened\n"),
         Report::Abandoned => text(b"abandoned\n"),

@@ -18,7 +18,7 @@ use Rattle.spec.specs.Log.{Entry, Entries, wordsFor, imageEntries}
 use Rattle.spec.specs.Blocks.{pointed}
 use Rattle.spec.specs.Contents.{chosen}
 use Rattle.spec.specs.Calls.{LookUp, State, isRefused, gate, answer, next, partOr, lookUp, number}
-use Rattle.spec.specs.Contract.{Changed, Outcome, Called}
+use Rattle.spec.specs.Contract.{Changed, Anyway, Outcome, Called}
 use Rattle.spec.specs.declared.Control.{Control}
 use Rattle.spec.specs.declared.Setup.{Setup}
 use Rattle.spec.specs.declared.Session.{Session}
@@ -43,7 +43,7 @@ use Rattle.index.specs.Packed.{unpackOf}
 use Rattle.volatile.specs.Known.{extentOf, Bounded}
 use Rattle.volatile.proofs.Image.{image-bounded}
 use Rattle.volatile.proofs.Grow.{found-none, found-chosen}
-use Rattle.session.specs.State.{stateOf}
+use Rattle.session.specs.State.{stateOf, limit}
 use Rattle.session.specs.Fits.{Fits}
 use Rattle.recovery.specs.declared.Located.{Located}
 use Rattle.recovery.specs.declared.Located.the-variants as L
@@ -222,29 +222,34 @@ module _ (key : ℕ) (bytes table : List ℕ) (word : ℕ) (is : word ≡ get ta
 -- ## The call
 
 -- a look-up leaves the state as it was
-next-same : (σ : State) (key : ℕ) (ws : List ℕ) (bytes words : ℕ) → σ ≡ next 12 256 (LookUp key) σ ws bytes words
+next-same : (σ : State) (key : ℕ) (ws : List ℕ) (bytes words : ℕ) → σ ≡ next 12 limit (LookUp key) σ ws bytes words
 unfolding next
-next-same σ key ws bytes words = sym (pick-same (both (isRefused (answer 12 256 (LookUp key) σ ws bytes words)) true) σ)
+next-same σ key ws bytes words = sym (pick-same (both (isRefused (answer 12 limit (LookUp key) σ ws bytes words)) true) σ)
 
 module _ (s : Session) (key : ℕ) (bytes table : List ℕ) where
-  outcome : (r : Located) → PartIn (length bytes) r → Outcome stateOf Fits 12 256 (LookUp key) s s table table (reportOf r)
+  outcome : (r : Located) → PartIn (length bytes) r → Outcome stateOf Fits 12 limit (LookUp key) s s table table (reportOf r)
   outcome (L.Refused n) h = (inr (inr (inr (inl h))), (refl, refl))
   outcome (L.Part a n) h = (refl, refl)
+
+  anyway : (r : Located) → Anyway 12 limit (LookUp key) (stateOf s) (stateOf s) (wordsOf bytes) (length bytes) (length table) (reportOf r)
+  anyway (L.Refused n) = inl (n, refl)
+  anyway (L.Part a n) = inr (a, (n, refl))
 
   unchanged : (r : Located) → Changed (reportOf r) bytes bytes
   unchanged (L.Refused n) = refl
   unchanged (L.Part a n) = refl
 
-  looked : (r : Located) → gate (stateOf s) (length bytes) (length table) ≡ none → Looking key bytes table r → Called stateOf Fits 12 256 (LookUp key) s s bytes bytes table table (reportOf r)
+  looked : (r : Located) → gate (stateOf s) (length bytes) (length table) ≡ none → Looking key bytes table r → Called stateOf Fits 12 limit (LookUp key) s s bytes bytes table table (reportOf r)
   looked r g l = record {
     exact = λ f. record { answered = exact f; became = next-same (stateOf s) key (wordsOf bytes) (length bytes) (length table); fits = f };
     first = λ r′ h. absurd (let q : none ≡ some r′ = rw g at h in let z : _≡_ {A = ℕ} 0 1 = cc in omega arith);
     image = unchanged r;
     sized = refl;
     outcome = outcome r (l .inside);
+    anyway = anyway r;
   }
     where
-      exact : Fits s (wordsOf bytes) table → reportOf r ≡ answer 12 256 (LookUp key) (stateOf s) (wordsOf bytes) (length bytes) (length table)
+      exact : Fits s (wordsOf bytes) table → reportOf r ≡ answer 12 limit (LookUp key) (stateOf s) (wordsOf bytes) (length bytes) (length table)
       exact f =
           let a = at-rest s (length bytes) (length table) (wordsOf bytes) table g f in
           let rest = a .fits in
@@ -255,7 +260,7 @@ module _ (s : Session) (key : ℕ) (bytes table : List ℕ) where
 
 module _ (c : Control) (k : Setup) (key : ℕ) (bytes table : List ℕ) (g : Gated) (asks : Asking c k (length bytes) (length table) g) where
   pub locate-refused : (n : Refusal) → g ≡ G.Refused n → Locating c k key bytes table (L.Refused n)
-  locate-refused n e = record { called = λ b. turned-down 12 256 (sessionOf c k b) bytes table n (asks .asked b ∙ ap gateOf e) (LookUp key) tt; inside = tt }
+  locate-refused n e = record { called = λ b. turned-down 12 limit (sessionOf c k b) bytes table n (asks .asked b ∙ ap gateOf e) (LookUp key) tt; inside = tt }
 
   pub locate-open : (r : Located) → g ≡ G.Open → Looking key bytes table r → Locating c k key bytes table r
   locate-open r e l = record { called = λ b. looked (sessionOf c k b) key bytes table r (asks .asked b ∙ ap gateOf e) l; inside = in-image (length bytes) r (l .inside) }

@@ -18,6 +18,7 @@ use Rattle.spec.specs.Calls.{Closed, Rest, Open, next}
 use Rattle.spec.specs.Contract.{Called}
 use Rattle.spec.specs.declared.Control.{Control}
 use Rattle.spec.specs.declared.Setup.{Setup}
+use Rattle.spec.specs.declared.Source.{Source}
 use Rattle.spec.specs.declared.Session.{Session}
 use Rattle.spec.specs.declared.Refusal.{Refusal}
 use Rattle.spec.specs.declared.Refusal.the-variants as N
@@ -32,8 +33,9 @@ use Rattle.volatile.specs.Known.{Indexed, FillInv}
 use Rattle.volatile.proofs.Fill.{fill-end, fill-fits}
 use Rattle.tops.specs.declared.Checked.{Checked}
 use Rattle.tops.specs.Pass.{Listed, Tested, Examined}
-use Rattle.session.specs.State.{batchWords, batchItems, stateAt, stateOf}
+use Rattle.session.specs.State.{batchWords, batchItems, noSource, stateAt, stateOf, limit}
 use Rattle.session.specs.Fits.{RestFits, Fits}
+use Rattle.session.proofs.Kept.{none-fit}
 use Rattle.recovery.specs.declared.Verdict.{Verdict}
 use Rattle.recovery.specs.declared.Verdict.the-variants as J
 use Rattle.recovery.specs.Pass.{Filling}
@@ -177,8 +179,8 @@ closed = record { phase = 0; next = 0; items = 0; words = 0; keys = 0; fresh = 0
 abbrev atRest : ℕ → Control
 atRest keys = record { phase = 1; next = 0; items = 0; words = 0; keys = keys; fresh = 0 }
 
-abbrev lent : ℕ → ℕ → Setup
-lent bytes words = record { image = bytes; table = words; chunk = 0; old = 0; lines = 0; first = 1; least = 64; fields = 0; station = 0; centre = 0 }
+abbrev lent : ℕ → ℕ → Source → Setup
+lent bytes words f = record { image = bytes; table = words; chunk = 0; old = 0; lines = 0; first = 1; least = 64; fields = 0; station = 0; centre = 0; source = f }
 
 abbrev session : Control → Setup → List ℕ → Session
 session c k b = record { control = c; setup = k; buffer = b }
@@ -195,14 +197,14 @@ no-items : (keys : ℕ) (b : List ℕ) → batchItems (atRest keys) b ≡ []
 unfolding batchItems
 no-items keys b = rw (no-words keys b)
 
-state-rest : (keys bytes words : ℕ) (b : List ℕ) → stateOf (session (atRest keys) (lent bytes words) b) ≡ Rest bytes words []
+state-rest : (keys bytes words : ℕ) (b : List ℕ) → stateOf (session (atRest keys) (lent bytes words noSource) b) ≡ Rest bytes words []
 unfolding stateAt
 state-rest keys bytes words b = ap (Rest bytes words) (no-items keys b)
 
 -- nothing is barred, and the image stays
 module _ (c : Control) (k : Setup) (buffer bytes table table′ buffer′ : List ℕ) (v : Verdict) (judging : Judging bytes table table′ buffer buffer′ v) where
   pub opens-refused : (n : Refusal) → v ≡ J.Refused n → (table″ : List ℕ) → table″ ≡ zeros (length table′)
-      → Called stateOf Fits 12 256 Open (session c k buffer) (session closed k buffer′) bytes bytes table table″ (R.Refused n)
+      → Called stateOf Fits 12 limit Open (session c k buffer) (session closed k buffer′) bytes bytes table table″ (R.Refused n)
   unfolding next
   opens-refused n e table″ z =
       let j : Judged (opening 12 (length bytes) (wordsOf bytes) (length table)) table′ buffer′ (J.Refused n) = rw e at (judging .judged) in
@@ -217,11 +219,12 @@ module _ (c : Control) (k : Setup) (buffer bytes table table′ buffer′ : List
         image = refl;
         sized = ap length t ∙ length-replicate (length table) 0;
         outcome = (j .1, (state-closed k buffer′, t));
+        anyway = inl (n, refl);
       }
 
-  pub opens-accepted : (keys : ℕ) → v ≡ J.Accepted keys → Called stateOf Fits 12 256 Open (session c k buffer) (session (atRest keys) (lent (length bytes) (length table)) buffer′) bytes bytes table table′ R.Opened
+  opens : (keys : ℕ) → v ≡ J.Accepted keys → Called stateOf Fits 12 limit Open (session c k buffer) (session (atRest keys) (lent (length bytes) (length table) noSource) buffer′) bytes bytes table table′ R.Opened
   unfolding next
-  opens-accepted keys e =
+  opens keys e =
       let j : Judged (opening 12 (length bytes) (wordsOf bytes) (length table)) table′ buffer′ (J.Accepted keys) = rw e at (judging .judged) in
       let rest = state-rest keys (length bytes) (length table) buffer′ in
       record {
@@ -234,10 +237,11 @@ module _ (c : Control) (k : Setup) (buffer bytes table table′ buffer′ : List
         image = refl;
         sized = judging .sized;
         outcome = rw rest;
+        anyway = inr (refl, rest);
       }
     where
       fits : (keys : ℕ) (es : List Entry) → opening 12 (length bytes) (wordsOf bytes) (length table) ≡ Accepted es → Indexed table′ keys es → ((u : ℕ) → hasBit buffer′ u ≡ isIn u (liveBlocks es))
-          → RestFits (session (atRest keys) (lent (length bytes) (length table)) buffer′) (wordsOf bytes) table′ []
+          → RestFits (session (atRest keys) (lent (length bytes) (length table) noSource) buffer′) (wordsOf bytes) table′ []
       fits keys es o ix bits =
           let m : keys ≡ length (keysOf es) = ix .count in
           let l : keys ≤ capacity (length table) = rw (judging .sized) at (ix .fits) in
@@ -254,9 +258,13 @@ module _ (c : Control) (k : Setup) (buffer bytes table table′ buffer′ : List
               few = omega arith;
               right = tt;
               counts = tt;
-              in-log = λ f m. absurd m;
+              fit = none-fit (chunksIn 12 (length bytes)) (wordsOf bytes) es;
               keys = omega arith;
             };
             table-room = omega arith;
-            hint = λ c l u. absurd (omega arith);
+            hint = λ c l u m. absurd (omega arith);
           }
+
+  pub opens-accepted : (keys : ℕ) (f : Source) → v ≡ J.Accepted keys → f ≡ noSource
+      → Called stateOf Fits 12 limit Open (session c k buffer) (session (atRest keys) (lent (length bytes) (length table) f) buffer′) bytes bytes table table′ R.Opened
+  opens-accepted keys f e q = rw q (opens keys e)

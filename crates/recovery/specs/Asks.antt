@@ -16,16 +16,20 @@ use Rattle.session.specs.State.{stateAt}
 use Rattle.recovery.specs.declared.Gated.{Gated}
 use Rattle.recovery.specs.declared.Gated.the-variants as G
 
+-- the phases in which a call is unfinished on an open register
+abbrev pub begunAt : ℕ → Bool
+begunAt phase = either (eqb phase 2) (either (eqb phase 3) (either (eqb phase 5) (eqb phase 6)))
+
 -- by the phase, and whether the lengths are those at the opening
 abbrev pub gateFor : ℕ → Bool → Option Refusal
 gateFor phase same =
     pick (eqb phase 1) (pick same none (some N.ImageLength))
-    (pick (either (eqb phase 2) (either (eqb phase 3) (eqb phase 5))) (pick same (some N.Unfinished) (some N.ImageLength))
+    (pick (begunAt phase) (pick same (some N.Unfinished) (some N.ImageLength))
     (some N.NotOpen))
 
 -- 2 for a phase with nothing open, and else another refusal
 abbrev pub closedOr : ℕ → Refusal → Refusal
-closedOr phase n = pick (either (eqb phase 1) (either (eqb phase 2) (either (eqb phase 3) (eqb phase 5)))) n N.NotOpen
+closedOr phase n = pick (either (eqb phase 1) (begunAt phase)) n N.NotOpen
 
 abbrev pub sameLengths : Setup → ℕ → ℕ → Bool
 sameLengths k bytes words = both (eqb (k .image) bytes) (eqb (k .table) words)

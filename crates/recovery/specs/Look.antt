@@ -19,7 +19,7 @@ use Rattle.spec.specs.declared.Report.{Report}
 use Rattle.spec.specs.declared.Report.the-variants as R
 use Rattle.theory_cuts.specs.Accepted.{Ok}
 use Rattle.volatile.specs.Known.{Indexed}
-use Rattle.session.specs.State.{stateOf}
+use Rattle.session.specs.State.{stateOf, limit}
 use Rattle.session.specs.Fits.{Fits}
 use Rattle.recovery.specs.declared.Located.{Located}
 use Rattle.recovery.specs.declared.Located.the-variants as L
@@ -69,7 +69,7 @@ sessionOf c k b = record { control = c; setup = k; buffer = b }
 
 -- THE CALL, whatever the buffer holds: record, image and table stay
 abbrev pub LookedUp : Control → Setup → ℕ → List ℕ → List ℕ → Report → Type 0
-LookedUp c k key bytes table r = (b : List ℕ) → Called stateOf Fits 12 256 (LookUp key) (sessionOf c k b) (sessionOf c k b) bytes bytes table table r
+LookedUp c k key bytes table r = (b : List ℕ) → Called stateOf Fits 12 limit (LookUp key) (sessionOf c k b) (sessionOf c k b) bytes bytes table table r
 
 pub record Locating (c : Control) (k : Setup) (key : ℕ) (bytes table : List ℕ) (r : Located) : Type 0 where
   pub called : LookedUp c k key bytes table (reportOf r)

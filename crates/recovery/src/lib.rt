@@ -13,7 +13,7 @@ ghost use Rattle.spec.specs.Opening.{directoryTest};
 ghost use Rattle.spec.specs.Calls.{Open, number};
 ghost use Rattle.spec.specs.Contract.{Called};
 ghost use Rattle.index.specs.Index.{zeros};
-ghost use Rattle.session.specs.State.{stateOf};
+ghost use Rattle.session.specs.State.{stateOf, limit};
 ghost use Rattle.session.specs.Fits.{Fits};
 ghost use Rattle.recovery.specs.Pass.{Entering, Hastened, Filling};
 ghost use Rattle.recovery.specs.Judged.{firstRefusal, JudgingLog, Judging};
@@ -298,7 +298,7 @@ fn fill(image: &[u8], count: usize, table: &mut [u64]) -> Filled
 
 // OPENING
 // Why an image is refused, or how many keys it has.
-enum Verdict {
+pub enum Verdict {
     Refused(Refusal),
     Accepted(usize),
 }
@@ -326,7 +326,7 @@ fn first_refusal(first: bool, a: Refusal, second: bool, b: Refusal, keys: usize)
 }
 
 // 4 to 7, of an image of `count` chunks: key table and block bits are built anew.
-fn judge_log(image: &[u8], count: usize, table: &mut [u64], buffer: &mut [u64; 1152]) -> Verdict
+pub fn judge_log(image: &[u8], count: usize, table: &mut [u64], buffer: &mut [u64; 1152]) -> Verdict
     ensures { λ r. ⌜ JudgingLog count (wordsOf (now (image .entry))) (now (table .entry)) (now (table .exit)) (now (buffer .entry)) (now (buffer .exit)) r ⌝ }
 {
     let filled = fill(image, count, table);
@@ -389,7 +389,7 @@ pub fn open_core(
     image: &[u8],
     table: &mut [u64],
 ) -> Opened
-    ensures { λ r. ⌜ Called stateOf Fits 12 256 Open (record { control = control; setup = setup; buffer = now (buffer .entry) }) (record { control = r .control; setup = r .setup; buffer = now (buffer .exit) }) (now (image .entry)) (now (image .entry)) (now (table .entry)) (now (table .exit)) (r .report) ⌝ }
+    ensures { λ r. ⌜ Called stateOf Fits 12 limit Open (record { control = control; setup = setup; buffer = now (buffer .entry) }) (record { control = r .control; setup = r .setup; buffer = now (buffer .exit) }) (now (image .entry)) (now (image .entry)) (now (table .entry)) (now (table .exit)) (r .report) ⌝ }
 {
     let bytes = image.len();
     let words = table.len();
@@ -430,6 +430,7 @@ pub fn open_core(
                 fields: 0,
                 station: 0,
                 centre: 0,
+                source: session::no_source(),
             },
             report: Report::Opened,
         },
@@ -443,12 +444,12 @@ pub enum Gated {
     Refused(Refusal),
 }
 
-// 2 for a phase with nothing open, and else another refusal. 1, 2, 3 and 5 are at rest, a staging, a commit, and a formatting begun on an
-// open register.
+// 2 for a phase with nothing open, and else another refusal. 1, 2, 3, 5 and 6 are at rest, a staging, a commit, a formatting begun
+// on an open register, and a cleaning.
 fn closed_or(phase: u64, refusal: Refusal) -> Refusal
     ensures { λ r. ⌜ r ≡ closedOr phase refusal ⌝ }
 {
-    if 5 < phase {
+    if 6 < phase {
         return Refusal::NotOpen;
     }
     if phase == 0 {

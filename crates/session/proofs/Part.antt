@@ -41,8 +41,8 @@ unfolding batchWords
 words-within c b l = let m : min (c .words) batchRoom ≡ c .words = omega arith in ap (bufferPart b 0) m
 
 -- the record counts the words of its items
-pub words-counted : (c : Control) (b : List ℕ) (es items : List Entry) → BatchFits c b es items → c .words ≡ length (encodeAll items)
-words-counted c b es items fits = sym (length-part b 0 (c .words)) ∙ ap length (sym (words-within c b (fits .room)) ∙ fits .written)
+pub words-counted : (c : Control) (b : List ℕ) (n : ℕ) (ws : List ℕ) (es items : List Entry) → BatchFits c b n ws es items → c .words ≡ length (encodeAll items)
+words-counted c b n ws es items fits = sym (length-part b 0 (c .words)) ∙ ap length (sym (words-within c b (fits .room)) ∙ fits .written)
 
 -- CHUNK AND LINES, where they are in range
 pub chunk-in : (k : Setup) → k .chunk ≤ 503 → chunkIn k ≡ k .chunk

@@ -8,35 +8,44 @@ use Prim.Native.Nat.{ℕ, _+_, _*_, _/_, _≤_, _<_}
 use lib.Dec.{eqb}
 use lib.ListN.{length}
 use Rattle.spec.specs.Basics.{isIn, distinct}
-use Rattle.spec.specs.Places.{basePower, base}
+use Rattle.spec.specs.Places.{basePower, base, chunksIn}
 use Rattle.spec.specs.Medium.{Action}
 use Rattle.spec.specs.Log.{Entry, encodeAll, placed}
 use Rattle.spec.specs.Blocks.{pointed}
 use Rattle.spec.specs.Contents.{capacity, liveBlocks}
-use Rattle.spec.specs.Opening.{Accepted, opening}
-use Rattle.spec.specs.Calls.{Task, Staging, Committing, Cleaning, State, Closed, Rest, Busy, Formatting, maxItems, hasSpace, runWords}
+use Rattle.spec.specs.Opening.{Accepted, fine, opening}
+use Rattle.spec.specs.Actions.{linesFor}
+use Rattle.spec.specs.Calls.{Staging, Committing, Cleaning, State, Closed, Rest, Busy, Formatting, maxItems, hasSpace, runWords}
 use Rattle.spec.specs.Contract.{Proper}
 use Rattle.spec.specs.declared.Control.{Control}
 use Rattle.spec.specs.declared.Setup.{Setup}
+use Rattle.spec.specs.declared.Source.{Source}
 use Rattle.spec.specs.declared.Session.{Session}
 use Rattle.theory_log.specs.Batch.{AllRight}
 use Rattle.theory_log.specs.Contents.{CountsOn, Mem, Top}
 use Rattle.bits.specs.Bits.{hasBit}
 use Rattle.volatile.specs.Known.{Indexed}
 use Rattle.session.specs.State.{batchRoom, batchWords, stateOf}
+use Rattle.session.specs.Cleaned.{before, copiesOf, after, Cleaned, Stand}
 
 abbrev pub keyList : List Entry → List ℕ
 keyList es = map (λ (e : Entry). e .key) es
 
--- the staged items among the entries es: the words are theirs, versions count on, all values are in the log, and the staged keys that are not known are counted
-pub record BatchFits (c : Control) (buffer : List ℕ) (es items : List Entry) : Type 0 where
+-- the blocks of staged items among the entries es, in an image of n chunks: each is right in the words, no top put points to it, and no other item does
+pub record ItemsFit (n : ℕ) (ws : List ℕ) (es items : List Entry) : Type 0 where
+  pub blocks : (e : Entry) → Mem e items → fine basePower n ws e ≡ true
+  pub dead : (e f : Entry) → Mem e items → Top es f → pointed e ≡ true → pointed f ≡ true → e .field ≡ f .field → ⊥
+  pub own : (e f : Entry) → Mem e items → Mem f items → pointed e ≡ true → pointed f ≡ true → e .field ≡ f .field → e ≡ f
+
+-- the staged items among the entries es, in an image of n chunks with the words ws: the staged words are theirs, versions count on, their blocks are right, and the staged keys that are not known are counted
+pub record BatchFits (c : Control) (buffer : List ℕ) (n : ℕ) (ws : List ℕ) (es items : List Entry) : Type 0 where
   pub room : c .words ≤ batchRoom
   pub written : batchWords c buffer ≡ encodeAll items
   pub count : c .items ≡ length items
   pub few : length items ≤ maxItems
   pub right : AllRight items
   pub counts : CountsOn es items
-  pub in-log : (e : Entry) → Mem e items → e .placement ≡ 0
+  pub fit : ItemsFit n ws es items
   pub keys : c .keys + c .fresh ≡ length (distinct (keyList items ++ keyList es))
 
 -- the table and the block bits are those of the entries es
@@ -44,9 +53,9 @@ pub record Built (c : Control) (buffer table : List ℕ) (es : List Entry) : Typ
   pub indexed : Indexed table (c .keys) es
   pub blocks : (u : ℕ) → hasBit buffer u ≡ isIn u (liveBlocks es)
 
--- no log chunk below `first` has space for `least` lines behind its committed ones
-abbrev pub NoneBelow : (ws : List ℕ) (first least : ℕ) → Type 0
-NoneBelow ws first least = (c : ℕ) → 1 ≤ c → c < first → hasSpace basePower ws least 0 c ≡ false
+-- no log chunk below `first` has space for `least` lines behind its committed ones, in an image of n chunks: the word of a chunk past the directory would be a word of some block
+abbrev pub NoneBelow : (n : ℕ) (ws : List ℕ) (first least : ℕ) → Type 0
+NoneBelow n ws first least = (c : ℕ) → 1 ≤ c → c < first → c < n → hasSpace basePower ws least 0 c ≡ false
 
 -- at rest
 pub record RestFits (s : Session) (ws table : List ℕ) (items : List Entry) : Type 0 where
@@ -55,9 +64,14 @@ pub record RestFits (s : Session) (ws table : List ℕ) (items : List Entry) : T
   pub long : length ws ≡ s .setup .image / 8
   pub lent : length table ≡ s .setup .table
   pub built : Built (s .control) (s .buffer) table entries
-  pub batch : BatchFits (s .control) (s .buffer) entries items
+  pub batch : BatchFits (s .control) (s .buffer) (chunksIn basePower (s .setup .image)) ws entries items
   pub table-room : s .control .keys + s .control .fresh ≤ capacity (s .setup .table)
-  pub hint : NoneBelow ws (s .setup .first) (s .setup .least)
+  pub hint : NoneBelow (chunksIn basePower (s .setup .image)) ws (s .setup .first) (s .setup .least)
+
+-- In a staging, looking forward: with the actions still to come done on these words, memory is at rest with the new item among the staged
+-- ones. Entries, key table and bits are those before. Nothing is said of the block's words in flight: no entry that is committed needs them.
+abbrev pub StageFits : (s : Session) (ws table : List ℕ) (items : List Entry) (rest : List Action) → Type 0
+StageFits s ws table items rest = RestFits s (runWords rest ws) table items
 
 -- In a commit, looking forward: with the actions still to come done on these words, the image is accepted, and its entries are those
 -- before (front and back) with the batch placed between. Until the last fence table and bits are those of the entries before.
@@ -80,18 +94,41 @@ pub record CommitFits (s : Session) (ws table : List ℕ) (items : List Entry) (
   pub accepted : opening basePower (s .setup .image) (runWords rest ws) (s .setup .table) ≡ Accepted (front ++ (placed (batchPlace (s .setup)) items ++ back))
   pub long : length ws ≡ s .setup .image / 8
   pub lent : length table ≡ s .setup .table
-  pub batch : BatchFits (s .control) (s .buffer) (front ++ back) items
+  pub batch : BatchFits (s .control) (s .buffer) (chunksIn basePower (s .setup .image)) (runWords rest ws) (front ++ back) items
   pub apart : BlocksApart (front ++ back)
   pub built : BuiltBy rest s table (front ++ back) (front ++ (placed (batchPlace (s .setup)) items ++ back))
   pub table-room : s .control .keys + s .control .fresh ≤ capacity (s .setup .table)
-  pub hint : NoneBelow (runWords rest ws) (s .setup .first) (s .setup .least)
+  pub hint : NoneBelow (chunksIn basePower (s .setup .image)) (runWords rest ws) (s .setup .first) (s .setup .least)
+
+-- In a cleaning, looking forward: with the actions still to come done on these words, the image is accepted, and its entries are those
+-- before without the cleaned chunk's, with the copies of the kept ones among them. Until the last fence table and bits are those of the
+-- entries before.
+pub record CleanFits (c : Control) (k : Setup) (f : Source) (b ws table : List ℕ) (rest : List Action) : Type 0 where
+  pub xs : List Entry
+  pub mid : List Entry
+  pub ys : List Entry
+  pub as′ : List Entry
+  pub bs : List Entry
+  pub chunk : k .chunk ≤ 503
+  pub lines : k .lines ≤ 64
+  pub source : f .chunk ≤ 503
+  pub committed : f .lines ≤ 64
+  pub room : f .words ≤ batchRoom
+  pub accepted : opening basePower (k .image) (runWords rest ws) (k .table) ≡ Accepted (after xs mid ys as′ bs (batchPlace k))
+  pub long : length ws ≡ k .image / 8
+  pub lent : length table ≡ k .table
+  pub cleaned : Cleaned xs mid ys as′ bs (batchPlace k)
+  pub here : Stand (runWords rest ws) (base basePower (f .chunk)) (base basePower (f .chunk) + 8 * f .lines) mid
+  pub copied : Stand (runWords rest ws) (batchPlace k) (batchPlace k + 8 * linesFor (f .words)) (copiesOf xs mid ys (batchPlace k))
+  pub built : BuiltBy rest (record { control = c; setup = k; buffer = b }) table (before xs mid ys) (after xs mid ys as′ bs (batchPlace k))
+  pub hint : NoneBelow (chunksIn basePower (k .image)) (runWords rest ws) (k .first) (k .least)
 
 abbrev pub FitsAt : State → Session → List ℕ → List ℕ → Type 0
 FitsAt Closed s ws table = Unit {0}
 FitsAt (Rest b t items) s ws table = RestFits s ws table items
-FitsAt (Busy b t items Staging rest) s ws table = RestFits s ws table items
+FitsAt (Busy b t items Staging rest) s ws table = StageFits s ws table items rest
 FitsAt (Busy b t items Committing rest) s ws table = CommitFits s ws table items rest
-FitsAt (Busy b t items (Cleaning n) rest) s ws table = ⊥
+FitsAt (Busy b t items (Cleaning n) rest) s ws table = CleanFits (s .control) (s .setup) (s .setup .source) (s .buffer) ws table rest
 FitsAt (Formatting o b t rest) s ws table = Unit {0}
 
 abbrev pub Fits : Session → List ℕ → List ℕ → Type 0

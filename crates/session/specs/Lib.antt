@@ -1,2 +1,3 @@
+pub mod Cleaned
 pub mod State
 pub mod Fits

@@ -5,26 +5,33 @@
 --   control.phase | state
 --   0             | no register open
 --   1             | a register open, at rest
---   2             | a staging without actions, its last step to come
+--   2             | a staging, from its action number control.next on; from 1024 on it has none left
 --   3             | a commit, from its action number control.next on
 --   4, 5          | a formatting, begun with nothing open or on an open register, from action number control.next on
+--   6             | a cleaning, from its action number control.next on; nothing is staged
 --   others        | as 0
 --
 --   buffer words  | 0 to 511: the staged entries, as a commit writes them; from 1024: the blocks in use
+--                 | in a cleaning, 512 to 1023: the entries that it keeps, as a commit writes them
+--                 | in a staging with actions, 512: the value's length in bytes; 513 to 1023: its words, zero-filled
+--   setup         | in a staging with actions, chunk: the block's chunk; lines: the block's first unit there; fields: 0 if that is a data chunk
+--                 | already, else it is free, its directory word is old, and it is taken for blocks of so many units
 use mathlib.Core.Bool.{Bool, true, false}
 use mathlib.Core.List.{List, [], _∷_, _++_, map}
-use Prim.Native.Nat.{ℕ, zero, suc, _+_, _*_, _/_, _%_, min}
+use Prim.Native.Nat.{ℕ, zero, suc, _+_, _*_, _/_, _%_, _^_, min}
 use lib.Dec.{eqb}
 use lib.ListN.{length, getD, drop}
 use Rattle.spec.specs.Basics.{pick}
-use Rattle.spec.specs.Places.{basePower, chunksIn}
+use Rattle.spec.specs.Places.{basePower, firstUnit, chunksIn}
 use Rattle.spec.specs.Medium.{Action}
 use Rattle.spec.specs.Log.{Entry, moved, parse}
+use Rattle.spec.specs.Blocks.{blockLimit}
 use Rattle.spec.specs.Contents.{listed}
-use Rattle.spec.specs.Actions.{appendOf, formatOf}
-use Rattle.spec.specs.Calls.{Task, Staging, Committing, State, Closed, Rest, Busy, Formatting}
+use Rattle.spec.specs.Actions.{takeOf, blockOf, appendOf, freeOf, formatOf}
+use Rattle.spec.specs.Calls.{Staging, Committing, Cleaning, State, Closed, Rest, Busy, Formatting}
 use Rattle.spec.specs.declared.Control.{Control}
 use Rattle.spec.specs.declared.Setup.{Setup}
+use Rattle.spec.specs.declared.Source.{Source}
 use Rattle.spec.specs.declared.Session.{Session}
 use Rattle.spec.specs.declared.Given.{Given}
 use Rattle.spec.specs.declared.Given.the-variants as G
@@ -62,14 +69,73 @@ givenBy bit x = pick (eqb bit 1) (G.Number x) G.Absent
 unfoldable pub formatActions : Setup → List Action
 formatActions k = formatOf (chunksIn basePower (k .image)) (givenBy (k .fields / 2 % 2) (k .station)) (givenBy (k .fields / 4 % 2) (k .centre))
 
+-- A STAGING'S ACTIONS, which put a large value into its block: a longer value is read as one of the most bytes, a unit by its remainder
+abbrev pub areaStart : ℕ
+areaStart = 512
+
+abbrev pub mostBytes : ℕ
+mostBytes = 4088
+
+-- THE LARGEST VALUE that a staging takes: what the largest block holds
+abbrev pub limit : ℕ
+limit = blockLimit basePower
+
+-- the words held: length word and value
+abbrev pub heldCount : List ℕ → ℕ
+heldCount b = 1 + (min (getD b areaStart 0) mostBytes + 7) / 8
+
+unfoldable pub heldWords : List ℕ → List ℕ
+heldWords b = bufferPart b areaStart (heldCount b)
+
+-- the block's first unit
+unfoldable pub unitOf : Setup → ℕ
+unitOf k = firstUnit basePower (chunkIn k) + k .lines % 16
+
+-- the chunk is taken first, if it is free
+abbrev pub takenBy : Setup → List Action
+takenBy k = pick (eqb (k .fields) 0) [] (takeOf (chunkIn k) (k .old) (k .fields % 2 ^ 56))
+
+unfoldable pub blockActions : Setup → List ℕ → List Action
+blockActions k b = takenBy k ++ blockOf (unitOf k) (heldWords b)
+
+-- a number behind them all: a staging from here on has no actions left
+abbrev pub behindAll : ℕ
+behindAll = 1024
+
+-- A CLEANING: the chunk that is cleaned, its lines, and the words that are kept
+abbrev pub sourceIn : Source → ℕ
+sourceIn f = f .chunk % 512
+
+abbrev pub sourceLines : Source → ℕ
+sourceLines f = f .lines % 128
+
+-- no cleaning begun
+abbrev pub noSource : Source
+noSource = record { chunk = 0; old = 0; lines = 0; words = 0; entries = 0 }
+
+unfoldable pub keptWords : ℕ → List ℕ → List ℕ
+keptWords words b = bufferPart b batchRoom (min words batchRoom)
+
+-- the copying, which is nothing where nothing is kept; then the freeing
+unfoldable pub appendActions : Setup → ℕ → List ℕ → List Action
+appendActions k words b = appendOf basePower (chunkIn k) (k .old) (linesIn k) (keptWords words b)
+
+unfoldable pub copyActions : Setup → ℕ → List ℕ → List Action
+copyActions k words b = pick (eqb (min words batchRoom) 0) [] (appendActions k words b)
+
+unfoldable pub cleanActions : Setup → Source → List ℕ → List Action
+cleanActions k f b = copyActions k (f .words) b ++ freeOf (sourceIn f) (f .old)
+
+-- THE STATE
 abbrev pub stateBy : ℕ → Control → Setup → List ℕ → State
 stateBy phase c k b =
     pick (eqb phase 1) (Rest (k .image) (k .table) (batchItems c b))
-    (pick (eqb phase 2) (Busy (k .image) (k .table) (batchItems c b) Staging [])
+    (pick (eqb phase 2) (Busy (k .image) (k .table) (batchItems c b) Staging (drop (c .next) (blockActions k b)))
     (pick (eqb phase 3) (Busy (k .image) (k .table) (batchItems c b) Committing (drop (c .next) (commitActions c k b)))
     (pick (eqb phase 4) (Formatting false (k .image) (k .table) (drop (c .next) (formatActions k)))
     (pick (eqb phase 5) (Formatting true (k .image) (k .table) (drop (c .next) (formatActions k)))
-    Closed))))
+    (pick (eqb phase 6) (Busy (k .image) (k .table) [] (Cleaning (k .source .entries)) (drop (c .next) (cleanActions k (k .source) b)))
+    Closed)))))
 
 unfoldable pub stateAt : Control → Setup → List ℕ → State
 stateAt c k b = stateBy (c .phase) c k b

@@ -7,24 +7,25 @@ use Prim.Native.Nat.{ℕ, _/_}
 use native.Mathlib.Omega.{arith}
 use lib.Dec.{eqb}
 use lib.ListN.{length}
+use borrow.Author.Tests.{eqb-true, ne-eqb}
 use Rattle.spec.specs.Basics.{pick, either}
 use Rattle.spec.specs.Places.{basePower}
 use Rattle.spec.specs.Medium.{Action}
 use Rattle.spec.specs.Log.{Entry, Parsed}
 use Rattle.spec.specs.Contents.{keysOf, listed}
 use Rattle.spec.specs.Opening.{Accepted, opening}
-use Rattle.spec.specs.Calls.{Staging, Committing, State, Closed, Rest, Busy, Formatting}
+use Rattle.spec.specs.Calls.{Staging, Committing, Cleaning, State, Closed, Rest, Busy, Formatting, runWords}
 use Rattle.spec.specs.declared.Control.{Control}
 use Rattle.spec.specs.declared.Setup.{Setup}
 use Rattle.spec.specs.declared.Session.{Session}
 use Rattle.theory_cuts.proofs.Opening.{opens-ok}
 use Rattle.session.specs.State.{stateAt}
-use Rattle.session.specs.Fits.{RestFits, CommitFits, FitsAt, Fits}
+use Rattle.session.specs.Fits.{RestFits, CommitFits, CleanFits, FitsAt, Fits}
 use Rattle.stat.specs.Counts.{keyCount, Before, KnownAt, KnownBy}
 
 -- by the phase
 abbrev counts : Control → Bool
-counts c = either (eqb (c .phase) 1) (either (eqb (c .phase) 2) (eqb (c .phase) 3))
+counts c = either (eqb (c .phase) 1) (either (eqb (c .phase) 2) (either (eqb (c .phase) 3) (eqb (c .phase) 6)))
 
 -- the entries of an accepted image are those that its words say
 accepted-count : (bytes table : ℕ) (ws : List ℕ) (es : List Entry) → length ws ≡ bytes / 8 → opening basePower bytes ws table ≡ Accepted es → length (keysOf es) ≡ keyCount bytes ws
@@ -38,26 +39,38 @@ module _ (s : Session) (ws table : List ℕ) (items : List Entry) where
   in-commit [] f = f .built .indexed .count ∙ accepted-count (s .setup .image) (s .setup .table) ws _ (f .long) (f .accepted)
   in-commit (a ∷ rest) f = record { front = f .front; back = f .back; accepted = f .accepted; count = f .built .indexed .count }
 
+  in-cleaning : (m : ℕ) (rest : List Action) → CleanFits (s .control) (s .setup) (s .setup .source) (s .buffer) ws table rest → KnownAt (Busy (s .setup .image) (s .setup .table) [] (Cleaning m) rest) s ws (s .control .keys)
+  in-cleaning m [] f = f .built .indexed .count ∙ accepted-count (s .setup .image) (s .setup .table) ws _ (f .long) (f .accepted)
+  in-cleaning m (a ∷ rest) f = record { xs = f .xs; mid = f .mid; ys = f .ys; as′ = f .as′; bs = f .bs; accepted = f .accepted; others = f .cleaned .rest; count = f .built .indexed .count }
+
+-- phases 4 and 5 exclude 6
+apart : (c : Control) → (eqb (c .phase) 4 ≡ true → eqb (c .phase) 6 ≡ false) × (eqb (c .phase) 5 ≡ true → eqb (c .phase) 6 ≡ false)
+apart c = (
+  (λ h. let e = eqb-true (c .phase) 4 h in ne-eqb (c .phase) 6 (λ q. omega arith)),
+  (λ h. let e = eqb-true (c .phase) 5 h in ne-eqb (c .phase) 6 (λ q. omega arith)),
+)
+
 known-keys-are : (c : Control) → KnownBy c (pick (counts c) (c .keys) 0)
 unfolding stateAt
-known-keys-are c k b ws table f = go (eqb (c .phase) 1) (eqb (c .phase) 2) (eqb (c .phase) 3) (eqb (c .phase) 4) (eqb (c .phase) 5) _ _ _ _ (f .1)
+known-keys-are c k b ws table f = go (eqb (c .phase) 1) (eqb (c .phase) 2) (eqb (c .phase) 3) (eqb (c .phase) 4) (eqb (c .phase) 5) (eqb (c .phase) 6) (apart c .0) (apart c .1) _ _ _ _ _ _ _ (f .1)
   where
     s : Session
     s = record { control = c; setup = k; buffer = b }
 
-    by : Bool → Bool → Bool → Bool → Bool → List Entry → List Action → List Action → List Action → State
-    by b1 b2 b3 b4 b5 items a3 a4 a5 =
-        pick b1 (Rest (k .image) (k .table) items) (pick b2 (Busy (k .image) (k .table) items Staging []) (pick b3 (Busy (k .image) (k .table) items Committing a3)
-        (pick b4 (Formatting false (k .image) (k .table) a4) (pick b5 (Formatting true (k .image) (k .table) a5) Closed))))
+    by : Bool → Bool → Bool → Bool → Bool → Bool → List Entry → ℕ → List Action → List Action → List Action → List Action → List Action → State
+    by b1 b2 b3 b4 b5 b6 items m a2 a3 a4 a5 a6 =
+        pick b1 (Rest (k .image) (k .table) items) (pick b2 (Busy (k .image) (k .table) items Staging a2) (pick b3 (Busy (k .image) (k .table) items Committing a3)
+        (pick b4 (Formatting false (k .image) (k .table) a4) (pick b5 (Formatting true (k .image) (k .table) a5) (pick b6 (Busy (k .image) (k .table) [] (Cleaning m) a6) Closed)))))
 
-    go : (b1 b2 b3 b4 b5 : Bool) (items : List Entry) (a3 a4 a5 : List Action)
-        → FitsAt (by b1 b2 b3 b4 b5 items a3 a4 a5) s ws table → KnownAt (by b1 b2 b3 b4 b5 items a3 a4 a5) s ws (pick (either b1 (either b2 b3)) (c .keys) 0)
-    go true b2 b3 b4 b5 items a3 a4 a5 g = at-rest s ws table items g
-    go false true b3 b4 b5 items a3 a4 a5 g = at-rest s ws table items g
-    go false false true b4 b5 items a3 a4 a5 g = in-commit s ws table items a3 g
-    go false false false true b5 items a3 a4 a5 g = refl
-    go false false false false true items a3 a4 a5 g = refl
-    go false false false false false items a3 a4 a5 g = refl
+    go : (b1 b2 b3 b4 b5 b6 : Bool) → (b4 ≡ true → b6 ≡ false) → (b5 ≡ true → b6 ≡ false) → (items : List Entry) (m : ℕ) (a2 a3 a4 a5 a6 : List Action)
+        → FitsAt (by b1 b2 b3 b4 b5 b6 items m a2 a3 a4 a5 a6) s ws table → KnownAt (by b1 b2 b3 b4 b5 b6 items m a2 a3 a4 a5 a6) s ws (pick (either b1 (either b2 (either b3 b6))) (c .keys) 0)
+    go true b2 b3 b4 b5 b6 x y items m a2 a3 a4 a5 a6 g = at-rest s ws table items g
+    go false true b3 b4 b5 b6 x y items m a2 a3 a4 a5 a6 g = at-rest s (runWords a2 ws) table items g
+    go false false true b4 b5 b6 x y items m a2 a3 a4 a5 a6 g = in-commit s ws table items a3 g
+    go false false false true b5 b6 x y items m a2 a3 a4 a5 a6 g = rw (x refl)
+    go false false false false true b6 x y items m a2 a3 a4 a5 a6 g = rw (y refl)
+    go false false false false false true x y items m a2 a3 a4 a5 a6 g = in-cleaning s ws table items m a6 g
+    go false false false false false false x y items m a2 a3 a4 a5 a6 g = refl
 
 -- what the code shows at its two ends
 pub counted-keys : (c : Control) → counts c ≡ true → KnownBy c (c .keys)

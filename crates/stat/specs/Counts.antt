@@ -15,6 +15,7 @@ use Rattle.spec.specs.Calls.{Staging, Committing, Cleaning, State, Closed, Rest
 use Rattle.spec.specs.declared.Control.{Control}
 use Rattle.spec.specs.declared.Setup.{Setup}
 use Rattle.spec.specs.declared.Session.{Session}
+use Rattle.session.specs.Cleaned.{before, after}
 use Rattle.session.specs.State.{stateOf}
 use Rattle.session.specs.Fits.{Fits, batchPlace}
 
@@ -37,14 +38,27 @@ pub record Before (s : Session) (ws : List ℕ) (items : List Entry) (rest : Lis
   pub accepted : opening basePower (s .setup .image) (runWords rest ws) (s .setup .table) ≡ Accepted (front ++ (placed (batchPlace (s .setup)) items ++ back))
   pub count : n ≡ length (keysOf (front ++ back))
 
--- the number n is that of the known keys, by the state; no record stands for a cleaning
+-- until a cleaning's last fence the count is that of the entries before it: with the actions to come done, the image has these without the
+-- cleaned chunk's, and the copies of those that are kept
+pub record Uncleaned (s : Session) (ws : List ℕ) (rest : List Action) (n : ℕ) : Type 0 where
+  pub xs : List Entry
+  pub mid : List Entry
+  pub ys : List Entry
+  pub as′ : List Entry
+  pub bs : List Entry
+  pub accepted : opening basePower (s .setup .image) (runWords rest ws) (s .setup .table) ≡ Accepted (after xs mid ys as′ bs (batchPlace (s .setup)))
+  pub others : as′ ++ bs ≡ xs ++ ys
+  pub count : n ≡ length (keysOf (before xs mid ys))
+
+-- the number n is that of the known keys, by the state
 abbrev pub KnownAt : State → Session → List ℕ → ℕ → Type 0
 KnownAt Closed s ws n = n ≡ 0
 KnownAt (Rest b t items) s ws n = n ≡ keyCount b ws
-KnownAt (Busy b t items Staging rest) s ws n = n ≡ keyCount b ws
+KnownAt (Busy b t items Staging rest) s ws n = n ≡ keyCount b (runWords rest ws)
 KnownAt (Busy b t items Committing []) s ws n = n ≡ keyCount b ws
 KnownAt (Busy b t items Committing (a ∷ rest)) s ws n = Before s ws items (a ∷ rest) n
-KnownAt (Busy b t items (Cleaning m) rest) s ws n = Unit {0}
+KnownAt (Busy b t items (Cleaning m) []) s ws n = n ≡ keyCount b ws
+KnownAt (Busy b t items (Cleaning m) (a ∷ rest)) s ws n = Uncleaned s ws (a ∷ rest) n
 KnownAt (Formatting o b t rest) s ws n = n ≡ 0
 
 -- on memory as our calls left it

@@ -13,9 +13,9 @@ use spec::Control;
 use spec::Session;
 
 // KEYS
-// A register open and at rest, in a staging, or in a commit.
+// A register open and at rest, in a staging, in a commit, or in a cleaning.
 fn is_counted(phase: u64) -> bool
-    ensures { λ r. ⌜ r ≡ either (eqb phase 1) (either (eqb phase 2) (eqb phase 3)) ⌝ }
+    ensures { λ r. ⌜ r ≡ either (eqb phase 1) (either (eqb phase 2) (either (eqb phase 3) (eqb phase 6))) ⌝ }
 {
     if phase == 1 {
         return true;
@@ -23,7 +23,10 @@ fn is_counted(phase: u64) -> bool
     if phase == 2 {
         return true;
     }
-    phase == 3
+    if phase == 3 {
+        return true;
+    }
+    phase == 6
 }
 
 // The known keys, by the record's control.

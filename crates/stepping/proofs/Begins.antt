@@ -4,7 +4,7 @@ use mathlib.Core.Path.{_≡_, refl, sym, _∙_, ap, subst}
 use mathlib.Core.Logic.{inl, inr}
 use mathlib.Core.Bool.{Bool, true, false}
 use mathlib.Core.Option.{Option, none, some}
-use mathlib.Core.List.{List, [], _∷_}
+use mathlib.Core.List.{List, [], _∷_, _++_}
 use Prim.Native.Nat.{ℕ, suc, _/_, _≤_, _<_, min}
 use native.Mathlib.Omega.{arith}
 use lib.Dec.{eqb}
@@ -17,7 +17,7 @@ use Rattle.spec.specs.Directory.{linesOf}
 use Rattle.spec.specs.Log.{Entry, encodeAll}
 use Rattle.spec.specs.Actions.{linesFor, appendOf}
 use Rattle.spec.specs.Opening.{opening}
-use Rattle.spec.specs.Calls.{Commit, Staging, Committing, Closed, Rest, Busy, Formatting, gate, refusedBy, Begin, Refuse, planned, appendTo, runWords, freeNeeded, logPlace, planCommit, next}
+use Rattle.spec.specs.Calls.{Commit, Committing, Rest, Busy, gate, refusedBy, Begin, Refuse, planned, appendTo, runWords, freeNeeded, logPlace, planCommit, next, itemsOf}
 use Rattle.spec.specs.Contract.{Exact, Called}
 use Rattle.spec.specs.declared.Control.{Control}
 use Rattle.spec.specs.declared.Setup.{Setup}
@@ -27,8 +27,9 @@ use Rattle.spec.specs.declared.Refusal.the-variants as N
 use Rattle.spec.specs.declared.Report.{Report}
 use Rattle.spec.specs.declared.Report.the-variants as R
 use Rattle.theory_medium.proofs.Lists.{not-both}
-use Rattle.session.specs.State.{batchRoom, batchWords, batchItems, commitActions, formatActions, stateAt, stateOf}
-use Rattle.session.specs.Fits.{NoneBelow, RestFits, CommitFits, Fits}
+use Rattle.session.specs.State.{batchRoom, batchWords, batchItems, commitActions, stateOf, limit}
+use Rattle.session.specs.Fits.{ItemsFit, NoneBelow, RestFits, CommitFits, Fits}
+use Rattle.session.proofs.Phases.{rest-items}
 use Rattle.session.proofs.Part.{length-part, chunk-in, lines-in, words-counted}
 use Rattle.batch.specs.Items.{OnlyDeletes}
 use Rattle.placing.specs.declared.Place.{Place}
@@ -44,32 +45,18 @@ use Rattle.recovery.proofs.Gates as Gates
 use Rattle.stepping.specs.declared.CommitPlan.{CommitPlan}
 use Rattle.stepping.specs.declared.CommitPlan.the-variants as P
 use Rattle.stepping.specs.Planned.{PlaceFor, CommitPlanned, committing, writingTo}
-use Rattle.stepping.proofs.Forward.{Forward, forward}
+use Rattle.ahead.proofs.Commits.{Forward, forward}
 use Rattle.stepping.proofs.States.{at-3}
 
--- THE RECORD AT REST, read as a state: its items are those that its words say.
-items-by : (c : Control) (k : Setup) (b : List ℕ) (i t : ℕ) (items : List Entry) (b1 b2 b3 b4 b5 : Bool)
-    → pick b1 (Rest (k .image) (k .table) (batchItems c b))
-    (pick b2 (Busy (k .image) (k .table) (batchItems c b) Staging [])
-    (pick b3 (Busy (k .image) (k .table) (batchItems c b) Committing (drop (c .next) (commitActions c k b)))
-    (pick b4 (Formatting false (k .image) (k .table) (drop (c .next) (formatActions k)))
-    (pick b5 (Formatting true (k .image) (k .table) (drop (c .next) (formatActions k))) Closed)))) ≡ Rest i t items
-    → batchItems c b ≡ items
-items-by c k b i t items true b2 b3 b4 b5 e = cc
-items-by c k b i t items false true b3 b4 b5 e = absurd (let z : _≡_ {A = ℕ} 0 1 = cc in omega arith)
-items-by c k b i t items false false true b4 b5 e = absurd (let z : _≡_ {A = ℕ} 0 1 = cc in omega arith)
-items-by c k b i t items false false false true b5 e = absurd (let z : _≡_ {A = ℕ} 0 1 = cc in omega arith)
-items-by c k b i t items false false false false true e = absurd (let z : _≡_ {A = ℕ} 0 1 = cc in omega arith)
-items-by c k b i t items false false false false false e = absurd (let z : _≡_ {A = ℕ} 0 1 = cc in omega arith)
-
-rest-items : (c : Control) (k : Setup) (b : List ℕ) (i t : ℕ) (items : List Entry) → stateAt c k b ≡ Rest i t items → batchItems c b ≡ items
-unfolding stateAt
-rest-items c k b i t items e = items-by c k b i t items (eqb (c .phase) 1) (eqb (c .phase) 2) (eqb (c .phase) 3) (eqb (c .phase) 4) (eqb (c .phase) 5) e
+-- a commit's begin leaves the staged items
+same-items : (c : Control) (b : List ℕ) → batchItems (committing c) b ≡ batchItems c b
+unfolding batchItems batchWords
+same-items c b = refl
 
 -- THE BEGIN on words at rest, with the place d found for the items f ∷ fs
 module _ (c : Control) (k : Setup) (b ws table : List ℕ) (f : Entry) (fs : List Entry) (r : RestFits (record { control = c; setup = k; buffer = b }) ws table (f ∷ fs))
     (d : ℕ) (found : logPlace basePower (chunksIn basePower (k .image)) ws (linesFor (length (encodeAll (f ∷ fs)))) 0 (freeNeeded (f ∷ fs)) ≡ some d)
-    (first′ least′ : ℕ) (below : NoneBelow ws first′ least′) (low : first′ ≤ d) where
+    (first′ least′ : ℕ) (below : NoneBelow (chunksIn basePower (k .image)) ws first′ least′) (low : first′ ≤ d) where
   abbrev items : List Entry
   items = f ∷ fs
 
@@ -86,11 +73,11 @@ module _ (c : Control) (k : Setup) (b ws table : List ℕ) (f : Entry) (fs : Lis
   k′ = writingTo k d old lines first′ least′
 
   staged : length (encodeAll items) ≤ batchRoom
-  staged = let e = words-counted c b (r .entries) items (r .batch) in let h = r .batch .room in omega arith
+  staged = let e = words-counted c b (chunksIn basePower (k .image)) ws (r .entries) items (r .batch) in let h = r .batch .room in omega arith
 
   ahead : Forward (k .image) (k .table) ws (r .entries) items d old
   ahead =
-      forward (k .image) (k .table) ws (r .entries) f fs (r .accepted) (r .long) (r .batch .right) (r .batch .counts) (r .batch .in-log) staged
+      forward (k .image) (k .table) ws (r .entries) f fs (r .accepted) (r .long) (r .batch .right) (r .batch .counts) (r .batch .fit) staged
       (let q = r .batch .keys in let t = r .table-room in omega arith) d old (freeNeeded items) found
 
   written : batchWords c′ b ≡ encodeAll items
@@ -112,8 +99,8 @@ module _ (c : Control) (k : Setup) (b ws table : List ℕ) (f : Entry) (fs : Lis
   todo = sym begun-first ∙ begun-acts
 
   -- the directory words below chunk d stay
-  still-below : NoneBelow (runWords (appendOf basePower d old lines (encodeAll items)) ws) first′ least′
-  still-below e l u = same-space ws (runWords (appendOf basePower d old lines (encodeAll items)) ws) least′ 0 e (ahead .kept e l (omega arith)) ∙ below e l u
+  still-below : NoneBelow (chunksIn basePower (k .image)) (runWords (appendOf basePower d old lines (encodeAll items)) ws) first′ least′
+  still-below e l u m = same-space ws (runWords (appendOf basePower d old lines (encodeAll items)) ws) least′ 0 e (ahead .kept e l (omega arith)) ∙ below e l u m
 
   pub begun-fits : CommitFits (record { control = c′; setup = k′; buffer = b }) ws table items (nth (commitActions c′ k′ b) 0 ∷ drop 1 (commitActions c′ k′ b))
   begun-fits = record {
@@ -131,13 +118,13 @@ module _ (c : Control) (k : Setup) (b ws table : List ℕ) (f : Entry) (fs : Lis
       few = r .batch .few;
       right = r .batch .right;
       counts = rw (ahead .split) at (r .batch .counts);
-      in-log = r .batch .in-log;
+      fit = subst (λ (l : List Action). ItemsFit (chunksIn basePower (k .image)) (runWords l ws) (ahead .front ++ ahead .back) items) (sym todo) (rw (ahead .split) at (ahead .fit));
       keys = rw (ahead .split) at (r .batch .keys);
     };
     apart = rw (ahead .split) at (ahead .apart);
     built = record { indexed = rw (ahead .split) at (r .built .indexed); blocks = rw (ahead .split) at (r .built .blocks) };
     table-room = r .table-room;
-    hint = subst (λ (l : List Action). NoneBelow (runWords l ws) first′ least′) (sym todo) still-below;
+    hint = subst (λ (l : List Action). NoneBelow (chunksIn basePower (k .image)) (runWords l ws) first′ least′) (sym todo) still-below;
   }
 
 -- THE PLAN, by the place that was found
@@ -171,7 +158,7 @@ pub place-shown : (b : List ℕ) (words : ℕ) (bytes : List ℕ) (count lines :
 unfolding chunksIn chunkBytes
 place-shown b words bytes count lines deletes needed first least place ec el ed en ep items staged hint =
     let l : length (encodeAll items) ≡ min words batchRoom = ap length (sym (staged .written)) ∙ length-part b 0 (min words batchRoom) in
-    rw l (rw (ec, el, en, ed items staged) at (ep hint))
+    rw l (rw (ec, el, en, ed items staged) at (ep (rw ec hint)))
 
 -- THE CALL
 module _ (c : Control) (k : Setup) (b bytes table : List ℕ) where
@@ -180,17 +167,17 @@ module _ (c : Control) (k : Setup) (b bytes table : List ℕ) where
 
   -- by the plan
   module _ (plan : CommitPlan) (right : CommitPlanned c k b bytes table plan) where
-    pub plan-refused : (n : Refusal) → plan ≡ P.Refused n → Called stateOf Fits 12 256 Commit s s bytes bytes table table (R.Refused n)
+    pub plan-refused : (n : Refusal) → plan ≡ P.Refused n → Called stateOf Fits 12 limit Commit s s bytes bytes table table (R.Refused n)
     plan-refused n e = rw e at right
 
     pub plan-begun : (chunk old lines first least actions : ℕ) → plan ≡ P.At chunk old lines first least actions
-        → Called stateOf Fits 12 256 Commit s (record { control = committing c; setup = writingTo k chunk old lines first least; buffer = b }) bytes bytes table table (R.Begun actions)
+        → Called stateOf Fits 12 limit Commit s (record { control = committing c; setup = writingTo k chunk old lines first least; buffer = b }) bytes bytes table table (R.Begun actions)
     plan-begun chunk old lines first least actions e = rw e at right
 
   -- by the gate
   module _ (g : Gated) (asks : Asking c k (length bytes) (length table) g) where
-    pub gate-refuses : (n : Refusal) → g ≡ G.Refused n → Called stateOf Fits 12 256 Commit s s bytes bytes table table (R.Refused n)
-    gate-refuses n e = Gates.turned-down 12 256 s bytes table n (asks .asked b ∙ ap gateOf e) Commit tt
+    pub gate-refuses : (n : Refusal) → g ≡ G.Refused n → Called stateOf Fits 12 limit Commit s s bytes bytes table table (R.Refused n)
+    gate-refuses n e = Gates.turned-down 12 limit s bytes table n (asks .asked b ∙ ap gateOf e) Commit tt
 
     module _ (e : g ≡ G.Open) where
       opened : gate (stateOf s) (length bytes) (length table) ≡ none
@@ -203,10 +190,10 @@ module _ (c : Control) (k : Setup) (b bytes table : List ℕ) where
       rests q = Gates.at-rest s (length bytes) (length table) (wordsOf bytes) table opened q
 
       -- 14
-      pub nothing-staged : c .items ≡ 0 → Called stateOf Fits 12 256 Commit s s bytes bytes table table (R.Refused N.NothingStaged)
+      pub nothing-staged : c .items ≡ 0 → Called stateOf Fits 12 limit Commit s s bytes bytes table table (R.Refused N.NothingStaged)
       nothing-staged h =
-          Gates.refused 12 256 s bytes table N.NothingStaged Commit refl (λ q. q) (λ q. let a = rests q in rw (opened, a .state) (by (a .items) (a .fits))) (passed (R.Refused N.NothingStaged))
-          (inr (inr (inr (inl refl)))) (refl, refl)
+          Gates.refused 12 limit s bytes table N.NothingStaged Commit refl (λ q. q) (λ q. let a = rests q in rw (opened, a .state) (by (a .items) (a .fits))) (passed (R.Refused N.NothingStaged))
+          (inr (inr (inr (inl refl)))) (refl, refl) (inl (N.NothingStaged, refl))
         where
           by : (items : List Entry) → RestFits s (wordsOf bytes) table items → R.Refused N.NothingStaged ≡ planned (planCommit 12 (chunksIn 12 (length bytes)) (wordsOf bytes) items)
           by items r = sym (ap planned (plan-none (chunksIn 12 (length bytes)) (wordsOf bytes) items (let n = r .batch .count in omega arith)))
@@ -218,21 +205,21 @@ module _ (c : Control) (k : Setup) (b bytes table : List ℕ) where
         abbrev place : Place
         place = placed .place
 
-        place-is : (items : List Entry) → RestFits s (wordsOf bytes) table items
+        place-is : (items : List Entry) → RestFits s (wordsOf bytes) table items → k .image ≡ length bytes
             → Searched (wordsOf bytes) (chunksIn 12 (length bytes)) (linesFor (length (encodeAll items))) (freeNeeded items) placed
         unfolding batchWords
-        place-is items r = searched items (record { written = r .batch .written; right = r .batch .right }) (r .hint)
+        place-is items r same = searched items (record { written = r .batch .written; right = r .batch .right }) (rw same at (r .hint))
 
         -- 13
-        pub no-space : place .found ≡ false → Called stateOf Fits 12 256 Commit s s bytes bytes table table (R.Refused N.NoSpace)
+        pub no-space : place .found ≡ false → Called stateOf Fits 12 limit Commit s s bytes bytes table table (R.Refused N.NoSpace)
         no-space h =
-            Gates.refused 12 256 s bytes table N.NoSpace Commit refl (λ q. q) (λ q. let a = rests q in rw (opened, a .state) (by (a .items) (a .fits))) (passed (R.Refused N.NoSpace))
-            (inr (inr (inr (inr (inl refl))))) (refl, refl)
+            Gates.refused 12 limit s bytes table N.NoSpace Commit refl (λ q. q) (λ q. let a = rests q in rw (opened, a .state) (by (a .items) (a .fits) (a .same-bytes))) (passed (R.Refused N.NoSpace))
+            (inr (inr (inr (inr (inl refl))))) (refl, refl) (inl (N.NoSpace, refl))
           where
-            by : (items : List Entry) → RestFits s (wordsOf bytes) table items → R.Refused N.NoSpace ≡ planned (planCommit 12 (chunksIn 12 (length bytes)) (wordsOf bytes) items)
-            by [] r = absurd (some-staged (r .batch .count))
-            by (f ∷ fs) r =
-                sym (ap planned (plan-full (chunksIn 12 (length bytes)) (wordsOf bytes) f fs (found-none (wordsOf bytes) (at-place (f ∷ fs)) place (place-is (f ∷ fs) r .place) h)))
+            by : (items : List Entry) → RestFits s (wordsOf bytes) table items → k .image ≡ length bytes → R.Refused N.NoSpace ≡ planned (planCommit 12 (chunksIn 12 (length bytes)) (wordsOf bytes) items)
+            by [] r same = absurd (some-staged (r .batch .count))
+            by (f ∷ fs) r same =
+                sym (ap planned (plan-full (chunksIn 12 (length bytes)) (wordsOf bytes) f fs (found-none (wordsOf bytes) (at-place (f ∷ fs)) place (place-is (f ∷ fs) r same .place) h)))
 
         -- begun
         abbrev began : Place → Session
@@ -246,8 +233,8 @@ module _ (c : Control) (k : Setup) (b bytes table : List ℕ) where
           found′ : logPlace basePower (chunksIn basePower (k .image)) (wordsOf bytes) (linesFor (length (encodeAll (f ∷ fs)))) 0 (freeNeeded (f ∷ fs)) ≡ some d
           found′ = rw same found
 
-          below : NoneBelow (wordsOf bytes) (placed .first) (placed .least)
-          below = place-is (f ∷ fs) r .none
+          below : NoneBelow (chunksIn basePower (k .image)) (wordsOf bytes) (placed .first) (placed .least)
+          below = rw same (place-is (f ∷ fs) r same .none)
 
           abbrev acts : List Action
           acts = appendOf basePower d (getD (wordsOf bytes) (directoryWord d) 0) (linesOf basePower (wordsOf bytes) d) (encodeAll (f ∷ fs))
@@ -265,7 +252,7 @@ module _ (c : Control) (k : Setup) (b bytes table : List ℕ) where
           plan-is : planCommit 12 (chunksIn 12 (length bytes)) (wordsOf bytes) (f ∷ fs) ≡ Begin (f ∷ fs) Committing acts
           plan-is = plan-at (chunksIn 12 (length bytes)) (wordsOf bytes) f fs d found
 
-          exact-at : Exact stateOf Fits 12 256 Commit s s′ bytes bytes table table (R.Begun (commitCount (c .words)))
+          exact-at : Exact stateOf Fits 12 limit Commit s s′ bytes bytes table table (R.Begun (commitCount (c .words)))
           unfolding next
           exact-at = record {
             answered = rw (opened, σ, plan-is) (ap R.Begun (sym (length-commit (s′ .control) (s′ .setup) b) ∙ ap length acts-are));
@@ -273,21 +260,30 @@ module _ (c : Control) (k : Setup) (b bytes table : List ℕ) where
             fits = (q .0, rw (at-3 (s′ .control) (s′ .setup) b refl, items-are, begun-first c k b (wordsOf bytes) table f fs r d found′ (placed .first) (placed .least) below low) (begun-fits c k b (wordsOf bytes) table f fs r d found′ (placed .first) (placed .least) below low));
           }
 
-        pub begins : place .found ≡ true → (a : ℕ) → a ≡ commitCount (c .words) → Called stateOf Fits 12 256 Commit s (began place) bytes bytes table table (R.Begun a)
+        pub begins : place .found ≡ true → (a : ℕ) → a ≡ commitCount (c .words) → Called stateOf Fits 12 limit Commit s (began place) bytes bytes table table (R.Begun a)
         begins h a e = rw e (record {
           exact = λ q. let t = rests q in by (t .items) q (t .state) (t .fits) (t .same-bytes);
           first = passed (R.Begun (commitCount (c .words)));
           image = refl;
           sized = refl;
           outcome = (rw (at-3 (committing c) (began place .setup) b refl) (ap suc (length-commit (committing c) (began place .setup) b)), refl);
+          anyway = inr (commitActions (committing c) (began place .setup) b, (commits, ap R.Begun (sym (length-commit (committing c) (began place .setup) b))));
         })
           where
+            commits : stateOf (began place) ≡ Busy (length bytes) (length table) (itemsOf (stateOf s)) Committing (commitActions (committing c) (began place .setup) b)
+            commits =
+                let l = Gates.gate-passed s (length bytes) (length table) opened in
+                at-3 (committing c) (began place .setup) b refl
+                ∙ ap (λ (x : ℕ). Busy x (k .table) (batchItems (committing c) b) Committing (commitActions (committing c) (began place .setup) b)) (l .same-bytes)
+                ∙ ap (λ (x : ℕ). Busy (length bytes) x (batchItems (committing c) b) Committing (commitActions (committing c) (began place .setup) b)) (l .same-words)
+                ∙ ap (λ (x : List Entry). Busy (length bytes) (length table) x Committing (commitActions (committing c) (began place .setup) b)) (same-items c b ∙ sym (ap itemsOf (l .state)))
+
             by : (items : List Entry) → Fits s (wordsOf bytes) table → stateOf s ≡ Rest (k .image) (k .table) items → RestFits s (wordsOf bytes) table items → k .image ≡ length bytes
-                → Exact stateOf Fits 12 256 Commit s (began place) bytes bytes table table (R.Begun (commitCount (c .words)))
+                → Exact stateOf Fits 12 limit Commit s (began place) bytes bytes table table (R.Begun (commitCount (c .words)))
             by [] q σ r same = absurd (some-staged (r .batch .count))
             by (f ∷ fs) q σ r same =
-                let p = place-is (f ∷ fs) r in
+                let p = place-is (f ∷ fs) r same in
                 let t = found-some (wordsOf bytes) (at-place (f ∷ fs)) place (p .place) h in
                 let e : place .chunk ≡ t .0 = ap (λ (x : Place). x .chunk) (t .2) in
                 let l : placed .first ≤ place .chunk = p .low h in
-                subst (λ (x : Place). Exact stateOf Fits 12 256 Commit s (began x) bytes bytes table table (R.Begun (commitCount (c .words)))) (sym (t .2)) (exact-at f fs q σ r same (t .0) (t .1) (omega arith))
+                subst (λ (x : Place). Exact stateOf Fits 12 limit Commit s (began x) bytes bytes table table (R.Begun (commitCount (c .words)))) (sym (t .2)) (exact-at f fs q σ r same (t .0) (t .1) (omega arith))

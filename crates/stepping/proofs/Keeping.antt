@@ -22,7 +22,7 @@ use Rattle.session.specs.State.{batchWords}
 use Rattle.session.specs.Fits.{keyList, batchPlace, CommitFits}
 use Rattle.session.proofs.Kept.{words-kept, batch-kept, built-kept}
 use Rattle.joining.specs.Joining.{Fenced, Joining}
-use Rattle.stepping.proofs.Forward.{lo, hi, action-length}
+use Rattle.ahead.proofs.Staged.{lo, hi, action-length}
 
 -- THE KNOWN KEYS, with a batch placed among the entries.
 placed-keys : (at : ℕ) (items : List Entry) → keyList (placed at items) ≡ keyList items
@@ -67,7 +67,7 @@ module _ (c : Control) (k : Setup) (b : List ℕ) where
       accepted = f .accepted;
       long = action-length x ws ∙ f .long;
       lent = f .lent;
-      batch = batch-kept c (acted c (c .keys) (c .fresh)) b b (f .front ++ f .back) items refl refl refl refl (f .batch);
+      batch = batch-kept c (acted c (c .keys) (c .fresh)) b b (chunksIn basePower (k .image)) _ (f .front ++ f .back) items refl refl refl refl (f .batch);
       apart = f .apart;
       built = built-kept c (acted c (c .keys) (c .fresh)) b table (f .front ++ f .back) refl (f .built);
       table-room = f .table-room;
@@ -97,7 +97,7 @@ module _ (c : Control) (k : Setup) (b : List ℕ) where
         written = f .batch .written;
         right = f .batch .right;
         counts = f .batch .counts;
-        in-log = f .batch .in-log;
+        fit = f .batch .fit;
         shown = ok .parsed;
         built = f .built;
         apart = f .apart;
@@ -118,7 +118,7 @@ module _ (c : Control) (k : Setup) (b : List ℕ) where
             accepted = f .accepted;
             long = long′;
             lent = j .sized ∙ f .lent;
-            batch = batch-kept c (acted c keys 0) b b′ (f .front ++ f .back) items refl refl (words-kept c (acted c keys 0) b b′ (j .kept) refl) e (f .batch);
+            batch = batch-kept c (acted c keys 0) b b′ (chunksIn basePower (k .image)) _ (f .front ++ f .back) items refl refl (words-kept c (acted c keys 0) b b′ (j .kept) refl) e (f .batch);
             apart = f .apart;
             built = record { indexed = q .0 .indexed; blocks = q .0 .blocks };
             table-room = omega arith;

@@ -1,6 +1,6 @@
-mod Forward
 mod States
 mod Keeping
 mod Shows
+pub mod Cleaning
 mod Begins
-mod Inner
+pub mod Inner

@@ -13,7 +13,7 @@ use Rattle.spec.specs.Basics.{both}
 use Rattle.spec.specs.Words.{wordsOf}
 use Rattle.spec.specs.Medium.{Action}
 use Rattle.spec.specs.Actions.{linesFor, padded}
-use Rattle.spec.specs.Calls.{Step, Staging, Committing, State, Closed, Rest, Busy, Formatting, asReport, wordsAfter}
+use Rattle.spec.specs.Calls.{Step, Staging, Committing, State, Closed, Rest, Busy, Formatting, asReport, wordsAfter, runWords}
 use Rattle.spec.specs.Contract.{Changed, Called}
 use Rattle.spec.specs.declared.Control.{Control}
 use Rattle.spec.specs.declared.Setup.{Setup}
@@ -22,13 +22,15 @@ use Rattle.spec.specs.declared.Refusal.the-variants as N
 use Rattle.spec.specs.declared.Report.{Report}
 use Rattle.spec.specs.declared.Report.the-variants as R
 use Rattle.words.specs.Image.{Saved}
-use Rattle.session.specs.State.{bufferPart, batchRoom, batchWords, batchItems, chunkIn, linesIn, commitActions, formatActions, stateAt, stateOf}
+use Rattle.session.specs.State.{bufferPart, batchRoom, batchWords, batchItems, chunkIn, linesIn, commitActions, formatActions, blockActions, stateAt, stateOf, limit}
 use Rattle.session.specs.Fits.{Fits}
 use Rattle.session.proofs.Kept.{words-kept, same-items, same-acts, emptied, staged, end-kept, staging-kept}
 use Rattle.acts.specs.Nth.{nth, nthReport, commitCount, formatCount}
+use Rattle.acts.proofs.Nth.{drop-nth, drop-past}
 use Rattle.acts.proofs.Committing.{commit-next, commit-done, shows-store}
 use Rattle.acts.proofs.Formatting.{format-next, format-done}
 use Rattle.acts.proofs.Performed.{changed-store, changed-words}
+use Rattle.ahead.proofs.Steps.{rest-same}
 use Rattle.joining.specs.Joining.{Joining}
 use Rattle.stepping.proofs.States.{busy, formatting, at-2, at-3, at-4, at-5, nothing-begun, in-call, table-kept, step-idle, step-refused, step-acts, step-ends}
 use Rattle.stepping.proofs.Keeping.{acted, action-kept, last-kept}
@@ -38,10 +40,10 @@ module _ (c : Control) (k : Setup) (b bytes table : List ℕ) where
   abbrev same : Session
   same = record { control = c; setup = k; buffer = b }
 
-  pub idles : (2 ≤ c .phase → c .phase ≤ 5 → ⊥) → Called stateOf Fits 12 256 Step same same bytes bytes table table R.Idle
+  pub idles : (2 ≤ c .phase → c .phase ≤ 6 → ⊥) → Called stateOf Fits 12 limit Step same same bytes bytes table table R.Idle
   idles h = step-idle same bytes table (nothing-begun c k b h)
 
-  pub turned-down : 2 ≤ c .phase → c .phase ≤ 5 → (k .image ≡ length bytes → k .table ≡ length table → ⊥) → Called stateOf Fits 12 256 Step same same bytes bytes table table (R.Refused N.ImageLength)
+  pub turned-down : 2 ≤ c .phase → c .phase ≤ 6 → (k .image ≡ length bytes → k .table ≡ length table → ⊥) → Called stateOf Fits 12 limit Step same same bytes bytes table table (R.Refused N.ImageLength)
   turned-down l h unlike = step-refused same bytes table (in-call c k b l h) (go (ℕ-discrete (k .image) (length bytes)) (ℕ-discrete (k .table) (length table)))
     where
       go : Dec (k .image ≡ length bytes) → Dec (k .table ≡ length table) → both (eqb (k .image) (length bytes)) (eqb (k .table) (length table)) ≡ false
@@ -57,12 +59,48 @@ module _ (c : Control) (k : Setup) (b bytes table : List ℕ) (same-bytes : k .i
   with′ c′ b′ = record { control = c′; setup = k; buffer = b′ }
 
   -- STAGING
-  pub staging-ends : c .phase ≡ 2 → Called stateOf Fits 12 256 Step s (with′ (staged c) b) bytes bytes table table (R.End 0)
-  unfolding stateAt batchItems batchWords
-  staging-ends e =
-      step-ends s (with′ (staged c) b) bytes bytes table table (k .image) (k .table) 0 (Rest (k .image) (k .table) (batchItems c b)) (Busy (k .image) (k .table) (batchItems c b) Staging)
-      (busy (k .image) (k .table) (batchItems c b) Staging) same-bytes same-words (at-2 c k b e) refl
-      (λ f. (f .0, staging-kept c k b (wordsOf bytes) table (batchItems c b) (rw (at-2 c k b e) at (f .1))))
+  -- after an action of one
+  abbrev pub stored : Control
+  stored = record { phase = 2; next = c .next + 1; items = c .items; words = c .words; keys = c .keys; fresh = c .fresh }
+
+  module _ (e : c .phase ≡ 2) where
+    abbrev S : List Action → State
+    S = Busy (k .image) (k .table) (batchItems c b) Staging
+
+    pub staging-ends : length (blockActions k b) ≤ c .next → Called stateOf Fits 12 limit Step s (with′ (staged c) b) bytes bytes table table (R.End 0)
+    unfolding stateAt batchItems batchWords
+    staging-ends h =
+        step-ends s (with′ (staged c) b) bytes bytes table table (k .image) (k .table) 0 (Rest (k .image) (k .table) (batchItems c b)) S (busy (k .image) (k .table) (batchItems c b) Staging)
+        same-bytes same-words last refl (λ f. (f .0, staging-kept c k b (wordsOf bytes) table (batchItems c b) (rw last at (f .1))))
+      where
+        last : stateAt c k b ≡ S []
+        last = at-2 c k b e ∙ ap S (drop-past (blockActions k b) (c .next) h)
+
+    pub staging-acts : (bytes′ : List ℕ) (r : Report) → c .next < length (blockActions k b) → r ≡ nthReport (blockActions k b) (c .next) → Changed r bytes bytes′
+        → Called stateOf Fits 12 limit Step s (with′ stored b) bytes bytes′ table table r
+    unfolding batchItems batchWords
+    staging-acts bytes′ r h er changed =
+        rw er
+        (step-acts s (with′ stored b) bytes bytes′ table table (k .image) (k .table) 0 (Rest (k .image) (k .table) (batchItems c b)) S (busy (k .image) (k .table) (batchItems c b) Staging) same-bytes same-words
+        now′ rest here after done refl (table-kept (stateAt c k b) table) fits)
+      where
+        now′ : Action
+        now′ = nth (blockActions k b) (c .next)
+
+        rest : List Action
+        rest = drop (c .next + 1) (blockActions k b)
+
+        here : stateAt c k b ≡ S (now′ ∷ rest)
+        here = at-2 c k b e ∙ ap S (drop-nth (blockActions k b) (c .next) h)
+
+        after : stateAt stored k b ≡ S rest
+        after = at-2 stored k b refl
+
+        done : Changed (asReport now′) bytes bytes′
+        done = rw er at changed
+
+        fits : Fits s (wordsOf bytes) table → Fits (with′ stored b) (wordsOf bytes′) table
+        fits f = (f .0, rw (after, changed-words (asReport now′) bytes bytes′ done) (rest-same c stored k b table (batchItems c b) (refl, refl, refl, refl) (runWords rest (wordsAfter (asReport now′) (wordsOf bytes))) (rw here at (f .1))))
 
   -- COMMIT
   module _ (e : c .phase ≡ 3) where
@@ -93,7 +131,7 @@ module _ (c : Control) (k : Setup) (b bytes table : List ℕ) (same-bytes : k .i
       words = changed-words (asReport act) bytes bytes′ done
 
       -- an action that is not the last
-      pub commit-acts : c .next + 1 < commitCount (c .words) → Called stateOf Fits 12 256 Step s (with′ (acted c (c .keys) (c .fresh)) b) bytes bytes′ table table r
+      pub commit-acts : c .next + 1 < commitCount (c .words) → Called stateOf Fits 12 limit Step s (with′ (acted c (c .keys) (c .fresh)) b) bytes bytes′ table table r
       commit-acts h =
           rw er
           (step-acts s s′ bytes bytes′ table table (k .image) (k .table) 0 (Rest (k .image) (k .table) []) F (busy (k .image) (k .table) (batchItems c b) Committing) same-bytes same-words
@@ -113,7 +151,7 @@ module _ (c : Control) (k : Setup) (b bytes table : List ℕ) (same-bytes : k .i
 
       -- the last, with its batch joined
       pub commit-joins : (b′ table′ : List ℕ) (keys : ℕ) → c .next + 1 ≡ commitCount (c .words) → Joining c k b b′ (wordsOf bytes′) table table′ keys
-          → Called stateOf Fits 12 256 Step s (with′ (acted c keys 0) b′) bytes bytes′ table table′ r
+          → Called stateOf Fits 12 limit Step s (with′ (acted c keys 0) b′) bytes bytes′ table table′ r
       commit-joins b′ table′ keys h j =
           rw er
           (step-acts s s′ bytes bytes′ table table′ (k .image) (k .table) 0 (Rest (k .image) (k .table) []) F (busy (k .image) (k .table) (batchItems c b) Committing) same-bytes same-words
@@ -134,12 +172,12 @@ module _ (c : Control) (k : Setup) (b bytes table : List ℕ) (same-bytes : k .i
     -- a store of one of the batch's words
     pub commit-stores : (bytes′ : List ℕ) (w v : ℕ) → c .next < 8 * linesFor (min (c .words) batchRoom) → w ≡ 512 * chunkIn k + 8 * linesIn k + c .next
         → v ≡ getD (padded (bufferPart b 0 (min (c .words) batchRoom))) (c .next) 0 → Saved bytes bytes′ w v
-        → Called stateOf Fits 12 256 Step s (with′ (acted c (c .keys) (c .fresh)) b) bytes bytes′ table table (R.Store w v)
+        → Called stateOf Fits 12 limit Step s (with′ (acted c (c .keys) (c .fresh)) b) bytes bytes′ table table (R.Store w v)
     commit-stores bytes′ w v h ew ev saved =
         commit-acts bytes′ (R.Store w v) (shows-store c k b (c .next) (min (c .words) batchRoom) refl w v h ew ev)
         (changed-store (R.Store w v) bytes bytes′ w v refl saved) (omega arith)
 
-    pub commit-ends : commitCount (c .words) ≤ c .next → Called stateOf Fits 12 256 Step s (with′ (emptied c) b) bytes bytes table table (R.End 0)
+    pub commit-ends : commitCount (c .words) ≤ c .next → Called stateOf Fits 12 limit Step s (with′ (emptied c) b) bytes bytes table table (R.End 0)
     unfolding stateAt batchItems batchWords
     commit-ends h =
         step-ends s (with′ (emptied c) b) bytes bytes table table (k .image) (k .table) 0 (Rest (k .image) (k .table) []) F (busy (k .image) (k .table) (batchItems c b) Committing)
@@ -172,14 +210,14 @@ module _ (c : Control) (k : Setup) (b bytes table : List ℕ) (same-bytes : k .i
         go (no q) = at-4 c′ k b (omega arith)
 
     pub format-acts : (bytes′ : List ℕ) (r : Report) → c .next < formatCount → r ≡ nthReport (formatActions k) (c .next) → Changed r bytes bytes′
-        → Called stateOf Fits 12 256 Step s (with′ counted b) bytes bytes′ table table r
+        → Called stateOf Fits 12 limit Step s (with′ counted b) bytes bytes′ table table r
     format-acts bytes′ r h er changed =
         rw er
         (step-acts s (with′ counted b) bytes bytes′ table table (k .image) (k .table) 0 Closed (Formatting o (k .image) (k .table)) (formatting o (k .image) (k .table)) same-bytes same-words
         (nth (formatActions k) (c .next)) (drop (c .next + 1) (formatActions k)) (by-phase c refl ∙ ap (Formatting o (k .image) (k .table)) (format-next k (c .next) h)) (by-phase counted refl)
         (rw er at changed) refl (table-kept (stateAt c k b) table) (λ f. (f .0, rw (by-phase counted refl) tt)))
 
-    pub format-ends : formatCount ≤ c .next → Called stateOf Fits 12 256 Step s (with′ closed b) bytes bytes table table (R.End 0)
+    pub format-ends : formatCount ≤ c .next → Called stateOf Fits 12 limit Step s (with′ closed b) bytes bytes table table (R.End 0)
     unfolding stateAt
     format-ends h =
         step-ends s (with′ closed b) bytes bytes table table (k .image) (k .table) 0 Closed (Formatting o (k .image) (k .table)) (formatting o (k .image) (k .table)) same-bytes same-words

@@ -15,7 +15,7 @@ use Rattle.spec.specs.Basics.{pick, both}
 use Rattle.spec.specs.Words.{wordsOf}
 use Rattle.spec.specs.Medium.{Action, Store, Flush, Fence}
 use Rattle.spec.specs.Log.{Entry}
-use Rattle.spec.specs.Calls.{Step, Task, Staging, Committing, State, Closed, Rest, Busy, Formatting, itemsThen, countOf, asReport, nextReport, stepAnswer, stepBarred, stepped, isRefused, next, stepsLeft}
+use Rattle.spec.specs.Calls.{Step, Task, Staging, Committing, Cleaning, State, Closed, Rest, Busy, Formatting, itemsThen, countOf, asReport, nextReport, stepAnswer, stepBarred, stepped, isRefused, next, stepsLeft}
 use Rattle.spec.specs.Contract.{Changed, TableKept, Counted, Outcome, Called}
 use Rattle.spec.specs.declared.Control.{Control}
 use Rattle.spec.specs.declared.Setup.{Setup}
@@ -23,7 +23,7 @@ use Rattle.spec.specs.declared.Session.{Session}
 use Rattle.spec.specs.declared.Refusal.the-variants as N
 use Rattle.spec.specs.declared.Report.{Report}
 use Rattle.spec.specs.declared.Report.the-variants as R
-use Rattle.session.specs.State.{batchItems, commitActions, formatActions, stateBy, stateAt, stateOf}
+use Rattle.session.specs.State.{batchItems, commitActions, formatActions, cleanActions, blockActions, stateBy, stateAt, stateOf, limit}
 use Rattle.session.specs.Fits.{Fits}
 use Rattle.acts.proofs.Nth.{report-by}
 
@@ -60,7 +60,7 @@ pub record InCall (k : Setup) (σ : State) : Type 0 where
   pub here : σ ≡ states todo
 
 module _ (c : Control) (k : Setup) (b : List ℕ) where
-  pub at-2 : c .phase ≡ 2 → stateAt c k b ≡ Busy (k .image) (k .table) (batchItems c b) Staging []
+  pub at-2 : c .phase ≡ 2 → stateAt c k b ≡ Busy (k .image) (k .table) (batchItems c b) Staging (drop (c .next) (blockActions k b))
   unfolding stateAt
   at-2 e = rw e
 
@@ -76,6 +76,10 @@ module _ (c : Control) (k : Setup) (b : List ℕ) where
   unfolding stateAt
   at-5 e = rw e
 
+  pub at-6 : c .phase ≡ 6 → stateAt c k b ≡ Busy (k .image) (k .table) [] (Cleaning (k .source .entries)) (drop (c .next) (cleanActions k (k .source) b))
+  unfolding stateAt
+  at-6 e = rw e
+
   closed : Idling Closed
   closed = record { answers = λ x y. refl; bars = λ x y. refl; stays = refl }
 
@@ -83,31 +87,32 @@ module _ (c : Control) (k : Setup) (b : List ℕ) where
   resting i t items = record { answers = λ x y. refl; bars = λ x y. refl; stays = refl }
 
   -- the phases that stand for no call
-  idle-by : (phase : ℕ) → (2 ≤ phase → phase ≤ 5 → ⊥) → Dec (phase ≡ 1) → Idling (stateBy phase c k b)
+  idle-by : (phase : ℕ) → (2 ≤ phase → phase ≤ 6 → ⊥) → Dec (phase ≡ 1) → Idling (stateBy phase c k b)
   idle-by phase h (yes e) = rw e (resting (k .image) (k .table) (batchItems c b))
   idle-by phase h (no ne) =
-      rw (ne-eqb phase 1 ne, ne-eqb phase 2 (other 2 refl refl), ne-eqb phase 3 (other 3 refl refl), ne-eqb phase 4 (other 4 refl refl), ne-eqb phase 5 (other 5 refl refl)) closed
+      rw (ne-eqb phase 1 ne, ne-eqb phase 2 (other 2 refl refl), ne-eqb phase 3 (other 3 refl refl), ne-eqb phase 4 (other 4 refl refl), ne-eqb phase 5 (other 5 refl refl), ne-eqb phase 6 (other 6 refl refl)) closed
     where
-      other : (n : ℕ) → leb 2 n ≡ true → leb n 5 ≡ true → phase ≡ n → ⊥
-      other n l u e = h (rw e (leb-true 2 n l)) (rw e (leb-true n 5 u))
+      other : (n : ℕ) → leb 2 n ≡ true → leb n 6 ≡ true → phase ≡ n → ⊥
+      other n l u e = h (rw e (leb-true 2 n l)) (rw e (leb-true n 6 u))
 
-  pub nothing-begun : (2 ≤ c .phase → c .phase ≤ 5 → ⊥) → Idling (stateAt c k b)
+  pub nothing-begun : (2 ≤ c .phase → c .phase ≤ 6 → ⊥) → Idling (stateAt c k b)
   unfolding stateAt
   nothing-begun h = idle-by (c .phase) h (ℕ-discrete (c .phase) 1)
 
   going : (n : ℕ) (E : State) (F : List Action → State) → Begun (k .image) (k .table) n E F → (l : List Action) → InCall k (F l)
   going n E F q l = record { count = n; end = E; states = F; begun = q; todo = l; here = refl }
 
-  call-by : (phase : ℕ) → 2 ≤ phase → phase ≤ 5 → InCall k (stateBy phase c k b)
+  call-by : (phase : ℕ) → 2 ≤ phase → phase ≤ 6 → InCall k (stateBy phase c k b)
   call-by zero l h = absurd (omega arith)
   call-by (suc zero) l h = absurd (omega arith)
-  call-by (suc (suc zero)) l h = going _ _ _ (busy (k .image) (k .table) (batchItems c b) Staging) []
+  call-by (suc (suc zero)) l h = going _ _ _ (busy (k .image) (k .table) (batchItems c b) Staging) (drop (c .next) (blockActions k b))
   call-by (suc (suc (suc zero))) l h = going _ _ _ (busy (k .image) (k .table) (batchItems c b) Committing) (drop (c .next) (commitActions c k b))
   call-by (suc (suc (suc (suc zero)))) l h = going _ _ _ (formatting false (k .image) (k .table)) (drop (c .next) (formatActions k))
   call-by (suc (suc (suc (suc (suc zero))))) l h = going _ _ _ (formatting true (k .image) (k .table)) (drop (c .next) (formatActions k))
-  call-by (suc (suc (suc (suc (suc (suc n)))))) l h = absurd (omega arith)
+  call-by (suc (suc (suc (suc (suc (suc zero)))))) l h = going _ _ _ (busy (k .image) (k .table) [] (Cleaning (k .source .entries))) (drop (c .next) (cleanActions k (k .source) b))
+  call-by (suc (suc (suc (suc (suc (suc (suc n))))))) l h = absurd (omega arith)
 
-  pub in-call : 2 ≤ c .phase → c .phase ≤ 5 → InCall k (stateAt c k b)
+  pub in-call : 2 ≤ c .phase → c .phase ≤ 6 → InCall k (stateAt c k b)
   unfolding stateAt
   in-call l h = call-by (c .phase) l h
 
@@ -115,14 +120,14 @@ module _ (c : Control) (k : Setup) (b : List ℕ) where
 never : {A : Type 0} (r : Report) → none ≡ some r → A
 never r h = absurd (let z : _≡_ {A = ℕ} 0 1 = cc in omega arith)
 
-pub table-kept : (σ : State) (table : List ℕ) → TableKept stateOf Fits 12 256 σ table table
+pub table-kept : (σ : State) (table : List ℕ) → TableKept stateOf Fits 12 limit σ table table
 table-kept Closed table = refl
 table-kept (Rest b t items) table = refl
 table-kept (Busy b t items task rest) table = tt
 table-kept (Formatting o b t rest) table = refl
 
 module _ (s : Session) (bytes table : List ℕ) where
-  pub step-idle : Idling (stateOf s) → Called stateOf Fits 12 256 Step s s bytes bytes table table R.Idle
+  pub step-idle : Idling (stateOf s) → Called stateOf Fits 12 limit Step s s bytes bytes table table R.Idle
   unfolding next
   step-idle q = record {
     exact = λ f. record { answered = sym (q .answers (length bytes) (length table)); became = sym (rw (q .answers (length bytes) (length table)) (q .stays)); fits = f };
@@ -130,11 +135,12 @@ module _ (s : Session) (bytes table : List ℕ) where
     image = refl;
     sized = refl;
     outcome = (refl, refl);
+    anyway = (sym (q .answers (length bytes) (length table)), sym (rw (q .answers (length bytes) (length table)) (q .stays)));
   }
 
   -- the lent lengths are unlike those at the begin
   pub step-refused : InCall (s .setup) (stateOf s) → both (eqb (s .setup .image) (length bytes)) (eqb (s .setup .table) (length table)) ≡ false
-      → Called stateOf Fits 12 256 Step s s bytes bytes table table (R.Refused N.ImageLength)
+      → Called stateOf Fits 12 limit Step s s bytes bytes table table (R.Refused N.ImageLength)
   unfolding next
   step-refused q unlike = record {
     exact = λ f. record { answered = sym answered; became = sym (rw answered); fits = f };
@@ -142,6 +148,7 @@ module _ (s : Session) (bytes table : List ℕ) where
     image = refl;
     sized = refl;
     outcome = (inl refl, (refl, refl));
+    anyway = (sym answered, sym (rw answered));
   }
     where
       answered : stepAnswer (stateOf s) (length bytes) (length table) ≡ R.Refused N.ImageLength
@@ -155,7 +162,7 @@ module _ (s s′ : Session) (bytes bytes′ table table′ : List ℕ) (i t n : 
   reports : (l : List Action) → stepAnswer (F l) (length bytes) (length table) ≡ nextReport n l
   reports l = q .answers l (length bytes) (length table) ∙ rw same
 
-  becomes : (l : List Action) → isRefused (nextReport n l) ≡ false → next 12 256 Step (F l) (wordsOf bytes) (length bytes) (length table) ≡ stepped (F l)
+  becomes : (l : List Action) → isRefused (nextReport n l) ≡ false → next 12 limit Step (F l) (wordsOf bytes) (length bytes) (length table) ≡ stepped (F l)
   unfolding next
   becomes l h = rw (reports l, h)
 
@@ -168,33 +175,33 @@ module _ (s s′ : Session) (bytes bytes′ table table′ : List ℕ) (i t n : 
   accepted Fence = refl
 
   pub step-acts : (a : Action) (l : List Action) → stateOf s ≡ F (a ∷ l) → stateOf s′ ≡ F l → Changed (asReport a) bytes bytes′
-      → length table′ ≡ length table → TableKept stateOf Fits 12 256 (stateOf s) table table′
-      → (Fits s (wordsOf bytes) table → Fits s′ (wordsOf bytes′) table′) → Called stateOf Fits 12 256 Step s s′ bytes bytes′ table table′ (asReport a)
+      → length table′ ≡ length table → TableKept stateOf Fits 12 limit (stateOf s) table table′
+      → (Fits s (wordsOf bytes) table → Fits s′ (wordsOf bytes′) table′) → Called stateOf Fits 12 limit Step s s′ bytes bytes′ table table′ (asReport a)
   step-acts a l e e′ changed sized kept fits = record {
-    exact = λ f. record {
-      answered = sym (rw e (reports (a ∷ l)));
-      became = e′ ∙ sym (rw e (becomes (a ∷ l) (accepted a) ∙ q .moves a l));
-      fits = fits f;
-    };
+    exact = λ f. record { answered = answered; became = became; fits = fits f };
     first = passed (a ∷ l) e (asReport a);
     image = changed;
     sized = sized;
-    outcome = report-by (Outcome stateOf Fits 12 256 Step s s′ table table′) (λ w v. counted) (λ x. counted) counted a;
+    outcome = report-by (Outcome stateOf Fits 12 limit Step s s′ table table′) (λ w v. counted) (λ x. counted) counted a;
+    anyway = (answered, became);
   }
     where
-      counted : Counted stateOf Fits 12 256 s s′ table table′
+      answered : asReport a ≡ stepAnswer (stateOf s) (length bytes) (length table)
+      answered = sym (rw e (reports (a ∷ l)))
+
+      became : stateOf s′ ≡ next 12 limit Step (stateOf s) (wordsOf bytes) (length bytes) (length table)
+      became = e′ ∙ sym (rw e (becomes (a ∷ l) (accepted a) ∙ q .moves a l))
+
+      counted : Counted stateOf Fits 12 limit s s′ table table′
       counted = (rw (e, e′) (q .left (a ∷ l) ∙ ap suc (sym (q .left l))), kept)
 
   pub step-ends : stateOf s ≡ F [] → stateOf s′ ≡ E → (Fits s (wordsOf bytes) table → Fits s′ (wordsOf bytes) table)
-      → Called stateOf Fits 12 256 Step s s′ bytes bytes table table (R.End n)
+      → Called stateOf Fits 12 limit Step s s′ bytes bytes table table (R.End n)
   step-ends e e′ fits = record {
-    exact = λ f. record {
-      answered = sym (rw e (reports []));
-      became = e′ ∙ sym (rw e (becomes [] refl ∙ q .ends));
-      fits = fits f;
-    };
+    exact = λ f. record { answered = sym (rw e (reports [])); became = e′ ∙ sym (rw e (becomes [] refl ∙ q .ends)); fits = fits f };
     first = passed [] e (R.End n);
     image = refl;
     sized = refl;
     outcome = ((rw (e, e′) (q .left [] ∙ ap suc (sym (q .over))), table-kept (stateOf s) table), rw e′ (q .over));
+    anyway = (sym (rw e (reports [])), e′ ∙ sym (rw e (becomes [] refl ∙ q .ends)));
   }

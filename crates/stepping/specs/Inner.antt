@@ -13,7 +13,7 @@ use Rattle.spec.specs.declared.Setup.{Setup}
 use Rattle.spec.specs.declared.Session.{Session}
 use Rattle.spec.specs.declared.Report.{Report}
 use Rattle.spec.specs.declared.Report.the-variants as R
-use Rattle.session.specs.State.{batchRoom, stateOf}
+use Rattle.session.specs.State.{batchRoom, stateOf, limit}
 use Rattle.session.specs.Fits.{Fits}
 use Rattle.acts.specs.Nth.{commitCount}
 
@@ -27,10 +27,10 @@ toNext n c = record { phase = c .phase; next = n; items = c .items; words = c .w
 
 -- n steps that each store a word, and then one with this report
 abbrev pub Ran : ℕ → (s s′ : Session) (bytes bytes′ table table′ : List ℕ) → Report → Type 0
-Ran zero s s′ bytes bytes′ table table′ r = Called stateOf Fits 12 256 Step s s′ bytes bytes′ table table′ r
+Ran zero s s′ bytes bytes′ table table′ r = Called stateOf Fits 12 limit Step s s′ bytes bytes′ table table′ r
 Ran (suc n) s s′ bytes bytes′ table table′ r =
     (s₁ : Session) × ((bytes₁ : List ℕ) × ((table₁ : List ℕ) × ((w : ℕ) × ((v : ℕ)
-    × (Called stateOf Fits 12 256 Step s s₁ bytes bytes₁ table table₁ (R.Store w v) × Ran n s₁ s′ bytes₁ bytes′ table₁ table′ r)))))
+    × (Called stateOf Fits 12 limit Step s s₁ bytes bytes₁ table table₁ (R.Store w v) × Ran n s₁ s′ bytes₁ bytes′ table₁ table′ r)))))
 
 -- some steps that each store a word, and then one with this report
 abbrev pub Runs : (s s′ : Session) (bytes bytes′ table table′ : List ℕ) → Report → Type 0
@@ -52,11 +52,6 @@ isStore (R.Part a n) = false
 -- the stores that come next, and then the action behind them, which is none and is told
 abbrev pub RunsOn : (s s′ : Session) (bytes bytes′ table table′ : List ℕ) → Report → Type 0
 RunsOn s s′ bytes bytes′ table table′ r = Runs s s′ bytes bytes′ table table′ r × (isStore r ≡ false)
-
--- WHAT A RUN DOES: in a commit that has not come to its last action, that; anywhere else it is one step.
-pub record Run (s s′ : Session) (bytes bytes′ table table′ : List ℕ) (r : Report) : Type 0 where
-  pub within : Inner (s .control) (s .setup) (length bytes) (length table) → RunsOn s s′ bytes bytes′ table table′ r
-  pub without : (Inner (s .control) (s .setup) (length bytes) (length table) → ⊥) → Called stateOf Fits 12 256 Step s s′ bytes bytes′ table table′ r
 
 -- nothing done
 abbrev pub Idles : (s s′ : Session) (bytes bytes′ table table′ : List ℕ) → Report → Type 0

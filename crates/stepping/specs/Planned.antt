@@ -12,7 +12,7 @@ use Rattle.spec.specs.Contract.{Called}
 use Rattle.spec.specs.declared.Control.{Control}
 use Rattle.spec.specs.declared.Setup.{Setup}
 use Rattle.spec.specs.declared.Report.the-variants as R
-use Rattle.session.specs.State.{stateOf}
+use Rattle.session.specs.State.{stateOf, limit}
 use Rattle.session.specs.Fits.{NoneBelow, Fits}
 use Rattle.batch.specs.Items.{StagedIn}
 use Rattle.placing.specs.declared.Placed.{Placed}
@@ -23,7 +23,7 @@ use Rattle.stepping.specs.declared.CommitPlan.the-variants as P
 -- the place that the definition finds for the staged items, where the hint holds
 abbrev pub PlaceFor : (buffer : List ℕ) (words : ℕ) (image : List ℕ) (first least : ℕ) → Placed → Type 0
 PlaceFor buffer words image first least r =
-    (items : List Entry) → StagedIn buffer words items → NoneBelow (wordsOf image) first least
+    (items : List Entry) → StagedIn buffer words items → NoneBelow (chunksIn 12 (length image)) (wordsOf image) first least
     → Searched (wordsOf image) (chunksIn 12 (length image)) (linesFor (length (encodeAll items))) (freeNeeded items) r
 
 -- the record's small parts at a commit's begin: no action done yet, where it writes, and where the next one looks for space
@@ -32,11 +32,11 @@ committing c = record { phase = 3; next = 0; items = c .items; words = c .words;
 
 abbrev pub writingTo : Setup → (chunk old lines first least : ℕ) → Setup
 writingTo k chunk old lines first least =
-    record { image = k .image; table = k .table; chunk = chunk; old = old; lines = lines; first = first; least = least; fields = k .fields; station = k .station; centre = k .centre }
+    record { image = k .image; table = k .table; chunk = chunk; old = old; lines = lines; first = first; least = least; fields = k .fields; station = k .station; centre = k .centre; source = k .source }
 
 -- a plan is right if the call that follows it does what it promises
 abbrev pub CommitPlanned : Control → Setup → (buffer image table : List ℕ) → CommitPlan → Type 0
 CommitPlanned c k b image table (P.Refused n) =
-    Called stateOf Fits 12 256 Commit (record { control = c; setup = k; buffer = b }) (record { control = c; setup = k; buffer = b }) image image table table (R.Refused n)
+    Called stateOf Fits 12 limit Commit (record { control = c; setup = k; buffer = b }) (record { control = c; setup = k; buffer = b }) image image table table (R.Refused n)
 CommitPlanned c k b image table (P.At chunk old lines first least actions) =
-    Called stateOf Fits 12 256 Commit (record { control = c; setup = k; buffer = b }) (record { control = committing c; setup = writingTo k chunk old lines first least; buffer = b }) image image table table (R.Begun actions)
+    Called stateOf Fits 12 limit Commit (record { control = c; setup = k; buffer = b }) (record { control = committing c; setup = writingTo k chunk old lines first least; buffer = b }) image image table table (R.Begun actions)

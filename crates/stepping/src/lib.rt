@@ -3,12 +3,13 @@
 ghost use mathlib.Core.Path.{_≡_};
 ghost use mathlib.Core.Bool.{true, false};
 ghost use Prim.Native.Nat.{_≤_, min};
+ghost use lib.Dec.{leb};
 ghost use lib.ListN.{length};
 ghost use Rattle.spec.specs.Basics.{pick};
 ghost use Rattle.spec.specs.Actions.{linesFor};
 ghost use Rattle.spec.specs.Calls.{Commit, Step};
 ghost use Rattle.spec.specs.Contract.{Called};
-ghost use Rattle.session.specs.State.{batchRoom, stateOf};
+ghost use Rattle.session.specs.State.{batchRoom, blockActions, stateOf, limit};
 ghost use Rattle.session.specs.Fits.{Fits};
 ghost use Rattle.stepping.specs.Planned.{PlaceFor, CommitPlanned};
 ghost use Rattle.stepping.specs.Inner.{Inner, RunsOn, ShortWay, Stores};
@@ -118,7 +119,7 @@ pub fn commit_core(
     image: &[u8],
     table: &[u64],
 ) -> Moved
-    ensures { λ r. ⌜ Called stateOf Fits 12 256 Commit (record { control = control; setup = setup; buffer = now (buffer .entry) }) (record { control = r .control; setup = r .setup; buffer = now (buffer .entry) }) (now (image .entry)) (now (image .entry)) (now (table .entry)) (now (table .entry)) (r .report) ⌝ }
+    ensures { λ r. ⌜ Called stateOf Fits 12 limit Commit (record { control = control; setup = setup; buffer = now (buffer .entry) }) (record { control = r .control; setup = r .setup; buffer = now (buffer .entry) }) (now (image .entry)) (now (image .entry)) (now (table .entry)) (now (table .entry)) (r .report) ⌝ }
 {
     let plan = plan_commit(control, setup, buffer, image, table);
     match plan {
@@ -143,6 +144,7 @@ pub fn commit_core(
                 keys: control.keys,
                 fresh: control.fresh,
             };
+            let source = setup.source;
             let bound = Setup {
                 image: setup.image,
                 table: setup.table,
@@ -154,6 +156,7 @@ pub fn commit_core(
                 fields: setup.fields,
                 station: setup.station,
                 centre: setup.centre,
+                source,
             };
             Moved {
                 control: begun,
@@ -180,7 +183,7 @@ fn commit_step(
     table: &mut [u64],
 ) -> Stepped
     requires { ⌜ (control .phase ≡ 3) × (setup .image ≡ length (now image)) × (setup .table ≡ length (now table)) ⌝ }
-    ensures { λ r. ⌜ Called stateOf Fits 12 256 Step (record { control = control; setup = setup; buffer = now (buffer .entry) }) (record { control = r .control; setup = setup; buffer = now (buffer .exit) }) (now (image .entry)) (now (image .exit)) (now (table .entry)) (now (table .exit)) (r .report) ⌝ }
+    ensures { λ r. ⌜ Called stateOf Fits 12 limit Step (record { control = control; setup = setup; buffer = now (buffer .entry) }) (record { control = r .control; setup = setup; buffer = now (buffer .exit) }) (now (image .entry)) (now (image .exit)) (now (table .entry)) (now (table .exit)) (r .report) ⌝ }
 {
     let at = control.next;
     let count = acts::commit_count(control.words);
@@ -231,6 +234,59 @@ fn commit_step(
     }
 }
 
+// Whether a staging has no action from number `at` on.
+fn is_stored(setup: Setup, buffer: &[u64; 1152], at: usize) -> bool
+    ensures { λ r. ⌜ r ≡ leb (length (blockActions setup (now (buffer .entry)))) at ⌝ }
+{
+    if 1024 <= at {
+        return true;
+    }
+    block_acts::block_count(setup, buffer) <= at
+}
+
+// A staging's next action; its end leaves what is staged.
+fn stage_step(
+    control: Control,
+    setup: Setup,
+    buffer: &[u64; 1152],
+    image: &mut [u8],
+    table: &[u64],
+) -> Stepped
+    requires { ⌜ (control .phase ≡ 2) × (setup .image ≡ length (now image)) × (setup .table ≡ length (now table)) ⌝ }
+    ensures { λ r. ⌜ Called stateOf Fits 12 limit Step (record { control = control; setup = setup; buffer = now (buffer .entry) }) (record { control = r .control; setup = setup; buffer = now (buffer .entry) }) (now (image .entry)) (now (image .exit)) (now (table .entry)) (now (table .entry)) (r .report) ⌝ }
+{
+    let at = control.next;
+    if is_stored(setup, buffer, at) {
+        let staged = Control {
+            phase: 1,
+            next: 0,
+            items: control.items,
+            words: control.words,
+            keys: control.keys,
+            fresh: control.fresh,
+        };
+        return Stepped {
+            control: staged,
+            report: Report::End(0),
+        };
+    }
+    let action = block_acts::block_action(setup, buffer, at);
+    acts::perform(image, action);
+    let next = at + 1;
+    let moved = Control {
+        phase: 2,
+        next,
+        items: control.items,
+        words: control.words,
+        keys: control.keys,
+        fresh: control.fresh,
+    };
+    Stepped {
+        control: moved,
+        report: action,
+    }
+}
+
 // A formatting's next action. Its end leaves nothing open.
 fn format_step(
     control: Control,
@@ -240,7 +296,7 @@ fn format_step(
     table: &[u64],
 ) -> Stepped
     requires { ⌜ (4 ≤ control .phase) × (control .phase ≤ 5) × (setup .image ≡ length (now image)) × (setup .table ≡ length (now table)) ⌝ }
-    ensures { λ r. ⌜ Called stateOf Fits 12 256 Step (record { control = control; setup = setup; buffer = now (buffer .entry) }) (record { control = r .control; setup = setup; buffer = now (buffer .entry) }) (now (image .entry)) (now (image .exit)) (now (table .entry)) (now (table .entry)) (r .report) ⌝ }
+    ensures { λ r. ⌜ Called stateOf Fits 12 limit Step (record { control = control; setup = setup; buffer = now (buffer .entry) }) (record { control = r .control; setup = setup; buffer = now (buffer .entry) }) (now (image .entry)) (now (image .exit)) (now (table .entry)) (now (table .entry)) (r .report) ⌝ }
 {
     let at = control.next;
     if acts::format_count() <= at {
@@ -274,6 +330,27 @@ fn format_step(
     }
 }
 
+// A cleaning's next action; with the last, a fence, the chunk's entries leave the key table. Its end reports the entries copied.
+fn clean_step(
+    control: Control,
+    setup: Setup,
+    buffer: &mut [u64; 1152],
+    image: &mut [u8],
+    table: &mut [u64],
+) -> Stepped
+    requires { ⌜ (control .phase ≡ 6) × (setup .image ≡ length (now image)) × (setup .table ≡ length (now table)) ⌝ }
+    ensures { λ r. ⌜ Called stateOf Fits 12 limit Step (record { control = control; setup = setup; buffer = now (buffer .entry) }) (record { control = r .control; setup = setup; buffer = now (buffer .exit) }) (now (image .entry)) (now (image .exit)) (now (table .entry)) (now (table .exit)) (r .report) ⌝ }
+{
+    let source = setup.source;
+    let moved = cleaning_step::clean_step(control, setup, source, buffer, image, table);
+    let next = moved.control;
+    let report = moved.report;
+    Stepped {
+        control: next,
+        report,
+    }
+}
+
 // Idle where nothing is begun, 1 where a lent length is unlike that at the begin; else the call that is begun goes on.
 pub fn step_core(
     control: Control,
@@ -282,7 +359,7 @@ pub fn step_core(
     image: &mut [u8],
     table: &mut [u64],
 ) -> Stepped
-    ensures { λ r. ⌜ Called stateOf Fits 12 256 Step (record { control = control; setup = setup; buffer = now (buffer .entry) }) (record { control = r .control; setup = setup; buffer = now (buffer .exit) }) (now (image .entry)) (now (image .exit)) (now (table .entry)) (now (table .exit)) (r .report) ⌝ }
+    ensures { λ r. ⌜ Called stateOf Fits 12 limit Step (record { control = control; setup = setup; buffer = now (buffer .entry) }) (record { control = r .control; setup = setup; buffer = now (buffer .exit) }) (now (image .entry)) (now (image .exit)) (now (table .entry)) (now (table .exit)) (r .report) ⌝ }
 {
     let phase = control.phase;
     if phase < 2 {
@@ -291,7 +368,7 @@ pub fn step_core(
             report: Report::Idle,
         };
     }
-    if 5 < phase {
+    if 6 < phase {
         return Stepped {
             control,
             report: Report::Idle,
@@ -310,21 +387,13 @@ pub fn step_core(
         };
     }
     if phase == 2 {
-        let staged = Control {
-            phase: 1,
-            next: 0,
-            items: control.items,
-            words: control.words,
-            keys: control.keys,
-            fresh: control.fresh,
-        };
-        return Stepped {
-            control: staged,
-            report: Report::End(0),
-        };
+        return stage_step(control, setup, buffer, image, table);
     }
     if phase == 3 {
         return commit_step(control, setup, buffer, image, table);
+    }
+    if phase == 6 {
+        return clean_step(control, setup, buffer, image, table);
     }
     format_step(control, setup, buffer, image, table)
 }
@@ -360,7 +429,7 @@ pub fn inner_step(
     image: &mut [u8],
     table: &mut [u64],
 ) -> Advanced
-    ensures { λ r. ⌜ ShortWay (Called stateOf Fits 12 256 Step) control setup (now (buffer .entry)) (now (image .entry)) (now (image .exit)) (now (table .entry)) (now (table .exit)) (r .next) (r .report) ⌝ }
+    ensures { λ r. ⌜ ShortWay (Called stateOf Fits 12 limit Step) control setup (now (buffer .entry)) (now (image .entry)) (now (image .exit)) (now (table .entry)) (now (table .exit)) (r .next) (r .report) ⌝ }
 {
     let at = control.next;
     if is_inner(control, setup, image.len(), table.len()) {

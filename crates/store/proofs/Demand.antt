@@ -1,9 +1,10 @@
--- DEMAND 3 of the counter level: every list of calls and power cuts, for the very contracts that the public functions ensure.
+-- DEMAND 3 of the archive level, and so of every level: every list of calls and power cuts, choosings and cleanings and values up to the
+-- largest block's included, for the very contracts that the public functions ensure.
 -- Assumes nothing.
 use Rattle.spec.specs.History.{Demand3}
-use Rattle.session.specs.State.{stateOf}
+use Rattle.session.specs.State.{limit, stateOf}
 use Rattle.session.specs.Fits.{Fits}
-use Rattle.histories.proofs.Every.{at-the-counter}
+use Rattle.histories.proofs.Every.{at-the-archive}
 
-pub faithful : Demand3 stateOf Fits 12 256
-faithful = at-the-counter stateOf Fits
+pub faithful : Demand3 stateOf Fits 12 limit
+faithful = at-the-archive stateOf Fits

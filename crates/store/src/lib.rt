@@ -1,14 +1,19 @@
-// The public calls of the counter level: thin functions over the station record, which is lent as one `&mut` and altered in place.
+// The public calls: thin functions over the station record, which is lent as one `&mut` and altered in place.
 // Each copies the record's small parts, lends its buffer where it lies to the core that does the work, and stores the small parts back.
 // Every call is lent record, image and key table. None has a `requires`: what each answers and leaves is said by `Called`.
 ghost use mathlib.Core.Path.{_≡_};
-ghost use Rattle.spec.specs.Calls.{Open, Put, Delete, Commit, Abandon, Step, Format};
+ghost use Rattle.spec.specs.Calls.{Open, Put, Delete, Commit, Abandon, Clean, Step, Format};
 ghost use Rattle.spec.specs.Contract.{Called};
-ghost use Rattle.session.specs.State.{stateOf};
+ghost use Rattle.session.specs.State.{stateOf, limit};
 ghost use Rattle.session.specs.Fits.{Fits};
 ghost use Rattle.calls.specs.Begun.{given};
 ghost use Rattle.stepping.specs.Inner.{RunsOn, OnShortWay};
+ghost use Rattle.running.specs.Run.{RestRun};
 ghost use Rattle.store.specs.Look.{Reported, Shown};
+ghost use Rattle.store.specs.Choice.{Chosen};
+ghost use Rattle.store.specs.List.{KeysListed, KeyListed};
+use listing::Counted;
+use listing::Listed;
 use spec::Report;
 use spec::Session;
 
@@ -22,7 +27,7 @@ pub fn format(
     centre_given: bool,
     centre: u64,
 ) -> Report
-    ensures { λ r. ⌜ Called stateOf Fits 12 256 (Format (given «station_given» station) (given «centre_given» centre)) (now (s .entry)) (now (s .exit)) (now (image .entry)) (now (image .entry)) (now (table .entry)) (now (table .entry)) r ⌝ }
+    ensures { λ r. ⌜ Called stateOf Fits 12 limit (Format (given «station_given» station) (given «centre_given» centre)) (now (s .entry)) (now (s .exit)) (now (image .entry)) (now (image .entry)) (now (table .entry)) (now (table .entry)) r ⌝ }
 {
     let c = s.control;
     let k = s.setup;
@@ -44,7 +49,7 @@ pub fn format(
 
 // Opens the register of the lent image, whatever record and table hold: the refusal 1 to 7, or opened.
 pub fn open_register(s: &mut Session, image: &[u8], table: &mut [u64]) -> Report
-    ensures { λ r. ⌜ Called stateOf Fits 12 256 Open (now (s .entry)) (now (s .exit)) (now (image .entry)) (now (image .entry)) (now (table .entry)) (now (table .exit)) r ⌝ }
+    ensures { λ r. ⌜ Called stateOf Fits 12 limit Open (now (s .entry)) (now (s .exit)) (now (image .entry)) (now (image .entry)) (now (table .entry)) (now (table .exit)) r ⌝ }
 {
     let c = s.control;
     let k = s.setup;
@@ -54,20 +59,21 @@ pub fn open_register(s: &mut Session, image: &[u8], table: &mut [u64]) -> Report
     m.report
 }
 
-// Begins staging a put of up to 256 bytes.
+// Begins staging a put of up to 4,088 bytes.
 pub fn stage_put(s: &mut Session, image: &[u8], table: &[u64], key: u64, value: &[u8]) -> Report
-    ensures { λ r. ⌜ Called stateOf Fits 12 256 (Put key (now (value .entry))) (now (s .entry)) (now (s .exit)) (now (image .entry)) (now (image .entry)) (now (table .entry)) (now (table .entry)) r ⌝ }
+    ensures { λ r. ⌜ Called stateOf Fits 12 limit (Put key (now (value .entry))) (now (s .entry)) (now (s .exit)) (now (image .entry)) (now (image .entry)) (now (table .entry)) (now (table .entry)) r ⌝ }
 {
     let c = s.control;
     let k = s.setup;
     let m = calls::put_core(c, k, &mut s.buffer, image, table, key, value);
     s.control = m.control;
+    s.setup = m.setup;
     m.report
 }
 
 // Begins staging a delete.
 pub fn stage_delete(s: &mut Session, image: &[u8], table: &[u64], key: u64) -> Report
-    ensures { λ r. ⌜ Called stateOf Fits 12 256 (Delete key) (now (s .entry)) (now (s .exit)) (now (image .entry)) (now (image .entry)) (now (table .entry)) (now (table .entry)) r ⌝ }
+    ensures { λ r. ⌜ Called stateOf Fits 12 limit (Delete key) (now (s .entry)) (now (s .exit)) (now (image .entry)) (now (image .entry)) (now (table .entry)) (now (table .entry)) r ⌝ }
 {
     let c = s.control;
     let k = s.setup;
@@ -78,7 +84,7 @@ pub fn stage_delete(s: &mut Session, image: &[u8], table: &[u64], key: u64) -> R
 
 // Begins the commit of the staged items.
 pub fn commit(s: &mut Session, image: &[u8], table: &[u64]) -> Report
-    ensures { λ r. ⌜ Called stateOf Fits 12 256 Commit (now (s .entry)) (now (s .exit)) (now (image .entry)) (now (image .entry)) (now (table .entry)) (now (table .entry)) r ⌝ }
+    ensures { λ r. ⌜ Called stateOf Fits 12 limit Commit (now (s .entry)) (now (s .exit)) (now (image .entry)) (now (image .entry)) (now (table .entry)) (now (table .entry)) r ⌝ }
 {
     let c = s.control;
     let k = s.setup;
@@ -90,7 +96,7 @@ pub fn commit(s: &mut Session, image: &[u8], table: &[u64]) -> Report
 
 // Forgets the staged items.
 pub fn abandon(s: &mut Session, image: &[u8], table: &[u64]) -> Report
-    ensures { λ r. ⌜ Called stateOf Fits 12 256 Abandon (now (s .entry)) (now (s .exit)) (now (image .entry)) (now (image .entry)) (now (table .entry)) (now (table .entry)) r ⌝ }
+    ensures { λ r. ⌜ Called stateOf Fits 12 limit Abandon (now (s .entry)) (now (s .exit)) (now (image .entry)) (now (image .entry)) (now (table .entry)) (now (table .entry)) r ⌝ }
 {
     let c = s.control;
     let k = s.setup;
@@ -100,9 +106,30 @@ pub fn abandon(s: &mut Session, image: &[u8], table: &[u64]) -> Report
     m.report
 }
 
+// The chunk to clean, or 16. The record is only read.
+pub fn choose(s: &Session, image: &[u8], table: &[u64]) -> Report
+    ensures { λ r. ⌜ Chosen (now (s .entry)) (now (image .entry)) (now (table .entry)) r ⌝ }
+{
+    let c = s.control;
+    let k = s.setup;
+    choosing::choose_core(c, k, image, table)
+}
+
+// Begins the cleaning of a chunk: what it keeps is to be copied, and the chunk to be freed.
+pub fn clean(s: &mut Session, image: &[u8], table: &[u64], chunk: usize) -> Report
+    ensures { λ r. ⌜ Called stateOf Fits 12 limit (Clean chunk) (now (s .entry)) (now (s .exit)) (now (image .entry)) (now (image .entry)) (now (table .entry)) (now (table .entry)) r ⌝ }
+{
+    let c = s.control;
+    let k = s.setup;
+    let m = cleaning_begin::clean_core(c, k, &mut s.buffer, image, table, chunk);
+    s.control = m.control;
+    s.setup = m.setup;
+    m.report
+}
+
 // One step of the call that is begun: one store, flush or fence, done on the image and reported; or the end; or idle.
 pub fn step(s: &mut Session, image: &mut [u8], table: &mut [u64]) -> Report
-    ensures { λ r. ⌜ Called stateOf Fits 12 256 Step (now (s .entry)) (now (s .exit)) (now (image .entry)) (now (image .exit)) (now (table .entry)) (now (table .exit)) r ⌝ }
+    ensures { λ r. ⌜ Called stateOf Fits 12 limit Step (now (s .entry)) (now (s .exit)) (now (image .entry)) (now (image .exit)) (now (table .entry)) (now (table .exit)) r ⌝ }
 {
     let c = s.control;
     let k = s.setup;
@@ -114,7 +141,7 @@ pub fn step(s: &mut Session, image: &mut [u8], table: &mut [u64]) -> Report
 // THE SHORT WAY: the same step where `stepping::is_inner` says that it may be gone; elsewhere nothing is done, and the report is idle. Of
 // the record it alters the number of the next action alone.
 pub fn step_inner(s: &mut Session, image: &mut [u8], table: &mut [u64]) -> Report
-    ensures { λ r. ⌜ OnShortWay (Called stateOf Fits 12 256 Step) (now (s .entry)) (now (s .exit)) (now (image .entry)) (now (image .exit)) (now (table .entry)) (now (table .exit)) r ⌝ }
+    ensures { λ r. ⌜ OnShortWay (Called stateOf Fits 12 limit Step) (now (s .entry)) (now (s .exit)) (now (image .entry)) (now (image .exit)) (now (table .entry)) (now (table .exit)) r ⌝ }
 {
     let c = s.control;
     let k = s.setup;
@@ -131,6 +158,17 @@ pub fn run_inner(s: &mut Session, image: &mut [u8], table: &mut [u64]) -> Report
     let k = s.setup;
     let m = stepping::inner_run(c, k, &s.buffer, image, table);
     s.control.next = m.next;
+    m.report
+}
+
+// Where the short way is not gone: in a cleaning that has not come to its last action the same of its stores; anywhere else one step.
+pub fn run_rest(s: &mut Session, image: &mut [u8], table: &mut [u64]) -> Report
+    ensures { λ r. ⌜ RestRun (now (s .entry)) (now (s .exit)) (now (image .entry)) (now (image .exit)) (now (table .entry)) (now (table .exit)) r ⌝ }
+{
+    let c = s.control;
+    let k = s.setup;
+    let m = running::run_core(c, k, &mut s.buffer, image, table);
+    s.control = m.control;
     m.report
 }
 
@@ -157,4 +195,25 @@ pub fn look_up<'a>(
     let c = s.control;
     let k = s.setup;
     recovery::look_up_core(c, k, image, table, key, answer)
+}
+
+// LISTING
+// The present keys, rising, into the lent words as far as these reach, and how many there are. The record stays as it is.
+pub fn list_keys(s: &mut Session, image: &[u8], table: &[u64], keys: &mut [u64]) -> Counted
+    ensures { λ r. ⌜ KeysListed (now (s .entry)) (now (s .exit)) (now (image .entry)) (now (table .entry)) (now (keys .entry)) (now (keys .exit)) r ⌝ }
+{
+    let c = s.control;
+    let k = s.setup;
+    let m = listing::list_core(c, k, image, table, keys);
+    s.control = m.control;
+    m.report
+}
+
+// Of a present key its version, its value's length, and whether a block has it. The record is only read.
+pub fn list_key(s: &Session, image: &[u8], table: &[u64], key: u64) -> Listed
+    ensures { λ r. ⌜ KeyListed (now (s .entry)) key (now (image .entry)) (now (table .entry)) r ⌝ }
+{
+    let c = s.control;
+    let k = s.setup;
+    listing::list_key(c, k, image, table, key)
 }

@@ -4,7 +4,7 @@
 use mathlib.Core.Path.{_≡_}
 use Rattle.spec.specs.Calls.{Step}
 use Rattle.spec.specs.Contract.{Called}
-use Rattle.session.specs.State.{stateOf}
+use Rattle.session.specs.State.{stateOf, limit}
 use Rattle.session.specs.Fits.{Fits}
 use Rattle.capi.specs.Answers.{answerOf}
 use mathlib.Core.Path.{refl}
@@ -76,7 +76,7 @@ abbrev Of-step′ : {M : Type 1} (𝓤 : URA M) (H : Heap 𝓤) (A : Atoms 𝓤)
 Of-step′ 𝓤 H A mem run = tripleOf 𝓤 H A step′.signature (step′.spec 𝓤 H A mem run)
 
 abbrev Said-step′ : Report → Session → Session → List ℕ → List ℕ → List ℕ → List ℕ → Type 0
-Said-step′ r x-s z-s x-image z-image x-table z-table = Called stateOf Fits 12 256 Step (x-s) (z-s) (x-image) (z-image) (x-table) (z-table) r
+Said-step′ r x-s z-s x-image z-image x-table z-table = Called stateOf Fits 12 limit Step (x-s) (z-s) (x-image) (z-image) (x-table) (z-table) r
 
 -- the contract of `told`, and what it ensures
 abbrev Of-told′ : {M : Type 1} (𝓤 : URA M) (H : Heap 𝓤) (A : Atoms 𝓤) (mem : Memory → SProp 𝓤) (run : Routine → Fun 𝓤) → Contract 𝓤

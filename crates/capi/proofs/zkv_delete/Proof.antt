@@ -4,7 +4,7 @@
 use mathlib.Core.Path.{_≡_}
 use Rattle.spec.specs.Calls.{Delete}
 use Rattle.spec.specs.Contract.{Called}
-use Rattle.session.specs.State.{stateOf}
+use Rattle.session.specs.State.{stateOf, limit}
 use Rattle.session.specs.Fits.{Fits}
 use Rattle.capi.specs.Answers.{answerOf}
 use mathlib.Core.Path.{refl}
@@ -76,7 +76,7 @@ abbrev Of-stage-delete′ : {M : Type 1} (𝓤 : URA M) (H : Heap 𝓤) (A : Ato
 Of-stage-delete′ 𝓤 H A mem run = tripleOf 𝓤 H A stage-delete′.signature (stage-delete′.spec 𝓤 H A mem run)
 
 abbrev Said-stage-delete′ : Report → Session → Session → List ℕ → List ℕ → ℕ → Type 0
-Said-stage-delete′ r x-s z-s x-image x-table key = Called stateOf Fits 12 256 (Delete key) (x-s) (z-s) (x-image) (x-image) (x-table) (x-table) r
+Said-stage-delete′ r x-s z-s x-image x-table key = Called stateOf Fits 12 limit (Delete key) (x-s) (z-s) (x-image) (x-image) (x-table) (x-table) r
 
 -- the contract of `told`, and what it ensures
 abbrev Of-told′ : {M : Type 1} (𝓤 : URA M) (H : Heap 𝓤) (A : Atoms 𝓤) (mem : Memory → SProp 𝓤) (run : Routine → Fun 𝓤) → Contract 𝓤

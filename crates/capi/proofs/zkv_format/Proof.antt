@@ -4,7 +4,7 @@
 use mathlib.Core.Path.{_≡_}
 use Rattle.spec.specs.Calls.{Format}
 use Rattle.spec.specs.Contract.{Called}
-use Rattle.session.specs.State.{stateOf}
+use Rattle.session.specs.State.{stateOf, limit}
 use Rattle.session.specs.Fits.{Fits}
 use Rattle.calls.specs.Begun.{given}
 use Rattle.capi.specs.Answers.{answerOf, isGiven}
@@ -88,7 +88,7 @@ abbrev Of-format′ : {M : Type 1} (𝓤 : URA M) (H : Heap 𝓤) (A : Atoms �
 Of-format′ 𝓤 H A mem run = tripleOf 𝓤 H A format′.signature (format′.spec 𝓤 H A mem run)
 
 abbrev Said-format′ : Report → Session → Session → List ℕ → List ℕ → Bool → ℕ → Bool → ℕ → Type 0
-Said-format′ r x-s z-s x-image x-table station-given station centre-given centre = Called stateOf Fits 12 256 (Format (given station-given station) (given centre-given centre)) (x-s) (z-s) (x-image) (x-image) (x-table) (x-table) r
+Said-format′ r x-s z-s x-image x-table station-given station centre-given centre = Called stateOf Fits 12 limit (Format (given station-given station) (given centre-given centre)) (x-s) (z-s) (x-image) (x-image) (x-table) (x-table) r
 
 -- the contract of `told`, and what it ensures
 abbrev Of-told′ : {M : Type 1} (𝓤 : URA M) (H : Heap 𝓤) (A : Atoms 𝓤) (mem : Memory → SProp 𝓤) (run : Routine → Fun 𝓤) → Contract 𝓤

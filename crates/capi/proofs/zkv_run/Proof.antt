@@ -1,13 +1,10 @@
 -- `capi::zkv_run` meets its contract: a walk of its MIR, made by walk_calls.py. Its references are given for good to the functions that it calls, at their own lifetimes, shares and names.
--- All that the proof knows of a function that it calls (`is_inner`, `run_inner`, `told`, `step_whole`, `same`) is that it meets its contract.
+-- All that the proof knows of a function that it calls (`is_inner`, `run_inner`, `told`, `run_whole`, `same`) is that it meets its contract.
 -- Assumes nothing.
 use mathlib.Core.Path.{_≡_}
-use Rattle.spec.specs.Calls.{Step}
-use Rattle.spec.specs.Contract.{Called}
-use Rattle.session.specs.State.{stateOf}
-use Rattle.session.specs.Fits.{Fits}
-use Rattle.stepping.specs.Inner.{Run, RunsOn, OnShortWay, Inner}
+use Rattle.running.specs.Run.{RestRun, Run}
 use Rattle.capi.specs.Answers.{answerOf, Told}
+use Rattle.stepping.specs.Inner.{RunsOn, OnShortWay, Inner}
 use mathlib.Core.Bool.{true, false}
 use mathlib.Core.Path.{refl, ap, sym, subst}
 use mathlib.Core.Bool.{Bool, not}
@@ -81,10 +78,10 @@ use Rattle.capi.proofs.told as told′
 use Rattle.capi.proofs.told.Symbol as told′-def
 use Rattle.capi.proofs.told.Symbol.{name as #told′}
 use Rattle.capi.proofs.told.Met as told′-thm
-use Rattle.capi.proofs.step_whole as step-whole′
-use Rattle.capi.proofs.step_whole.Symbol as step-whole′-def
-use Rattle.capi.proofs.step_whole.Symbol.{name as #step-whole′}
-use Rattle.capi.proofs.step_whole.Met as step-whole′-thm
+use Rattle.capi.proofs.run_whole as run-whole′
+use Rattle.capi.proofs.run_whole.Symbol as run-whole′-def
+use Rattle.capi.proofs.run_whole.Symbol.{name as #run-whole′}
+use Rattle.capi.proofs.run_whole.Met as run-whole′-thm
 use Rattle.capi.proofs.same as same′
 use Rattle.capi.proofs.same.Symbol as same′-def
 use Rattle.capi.proofs.same.Symbol.{name as #same′}
@@ -126,12 +123,12 @@ Of-told′ 𝓤 H A mem run = tripleOf 𝓤 H A told′.signature (told′.spec 
 abbrev Said-told′ : Answer → Report → Type 0
 Said-told′ r report = r ≡ answerOf report
 
--- the contract of `step_whole`, and what it ensures
-abbrev Of-step-whole′ : {M : Type 1} (𝓤 : URA M) (H : Heap 𝓤) (A : Atoms 𝓤) (mem : Memory → SProp 𝓤) (run : Routine → Fun 𝓤) → Contract 𝓤
-Of-step-whole′ 𝓤 H A mem run = tripleOf 𝓤 H A step-whole′.signature (step-whole′.spec 𝓤 H A mem run)
+-- the contract of `run_whole`, and what it ensures
+abbrev Of-run-whole′ : {M : Type 1} (𝓤 : URA M) (H : Heap 𝓤) (A : Atoms 𝓤) (mem : Memory → SProp 𝓤) (run : Routine → Fun 𝓤) → Contract 𝓤
+Of-run-whole′ 𝓤 H A mem run = tripleOf 𝓤 H A run-whole′.signature (run-whole′.spec 𝓤 H A mem run)
 
-abbrev Said-step-whole′ : Answer → Session → Session → List ℕ → List ℕ → List ℕ → List ℕ → Type 0
-Said-step-whole′ r x-s z-s x-image z-image x-table z-table = Told (Called stateOf Fits 12 256 Step (x-s) (z-s) (x-image) (z-image) (x-table) (z-table)) r
+abbrev Said-run-whole′ : Answer → Session → Session → List ℕ → List ℕ → List ℕ → List ℕ → Type 0
+Said-run-whole′ r x-s z-s x-image z-image x-table z-table = Told (RestRun (x-s) (z-s) (x-image) (z-image) (x-table) (z-table)) r
 
 -- the contract of `same`, and what it ensures
 abbrev Of-same′ : {M : Type 1} (𝓤 : URA M) (H : Heap 𝓤) (A : Atoms 𝓤) (mem : Memory → SProp 𝓤) (run : Routine → Fun 𝓤) → Contract 𝓤
@@ -183,11 +180,11 @@ module _ {M : Type 1} (𝓤 : URA M) (H : Heap 𝓤) (A : Atoms 𝓤) (W : Given
   goes-2 : (r-report : Report) (w-report : Val) → ent 𝓤 (sep 𝓤 (sem 𝓤 H A ftrue) (sem 𝓤 H A (owns (T-Report.the-row ∷ []) (r-report, tt) (w-report ∷ [], tt)))) (Of-told′ 𝓤 H A at-mem run .pre (to-2 r-report w-report))
   goes-2 r-report w-report = qed W ((‵ ftrue) ∷ ‵ (owns (T-Report.the-row ∷ []) (r-report, tt) (w-report ∷ [], tt)) ∷ []) ∵ join ! $ frame ! $ done !
 
-  -- what the triple of `step_whole` binds outside, and what it asks
-  abbrev to-3 : Of-step-whole′ 𝓤 H A at-mem run .Ghost
+  -- what the triple of `run_whole` binds outside, and what it asks
+  abbrev to-3 : Of-run-whole′ 𝓤 H A at-mem run .Ghost
   to-3 = (((κ-s, (κ-image, (κ-table, tt))), (q-s, (q-image, (q-table, tt))), tt, (ref-s, (ref-image, (ref-table, tt))), (vptr b-s o-s ∷ [], (sliceVal (b-image, o-image) (length x-image) ∷ [], (sliceVal (b-table, o-table) (length x-table) ∷ [], tt)))), tt)
 
-  goes-3 : ent 𝓤 (sep 𝓤 (sep 𝓤 (A .lft κ-s q-s) (sep 𝓤 (A .lft κ-image q-image) (sep 𝓤 (A .lft κ-table q-table) (sem 𝓤 H A ftrue)))) (sem 𝓤 H A (owns (MutRef (named 0) κ-s T-Session.the-row ∷ MutSlice (named 1) κ-image u8 ∷ MutSlice (named 2) κ-table u64 ∷ []) (ref-s, (ref-image, (ref-table, tt))) (vptr b-s o-s ∷ [], (sliceVal (b-image, o-image) (length x-image) ∷ [], (sliceVal (b-table, o-table) (length x-table) ∷ [], tt)))))) (Of-step-whole′ 𝓤 H A at-mem run .pre to-3)
+  goes-3 : ent 𝓤 (sep 𝓤 (sep 𝓤 (A .lft κ-s q-s) (sep 𝓤 (A .lft κ-image q-image) (sep 𝓤 (A .lft κ-table q-table) (sem 𝓤 H A ftrue)))) (sem 𝓤 H A (owns (MutRef (named 0) κ-s T-Session.the-row ∷ MutSlice (named 1) κ-image u8 ∷ MutSlice (named 2) κ-table u64 ∷ []) (ref-s, (ref-image, (ref-table, tt))) (vptr b-s o-s ∷ [], (sliceVal (b-image, o-image) (length x-image) ∷ [], (sliceVal (b-table, o-table) (length x-table) ∷ [], tt)))))) (Of-run-whole′ 𝓤 H A at-mem run .pre to-3)
   goes-3 = qed W ((‵ (flft κ-s q-s) ⊛ ‵ (flft κ-image q-image) ⊛ ‵ (flft κ-table q-table) ⊛ ‵ ftrue) ∷ ‵ (owns (MutRef (named 0) κ-s T-Session.the-row ∷ MutSlice (named 1) κ-image u8 ∷ MutSlice (named 2) κ-table u64 ∷ []) (ref-s, (ref-image, (ref-table, tt))) (vptr b-s o-s ∷ [], (sliceVal (b-image, o-image) (length x-image) ∷ [], (sliceVal (b-table, o-table) (length x-table) ∷ [], tt)))) ∷ []) ∵ join ! $ frame ! $ done !
 
   -- what the triple of `same` binds outside, and what it asks
@@ -201,19 +198,19 @@ module _ {M : Type 1} (𝓤 : URA M) (H : Heap 𝓤) (A : Atoms 𝓤) (W : Given
       → ent 𝓤 (⋆ 𝓤 H A (‵ (flft κ-s q-s) ∷ ‵ (flft κ-image q-image) ∷ ‵ (flft κ-table q-table) ∷ ‵ (fres γ-s (T-Session.the-row .coded .code z-s)) ∷ ‵ (finally u8 γ-image z-image) ∷ ‵ (finally u64 γ-table z-table) ∷ ‵ (T-Answer.the-row .own r (w ∷ [])) ∷ [])) (Post w)
   exits-1 r-short r-report r w z-s z-image z-table e-short held e-report e l-image l-table =
       qed W (‵ (flft κ-s q-s) ∷ ‵ (flft κ-image q-image) ∷ ‵ (flft κ-table q-table) ∷ ‵ (fres γ-s (T-Session.the-row .coded .code z-s)) ∷ ‵ (finally u8 γ-image z-image) ∷ ‵ (finally u64 γ-table z-table) ∷ ‵ (T-Answer.the-row .own r (w ∷ [])) ∷ []) ∵
-      suffices ! _ (ends-at 𝓤 H A self.ended stayed (self.clauses 𝓤 H A at-mem run) W (((κ-s, (κ-image, (κ-table, tt))), (q-s, (q-image, (q-table, tt))), bounds, a, vals), tt) w r (z-s, (z-image, (z-table, tt))) (tt, (l-image, (l-table, tt)))) $ says ! ((r-report, (record { within = e-report .within; without = λ no. absurd (no (e-short .0 (is-true r-short held))) }, e))) $
+      suffices ! _ (ends-at 𝓤 H A self.ended stayed (self.clauses 𝓤 H A at-mem run) W (((κ-s, (κ-image, (κ-table, tt))), (q-s, (q-image, (q-table, tt))), bounds, a, vals), tt) w r (z-s, (z-image, (z-table, tt))) (tt, (l-image, (l-table, tt)))) $ says ! ((r-report, (record { commit = e-report .within; cleaning = λ q. e-report .within (e-short .0 (is-true r-short held)); otherwise = λ n q. absurd (n (e-short .0 (is-true r-short held))) }, e))) $
       nothing ! $ move ! (3 ∷ 0 ∷ []) $ join ! $ move ! (2 ∷ 0 ∷ []) $ join ! $ move ! (1 ∷ 0 ∷ []) $ join ! $ frame ! $
       nothing ! $ move ! (3 ∷ 0 ∷ []) $ fjoin ! $ move ! (2 ∷ 0 ∷ []) $ fjoin ! $ move ! (1 ∷ 0 ∷ []) $ fjoin ! $ done !
 
-  exits-2 : (r-short : Bool) (r-answer : Answer) (r : Answer) (w : Val) (z-s : Session) (z-image : List ℕ) (z-table : List ℕ) → Said-is-inner′ r-short (x-s .control) (x-s .setup) (length x-image) (length x-table) → T (not r-short) → Said-step-whole′ r-answer x-s z-s x-image z-image x-table z-table → Said-same′ r r-answer → length z-image ≡ length x-image → length z-table ≡ length x-table
+  exits-2 : (r-short : Bool) (r-answer : Answer) (r : Answer) (w : Val) (z-s : Session) (z-image : List ℕ) (z-table : List ℕ) → Said-is-inner′ r-short (x-s .control) (x-s .setup) (length x-image) (length x-table) → T (not r-short) → Said-run-whole′ r-answer x-s z-s x-image z-image x-table z-table → Said-same′ r r-answer → length z-image ≡ length x-image → length z-table ≡ length x-table
       → ent 𝓤 (⋆ 𝓤 H A (‵ (flft κ-s q-s) ∷ ‵ (flft κ-image q-image) ∷ ‵ (flft κ-table q-table) ∷ ‵ (fres γ-s (T-Session.the-row .coded .code z-s)) ∷ ‵ (finally u8 γ-image z-image) ∷ ‵ (finally u64 γ-table z-table) ∷ ‵ (T-Answer.the-row .own r (w ∷ [])) ∷ [])) (Post w)
   exits-2 r-short r-answer r w z-s z-image z-table e-short failed e-answer e l-image l-table =
       qed W (‵ (flft κ-s q-s) ∷ ‵ (flft κ-image q-image) ∷ ‵ (flft κ-table q-table) ∷ ‵ (fres γ-s (T-Session.the-row .coded .code z-s)) ∷ ‵ (finally u8 γ-image z-image) ∷ ‵ (finally u64 γ-table z-table) ∷ ‵ (T-Answer.the-row .own r (w ∷ [])) ∷ []) ∵
-      suffices ! _ (ends-at 𝓤 H A self.ended stayed (self.clauses 𝓤 H A at-mem run) W (((κ-s, (κ-image, (κ-table, tt))), (q-s, (q-image, (q-table, tt))), bounds, a, vals), tt) w r (z-s, (z-image, (z-table, tt))) (tt, (l-image, (l-table, tt)))) $ says ! (subst (Told (Run x-s z-s x-image z-image x-table z-table)) (sym e) (e-answer .0, (record { within = λ h. absurd (e-short .1 (is-false r-short failed) h); without = λ no. e-answer .1 .0 }, e-answer .1 .1))) $
+      suffices ! _ (ends-at 𝓤 H A self.ended stayed (self.clauses 𝓤 H A at-mem run) W (((κ-s, (κ-image, (κ-table, tt))), (q-s, (q-image, (q-table, tt))), bounds, a, vals), tt) w r (z-s, (z-image, (z-table, tt))) (tt, (l-image, (l-table, tt)))) $ says ! (subst (Told (Run x-s z-s x-image z-image x-table z-table)) (sym e) (e-answer .0, (record { commit = λ h. absurd (e-short .1 (is-false r-short failed) h); cleaning = λ q. e-answer .1 .0 .within q; otherwise = λ n q. e-answer .1 .0 .without q }, e-answer .1 .1))) $
       nothing ! $ move ! (3 ∷ 0 ∷ []) $ join ! $ move ! (2 ∷ 0 ∷ []) $ join ! $ move ! (1 ∷ 0 ∷ []) $ join ! $ frame ! $
       nothing ! $ move ! (3 ∷ 0 ∷ []) $ fjoin ! $ move ! (2 ∷ 0 ∷ []) $ fjoin ! $ move ! (1 ∷ 0 ∷ []) $ fjoin ! $ done !
 
-  module _ (C : Calls 𝓤 H) (Λ : Loops 𝓤 H) (fm : FmC 𝓤 H (W .laws) C) (known-is-inner′ : Triple 𝓤 (C #is-inner′) (Of-is-inner′ 𝓤 H A at-mem run)) (known-run-inner′ : Triple 𝓤 (C #run-inner′) (Of-run-inner′ 𝓤 H A at-mem run)) (known-told′ : Triple 𝓤 (C #told′) (Of-told′ 𝓤 H A at-mem run)) (known-step-whole′ : Triple 𝓤 (C #step-whole′) (Of-step-whole′ 𝓤 H A at-mem run)) (known-same′ : Triple 𝓤 (C #same′) (Of-same′ 𝓤 H A at-mem run)) where
+  module _ (C : Calls 𝓤 H) (Λ : Loops 𝓤 H) (fm : FmC 𝓤 H (W .laws) C) (known-is-inner′ : Triple 𝓤 (C #is-inner′) (Of-is-inner′ 𝓤 H A at-mem run)) (known-run-inner′ : Triple 𝓤 (C #run-inner′) (Of-run-inner′ 𝓤 H A at-mem run)) (known-told′ : Triple 𝓤 (C #told′) (Of-told′ 𝓤 H A at-mem run)) (known-run-whole′ : Triple 𝓤 (C #run-whole′) (Of-run-whole′ 𝓤 H A at-mem run)) (known-same′ : Triple 𝓤 (C #same′) (Of-same′ 𝓤 H A at-mem run)) where
     walk : ent 𝓤 (onEntry 𝓤 H A self.signature (κ-s, (κ-image, (κ-table, tt))) (q-s, (q-image, (q-table, tt))) a vals) (WpFn 𝓤 H C Λ code.function (vptr b-s o-s ∷ sliceVal (b-image, o-image) (length x-image) ∷ sliceVal (b-table, o-table) (length x-table) ∷ []) Post)
     walk =
         qed W ((‵ (flft κ-s q-s) ⊛ ‵ (flft κ-image q-image) ⊛ ‵ (flft κ-table q-table) ⊛ ‵ ftrue) ∷ ‵ (owns (MutRef (named 0) κ-s T-Session.the-row ∷ MutSlice (named 1) κ-image u8 ∷ MutSlice (named 2) κ-table u64 ∷ []) a vals) ∷ []) ∵ enter ! C Λ code.function (vptr b-s o-s ∷ sliceVal (b-image, o-image) (length x-image) ∷ sliceVal (b-table, o-table) (length x-table) ∷ []) _ $
@@ -265,19 +262,19 @@ module _ {M : Type 1} (𝓤 : URA M) (H : Heap 𝓤) (A : Atoms 𝓤) (W : Given
         move ! (59 ∷ 60 ∷ []) $ free1 ! $ move ! (57 ∷ 58 ∷ []) $ free1 ! $ move ! (55 ∷ 56 ∷ []) $ free1 ! $ move ! (53 ∷ 54 ∷ []) $ free1 ! $ move ! (51 ∷ 52 ∷ []) $ free1 ! $ move ! (49 ∷ 50 ∷ []) $ free1 ! $ move ! (47 ∷ 48 ∷ []) $ free1 ! $ move ! (45 ∷ 46 ∷ []) $ free1 ! $ move ! (43 ∷ 44 ∷ []) $ free1 ! $ move ! (41 ∷ 42 ∷ []) $ free1 ! $ move ! (39 ∷ 40 ∷ []) $ free1 ! $ move ! (37 ∷ 38 ∷ []) $ free1 ! $ move ! (35 ∷ 36 ∷ []) $ free1 ! $ move ! (33 ∷ 34 ∷ []) $ free1 ! $ move ! (31 ∷ 32 ∷ []) $ free1 ! $ move ! (29 ∷ 30 ∷ []) $ free1 ! $ move ! (27 ∷ 28 ∷ []) $ free1 ! $ move ! (25 ∷ 26 ∷ []) $ free1 ! $ move ! (23 ∷ 24 ∷ []) $ free1 ! $ move ! (21 ∷ 22 ∷ []) $ free1 ! $ move ! (19 ∷ 20 ∷ []) $ free1 ! $ move ! (17 ∷ 18 ∷ []) $ free1 ! $ free0 ! $
         keep ! (7 ∷ 6 ∷ 4 ∷ 11 ∷ 10 ∷ 8 ∷ 0 ∷ []) $ by ! (exits-1 r-short r-report r w (zs-report .0) (zs-report .1 .0) (zs-report .1 .1 .0) e-short held e-report e l-image l-table))))))))))))))
         (λ failed.
-        -- `step_whole`
+        -- `run_whole`
         assigns ! (addr ! (from ! (hop ! (look ! 51 refl) (stop !)))) (from ! (stop !)) (init ! 19 refl (tt, tt)) $
         assigns ! (addr ! (from ! (fld ! refl (hop ! (look-in ! 49 (sub ! 0 refl (whole !))) (stop !))))) (from ! (stop !)) (init ! 17 refl (tt, tt)) $
         assigns ! (agg ! (and-then ! (load ! (from ! (stop !)) (look ! 17 refl)) (and-then ! (load ! (from ! (fld ! refl (stop !))) (look-in ! 49 (sub ! 1 refl (whole !)))) (no-more !)))) (from ! (stop !)) (init ! 15 refl (tt, (tt, (record { fits = room-image .0 }, tt)))) $
         assigns ! (addr ! (from ! (fld ! refl (hop ! (look-in ! 47 (sub ! 0 refl (whole !))) (stop !))))) (from ! (stop !)) (init ! 13 refl (tt, tt)) $
         assigns ! (agg ! (and-then ! (load ! (from ! (stop !)) (look ! 13 refl)) (and-then ! (load ! (from ! (fld ! refl (stop !))) (look-in ! 47 (sub ! 1 refl (whole !)))) (no-more !)))) (from ! (stop !)) (init ! 11 refl (tt, (tt, (record { fits = room-table .0 }, tt)))) $
         nothing ! $ move ! (9 ∷ 0 ∷ []) $ fjoin ! $ move ! (10 ∷ 0 ∷ []) $ fjoin ! $ move ! (4 ∷ 0 ∷ []) $ fjoin ! $ nothing ! $ move ! (6 ∷ 0 ∷ []) $ join ! $ move ! (7 ∷ 0 ∷ []) $ join ! $ move ! (5 ∷ 0 ∷ []) $ join ! $
-        use2 W (raw (Of-step-whole′ 𝓤 H A at-mem run .pre to-3)) goes-3 $
-        calls-at ! fm (Of-step-whole′ 𝓤 H A at-mem run) known-step-whole′ to-3 (and-then ! (load ! (from ! (stop !)) (look ! 14 refl)) (and-then ! (load ! (from ! (stop !)) (look ! 10 refl)) (and-then ! (load ! (from ! (stop !)) (look ! 6 refl)) (no-more !)))) (λ w-answer.
-        use1 W (later (some (λ (r-answer : Answer). ((‵ (flft κ-s q-s) ⊛ ‵ (flft κ-image q-image) ⊛ ‵ (flft κ-table q-table) ⊛ ‵ ftrue) ⊛ ‵ (T-Answer.the-row .own r-answer (w-answer ∷ []))) ⊛ raw (ensured 𝓤 H A step-whole′.ended (step-whole′.clauses 𝓤 H A at-mem run) (κ-s, (κ-image, (κ-table, tt))) (ref-s, (ref-image, (ref-table, tt))) tt r-answer)))) (id⊢ 𝓤 _) $ await ! tt $ pick ! (λ r-answer. split ! $
-        -- what `step_whole` ensures, at some last values
-        move ! (1 ∷ []) $ use1 W (some (λ (zs-answer : (Session × (List ℕ × (List ℕ × Unit {0})))). ‵ (lasts step-whole′.ended (κ-s, (κ-image, (κ-table, tt))) (ref-s, (ref-image, (ref-table, tt))) zs-answer) ⊛ raw (fact 𝓤 (Said-step-whole′ r-answer x-s (zs-answer .0) x-image (zs-answer .1 .0) x-table (zs-answer .1 .1 .0))))) (id⊢ 𝓤 _) $ pick ! (λ zs-answer. split ! $
-        move ! (1 ∷ []) $ heard ! (Said-step-whole′ r-answer x-s (zs-answer .0) x-image (zs-answer .1 .0) x-table (zs-answer .1 .1 .0)) (λ e-answer. fsplit ! $ move ! (1 ∷ []) $ fsplit ! $ fsplit ! $ move ! (1 ∷ []) $ feqL ! (λ l-image. move ! (1 ∷ []) $ fsplit ! $ fsplit ! $ move ! (1 ∷ []) $ feqL ! (λ l-table.
+        use2 W (raw (Of-run-whole′ 𝓤 H A at-mem run .pre to-3)) goes-3 $
+        calls-at ! fm (Of-run-whole′ 𝓤 H A at-mem run) known-run-whole′ to-3 (and-then ! (load ! (from ! (stop !)) (look ! 14 refl)) (and-then ! (load ! (from ! (stop !)) (look ! 10 refl)) (and-then ! (load ! (from ! (stop !)) (look ! 6 refl)) (no-more !)))) (λ w-answer.
+        use1 W (later (some (λ (r-answer : Answer). ((‵ (flft κ-s q-s) ⊛ ‵ (flft κ-image q-image) ⊛ ‵ (flft κ-table q-table) ⊛ ‵ ftrue) ⊛ ‵ (T-Answer.the-row .own r-answer (w-answer ∷ []))) ⊛ raw (ensured 𝓤 H A run-whole′.ended (run-whole′.clauses 𝓤 H A at-mem run) (κ-s, (κ-image, (κ-table, tt))) (ref-s, (ref-image, (ref-table, tt))) tt r-answer)))) (id⊢ 𝓤 _) $ await ! tt $ pick ! (λ r-answer. split ! $
+        -- what `run_whole` ensures, at some last values
+        move ! (1 ∷ []) $ use1 W (some (λ (zs-answer : (Session × (List ℕ × (List ℕ × Unit {0})))). ‵ (lasts run-whole′.ended (κ-s, (κ-image, (κ-table, tt))) (ref-s, (ref-image, (ref-table, tt))) zs-answer) ⊛ raw (fact 𝓤 (Said-run-whole′ r-answer x-s (zs-answer .0) x-image (zs-answer .1 .0) x-table (zs-answer .1 .1 .0))))) (id⊢ 𝓤 _) $ pick ! (λ zs-answer. split ! $
+        move ! (1 ∷ []) $ heard ! (Said-run-whole′ r-answer x-s (zs-answer .0) x-image (zs-answer .1 .0) x-table (zs-answer .1 .1 .0)) (λ e-answer. fsplit ! $ move ! (1 ∷ []) $ fsplit ! $ fsplit ! $ move ! (1 ∷ []) $ feqL ! (λ l-image. move ! (1 ∷ []) $ fsplit ! $ fsplit ! $ move ! (1 ∷ []) $ feqL ! (λ l-table.
         move ! (4 ∷ []) $ split ! $ move ! (1 ∷ []) $ peeks ! T-Answer.the-row (Is T-Answer.the-row) (shows 𝓤 H A T-Answer.the-row) r-answer (w-answer ∷ []) (λ is-answer. move ! (1 ∷ []) $ split ! $ move ! (1 ∷ []) $ split ! $ move ! (1 ∷ []) $ split ! $ land ! (from ! (stop !)) (init ! 40 refl (LL.lawful T-Answer.the-type T-Answer′.the-laws 𝓤 H A W .typed r-answer _ is-answer .0)) $
         -- `same`
         nothing ! $ move ! (5 ∷ 0 ∷ []) $ fjoin ! $ nothing ! $
@@ -294,17 +291,17 @@ module _ {M : Type 1} (𝓤 : URA M) (H : Heap 𝓤) (A : Atoms 𝓤) (W : Given
         keep ! (7 ∷ 6 ∷ 4 ∷ 11 ∷ 10 ∷ 8 ∷ 0 ∷ []) $ by ! (exits-2 r-short r-answer r w (zs-answer .0) (zs-answer .1 .0) (zs-answer .1 .1 .0) e-short failed e-answer e l-image l-table)))))))))))))))))))))))))))))))))))))))))))
 
 module _ {M : Type 1} (𝓤 : URA M) (H : Heap 𝓤) (A : Atoms 𝓤) (W : Given 𝓤 H A) (mem : Memory → SProp 𝓤) (run : Routine → Fun 𝓤) where
-  walks : (C : Calls 𝓤 H) (Λ : Loops 𝓤 H) → FmC 𝓤 H (W .laws) C → Triple 𝓤 (C #is-inner′) (Of-is-inner′ 𝓤 H A mem run) → Triple 𝓤 (C #run-inner′) (Of-run-inner′ 𝓤 H A mem run) → Triple 𝓤 (C #told′) (Of-told′ 𝓤 H A mem run) → Triple 𝓤 (C #step-whole′) (Of-step-whole′ 𝓤 H A mem run) → Triple 𝓤 (C #same′) (Of-same′ 𝓤 H A mem run) → Walks 𝓤 H A self.ended stayed (WpFn 𝓤 H C Λ code.function) (self.clauses 𝓤 H A mem run)
-  walks C Λ fm known-is-inner′ known-run-inner′ known-told′ known-step-whole′ known-same′ = walked 𝓤 H A self.ended stayed (self.clauses 𝓤 H A mem run) (WpFn 𝓤 H C Λ code.function)
+  walks : (C : Calls 𝓤 H) (Λ : Loops 𝓤 H) → FmC 𝓤 H (W .laws) C → Triple 𝓤 (C #is-inner′) (Of-is-inner′ 𝓤 H A mem run) → Triple 𝓤 (C #run-inner′) (Of-run-inner′ 𝓤 H A mem run) → Triple 𝓤 (C #told′) (Of-told′ 𝓤 H A mem run) → Triple 𝓤 (C #run-whole′) (Of-run-whole′ 𝓤 H A mem run) → Triple 𝓤 (C #same′) (Of-same′ 𝓤 H A mem run) → Walks 𝓤 H A self.ended stayed (WpFn 𝓤 H C Λ code.function) (self.clauses 𝓤 H A mem run)
+  walks C Λ fm known-is-inner′ known-run-inner′ known-told′ known-run-whole′ known-same′ = walked 𝓤 H A self.ended stayed (self.clauses 𝓤 H A mem run) (WpFn 𝓤 H C Λ code.function)
       (λ κs. (ptr-vals, (slice-vals, (slice-vals, tt)))) (λ κs. (mut-tells (named 0) (κs .0) T-Session.the-row, (mut-slice-tells (named 1) (κs .1 .0) u8, (mut-slice-tells (named 2) (κs .1 .1 .0) u64, tt))))
       (λ κs qs bounds a g are. via 𝓤 _ (fst∗ 𝓤 _ (emp 𝓤))
-      (walk 𝓤 H A W mem run (κs .0) (κs .1 .0) (κs .1 .1 .0) bounds (qs .0) (qs .1 .0) (qs .1 .1 .0) (a .0 .ptr .0) (a .0 .ptr .1) (a .0 .name) (a .0 .now) (a .1 .0 .ptr .0) (a .1 .0 .ptr .1) (a .1 .0 .name) (a .1 .0 .now) (are .1 .0 .0 .1) (a .1 .1 .0 .ptr .0) (a .1 .1 .0 .ptr .1) (a .1 .1 .0 .name) (a .1 .1 .0 .now) (are .1 .1 .0 .0 .1) C Λ fm known-is-inner′ known-run-inner′ known-told′ known-step-whole′ known-same′))
+      (walk 𝓤 H A W mem run (κs .0) (κs .1 .0) (κs .1 .1 .0) bounds (qs .0) (qs .1 .0) (qs .1 .1 .0) (a .0 .ptr .0) (a .0 .ptr .1) (a .0 .name) (a .0 .now) (a .1 .0 .ptr .0) (a .1 .0 .ptr .1) (a .1 .0 .name) (a .1 .0 .now) (are .1 .0 .0 .1) (a .1 .1 .0 .ptr .0) (a .1 .1 .0 .ptr .1) (a .1 .1 .0 .name) (a .1 .1 .0 .now) (are .1 .1 .0 .0 .1) C Λ fm known-is-inner′ known-run-inner′ known-told′ known-run-whole′ known-same′))
 
-meets : {M : Type 1} (𝓤 : URA M) (H : Heap 𝓤) (A : Atoms 𝓤) → Given 𝓤 H A → (mem : Memory → SProp 𝓤) (run : Routine → Fun 𝓤) (𝓣 : Tables 𝓤 H) → Triple 𝓤 (𝓣 .C #is-inner′) (Of-is-inner′ 𝓤 H A mem run) → Triple 𝓤 (𝓣 .C #run-inner′) (Of-run-inner′ 𝓤 H A mem run) → Triple 𝓤 (𝓣 .C #told′) (Of-told′ 𝓤 H A mem run) → Triple 𝓤 (𝓣 .C #step-whole′) (Of-step-whole′ 𝓤 H A mem run) → Triple 𝓤 (𝓣 .C #same′) (Of-same′ 𝓤 H A mem run)
+meets : {M : Type 1} (𝓤 : URA M) (H : Heap 𝓤) (A : Atoms 𝓤) → Given 𝓤 H A → (mem : Memory → SProp 𝓤) (run : Routine → Fun 𝓤) (𝓣 : Tables 𝓤 H) → Triple 𝓤 (𝓣 .C #is-inner′) (Of-is-inner′ 𝓤 H A mem run) → Triple 𝓤 (𝓣 .C #run-inner′) (Of-run-inner′ 𝓤 H A mem run) → Triple 𝓤 (𝓣 .C #told′) (Of-told′ 𝓤 H A mem run) → Triple 𝓤 (𝓣 .C #run-whole′) (Of-run-whole′ 𝓤 H A mem run) → Triple 𝓤 (𝓣 .C #same′) (Of-same′ 𝓤 H A mem run)
     → Meets 𝓤 H A self.signature (WpFn 𝓤 H (𝓣 .C) (𝓣 .Λ) code.function) (self.spec 𝓤 H A mem run)
-meets 𝓤 H A W mem run 𝓣 known-is-inner′ known-run-inner′ known-told′ known-step-whole′ known-same′ =
+meets 𝓤 H A W mem run 𝓣 known-is-inner′ known-run-inner′ known-told′ known-run-whole′ known-same′ =
     walk-meets 𝓤 H A self.ended stayed W (goes-gave-ref 𝓤 H A W 3 0 tt (plain (λ _. T-Session.the-row)), (goes-gave-slice 𝓤 H A W 3 1 tt (plain (λ _. u8)), (goes-gave-slice 𝓤 H A W 3 2 tt (plain (λ _. u64)), tt))) (self.clauses 𝓤 H A mem run)
-    (WpFn 𝓤 H (𝓣 .C) (𝓣 .Λ) code.function) (WpFn-mono 𝓤 H (W .laws) 𝓣 code.function) (walks 𝓤 H A W mem run (𝓣 .C) (𝓣 .Λ) (fmOf 𝓤 H (W .laws) 𝓣) known-is-inner′ known-run-inner′ known-told′ known-step-whole′ known-same′)
+    (WpFn 𝓤 H (𝓣 .C) (𝓣 .Λ) code.function) (WpFn-mono 𝓤 H (W .laws) 𝓣 code.function) (walks 𝓤 H A W mem run (𝓣 .C) (𝓣 .Λ) (fmOf 𝓤 H (W .laws) 𝓣) known-is-inner′ known-run-inner′ known-told′ known-run-whole′ known-same′)
 
 pub zkv-run-spec : {M : Type 1} → stated.statement M
 unfolding code.routine tablesOf
@@ -315,5 +312,5 @@ zkv-run-spec 𝓤 H 𝓜 𝓖 𝓡 =
     (cited 𝓤 H (Of-is-inner′ 𝓤 H (𝓖 .A) (𝓜 .mem) (𝓡 .run)) 𝓜 𝓡 code.env #is-inner′ is-inner′-def.routine code.calls-stepping·is-inner (is-inner′-thm.met 𝓤 H 𝓜 𝓖 𝓡))
     (cited 𝓤 H (Of-run-inner′ 𝓤 H (𝓖 .A) (𝓜 .mem) (𝓡 .run)) 𝓜 𝓡 code.env #run-inner′ run-inner′-def.routine code.calls-store·run-inner (run-inner′-thm.met 𝓤 H 𝓜 𝓖 𝓡))
     (cited 𝓤 H (Of-told′ 𝓤 H (𝓖 .A) (𝓜 .mem) (𝓡 .run)) 𝓜 𝓡 code.env #told′ told′-def.routine code.calls-capi·told (told′-thm.met 𝓤 H 𝓜 𝓖 𝓡))
-    (cited 𝓤 H (Of-step-whole′ 𝓤 H (𝓖 .A) (𝓜 .mem) (𝓡 .run)) 𝓜 𝓡 code.env #step-whole′ step-whole′-def.routine code.calls-capi·step-whole (step-whole′-thm.met 𝓤 H 𝓜 𝓖 𝓡))
+    (cited 𝓤 H (Of-run-whole′ 𝓤 H (𝓖 .A) (𝓜 .mem) (𝓡 .run)) 𝓜 𝓡 code.env #run-whole′ run-whole′-def.routine code.calls-capi·run-whole (run-whole′-thm.met 𝓤 H 𝓜 𝓖 𝓡))
     (cited 𝓤 H (Of-same′ 𝓤 H (𝓖 .A) (𝓜 .mem) (𝓡 .run)) 𝓜 𝓡 code.env #same′ same′-def.routine code.calls-capi·same (same′-thm.met 𝓤 H 𝓜 𝓖 𝓡)))

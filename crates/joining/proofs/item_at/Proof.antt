@@ -40,17 +40,14 @@ returns-2 c =
     let a = c .before .before .before .before .before .before .before .before .args in
     staged-long (a .buffer .now) (a .at) (a .end) _ (c .before .before .before .before .before .first-of .ensures) _ _ _ _ _ (c .before .before .before .first .given .1) (c .before .words-for .ensures .0) (c .if2 .taken)
 
-add-t15 : tie.Need-add-t15
-add-t15 c = search needs
+add-t16 : tie.Need-add-t16
+add-t16 c = search needs
 
-mul-t16 : tie.Need-mul-t16
-mul-t16 c = search needs
+mul-t17 : tie.Need-mul-t17
+mul-t17 c = search needs
 
-element-copy-out-t20 : tie.Need-element-copy-out-t20
-element-copy-out-t20 c = search needs
-
-extent-of-requires : tie.Need-extent-of-requires
-extent-of-requires c κs = search needs
+element-copy-out-t21 : tie.Need-element-copy-out-t21
+element-copy-out-t21 c = search needs
 
 returns-3 : tie.Need-returns-3
 returns-3 c =
@@ -64,8 +61,8 @@ returns-4 c =
 
 returns-5 : tie.Need-returns-5
 returns-5 c =
-    let a = c .before .before .before .before .before .before .before .before .before .before .args in
-    staged-entry (a .buffer .now) (a .at) (a .end) _ (c .before .before .before .before .before .before .before .first-of .ensures) _ _ _ _ _ (c .before .before .before .before .before .first .given .1) (c .before .before .before .words-for .ensures .0) (c .before .before .before .before .before .before .before .before .before .if1 .left) (c .before .before .if2 .left) _ (c .extent-of .ensures)
+    let a = c .before .before .before .before .before .before .before .before .before .args in
+    staged-entry (a .buffer .now) (a .at) (a .end) _ (c .before .before .before .before .before .before .first-of .ensures) _ _ _ _ _ (c .before .before .before .before .first .given .1) (c .before .before .words-for .ensures .0) (c .before .before .before .before .before .before .before .before .if1 .left) (c .before .if2 .left)
 
 pub item-at-spec : {M : Type 1} → statement M
 item-at-spec =
@@ -82,10 +79,9 @@ item-at-spec =
     sub-if2
     add-if2
     returns-2
-    add-t15
-    mul-t16
-    element-copy-out-t20
-    extent-of-requires
+    add-t16
+    mul-t17
+    element-copy-out-t21
     returns-3
     returns-4
     returns-5)

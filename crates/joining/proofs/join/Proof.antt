@@ -43,8 +43,11 @@ returns c = going-joins _ _ _ _ _ _ _ _ _ _ _ _ _ _ (c .before .before .before .
 enum-known-item : tie.Need-enum-known-item Inv-loop μ-loop
 enum-known-item c = search needs
 
+extent-of-requires : tie.Need-extent-of-requires Inv-loop μ-loop
+extent-of-requires c κs = search needs
+
 add-alone : tie.Need-add-alone Inv-loop μ-loop
-add-alone c = let f = told-fits _ _ _ _ (c .before .before .before .item-at .ensures) _ _ _ _ (c .before .item .given .1) in omega arith
+add-alone c = let f = told-fits _ _ _ _ (c .before .before .before .before .item-at .ensures) _ _ _ _ _ _ (c .before .before .item .given .1) in omega arith
 
 alone-requires : tie.Need-alone-requires Inv-loop μ-loop
 alone-requires c κs = search needs
@@ -52,17 +55,20 @@ alone-requires c κs = search needs
 join-one-requires : tie.Need-join-one-requires Inv-loop μ-loop
 join-one-requires c κs = search needs
 
+claim-requires : tie.Need-claim-requires Inv-loop μ-loop
+claim-requires c κs = search needs
+
 add-at : tie.Need-add-at Inv-loop μ-loop
-add-at c = let f = told-fits _ _ _ _ (c .before .before .before .before .before .before .before .before .before .item-at .ensures) _ _ _ _ (c .before .before .before .before .before .before .before .item .given .1) in omega arith
+add-at c = let f = told-fits _ _ _ _ (c .before .before .before .before .before .before .before .before .before .before .before .before .item-at .ensures) _ _ _ _ _ _ (c .before .before .before .before .before .before .before .before .before .before .item .given .1) in omega arith
 
 add-at-2 : tie.Need-add-at-2 Inv-loop μ-loop
-add-at-2 c = let f = told-fits _ _ _ _ (c .before .before .before .before .before .before .before .before .before .item-at .ensures) _ _ _ _ (c .before .before .before .before .before .before .before .item .given .1) in omega arith
+add-at-2 c = let f = told-fits _ _ _ _ (c .before .before .before .before .before .before .before .before .before .before .before .before .item-at .ensures) _ _ _ _ _ _ (c .before .before .before .before .before .before .before .before .before .before .item .given .1) in omega arith
 
 loop-less : tie.Need-loop-less Inv-loop μ-loop
-loop-less c = let f = told-fits _ _ _ _ (c .before .before .before .before .before .before .before .before .before .item-at .ensures) _ _ _ _ (c .before .before .before .before .before .before .before .item .given .1) in omega arith
+loop-less c = let f = told-fits _ _ _ _ (c .before .before .before .before .before .before .before .before .before .before .before .before .item-at .ensures) _ _ _ _ _ _ (c .before .before .before .before .before .before .before .before .before .before .item .given .1) in omega arith
 
 loop-again : tie.Need-loop-again Inv-loop μ-loop
-loop-again c = going-next _ _ _ _ _ _ _ _ _ _ _ _ (c .before .before .before .before .before .before .before .before .before .before .before .loop .inv) _ (c .before .before .before .before .before .before .before .before .before .item-at .ensures) _ _ _ _ (c .before .before .before .before .before .before .before .item .given .1) (omega arith) _ (c .before .before .before .before .before .alone .ensures) _ _ _ (c .before .before .join-one .ensures)
+loop-again c = going-next _ _ _ _ _ _ _ _ _ _ _ _ (c .before .before .before .before .before .before .before .before .before .before .before .before .before .before .loop .inv) _ (c .before .before .before .before .before .before .before .before .before .before .before .before .item-at .ensures) _ _ _ _ _ _ (c .before .before .before .before .before .before .before .before .before .before .item .given .1) (omega arith) _ _ (c .before .before .before .before .before .before .before .before .extent-of .ensures) (c .before .before .before .before .before .before .before .alone .ensures) _ _ _ (c .before .before .before .before .join-one .ensures) _ (c .claim .ensures)
 
 pub join-spec : {M : Type 1} → statement M
 join-spec =
@@ -79,9 +85,11 @@ join-spec =
     same-length
     returns
     enum-known-item
+    extent-of-requires
     add-alone
     alone-requires
     join-one-requires
+    claim-requires
     add-at
     add-at-2
     loop-less

@@ -8,17 +8,17 @@ use Rattle.recovery.proofs.closed_or.Tie as tie
 returns : tie.Need-returns
 returns c =
     let a = c .before .args in
-    closed-yes (a .phase) (a .refusal) (λ h. omega arith) (λ h. omega arith) (λ h. omega arith) (λ h. omega arith)
+    closed-yes (a .phase) (a .refusal) (λ h. omega arith) (λ h. omega arith) (λ h. omega arith) (λ h. omega arith) (λ h. omega arith)
 
 returns-2 : tie.Need-returns-2
 returns-2 c =
     let a = c .before .before .args in
-    closed-yes (a .phase) (a .refusal) (λ h. omega arith) (λ h. omega arith) (λ h. omega arith) (λ h. omega arith)
+    closed-yes (a .phase) (a .refusal) (λ h. omega arith) (λ h. omega arith) (λ h. omega arith) (λ h. omega arith) (λ h. omega arith)
 
 returns-3 : tie.Need-returns-3
 returns-3 c =
     let a = c .before .before .before .args in
-    closed-yes (a .phase) (a .refusal) (λ h. omega arith) (λ h. omega arith) (λ h. omega arith) (λ h. omega arith)
+    closed-yes (a .phase) (a .refusal) (λ h. omega arith) (λ h. omega arith) (λ h. omega arith) (λ h. omega arith) (λ h. omega arith)
 
 returns-4 : tie.Need-returns-4
 returns-4 c =

@@ -27,9 +27,12 @@ returns c =
 same-length-2 : tie.Need-same-length-2
 same-length-2 c = search needs
 
+no-source-requires : tie.Need-no-source-requires
+no-source-requires c κs = search needs
+
 returns-2 : tie.Need-returns-2
 returns-2 c =
-    opens-accepted _ _ _ _ _ _ _ _ (c .before .before .before .before .before .judge .ensures) _ (c .before .verdict2 .given .1)
+    opens-accepted _ _ _ _ _ _ _ _ (c .before .before .before .before .before .before .judge .ensures) _ _ (c .before .before .verdict2 .given .1) (c .no-source .ensures)
 
 pub open-core-spec : {M : Type 1} → statement M
 open-core-spec =
@@ -39,6 +42,7 @@ open-core-spec =
     enum-known-verdict
     empty-requires
     enum-known-verdict-2
+    no-source-requires
     same-length
     returns
     same-length-2

@@ -18,7 +18,7 @@ returns : tie.Need-returns
 returns c = B.plan-refused _ _ _ _ _ _ (c .before .before .before .plan-commit .ensures) _ (c .before .plan .given .1)
 
 returns-2 : tie.Need-returns-2
-returns-2 c = B.plan-begun _ _ _ _ _ _ (c .before .before .before .plan-commit .ensures) _ _ _ _ _ _ (c .before .plan2 .given .1)
+returns-2 c = B.plan-begun _ _ _ _ _ _ (c .before .before .before .before .plan-commit .ensures) _ _ _ _ _ _ (c .before .before .plan2 .given .1)
 
 pub commit-core-spec : {M : Type 1} → statement M
 commit-core-spec =

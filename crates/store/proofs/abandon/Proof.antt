@@ -4,7 +4,7 @@
 use mathlib.Core.Path.{_≡_}
 use Rattle.spec.specs.Calls.{Open, Put, Delete, Commit, Abandon, Step, Format, entry}
 use Rattle.spec.specs.Contract.{Called}
-use Rattle.session.specs.State.{stateOf}
+use Rattle.session.specs.State.{stateOf, limit}
 use Rattle.session.specs.Fits.{Fits}
 use Prim.Native.Nat.{_≤_, _<_}
 use lib.ListN.{getD}
@@ -93,7 +93,7 @@ Core 𝓤 H A mem run = tripleOf 𝓤 H A core.signature (core.spec 𝓤 H A mem
 
 -- what it ensures
 abbrev Said : Moved → Control → Setup → List ℕ → List ℕ → List ℕ → Type 0
-Said r control setup x-buffer x-image x-table = Called stateOf Fits 12 256 Abandon (record { control = control; setup = setup; buffer = x-buffer }) (record { control = r .control; setup = r .setup; buffer = x-buffer }) (x-image) (x-image) (x-table) (x-table) (r .report)
+Said r control setup x-buffer x-image x-table = Called stateOf Fits 12 limit Abandon (record { control = control; setup = setup; buffer = x-buffer }) (record { control = r .control; setup = r .setup; buffer = x-buffer }) (x-image) (x-image) (x-table) (x-table) (r .report)
 
 -- machine values
 abbrev mach : Session → Val

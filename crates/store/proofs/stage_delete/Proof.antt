@@ -4,7 +4,7 @@
 use mathlib.Core.Path.{_≡_}
 use Rattle.spec.specs.Calls.{Open, Put, Delete, Commit, Abandon, Step, Format}
 use Rattle.spec.specs.Contract.{Called}
-use Rattle.session.specs.State.{stateOf}
+use Rattle.session.specs.State.{stateOf, limit}
 use Rattle.session.specs.Fits.{Fits}
 use mathlib.Core.Path.{refl, ap}
 use mathlib.Core.Bool.{Bool}
@@ -87,7 +87,7 @@ Core 𝓤 H A mem run = tripleOf 𝓤 H A core.signature (core.spec 𝓤 H A mem
 
 -- what it ensures
 abbrev Said : Staged → Control → Setup → List ℕ → List ℕ → List ℕ → List ℕ → ℕ → Type 0
-Said r control setup x-buffer z-buffer x-image x-table key = Called stateOf Fits 12 256 (Delete key) (record { control = control; setup = setup; buffer = x-buffer }) (record { control = r .control; setup = setup; buffer = z-buffer }) (x-image) (x-image) (x-table) (x-table) (r .report)
+Said r control setup x-buffer z-buffer x-image x-table key = Called stateOf Fits 12 limit (Delete key) (record { control = control; setup = setup; buffer = x-buffer }) (record { control = r .control; setup = setup; buffer = z-buffer }) (x-image) (x-image) (x-table) (x-table) (r .report)
 
 -- machine values
 abbrev mach : Session → Val

@@ -4,7 +4,7 @@
 use mathlib.Core.Path.{_≡_}
 use Rattle.spec.specs.Calls.{Step}
 use Rattle.spec.specs.Contract.{Called}
-use Rattle.session.specs.State.{stateOf}
+use Rattle.session.specs.State.{stateOf, limit}
 use Rattle.session.specs.Fits.{Fits}
 use Rattle.stepping.specs.Inner.{Runs, OnShortWay, ShortWay}
 use lib.ListN.{length}
@@ -88,7 +88,7 @@ Core 𝓤 H A mem run = tripleOf 𝓤 H A core.signature (core.spec 𝓤 H A mem
 
 -- what it ensures
 abbrev Said : Advanced → Control → Setup → List ℕ → List ℕ → List ℕ → List ℕ → List ℕ → Type 0
-Said r control setup x-buffer x-image z-image x-table z-table = ShortWay (Called stateOf Fits 12 256 Step) control setup (x-buffer) (x-image) (z-image) (x-table) (z-table) (r .next) (r .report)
+Said r control setup x-buffer x-image z-image x-table z-table = ShortWay (Called stateOf Fits 12 limit Step) control setup (x-buffer) (x-image) (z-image) (x-table) (z-table) (r .next) (r .report)
 
 -- machine values
 abbrev mach : Session → Val

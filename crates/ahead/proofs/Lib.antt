@@ -1,0 +1,4 @@
+pub mod Staged
+pub mod Steps
+pub mod Commits
+pub mod Plans

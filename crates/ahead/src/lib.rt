@@ -1,0 +1,1 @@
+// Memory while a large value is staged: definitions and laws, in specs/ and proofs/.

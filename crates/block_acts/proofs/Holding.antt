@@ -1,0 +1,73 @@
+-- A value in the second area of the buffer: the code's stores lay its length and its words over it.
+-- Assumes nothing.
+use mathlib.Core.Path.{_≡_, refl, sym, _∙_, ap}
+use mathlib.Core.List.{List, [], _∷_}
+use Prim.Native.Nat.{ℕ, suc, _+_, _-_, _/_, _%_, _^_, _≤_, _<_, min}
+use native.Mathlib.Omega.{arith}
+use lib.Dec.{eqb, ltb}
+use lib.ListN.{length, getD, set, take}
+use lib.Seq.{take-all}
+use Rattle.spec.specs.Basics.{both}
+use Rattle.spec.specs.Words.{packed}
+use Rattle.words.specs.Overlay.{overlay, length-overlay, getD-overlay-outside, getD-overlay-inside}
+use Rattle.words.specs.Values.{length-packed}
+use Rattle.bits.specs.Bits.{wordOf, hasBit}
+use Rattle.session.specs.State.{bufferPart}
+use Rattle.session.specs.State.{heldCount, heldWords}
+use Rattle.block_acts.specs.Staging.{Kept}
+
+part-laid : (b xs : List ℕ) (i : ℕ) → ((k j : ℕ) → j ≡ i + k → k < length xs → getD b j 0 ≡ getD xs k 0) → bufferPart b i (length xs) ≡ xs
+part-laid b [] i h = refl
+part-laid b (x ∷ xs) i h =
+    let q = h 0 i (omega arith) (omega arith) in
+    let r = part-laid b xs (suc i) (λ k j e l. h (suc k) j (omega arith) (omega arith)) in
+    cc
+
+bits-kept : (b d : List ℕ) → ((i : ℕ) → 1024 ≤ i → getD d i 0 ≡ getD b i 0) → (u : ℕ) → hasBit d u ≡ hasBit b u
+unfolding hasBit
+bits-kept b d h u = ap (λ (w : ℕ). both (ltb u 8064) (eqb (w / 2 ^ (u % 64) % 2) 1)) (h (wordOf u) (omega arith))
+
+-- a value too long
+pub held-none : (b v : List ℕ) → length b ≡ 1152 → 4088 < length v → Kept b b v
+held-none b v n h = record {
+  size = n;
+  long = refl;
+  below = λ i l. refl;
+  above = λ i l. refl;
+  bits = λ u. refl;
+  large = λ l. refl;
+  written = λ l. absurd (omega arith);
+  held = λ l. absurd (omega arith);
+}
+
+module _ (b d v : List ℕ) (n : length b ≡ 1152) (h : length v ≤ 4088) (stored : d ≡ overlay (set b 512 (length v)) 513 (take (1152 - 513) (packed v))) where
+  words : length (packed v) ≡ (length v + 7) / 8
+  words = length-packed v
+
+  laid : d ≡ overlay b 512 (length v ∷ packed v)
+  laid = let w = words in stored ∙ rw (take-all (1152 - 513) (packed v) (omega arith))
+
+  outside : (i : ℕ) → (512 ≤ i → i < 1024 → ⊥) → getD d i 0 ≡ getD b i 0
+  outside i o = let w = words in ap (λ (xs : List ℕ). getD xs i 0) laid ∙ getD-overlay-outside (length v ∷ packed v) b 512 i (λ p q. o p (omega arith))
+
+  inside : (k j : ℕ) → j ≡ 512 + k → k < length (length v ∷ packed v) → getD d j 0 ≡ getD (length v ∷ packed v) k 0
+  inside k j e l = let w = words in ap (λ (xs : List ℕ). getD xs j 0) laid ∙ getD-overlay-inside (length v ∷ packed v) b 512 k j e l (omega arith)
+
+  there : bufferPart d 512 (1 + (length v + 7) / 8) ≡ length v ∷ packed v
+  there = let w = words in let m : 1 + (length v + 7) / 8 ≡ suc (length (packed v)) = omega arith in rw m (part-laid d (length v ∷ packed v) 512 inside)
+
+  pub held-more : Kept b d v
+  unfolding heldWords
+  held-more = record {
+    size = n;
+    long = ap length laid ∙ length-overlay b 512 (length v ∷ packed v);
+    below = λ i l. outside i (λ p q. omega arith);
+    above = λ i l. outside i (λ p q. omega arith);
+    bits = bits-kept b d (λ i l. outside i (λ p q. omega arith));
+    large = λ l. absurd (omega arith);
+    written = λ l. there;
+    held = λ l.
+        let w : getD d 512 0 ≡ length v = inside 0 512 refl (omega arith) in
+        let m : heldCount d ≡ 1 + (length v + 7) / 8 = omega arith in
+        ap (bufferPart d 512) m ∙ there;
+  }

@@ -1,0 +1,4 @@
+pub mod Filling
+pub mod Holding
+pub mod Plan
+mod Worked

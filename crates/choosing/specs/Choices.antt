@@ -1,0 +1,95 @@
+-- What choosing answers, for any memory and on memory as the calls left it.
+-- Assumes nothing.
+use mathlib.Core.Path.{_≡_}
+use mathlib.Core.Logic.{_⊎_}
+use mathlib.Core.Bool.{Bool}
+use mathlib.Core.Option.{Option, none, some}
+use mathlib.Core.List.{List}
+use Prim.Native.Nat.{ℕ, _≤_, _<_}
+use lib.Dec.{eqb}
+use lib.ListN.{length}
+use Rattle.spec.specs.Basics.{pick}
+use Rattle.spec.specs.Places.{chunksIn}
+use Rattle.spec.specs.Directory.{linesOf}
+use Rattle.spec.specs.Log.{Entry}
+use Rattle.spec.specs.Calls.{Choose, copyWords, worthCleaning, isBetter, better, chosenChunk}
+use Rattle.spec.specs.Contract.{Called}
+use Rattle.spec.specs.declared.Control.{Control}
+use Rattle.spec.specs.declared.Setup.{Setup}
+use Rattle.spec.specs.declared.Refusal.the-variants as N
+use Rattle.spec.specs.declared.Report.{Report}
+use Rattle.spec.specs.declared.Report.the-variants as R
+use Rattle.theory_cuts.specs.Accepted.{Ok}
+use Rattle.volatile.specs.Known.{Indexed}
+use Rattle.session.specs.State.{stateOf, limit}
+use Rattle.session.specs.Fits.{Fits}
+use Rattle.recovery.specs.Look.{sessionOf}
+use Rattle.choosing.specs.declared.Candidate.{Candidate}
+use Rattle.choosing.specs.declared.Choice.{Choice}
+use Rattle.choosing.specs.declared.Choice.the-variants as C
+
+-- ONE CHUNK: what is said of it is so of an image with these words and entries
+pub record Describes (ws : List ℕ) (es : List Entry) (x : Candidate) : Type 0 where
+  pub lines : x .lines ≡ linesOf 12 ws (x .chunk)
+  pub words : x .words ≡ copyWords 12 es (x .chunk)
+
+pub record Weighed (ws table : List ℕ) (c : ℕ) (x : Candidate) : Type 0 where
+  pub chunk : x .chunk ≡ c
+  pub describes : (n keys : ℕ) (es : List Entry) → Ok 12 n ws es → Indexed table keys es → 1 ≤ c → c < n → Describes ws es x
+
+pub record Worth (x : Candidate) (r : Bool) : Type 0 where
+  pub says : (ws : List ℕ) (es : List Entry) → Describes ws es x → r ≡ worthCleaning 12 ws es (x .chunk)
+
+-- TWO CHUNKS
+pub record Compared (x y : Candidate) (r : Bool) : Type 0 where
+  pub says : (ws : List ℕ) (es : List Entry) → Describes ws es x → Describes ws es y → r ≡ isBetter 12 ws es (x .chunk) (y .chunk)
+
+-- the best so far: chunk 0 says that there is none
+abbrev pub bestSoFar : Candidate → Option ℕ
+bestSoFar x = pick (eqb (x .chunk) 0) none (some (x .chunk))
+
+abbrev pub Known : (ws : List ℕ) (es : List Entry) → Candidate → Type 0
+Known ws es x = (x .chunk ≡ 0) ⊎ Describes ws es x
+
+pub record Bettered (x y z : Candidate) : Type 0 where
+  pub either : (z ≡ x) ⊎ (z ≡ y)
+  pub says : (ws : List ℕ) (es : List Entry) → Known ws es x → Describes ws es y → 1 ≤ y .chunk
+      → bestSoFar z ≡ pick (worthCleaning 12 ws es (y .chunk)) (better 12 ws es (bestSoFar x) (y .chunk)) (bestSoFar x)
+
+-- ALL CHUNKS, of an image of n: of any memory a chunk from 1 on and below n, or none
+abbrev pub choiceOf : Option ℕ → Choice
+choiceOf none = C.Nothing
+choiceOf (some c) = C.At c
+
+abbrev pub InCount : ℕ → Choice → Type 0
+InCount n (C.At c) = (1 ≤ c) × (c < n)
+InCount n C.Nothing = Unit {0}
+
+pub record Chooses (ws table : List ℕ) (n : ℕ) (r : Choice) : Type 0 where
+  pub inside : InCount n r
+  pub exact : (keys : ℕ) (es : List Entry) → Ok 12 n ws es → Indexed table keys es → r ≡ choiceOf (chosenChunk 12 n ws es)
+
+-- THE CALL, whatever the buffer holds: record, image and table stay. Of any memory it answers a refusal, or a chunk of the lent image.
+abbrev pub reportOf : Choice → Report
+reportOf (C.At c) = R.Chosen c
+reportOf C.Nothing = R.Refused N.NotCleanable
+
+abbrev pub ChosenIn : ℕ → Report → Type 0
+ChosenIn n (R.Refused x) = Unit {0}
+ChosenIn n (R.Begun a) = ⊥
+ChosenIn n (R.Store w v) = ⊥
+ChosenIn n (R.Flush l) = ⊥
+ChosenIn n R.Fence = ⊥
+ChosenIn n (R.End m) = ⊥
+ChosenIn n R.Idle = ⊥
+ChosenIn n R.Opened = ⊥
+ChosenIn n R.Abandoned = ⊥
+ChosenIn n (R.Chosen c) = (1 ≤ c) × (c < n)
+ChosenIn n (R.Part a m) = ⊥
+
+abbrev pub ChosenBy : Control → Setup → (bytes table : List ℕ) → Report → Type 0
+ChosenBy c k bytes table r = (b : List ℕ) → Called stateOf Fits 12 limit Choose (sessionOf c k b) (sessionOf c k b) bytes bytes table table r
+
+pub record Choosing (c : Control) (k : Setup) (bytes table : List ℕ) (r : Report) : Type 0 where
+  pub called : ChosenBy c k bytes table r
+  pub inside : ChosenIn (chunksIn 12 (length bytes)) r

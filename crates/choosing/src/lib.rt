@@ -1,0 +1,118 @@
+// Choosing the chunk to clean: of log chunks whose kept entries fill fewer lines than are committed, the one with the fewest bytes to
+// copy; of equals the lowest number. Nothing is changed.
+ghost use mathlib.Core.Path.{_≡_};
+ghost use Rattle.spec.specs.Words.{wordsOf};
+ghost use Rattle.spec.specs.Actions.{linesFor};
+ghost use Rattle.choosing.specs.Choices.{Weighed, Worth, Compared, Bettered, Chooses, Choosing};
+use log::lines_of;
+use recovery::Gated;
+use spec::Control;
+use spec::Refusal;
+use spec::Report;
+use spec::Setup;
+
+// The chunk that was chosen, or none.
+pub enum Choice {
+    At(usize),
+    Nothing,
+}
+
+// What choosing knows of a chunk: its committed lines, 0 unless it is a log chunk, and the words that a cleaning copies.
+pub struct Candidate {
+    pub chunk: usize,
+    pub lines: usize,
+    pub words: usize,
+}
+
+// ONE CHUNK
+// Its entries are read once; a chunk that is no log chunk has none.
+fn candidate_at(image: &[u8], table: &[u64], chunk: usize) -> Candidate
+    ensures { λ r. ⌜ Weighed (wordsOf (now (image .entry))) (now (table .entry)) chunk r ⌝ }
+{
+    let lines = lines_of(image, chunk);
+    let at = 512 * (chunk % 512);
+    let end = at + 8 * lines;
+    let tally = gathering::measure(image, table, at, end);
+    Candidate {
+        chunk,
+        lines,
+        words: tally.words,
+    }
+}
+
+// The lines that so many words fill.
+fn lines_for(words: usize) -> usize
+    ensures { λ r. ⌜ r ≡ linesFor words ⌝ }
+{
+    words / 8 + (words % 8 + 7) / 8
+}
+
+// Whether cleaning the chunk gives back a line at least.
+fn is_worth(c: Candidate) -> bool
+    ensures { λ r. ⌜ Worth c r ⌝ }
+{
+    let lines = lines_for(c.words);
+    lines < c.lines
+}
+
+// THE COMPARISON
+// Whether chunk c, which comes later, is taken before chunk d.
+fn is_better(c: Candidate, d: Candidate) -> bool
+    ensures { λ r. ⌜ Compared c d r ⌝ }
+{
+    c.words < d.words
+}
+
+// The better of the best so far, of which chunk 0 says that there is none, and the next chunk.
+fn better_of(best: Candidate, next: Candidate) -> Candidate
+    ensures { λ r. ⌜ Bettered best next r ⌝ }
+{
+    if is_worth(next) {
+        if best.chunk == 0 {
+            return next;
+        }
+        if is_better(next, best) {
+            return next;
+        }
+    }
+    best
+}
+
+// ALL CHUNKS, of an image of `count`
+pub fn choose(image: &[u8], table: &[u64], count: usize) -> Choice
+    ensures { λ r. ⌜ Chooses (wordsOf (now (image .entry))) (now (table .entry)) count r ⌝ }
+{
+    let mut best = Candidate {
+        chunk: 0,
+        lines: 0,
+        words: 0,
+    };
+    let mut c = 1;
+    while c < count {
+        let next = candidate_at(image, table, c);
+        best = better_of(best, next);
+        c += 1;
+    }
+    if best.chunk == 0 {
+        return Choice::Nothing;
+    }
+    Choice::At(best.chunk)
+}
+
+// THE CALL: 2, 1, 8, then 16 where none is found.
+pub fn choose_core(control: Control, setup: Setup, image: &[u8], table: &[u64]) -> Report
+    ensures { λ r. ⌜ Choosing control setup (now (image .entry)) (now (table .entry)) r ⌝ }
+{
+    let gated = recovery::gate(control, setup, image.len(), table.len());
+    match gated {
+        Gated::Open => {
+            let count = image.len() / 4096;
+            let choice = choose(image, table, count);
+            match choice {
+                Choice::At(c) => Report::Chosen(c),
+                Choice::Nothing => Report::Refused(Refusal::NotCleanable),
+            }
+        }
+        Gated::Refused(n) => Report::Refused(n),
+    }
+}

@@ -1,0 +1,154 @@
+-- The begin of a cleaning, on words at rest with nothing staged: the record's actions are the plan's, and memory fits, looking forward.
+-- Assumes nothing.
+use mathlib.Core.Path.{_≡_, refl, sym, _∙_, ap, subst}
+use mathlib.Core.Bool.{true, false}
+use mathlib.Core.Option.{some}
+use mathlib.Core.List.{List, [], _∷_, _++_}
+use Prim.Native.Nat.{ℕ, zero, suc, _+_, _-_, _*_, _/_, _≤_, _<_, min}
+use native.Mathlib.Omega.{arith}
+use lib.ListN.{length, getD, drop, length-append}
+use Rattle.spec.specs.Places.{directoryWord, chunksIn}
+use Rattle.spec.specs.Medium.{Action}
+use Rattle.spec.specs.Directory.{isLog, roleAt, linesOf}
+use Rattle.spec.specs.Log.{Entry, encodeAll}
+use Rattle.spec.specs.Contents.{keptIn}
+use Rattle.spec.specs.Actions.{linesFor}
+use Rattle.spec.specs.Calls.{logPlace, appendTo, hasLive, free, runWords}
+use Rattle.spec.specs.declared.Control.{Control}
+use Rattle.spec.specs.declared.Setup.{Setup}
+use Rattle.theory_cuts.specs.Accepted.{Ok}
+use Rattle.theory_cuts.proofs.Opening.{opens-ok}
+use Rattle.theory_cuts.proofs.Append.{padding}
+use Rattle.bits.specs.Bits.{hasBit}
+use Rattle.session.specs.State.{batchRoom, sourceIn, keptWords, appendActions, cleanActions}
+use Rattle.session.specs.Fits.{NoneBelow, RestFits, batchPlace, CleanFits}
+use Rattle.session.proofs.Part.{chunk-in, lines-in}
+use Rattle.acts.specs.Nth.{nth}
+use Rattle.leaving.proofs.Fence.{lines-few, cleaned, stands-here, stands-copied}
+use Rattle.gathering.specs.Gathering.{AreaWritten}
+use Rattle.spec.specs.declared.Source.{Source}
+use Rattle.cleaning.specs.Ahead.{Ahead}
+use Rattle.cleaning.specs.Record.{cleaning, copyingTo, sourceOf}
+use Rattle.cleaning.proofs.Forward.{lo, hi, below-ahead, place-small, clean-forward, clean-forward-none, clean-forward-data}
+use Rattle.cleaning.proofs.Acting.{kept-length, copied-some, copied-none, clean-next}
+
+-- the bits stay where the words outside the second area do
+pub area-bits : (b b′ : List ℕ) → AreaWritten b b′ → (u : ℕ) → hasBit b′ u ≡ hasBit b u
+unfolding hasBit
+area-bits b b′ a u = rw (a .above (1024 + u / 64) (omega arith))
+
+-- entries that are some have words
+some-words : (es : List Entry) → (es ≡ [] → ⊥) → length (encodeAll es) ≡ 0 → ⊥
+some-words [] h e = h refl
+some-words (f ∷ fs) h e = let l = length-append (f .value) (encodeAll fs) in absurd (omega arith)
+
+module _ (c : Control) (k : Setup) (b ws table : List ℕ) (r : RestFits (record { control = c; setup = k; buffer = b }) ws table []) (s : ℕ) (low : 1 ≤ s) (high : s < chunksIn 12 (k .image))
+    (words entries : ℕ) (room : words ≤ batchRoom) (b′ : List ℕ) (bits : (u : ℕ) → hasBit b′ u ≡ hasBit b u) (g : Source) where
+  abbrev es : List Entry
+  es = r .entries
+
+  abbrev kept : List Entry
+  kept = keptIn 12 s es
+
+  abbrev f : Source
+  f = sourceOf ws s words entries
+
+  ok : Ok 12 (chunksIn 12 (k .image)) ws es
+  ok = opens-ok 12 lo hi (k .image) (k .table) ws es (r .long) (r .accepted) .0
+
+  small : s ≤ 503
+  small = let m = ok .most in omega arith
+
+  source-is : sourceIn f ≡ s
+  source-is = let h = small in omega arith
+
+  -- with what is ahead, the record fits
+  module _ (chunk old lines first least : ℕ) (in-chunks : chunk ≤ 503) (in-lines : lines ≤ 64) (d z : ℕ) (below : NoneBelow (chunksIn 12 (k .image)) ws first least) (under : first ≤ d) where
+    abbrev k′ : Setup
+    k′ = copyingTo k chunk old lines first least g
+
+    abbrev acts : List Action
+    acts = cleanActions k′ f b′
+
+    pub begun-first : drop 0 acts ≡ nth acts 0 ∷ drop 1 acts
+    begun-first = clean-next k′ f b′ 0 (omega arith)
+
+    fits-by : (x : Action) (xs : List Action) → Ahead lo hi (k .image) (k .table) s (batchPlace k′) (linesFor words) z d ws (runWords (x ∷ xs) ws) es → CleanFits (cleaning c) k′ f b′ ws table (x ∷ xs)
+    fits-by x xs a = record {
+      xs = a .xs;
+      mid = a .mid;
+      ys = a .ys;
+      as′ = a .as′;
+      bs = a .bs;
+      chunk = in-chunks;
+      lines = in-lines;
+      source = small;
+      committed = lines-few ws s;
+      room = room;
+      accepted = a .accepted;
+      long = r .long;
+      lent = r .lent;
+      cleaned = cleaned lo hi n s (batchPlace k′) (linesFor words) z ws vs es (a .xs) (a .mid) (a .ys) (a .as′) (a .bs) (a .freed);
+      here = stands-here lo hi n s (batchPlace k′) (linesFor words) z ws vs es (a .xs) (a .mid) (a .ys) (a .as′) (a .bs) (a .freed);
+      copied = stands-copied lo hi n s (batchPlace k′) (linesFor words) z ws vs es (a .xs) (a .mid) (a .ys) (a .as′) (a .bs) (a .freed);
+      built = record { indexed = rw (a .freed .parts .whole) at (r .built .indexed); blocks = λ u. bits u ∙ (rw (a .freed .parts .whole) at (r .built .blocks)) u };
+      hint = below-ahead (k .image) (k .table) s (batchPlace k′) (linesFor words) z d ws vs es a first least under below;
+    }
+      where
+        n : ℕ
+        n = chunksIn 12 (k .image)
+
+        vs : List ℕ
+        vs = runWords (x ∷ xs) ws
+
+    fits-all : Ahead lo hi (k .image) (k .table) s (batchPlace k′) (linesFor words) z d ws (runWords acts ws) es → CleanFits (cleaning c) k′ f b′ ws table (nth acts 0 ∷ drop 1 acts)
+    fits-all a = fits-by (nth acts 0) (drop 1 acts) (subst (λ (l : List Action). Ahead lo hi (k .image) (k .table) s (batchPlace k′) (linesFor words) z d ws (runWords l ws) es) begun-first a)
+
+  -- SOME COPIED, to chunk d
+  module _ (log : isLog (roleAt 12 ws s) ≡ true) (some-kept : kept ≡ [] → ⊥) (written : keptWords words b′ ≡ encodeAll kept) (d : ℕ)
+      (found : logPlace 12 (chunksIn 12 (k .image)) ws (linesFor (length (encodeAll kept))) s 1 ≡ some d) (first least : ℕ) (below : NoneBelow (chunksIn 12 (k .image)) ws first least) (under : first ≤ d) where
+    abbrev old : ℕ
+    old = getD ws (directoryWord d) 0
+
+    abbrev lines : ℕ
+    lines = linesOf 12 ws d
+
+    abbrev k-copies : Setup
+    k-copies = copyingTo k d old lines first least g
+
+    in-chunks : d ≤ 503
+    in-chunks = place-small (k .image) (k .table) ws es (r .accepted) (r .long) s 0 low high d found
+
+    counted : words ≡ length (encodeAll kept)
+    counted = (let q : words ≡ min words batchRoom = omega arith in q) ∙ sym (kept-length words b′) ∙ ap length written
+
+    pub copies-acts : cleanActions k-copies f b′ ≡ appendTo 12 ws (encodeAll kept) d ++ free s ws
+    unfolding cleanActions appendActions
+    copies-acts =
+        rw (copied-some k-copies words b′ (λ e. some-words kept some-kept (sym counted ∙ e)), source-is, chunk-in k-copies in-chunks, lines-in k-copies (lines-few ws d), written)
+
+    pub copies-fit : CleanFits (cleaning c) k-copies f b′ ws table (nth (cleanActions k-copies f b′) 0 ∷ drop 1 (cleanActions k-copies f b′))
+    copies-fit =
+        fits-all d old lines first least in-chunks (lines-few ws d) d (padding kept) below under
+        (rw (copies-acts, counted) (clean-forward (k .image) (k .table) ws es (r .accepted) (r .long) s (getD ws (directoryWord s) 0) low high log d old some-kept found))
+
+  -- NOTHING COPIED
+  module _ (none : words ≡ 0) (chunk old lines : ℕ) (in-chunks : chunk ≤ 503) (in-lines : lines ≤ 64) where
+    abbrev k-none : Setup
+    k-none = copyingTo k chunk old lines (k .first) (k .least) g
+
+    pub none-acts : cleanActions k-none f b′ ≡ free s ws
+    unfolding cleanActions
+    none-acts = rw (copied-none k-none words b′ none, source-is)
+
+    freed-fits : Ahead lo hi (k .image) (k .table) s (batchPlace k-none) 0 0 (k .first) ws (runWords (free s ws) ws) es
+        → CleanFits (cleaning c) k-none f b′ ws table (nth (cleanActions k-none f b′) 0 ∷ drop 1 (cleanActions k-none f b′))
+    freed-fits a = fits-all chunk old lines (k .first) (k .least) in-chunks in-lines (k .first) 0 (r .hint) (omega arith) (rw (none-acts, none) a)
+
+    -- a log chunk of which nothing is kept
+    pub none-fits : isLog (roleAt 12 ws s) ≡ true → kept ≡ [] → CleanFits (cleaning c) k-none f b′ ws table (nth (cleanActions k-none f b′) 0 ∷ drop 1 (cleanActions k-none f b′))
+    none-fits log e = freed-fits (clean-forward-none (k .image) (k .table) ws es (r .accepted) (r .long) s (getD ws (directoryWord s) 0) low high log (batchPlace k-none) (k .first) e)
+
+    -- a data chunk with no live block
+    pub data-fits : isLog (roleAt 12 ws s) ≡ false → hasLive 12 es s ≡ false → CleanFits (cleaning c) k-none f b′ ws table (nth (cleanActions k-none f b′) 0 ∷ drop 1 (cleanActions k-none f b′))
+    data-fits log e = freed-fits (clean-forward-data (k .image) (k .table) ws es (r .accepted) (r .long) s (getD ws (directoryWord s) 0) low high log (batchPlace k-none) (k .first) e)

@@ -1,0 +1,4 @@
+pub mod Forward
+pub mod Acting
+pub mod Keeping
+pub mod Begins

@@ -1,0 +1,3 @@
+pub mod Ahead
+pub mod Record
+pub mod Ends

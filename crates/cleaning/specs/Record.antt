@@ -1,0 +1,33 @@
+-- How many actions a cleaning has, by the words that it keeps, and the record at its begin.
+-- Assumes nothing.
+use mathlib.Core.Bool.{Bool, true, false}
+use mathlib.Core.List.{List, [], _++_}
+use Prim.Native.Nat.{ℕ, _+_, _*_, _/_, _%_, min}
+use lib.Dec.{eqb}
+use lib.ListN.{getD, drop}
+use Rattle.spec.specs.Basics.{pick}
+use Rattle.spec.specs.Places.{directoryWord}
+use Rattle.spec.specs.Directory.{linesOf}
+use Rattle.spec.specs.Actions.{linesFor}
+use Rattle.spec.specs.declared.Control.{Control}
+use Rattle.spec.specs.declared.Setup.{Setup}
+use Rattle.session.specs.State.{batchRoom}
+use Rattle.spec.specs.declared.Source.{Source}
+
+-- how many they are
+abbrev pub copyCount : ℕ → ℕ
+copyCount words = pick (eqb (min words batchRoom) 0) 0 (9 * linesFor (min words batchRoom) + 4)
+
+abbrev pub cleanCount : ℕ → ℕ
+cleanCount words = copyCount words + 3
+
+-- THE RECORD AT THE BEGIN: no action done yet; where the copies go, and where the next commit looks for space; what is cleaned
+abbrev pub cleaning : Control → Control
+cleaning c = record { phase = 6; next = 0; items = c .items; words = c .words; keys = c .keys; fresh = c .fresh }
+
+abbrev pub copyingTo : Setup → (chunk old lines first least : ℕ) → Source → Setup
+copyingTo k chunk old lines first least f =
+    record { image = k .image; table = k .table; chunk = chunk; old = old; lines = lines; first = first; least = least; fields = k .fields; station = k .station; centre = k .centre; source = f }
+
+abbrev pub sourceOf : List ℕ → (chunk words entries : ℕ) → Source
+sourceOf ws chunk words entries = record { chunk = chunk; old = getD ws (directoryWord chunk) 0; lines = linesOf 12 ws chunk; words = words; entries = entries }

@@ -1,0 +1,111 @@
+// The begin of a cleaning: the gate, its plan, and the kept words gathered where it is not turned down.
+ghost use Rattle.spec.specs.Words.{wordsOf};
+ghost use Rattle.spec.specs.Calls.{Clean};
+ghost use Rattle.spec.specs.Contract.{Called};
+ghost use Rattle.session.specs.State.{stateOf, limit};
+ghost use Rattle.session.specs.Fits.{Fits};
+ghost use Rattle.cleaning_begin.specs.Outsets.{KeptGathered, Outsets};
+use planning::CleanPlan;
+use recovery::Gated;
+use spec::Control;
+use spec::Report;
+use spec::Setup;
+use spec::Source;
+
+// The record's small parts after the begin, and what it reports.
+pub struct Outset {
+    pub control: Control,
+    pub setup: Setup,
+    pub report: Report,
+}
+
+// The kept words go to the buffer's second area, if there are any.
+fn gather_kept(source: Source, buffer: &mut [u64; 1152], image: &[u8], table: &[u64])
+    ensures { λ _. ⌜ KeptGathered source (wordsOf (now (image .entry))) (now (table .entry)) (now (buffer .entry)) (now (buffer .exit)) ⌝ }
+{
+    if source.words == 0 {
+        return;
+    }
+    let at = 512 * (source.chunk % 512);
+    let end = at + 8 * (source.lines % 128);
+    gathering::gather(image, table, buffer, at, end);
+}
+
+// Behind the gate: 15, 16, 13, or begun.
+fn begin_clean(
+    control: Control,
+    setup: Setup,
+    buffer: &mut [u64; 1152],
+    image: &[u8],
+    table: &[u64],
+    number: usize,
+) -> Outset
+    ensures { λ r. ⌜ Outsets control (r .control) setup (r .setup) (now (buffer .entry)) (now (buffer .exit)) (now (image .entry)) (now (table .entry)) number (r .report) ⌝ }
+{
+    let plan = planning::plan_clean(control, setup, buffer, image, table, number);
+    match plan {
+        CleanPlan::Refused(n) => Outset {
+            control,
+            setup,
+            report: Report::Refused(n),
+        },
+        CleanPlan::At {
+            chunk,
+            old,
+            lines,
+            first,
+            source,
+            actions,
+        } => {
+            gather_kept(source, buffer, image, table);
+            let begun = Control {
+                phase: 6,
+                next: 0,
+                items: control.items,
+                words: control.words,
+                keys: control.keys,
+                fresh: control.fresh,
+            };
+            let target = Setup {
+                image: setup.image,
+                table: setup.table,
+                chunk,
+                old,
+                lines,
+                first,
+                least: setup.least,
+                fields: setup.fields,
+                station: setup.station,
+                centre: setup.centre,
+                source,
+            };
+            Outset {
+                control: begun,
+                setup: target,
+                report: Report::Begun(actions),
+            }
+        }
+    }
+}
+
+// 2, 1, 8, 15, 16, 13, or begun: what is kept of the chunk is gathered now, and the chunk is to be freed.
+pub fn clean_core(
+    control: Control,
+    setup: Setup,
+    buffer: &mut [u64; 1152],
+    image: &[u8],
+    table: &[u64],
+    number: usize,
+) -> Outset
+    ensures { λ r. ⌜ Called stateOf Fits 12 limit (Clean number) (record { control = control; setup = setup; buffer = now (buffer .entry) }) (record { control = r .control; setup = r .setup; buffer = now (buffer .exit) }) (now (image .entry)) (now (image .entry)) (now (table .entry)) (now (table .entry)) (r .report) ⌝ }
+{
+    let gated = recovery::gate(control, setup, image.len(), table.len());
+    match gated {
+        Gated::Refused(n) => Outset {
+            control,
+            setup,
+            report: Report::Refused(n),
+        },
+        Gated::Open => begin_clean(control, setup, buffer, image, table, number),
+    }
+}

@@ -1,0 +1,174 @@
+-- The words that are gathered: parts of the buffer, and what the code shows of one entry.
+-- Assumes nothing.
+use mathlib.Core.Path.{_≡_, refl, sym, _∙_, ap}
+use mathlib.Core.Logic.{by-cases, _⊎_, inl, inr}
+use mathlib.Core.Bool.{Bool, true, false}
+use mathlib.Core.List.{List, [], _∷_, _++_, append-assoc}
+use Prim.Native.Nat.{ℕ, zero, suc, _+_, _-_, _≤_, _<_}
+use native.Mathlib.Nat.{add-zero, zero-add}
+use native.Mathlib.Decide.{ℕ-discrete}
+use native.Mathlib.Omega.{arith}
+use lib.ListN.{length, getD, set, take, drop, length-append, length-set}
+use lib.Seq.{slice, drop-cons, getD-set-same, getD-set-other}
+use Rattle.spec.specs.Basics.{filter}
+use Rattle.spec.specs.Log.{Entry, wordsFor, encode, encodeAll}
+use Rattle.theory_log.proofs.Contents.{mem-l, mem-r}
+use Rattle.theory_log.proofs.Walk.{slice-long}
+use Rattle.theory_calls.proofs.Cleaning.{parse-words, filter-words}
+use Rattle.log.specs.Stands.{StandsIn}
+use Rattle.session.specs.State.{bufferPart}
+use Rattle.session.proofs.Part.{length-part, part-agree}
+use Rattle.session.specs.Cleaned.{keptOf}
+use Rattle.gathering.specs.declared.Tally.{Tally}
+use Rattle.gathering.specs.Gathering.{Gatherable, Copied, AreaWritten, Owing, keptTest, Room, OneGathered}
+
+-- ## Copying words
+
+pub copied-start : (ws buffer : List ℕ) (from to : ℕ) → Copied ws buffer buffer from to 0
+copied-start ws buffer from to = record { long = refl; words = λ i l. absurd (omega arith); others = λ j o. refl }
+
+pub copied-next : (ws buffer now′ next′ : List ℕ) (from to i v : ℕ) → length buffer ≡ 1152 → to + i < 1152 → Copied ws buffer now′ from to i → v ≡ getD ws (from + i) 0 → next′ ≡ set now′ (to + i) v → Copied ws buffer next′ from to (i + 1)
+copied-next ws buffer now′ next′ from to i v size low c is-v is = record {
+  long = rw (is, length-set) (c .long);
+  words = λ j l. ap (λ (b : List ℕ). getD b (to + j) 0) is ∙ by-cases (ℕ-discrete j i)
+      (λ q. rw q (getD-set-same now′ (to + i) v 0 (rw (c .long, size) low) ∙ is-v))
+      (λ n. getD-set-other now′ (to + i) (to + j) v 0 (λ q. n (omega arith)) ∙ c .words j (omega arith));
+  others = λ j o. ap (λ (b : List ℕ). getD b j 0) is ∙ getD-set-other now′ (to + i) j v 0 (λ q. outside j o q) ∙ c .others j (wider j o);
+}
+  where
+    outside : (j : ℕ) → (j < to) ⊎ (to + (i + 1) ≤ j) → j ≡ to + i → ⊥
+    outside j (inl a) q = omega arith
+    outside j (inr a) q = omega arith
+
+    wider : (j : ℕ) → (j < to) ⊎ (to + (i + 1) ≤ j) → (j < to) ⊎ (to + i ≤ j)
+    wider j (inl a) = inl a
+    wider j (inr a) = inr (omega arith)
+
+pub copied-end : (ws buffer now′ : List ℕ) (from to i n : ℕ) → i ≡ n → Copied ws buffer now′ from to i → Copied ws buffer now′ from to n
+copied-end ws buffer now′ from to i n e c = rw e at c
+
+-- ## Parts of the buffer
+
+part-more : (b : List ℕ) (i m n : ℕ) → bufferPart b i (m + n) ≡ bufferPart b i m ++ bufferPart b (i + m) n
+part-more b i zero n = rw (zero-add n, add-zero i)
+part-more b i (suc m) n =
+    let p : suc m + n ≡ suc (m + n) = omega arith in
+    let q : i + suc m ≡ suc i + m = omega arith in
+    rw (p, q) (ap (λ (l : List ℕ). getD b i 0 ∷ l) (part-more b (suc i) m n))
+
+part-words : (b ws : List ℕ) (i j n : ℕ) → ((k : ℕ) → k < n → getD b (i + k) 0 ≡ getD ws (j + k) 0) → j + n ≤ length ws → bufferPart b i n ≡ take n (drop j ws)
+part-words b ws i j zero h l = refl
+part-words b ws i j (suc n) h l =
+    let z = h 0 (omega arith) in
+    let first : getD b i 0 ≡ getD ws j 0 = rw (add-zero i, add-zero j) at z in
+    let rest = part-words b ws (suc i) (suc j) n (λ k u.
+    let x = h (suc k) (omega arith) in
+    let p : i + suc k ≡ suc i + k = omega arith in
+    let q : j + suc k ≡ suc j + k = omega arith in
+    rw (p, q) at x) (omega arith) in
+    rw (drop-cons ws j 0 (omega arith), first, rest)
+
+-- ## Room
+
+pub few-words : (es : List Entry) → length es ≤ length (encodeAll es)
+few-words [] = omega arith
+few-words (e ∷ es) = let r = few-words es in let a = length-append (e .value) (encodeAll es) in omega arith
+
+pub kept-words : (ws table : List ℕ) (keys at end : ℕ) (xs mid ys : List Entry) → Gatherable ws table keys at end xs mid ys → length (encodeAll (keptOf xs mid ys)) ≤ 512
+kept-words ws table keys at end xs mid ys g =
+    let a = filter-words (keptTest xs mid ys) mid in
+    let b = parse-words (slice at end ws) 0 at mid (g .here) in
+    let c = slice-long at end ws in
+    let d = g .short in
+    omega arith
+
+-- ## One entry
+
+module _ (buffer : List ℕ) (test : Entry → Bool) (mid left : List Entry) (t : Tally) (e : Entry) (o : Owing buffer test mid t (e ∷ left)) where
+  -- it is not kept
+  owing-skip : test e ≡ false → Owing buffer test mid t left
+  owing-skip h = record {
+    words = o .words ∙ rw h;
+    count = o .count ∙ rw h;
+    inside = λ f m. o .inside f (inr m);
+  }
+
+  -- it is, and its words go behind the others
+  module _ (h : test e ≡ true) where
+    owing-words : encodeAll (filter test mid) ≡ bufferPart buffer 512 (t .words) ++ (encode e ++ encodeAll (filter test left))
+    owing-words = o .words ∙ rw h
+
+    owing-count : length (filter test mid) ≡ t .entries + suc (length (filter test left))
+    owing-count = o .count ∙ rw h
+
+    owing-take : (buffer′ : List ℕ) (n : ℕ) → n ≡ 2 + length (e .value) → bufferPart buffer′ 512 (t .words) ≡ bufferPart buffer 512 (t .words) → bufferPart buffer′ (512 + t .words) n ≡ encode e
+        → Owing buffer′ test mid (record { words = t .words + n; entries = t .entries + 1 }) left
+    owing-take buffer′ n is same new =
+        let both′ : bufferPart buffer′ 512 (t .words) ++ bufferPart buffer′ (512 + t .words) n ≡ bufferPart buffer 512 (t .words) ++ encode e = rw (same, new) in
+        let part : bufferPart buffer 512 (t .words) ++ encode e ≡ bufferPart buffer′ 512 (t .words + n) = sym (part-more buffer′ 512 (t .words) n ∙ both′) in
+        record {
+          words = owing-words ∙ sym (append-assoc (bufferPart buffer 512 (t .words)) (encode e) (encodeAll (filter test left))) ∙ ap (λ (l : List ℕ). l ++ encodeAll (filter test left)) part;
+          count = let c = owing-count in omega arith;
+          inside = λ f m. o .inside f (inr m);
+        }
+
+    owing-room : length (encodeAll (filter test mid)) ≤ 512 → (t .words + (2 + length (e .value)) ≤ 512) × (t .entries < 512)
+    owing-room l =
+        let a = ap length owing-words in
+        let b = length-append (bufferPart buffer 512 (t .words)) (encode e ++ encodeAll (filter test left)) in
+        let c = length-append (e .value) (encodeAll (filter test left)) in
+        let d = length-part buffer 512 (t .words) in
+        let f = few-words (filter test mid) in
+        let g = owing-count in
+        (omega arith, omega arith)
+
+-- ## What the code shows of one entry
+
+area-all : (b : List ℕ) → length b ≡ 1152 → AreaWritten b b
+area-all b size = record { size = size; long = refl; below = λ j l. refl; above = λ j l. refl }
+
+module _ (ws buffer : List ℕ) (t : Tally) (place size : ℕ) (long : length buffer ≡ 1152) where
+  pub take-not : OneGathered ws buffer buffer t false place size t
+  take-not = record {
+    area = area-all buffer long;
+    bound = λ l. l;
+    adds = λ table at end keys xs mid ys left e g h ea ev es o. owing-skip buffer (keptTest xs mid ys) mid left t e o (sym h);
+  }
+
+  pub take-full : (words entries : ℕ) → words ≡ t .words → entries ≡ t .entries → Room words entries place size false → OneGathered ws buffer buffer t true place size t
+  take-full words entries iw ie r = record {
+    area = area-all buffer long;
+    bound = λ l. l;
+    adds = λ table at end keys xs mid ys left e g h ea ev es o.
+        let m = o .inside e (inl refl) in
+        let f = owing-room buffer (keptTest xs mid ys) mid left t e o (sym h) (kept-words ws table keys at end xs mid ys g) in
+        let p = g .small .each e (mem-r e xs (mid ++ ys) (mem-l e mid ys m)) .place-high in
+        let x = f .0 in
+        let y = f .1 in
+        absurd (r .lacks refl (omega arith) (omega arith) (omega arith));
+  }
+
+  pub take-kept : (words entries : ℕ) → words ≡ t .words → entries ≡ t .entries → Room words entries place size true
+      → (buffer′ : List ℕ) → Copied ws buffer buffer′ place (512 + words) (2 + size)
+      → OneGathered ws buffer buffer′ t true place size (record { words = words + (2 + size); entries = entries + 1 })
+  take-kept words entries iw ie r buffer′ c = record {
+    area = record {
+      size = long;
+      long = c .long;
+      below = λ j l. c .others j (inl (omega arith));
+      above = λ j l. let f = r .fits refl .0 in c .others j (inr (omega arith));
+    };
+    bound = λ l. r .fits refl .0;
+    adds = adds;
+  }
+    where
+      adds : (table : List ℕ) (at end keys : ℕ) (xs mid ys left : List Entry) (e : Entry) → Gatherable ws table keys at end xs mid ys → true ≡ keptTest xs mid ys e → e .at ≡ place → length (e .value) ≡ size → StandsIn ws e
+          → Owing buffer (keptTest xs mid ys) mid t (e ∷ left) → Owing buffer′ (keptTest xs mid ys) mid (record { words = words + (2 + size); entries = entries + 1 }) left
+      adds table at end keys xs mid ys left e g h ea ev s o =
+          let test : keptTest xs mid ys e ≡ true = sym h in
+          let same : bufferPart buffer′ 512 (t .words) ≡ bufferPart buffer 512 (t .words) = part-agree buffer′ buffer 512 (t .words) (λ j a b. c .others j (inl (omega arith))) in
+          let n : 2 + size ≡ 2 + wordsFor (e .placement) (e .field) = omega (arith, s .right .words) in
+          let f = s .fits in
+          let at′ : bufferPart buffer′ (512 + words) (2 + size) ≡ take (2 + size) (drop place ws) = part-words buffer′ ws (512 + words) place (2 + size) (c .words) (rw (← ea) (omega arith)) in
+          let new : bufferPart buffer′ (512 + t .words) (2 + size) ≡ encode e = rw (← iw) (at′ ∙ rw (n, ← ea) (s .words)) in
+          rw (iw, ie) (owing-take buffer (keptTest xs mid ys) mid left t e o test buffer′ (2 + size) (omega arith) same new)

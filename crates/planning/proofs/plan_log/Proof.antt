@@ -1,0 +1,81 @@
+-- `planning::plan_log` meets its contract.
+-- Assumes nothing.
+use native.Mathlib.Omega.{arith}
+use mathlib.Core.Path.{refl}
+use Rattle.spec.specs.Words.{wordsOf}
+use Rattle.planning.proofs.Shows.{log-bare, log-copies, log-full}
+use borrow.Author.Needs.{needs}
+use Rattle.planning.proofs.plan_log.Statement.{statement}
+use Rattle.planning.proofs.plan_log.Tie as tie
+
+directory-word-requires : tie.Need-directory-word-requires
+directory-word-requires c κs = search needs
+
+lines-of-requires : tie.Need-lines-of-requires
+lines-of-requires c κs = search needs
+
+mul-at : tie.Need-mul-at
+mul-at c = search needs
+
+mul-end : tie.Need-mul-end
+mul-end c = search needs
+
+add-end : tie.Need-add-end
+add-end c = search needs
+
+measure-requires : tie.Need-measure-requires
+measure-requires c κs = search needs
+
+returns : tie.Need-returns
+returns c =
+    let a = c .before .before .before .before .before .before .args in
+    let o = c .before .before .before .directory-word in
+    let l = c .before .before .lines-of in
+    let m = c .before .measure in
+    log-bare (wordsOf (a .image .now)) (a .table .now) (a .count) (a .chunk) (a .first) (o .result) (l .result) _ _ (m .result) (o .ensures) (l .ensures .0) refl refl (m .ensures) (c .if1 .taken)
+
+add-copy-place : tie.Need-add-copy-place
+add-copy-place c = search needs
+
+copy-place-requires : tie.Need-copy-place-requires
+copy-place-requires c κs = search needs
+
+clean-count-requires : tie.Need-clean-count-requires
+clean-count-requires c κs = search needs
+
+at-most-requires : tie.Need-at-most-requires
+at-most-requires c κs = search needs
+
+returns-2 : tie.Need-returns-2
+returns-2 c =
+    let a = c .before .before .before .before .before .before .before .before .before .before .args in
+    let o = c .before .before .before .before .before .before .before .directory-word in
+    let l = c .before .before .before .before .before .before .lines-of in
+    let m = c .before .before .before .before .before .measure in
+    log-copies (wordsOf (a .image .now)) (a .table .now) (a .count) (a .chunk) (a .first) (o .result) (l .result) _ _ (m .result) (o .ensures) (l .ensures .0) refl refl (m .ensures) (c .before .before .before .before .if1 .left) _ refl _ (c .before .before .before .copy-place .ensures) (c .before .before .if2 .taken) _ _ (c .before .clean-count .ensures) (c .at-most .ensures)
+
+returns-3 : tie.Need-returns-3
+returns-3 c =
+    let a = c .before .before .before .before .before .before .before .before .args in
+    let o = c .before .before .before .before .before .directory-word in
+    let l = c .before .before .before .before .lines-of in
+    let m = c .before .before .before .measure in
+    log-full (wordsOf (a .image .now)) (a .table .now) (a .count) (a .chunk) (a .first) (o .result) (l .result) _ _ (m .result) (o .ensures) (l .ensures .0) refl refl (m .ensures) (c .before .before .if1 .left) _ refl _ (c .before .copy-place .ensures) (c .if2 .left)
+
+pub plan-log-spec : {M : Type 1} → statement M
+plan-log-spec =
+    tie.close
+    (tie.spec
+    directory-word-requires
+    lines-of-requires
+    mul-at
+    mul-end
+    add-end
+    measure-requires
+    returns
+    add-copy-place
+    copy-place-requires
+    clean-count-requires
+    at-most-requires
+    returns-2
+    returns-3)

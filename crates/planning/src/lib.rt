@@ -1,0 +1,196 @@
+// What a cleaning finds before it is begun: a refusal, or the place of its copies and how many actions it has. Nothing is changed.
+ghost use mathlib.Core.Path.{_≡_};
+ghost use Prim.Native.Nat.{_*_, _%_};
+ghost use Rattle.spec.specs.Words.{wordsOf};
+ghost use Rattle.spec.specs.Calls.{hasSpace, logPlace};
+ghost use Rattle.placing.specs.Found.{placeOf, Stops};
+ghost use Rattle.planning.specs.Plans.{anyBit, LogPlanned, DataPlanned, CleanPlanned};
+use log::lines_of;
+use placing::Found;
+use placing::Place;
+use spec::Control;
+use spec::Refusal;
+use spec::Role;
+use spec::Setup;
+use spec::Source;
+
+// A cleaning's begin: turned down, or where its copies go (chunk, its directory word, its committed lines), where the next commit
+// looks for space, what the record is to hold of the cleaned chunk, and the number of actions.
+pub enum CleanPlan {
+    Refused(Refusal),
+    At {
+        chunk: usize,
+        old: u64,
+        lines: usize,
+        first: usize,
+        source: Source,
+        actions: usize,
+    },
+}
+
+// WHERE THE COPIES GO
+// Whether c is a log chunk other than x with space for so many lines behind its committed ones.
+fn has_space(image: &[u8], c: usize, lines: usize, x: usize) -> bool
+    ensures { λ r. ⌜ r ≡ hasSpace 12 (wordsOf (now (image .entry))) lines x c ⌝ }
+{
+    if c == x {
+        return false;
+    }
+    let committed = lines_of(image, c);
+    if committed == 0 {
+        return false;
+    }
+    if 64 < lines {
+        return false;
+    }
+    committed + lines <= 64
+}
+
+// The first log chunk with space other than x; where there is none, a number not below the count.
+fn next_chunk(image: &[u8], count: usize, lines: usize, x: usize) -> usize
+    ensures { λ r. ⌜ Stops (hasSpace 12 (wordsOf (now (image .entry))) lines x) 1 count r ⌝ }
+{
+    let mut c = 1;
+    while c < count {
+        if has_space(image, c, lines, x) {
+            return c;
+        }
+        c += 1;
+    }
+    c
+}
+
+// The place for so many lines of copies: the first log chunk other than x with space, else the first free chunk.
+fn copy_place(image: &[u8], count: usize, lines: usize, x: usize) -> Place
+    ensures { λ r. ⌜ r ≡ placeOf (wordsOf (now (image .entry))) (logPlace 12 count (wordsOf (now (image .entry))) lines x 1) ⌝ }
+{
+    let next = next_chunk(image, count, lines, x);
+    if next < count {
+        return placing::place_at(image, next);
+    }
+    let free = placing::free_chunk(image, count, 1);
+    match free {
+        Found::At(c) => placing::place_at(image, c),
+        Found::Nothing => Place {
+            found: false,
+            chunk: 0,
+            committed: 0,
+            old: 0,
+        },
+    }
+}
+
+// Whether a block of the chunk is in use.
+fn has_live(buffer: &[u64; 1152], chunk: usize) -> bool
+    ensures { λ r. ⌜ r ≡ anyBit (now (buffer .entry)) (16 * (chunk % 512)) 16 ⌝ }
+{
+    let unit = 16 * (chunk % 512);
+    let mut i = 0;
+    while i < 16 {
+        if bits::has_bit(buffer, unit + i) {
+            return true;
+        }
+        i += 1;
+    }
+    false
+}
+
+// THE PLAN
+// of a log chunk: its kept entries are counted, and a place is looked for if there are any
+fn plan_log(image: &[u8], table: &[u64], count: usize, chunk: usize, first: usize) -> CleanPlan
+    ensures { λ r. ⌜ LogPlanned (wordsOf (now (image .entry))) (now (table .entry)) count chunk first r ⌝ }
+{
+    let old = placing::directory_word(image, chunk);
+    let lines = lines_of(image, chunk);
+    let at = 512 * (chunk % 512);
+    let end = at + 8 * lines;
+    let tally = gathering::measure(image, table, at, end);
+    let words = tally.words;
+    let source = Source {
+        chunk,
+        old,
+        lines,
+        words,
+        entries: tally.entries,
+    };
+    if words == 0 {
+        return CleanPlan::At {
+            chunk: 0,
+            old: 0,
+            lines: 0,
+            first,
+            source,
+            actions: 3,
+        };
+    }
+    let place = copy_place(image, count, (words + 7) / 8, chunk);
+    if place.found {
+        let actions = cleaning::clean_count(words);
+        let low = acts::at_most(first, place.chunk);
+        return CleanPlan::At {
+            chunk: place.chunk,
+            old: place.old,
+            lines: place.committed,
+            first: low,
+            source,
+            actions,
+        };
+    }
+    CleanPlan::Refused(Refusal::NoSpace)
+}
+
+// of a chunk that is no log chunk: it is only freed
+fn plan_data(buffer: &[u64; 1152], image: &[u8], chunk: usize, first: usize) -> CleanPlan
+    ensures { λ r. ⌜ DataPlanned (wordsOf (now (image .entry))) (now (buffer .entry)) chunk first r ⌝ }
+{
+    if has_live(buffer, chunk) {
+        return CleanPlan::Refused(Refusal::NotCleanable);
+    }
+    let old = placing::directory_word(image, chunk);
+    let lines = lines_of(image, chunk);
+    let source = Source {
+        chunk,
+        old,
+        lines,
+        words: 0,
+        entries: 0,
+    };
+    CleanPlan::At {
+        chunk: 0,
+        old: 0,
+        lines: 0,
+        first,
+        source,
+        actions: 3,
+    }
+}
+
+// 15, 16, 13, or what the cleaning begins with.
+pub fn plan_clean(
+    control: Control,
+    setup: Setup,
+    buffer: &[u64; 1152],
+    image: &[u8],
+    table: &[u64],
+    chunk: usize,
+) -> CleanPlan
+    ensures { λ r. ⌜ CleanPlanned control setup (now (buffer .entry)) (now (image .entry)) (now (table .entry)) chunk r ⌝ }
+{
+    if control.items == 0 {
+        let count = image.len() / 4096;
+        if chunk == 0 {
+            return CleanPlan::Refused(Refusal::NotCleanable);
+        }
+        if count <= chunk {
+            return CleanPlan::Refused(Refusal::NotCleanable);
+        }
+        if placing::is_free(image, chunk) {
+            return CleanPlan::Refused(Refusal::NotCleanable);
+        }
+        if lines_of(image, chunk) == 0 {
+            return plan_data(buffer, image, chunk, setup.first);
+        }
+        return plan_log(image, table, count, chunk, setup.first);
+    }
+    CleanPlan::Refused(Refusal::BatchStaged)
+}

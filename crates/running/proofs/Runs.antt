@@ -1,0 +1,113 @@
+-- What the code of a cleaning's run shows: each store is a step, and so is the action behind them; the action before the last is none.
+-- Assumes nothing.
+use mathlib.Core.Path.{_≡_, refl, sym, _∙_, ap, subst}
+use mathlib.Core.Logic.{by-cases}
+use mathlib.Core.Bool.{Bool, true, false}
+use mathlib.Core.List.{List}
+use Prim.Native.Nat.{ℕ, zero, _+_, _-_, _≤_, _<_}
+use native.Mathlib.Omega.{arith}
+use native.Mathlib.Decide.{ℕ-discrete}
+use lib.ListN.{length}
+use Rattle.spec.specs.Medium.{Action}
+use Rattle.spec.specs.Calls.{Step, asReport}
+use Rattle.spec.specs.Contract.{Changed, Called}
+use Rattle.spec.specs.declared.Control.{Control}
+use Rattle.spec.specs.declared.Setup.{Setup}
+use Rattle.spec.specs.declared.Session.{Session}
+use Rattle.spec.specs.declared.Report.{Report}
+use Rattle.spec.specs.declared.Report.the-variants as R
+use Rattle.theory_medium.proofs.Lists.{not-both}
+use Rattle.session.specs.State.{cleanActions, stateOf, limit}
+use Rattle.session.specs.Fits.{Fits}
+use Rattle.acts.specs.Nth.{nthReport}
+use Rattle.acts.proofs.Performed.{changed-length}
+use Rattle.cleaning.specs.Record.{cleanCount}
+use Rattle.cleaning.proofs.Acting.{clean-flush}
+use Rattle.cleaning.proofs.Keeping.{acted}
+use Rattle.cleaning_step.proofs.Shows.{shows-acts}
+use Rattle.stepping.specs.Inner.{Inner, toNext, Runs, RunsOn, isStore}
+use Rattle.stepping.proofs.Cleaning.{cleans}
+use Rattle.stepping.proofs.Inner.{stored-first}
+use Rattle.running.specs.Run.{Copying, CleaningRun, RestRun, Run}
+
+-- a report that tells of a store
+store-is : (r : Report) → isStore r ≡ true → (w : ℕ) × ((v : ℕ) × (r ≡ R.Store w v))
+store-is (R.Refused n) h = absurd (not-both false h refl)
+store-is (R.Begun a) h = absurd (not-both false h refl)
+store-is (R.Store w v) h = (w, (v, refl))
+store-is (R.Flush l) h = absurd (not-both false h refl)
+store-is R.Fence h = absurd (not-both false h refl)
+store-is (R.End n) h = absurd (not-both false h refl)
+store-is R.Idle h = absurd (not-both false h refl)
+store-is R.Opened h = absurd (not-both false h refl)
+store-is R.Abandoned h = absurd (not-both false h refl)
+store-is (R.Chosen c) h = absurd (not-both false h refl)
+store-is (R.Part a n) h = absurd (not-both false h refl)
+
+-- the record after an action
+counted : (c : Control) → c .phase ≡ 6 → acted c (c .keys) ≡ toNext (c .next + 1) c
+counted c e = ap (λ (p : ℕ). record { phase = p; next = c .next + 1; items = c .items; words = c .words; keys = c .keys; fresh = c .fresh }) (sym e)
+
+-- ONE ACTION that is not the last
+module _ (c : Control) (k : Setup) (b bytes bytes′ table : List ℕ) (h : Copying c k (length bytes) (length table)) where
+  abbrev Stepping : Report → Control → Type 0
+  Stepping r x = Called stateOf Fits 12 limit Step (record { control = c; setup = k; buffer = b }) (record { control = x; setup = k; buffer = b }) bytes bytes′ table table r
+
+  acts-once : (r : Report) → r ≡ nthReport (cleanActions k (k .source) b) (c .next) → Changed r bytes bytes′ → Stepping r (toNext (c .next + 1) c)
+  acts-once r e changed =
+      subst (Stepping r) (counted c (h .0))
+      (cleans c k b bytes table (h .0) (h .1 .0) (h .1 .1 .0) (acted c (c .keys)) b bytes′ table r (shows-acts c k (k .source) b bytes table bytes′ r e changed (h .1 .1 .1)))
+
+-- SEVERAL
+-- stores up to action n are made, from the next one on: with whatever run follows they are one
+pub record StoredTo (c : Control) (k : Setup) (b bytes bytes′ : List ℕ) (n : ℕ) : Type 0 where
+  pub sized : length bytes′ ≡ length bytes
+  pub from : c .next ≤ n
+  pub stores : (i : ℕ) → c .next ≤ i → i < n → isStore (nthReport (cleanActions k (k .source) b) i) ≡ true
+  pub run : (table : List ℕ) → Copying c k (length bytes) (length table) → (s′ : Session) (bytes″ table″ : List ℕ) (r : Report)
+      → Runs (record { control = toNext n c; setup = k; buffer = b }) s′ bytes′ bytes″ table table″ r
+      → Runs (record { control = c; setup = k; buffer = b }) s′ bytes bytes″ table table″ r
+
+module _ (c : Control) (k : Setup) (b bytes : List ℕ) where
+  abbrev acts : List Action
+  acts = cleanActions k (k .source) b
+
+  pub none-stored : StoredTo c k b bytes bytes (c .next)
+  none-stored = record { sized = refl; from = omega arith; stores = λ i l u. absurd (omega arith); run = λ table h s′ bytes″ table″ r q. q }
+
+  module _ (bytes₁ : List ℕ) (n : ℕ) (so-far : StoredTo c k b bytes bytes₁ n) (inside : n + 1 < cleanCount (k .source .words))
+      (bytes₂ : List ℕ) (r : Report) (e : r ≡ nthReport acts n) (changed : Changed r bytes₁ bytes₂) where
+    still : (table : List ℕ) → Copying c k (length bytes) (length table) → Copying (toNext n c) k (length bytes₁) (length table)
+    still table h = (h .0, (h .1 .0 ∙ sym (so-far .sized), (h .1 .1 .0, inside)))
+
+    stepped : (table : List ℕ) → Copying c k (length bytes) (length table)
+        → Called stateOf Fits 12 limit Step (record { control = toNext n c; setup = k; buffer = b }) (record { control = toNext (n + 1) c; setup = k; buffer = b }) bytes₁ bytes₂ table table r
+    stepped table h = acts-once (toNext n c) k b bytes₁ bytes₂ table (still table h) r e changed
+
+    pub one-stored : isStore r ≡ true → StoredTo c k b bytes bytes₂ (n + 1)
+    one-stored t =
+        let w = store-is r t in
+        record {
+          sized = changed-length r bytes₁ bytes₂ changed ∙ so-far .sized;
+          from = let f = so-far .from in omega arith;
+          stores = λ i l u. by-cases (ℕ-discrete i n) (λ q. ap (λ (x : ℕ). isStore (nthReport acts x)) q ∙ ap isStore (sym e) ∙ t) (λ q. so-far .stores i l (omega arith));
+          run = λ table h s′ bytes″ table″ r′ q. so-far .run table h s′ bytes″ table″ r′ (stored-first (rw (w .1 .1) at (stepped table h)) q);
+        }
+
+    pub run-ends : isStore r ≡ false → CleaningRun c k b bytes bytes₂ (n + 1) r
+    run-ends t = record {
+      sized = changed-length r bytes₁ bytes₂ changed ∙ so-far .sized;
+      runs = λ table h. (so-far .run table h _ bytes₂ table r (zero, stepped table h), t);
+    }
+
+  -- the action before the last is a flush: not all up to the last are stores
+  pub never-all : (bytes₁ : List ℕ) (n : ℕ) (r : Report) → StoredTo c k b bytes bytes₁ n → cleanCount (k .source .words) ≤ n + 1 → CleaningRun c k b bytes bytes₁ n r
+  never-all bytes₁ n r so-far h = record {
+    sized = so-far .sized;
+    runs = λ table q.
+        absurd
+        (let l = q .1 .1 .1 in
+        not-both (isStore (nthReport acts (cleanCount (k .source .words) - 2)))
+        (so-far .stores (cleanCount (k .source .words) - 2) (omega arith) (omega arith))
+        (ap (λ (x : Action). isStore (asReport x)) (clean-flush k (k .source) b (cleanCount (k .source .words) - 2) (omega arith))));
+  }

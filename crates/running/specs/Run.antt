@@ -1,0 +1,39 @@
+-- A run: the stores that come next and the action behind them, in a commit or a cleaning that has not come to its last action; anywhere else
+-- one step.
+-- Assumes nothing.
+use mathlib.Core.Path.{_≡_}
+use mathlib.Core.List.{List}
+use Prim.Native.Nat.{ℕ, _+_, _<_}
+use lib.ListN.{length}
+use Rattle.spec.specs.Calls.{Step}
+use Rattle.spec.specs.Contract.{Called}
+use Rattle.spec.specs.declared.Control.{Control}
+use Rattle.spec.specs.declared.Setup.{Setup}
+use Rattle.spec.specs.declared.Session.{Session}
+use Rattle.spec.specs.declared.Report.{Report}
+use Rattle.session.specs.State.{stateOf, limit}
+use Rattle.session.specs.Fits.{Fits}
+use Rattle.cleaning.specs.Record.{cleanCount}
+use Rattle.stepping.specs.Inner.{Inner, toNext, RunsOn}
+
+-- The next action is one of a cleaning's but not its last, and the lent lengths are those at its begin.
+abbrev pub Copying : Control → Setup → (bytes words : ℕ) → Type 0
+Copying c k bytes words = (c .phase ≡ 6) × ((k .image ≡ bytes) × ((k .table ≡ words) × (c .next + 1 < cleanCount (k .source .words))))
+
+-- what several actions of a cleaning come to, whatever the table holds
+pub record CleaningRun (c : Control) (k : Setup) (b bytes bytes′ : List ℕ) (next : ℕ) (r : Report) : Type 0 where
+  pub sized : length bytes′ ≡ length bytes
+  pub runs : (table : List ℕ) → Copying c k (length bytes) (length table)
+      → RunsOn (record { control = c; setup = k; buffer = b }) (record { control = toNext next c; setup = k; buffer = b }) bytes bytes′ table table r
+
+-- a run where a commit's short way is not gone
+pub record RestRun (s s′ : Session) (bytes bytes′ table table′ : List ℕ) (r : Report) : Type 0 where
+  pub within : Copying (s .control) (s .setup) (length bytes) (length table) → RunsOn s s′ bytes bytes′ table table′ r
+  pub without : (Copying (s .control) (s .setup) (length bytes) (length table) → ⊥) → Called stateOf Fits 12 limit Step s s′ bytes bytes′ table table′ r
+
+-- WHAT A RUN DOES
+pub record Run (s s′ : Session) (bytes bytes′ table table′ : List ℕ) (r : Report) : Type 0 where
+  pub commit : Inner (s .control) (s .setup) (length bytes) (length table) → RunsOn s s′ bytes bytes′ table table′ r
+  pub cleaning : Copying (s .control) (s .setup) (length bytes) (length table) → RunsOn s s′ bytes bytes′ table table′ r
+  pub otherwise : (Inner (s .control) (s .setup) (length bytes) (length table) → ⊥) → (Copying (s .control) (s .setup) (length bytes) (length table) → ⊥)
+      → Called stateOf Fits 12 limit Step s s′ bytes bytes′ table table′ r

@@ -1,0 +1,101 @@
+// Several steps of a cleaning in one call: the stores that come next, and the action behind them. Elsewhere one step.
+ghost use mathlib.Core.Path.{_≡_};
+ghost use mathlib.Core.Bool.{true, false};
+ghost use Rattle.stepping.specs.Inner.{isStore};
+ghost use Rattle.running.specs.Run.{Copying, CleaningRun, RestRun};
+use spec::Control;
+use spec::Report;
+use spec::Setup;
+use stepping::Advanced;
+use stepping::Stepped;
+
+fn is_store(report: Report) -> bool
+    ensures { λ r. ⌜ r ≡ isStore report ⌝ }
+{
+    match report {
+        Report::Refused(_) => false,
+        Report::Begun(_) => false,
+        Report::Store { word: _, value: _ } => true,
+        Report::Flush(_) => false,
+        Report::Fence => false,
+        Report::End(_) => false,
+        Report::Idle => false,
+        Report::Opened => false,
+        Report::Abandoned => false,
+        Report::Chosen(_) => false,
+        Report::Part {
+            start: _,
+            length: _,
+        } => false,
+    }
+}
+
+// Whether the next action is one of a cleaning's but not its last. Then a step needs neither key table nor bits.
+fn is_copying(control: Control, setup: Setup, bytes: usize, words: usize) -> bool
+    ensures { λ r. ⌜ (r ≡ true → Copying control setup bytes words) × (r ≡ false → Copying control setup bytes words → ⊥) ⌝ }
+{
+    let source = setup.source;
+    if control.phase == 6 {
+        if setup.image == bytes {
+            if setup.table == words {
+                if control.next < cleaning::clean_count(source.words) - 1 {
+                    return true;
+                }
+            }
+        }
+    }
+    false
+}
+
+// The stores that come next, and the action behind them, whose report is told. The action before the last is a flush, so the loop is left from inside.
+fn run_cleaning(control: Control, setup: Setup, buffer: &[u64; 1152], image: &mut [u8]) -> Advanced
+    ensures { λ r. ⌜ CleaningRun control setup (now (buffer .entry)) (now (image .entry)) (now (image .exit)) (r .next) (r .report) ⌝ }
+{
+    let source = setup.source;
+    let last = cleaning::clean_count(source.words) - 1;
+    let mut at = control.next;
+    while at < last {
+        let action = cleaning::clean_action(setup, source, buffer, at);
+        acts::perform(image, action);
+        at += 1;
+        if is_store(action) {} else {
+            return Advanced {
+                next: at,
+                report: action,
+            };
+        }
+    }
+    Advanced {
+        next: at,
+        report: Report::Idle,
+    }
+}
+
+// In a cleaning that has not come to its last action a run; elsewhere one step.
+pub fn run_core(
+    control: Control,
+    setup: Setup,
+    buffer: &mut [u64; 1152],
+    image: &mut [u8],
+    table: &mut [u64],
+) -> Stepped
+    ensures { λ r. ⌜ RestRun (record { control = control; setup = setup; buffer = now (buffer .entry) }) (record { control = r .control; setup = setup; buffer = now (buffer .exit) }) (now (image .entry)) (now (image .exit)) (now (table .entry)) (now (table .exit)) (r .report) ⌝ }
+{
+    if is_copying(control, setup, image.len(), table.len()) {
+        let run = run_cleaning(control, setup, buffer, image);
+        let report = run.report;
+        let moved = Control {
+            phase: control.phase,
+            next: run.next,
+            items: control.items,
+            words: control.words,
+            keys: control.keys,
+            fresh: control.fresh,
+        };
+        return Stepped {
+            control: moved,
+            report,
+        };
+    }
+    stepping::step_core(control, setup, buffer, image, table)
+}

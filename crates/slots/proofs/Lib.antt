@@ -1,0 +1,4 @@
+pub mod Staged
+pub mod Search
+pub mod Answer
+mod Worked

@@ -1,0 +1,112 @@
+-- The search over chunks and blocks: the first spare block of all is the first of those still to be looked at.
+-- Assumes nothing.
+use mathlib.Core.Path.{_≡_, refl, sym, _∙_, ap}
+use mathlib.Core.Bool.{Bool, true, false}
+use mathlib.Core.Option.{Option, none, some}
+use mathlib.Core.List.{List, [], _∷_, _++_}
+use Prim.Native.Nat.{ℕ, zero, suc, _+_, _-_, _*_, _/_, _≤_, _<_, min}
+use native.Mathlib.Nat.{mul-comm, mul-suc, mul-zero, add-zero, mul-le-mul-left, div-mul-le-self, div-zero, zero-mul, div-le-self}
+use native.Mathlib.Omega.{arith}
+use borrow.Author.Tests.{eq-eqb, ne-eqb, eqb-true}
+use lib.Dec.{eqb}
+use lib.ListN.{length}
+use Rattle.spec.specs.Basics.{pick, negate, filter, first, isIn, upFrom}
+use Rattle.spec.specs.Words.{wordsOf}
+use Rattle.spec.specs.Places.{chunkUnits, firstUnit, unitChunk}
+use Rattle.spec.specs.Directory.{sizeOf}
+use Rattle.spec.specs.Log.{Entry}
+use Rattle.spec.specs.Calls.{blocksOf, blocksFrom}
+use Rattle.theory_medium.proofs.Lists.{pick-same}
+use Rattle.slots.specs.Blocks.{Says, spare, Spare, firstSpare, InImage}
+
+-- how many blocks of s units chunk c has
+abbrev pub blockCount : List ℕ → ℕ → ℕ → ℕ
+blockCount ws s c = pick (eqb (sizeOf 12 ws c) s) (16 / s) 0
+
+pub count-none : (ws : List ℕ) (s c : ℕ) → s ≡ 0 → 0 ≡ blockCount ws s c
+count-none ws s c e = sym (rw (e, div-zero 16) (pick-same (eqb (sizeOf 12 ws c) 0) 0))
+
+pub count-some : (ws : List ℕ) (s c : ℕ) → sizeOf 12 ws c ≡ s → 16 / s ≡ blockCount ws s c
+count-some ws s c e = sym (rw (eq-eqb (sizeOf 12 ws c) s e))
+
+pub count-other : (ws : List ℕ) (s c : ℕ) → (sizeOf 12 ws c ≡ s → ⊥) → 0 ≡ blockCount ws s c
+count-other ws s c n = sym (rw (ne-eqb (sizeOf 12 ws c) s n))
+
+pub all-fit : (s : ℕ) → s * (16 / s) ≤ 16
+all-fit s = rw (mul-comm s (16 / s)) (div-mul-le-self 16 s)
+
+-- block j of k blocks of s units that fit into a chunk ends there
+pub block-ends : (s j k : ℕ) → j < k → s * k ≤ 16 → s * j + s ≤ 16
+block-ends s j k l h = let a : s * suc j ≤ s * k = mul-le-mul-left s l in let b = mul-suc s j in omega arith
+
+module _ (image : List ℕ) (n s : ℕ) (b : List ℕ) (words : ℕ) where
+  abbrev ws : List ℕ
+  ws = wordsOf image
+
+  -- the first spare block of all is the first of these
+  abbrev pub Left : List ℕ → Type 0
+  Left us = (es items : List Entry) → Says b words es items → firstSpare n ws es items s ≡ first (filter (spare es items) us)
+
+  -- from chunk c on; from block j of the k blocks of chunk c on
+  abbrev pub fromChunk : ℕ → List ℕ
+  fromChunk c = blocksFrom 12 ws s (upFrom c (n - c))
+
+  abbrev pub fromBlock : ℕ → ℕ → ℕ → List ℕ
+  fromBlock c k j = blocksOf 12 s (16 * c + s * j) (k - j) ++ fromChunk (suc c)
+
+  pub left-start : Left (fromChunk 1)
+  left-start es items g = refl
+
+  open-chunk : (c k : ℕ) → c < n → k ≡ blockCount ws s c → fromChunk c ≡ fromBlock c k 0
+  unfolding firstUnit chunkUnits
+  open-chunk c k l e =
+      let m : n - c ≡ suc (n - suc c) = omega arith in
+      let z : k - 0 ≡ k = omega arith in
+      let f : 16 * c + s * 0 ≡ c * 16 = let q = mul-zero s in omega arith in
+      rw (m, z, f, e) (go (eqb (sizeOf 12 ws c) s))
+    where
+      go : (t : Bool) → pick t (blocksOf 12 s (c * 16) (16 / s)) [] ++ fromChunk (suc c) ≡ blocksOf 12 s (c * 16) (pick t (16 / s) 0) ++ fromChunk (suc c)
+      go true = refl
+      go false = refl
+
+  pub left-open : (c k : ℕ) → c < n → k ≡ blockCount ws s c → Left (fromChunk c) → Left (fromBlock c k 0)
+  left-open c k l e p es items g = p es items g ∙ ap (λ (us : List ℕ). first (filter (spare es items) us)) (open-chunk c k l e)
+
+  -- one block more
+  next-block : (c k j : ℕ) → j < k → fromBlock c k j ≡ (16 * c + s * j) ∷ fromBlock c k (suc j)
+  next-block c k j l =
+      let m : k - j ≡ suc (k - suc j) = omega arith in
+      let f : 16 * c + s * suc j ≡ 16 * c + s * j + s = let q = mul-suc s j in omega arith in
+      rw (m, f)
+
+  pub left-next : (c k j u : ℕ) → j < k → u ≡ 16 * c + s * j → Spare b words u false → Left (fromBlock c k j) → Left (fromBlock c k (j + 1))
+  left-next c k j u l e t p es items g =
+      let q : false ≡ spare es items (16 * c + s * j) = t es items g ∙ ap (spare es items) e in
+      let z : j + 1 ≡ suc j = omega arith in
+      rw z (p es items g ∙ ap (λ (us : List ℕ). first (filter (spare es items) us)) (next-block c k j l) ∙ ap (λ (x : Bool). first (pick x ((16 * c + s * j) ∷ filter (spare es items) (fromBlock c k (suc j))) (filter (spare es items) (fromBlock c k (suc j))))) (sym q))
+
+  pub left-here : (c k j u : ℕ) → j < k → u ≡ 16 * c + s * j → Spare b words u true → Left (fromBlock c k j) → (es items : List Entry) → Says b words es items → firstSpare n ws es items s ≡ some u
+  left-here c k j u l e t p es items g =
+      let q : true ≡ spare es items (16 * c + s * j) = t es items g ∙ ap (spare es items) e in
+      p es items g ∙ ap (λ (us : List ℕ). first (filter (spare es items) us)) (next-block c k j l) ∙ ap (λ (x : Bool). first (pick x ((16 * c + s * j) ∷ filter (spare es items) (fromBlock c k (suc j))) (filter (spare es items) (fromBlock c k (suc j))))) (sym q) ∙ ap some (sym e)
+
+  -- no block more in the chunk, and no chunk more
+  pub left-close : (c k j : ℕ) → k ≤ j → Left (fromBlock c k j) → Left (fromChunk (c + 1))
+  left-close c k j l p es items g =
+      let m : k - j ≡ 0 = omega arith in
+      let z : c + 1 ≡ suc c = omega arith in
+      rw z (rw m at (p es items g))
+
+  pub left-end : (c : ℕ) → n ≤ c → Left (fromChunk c) → (es items : List Entry) → Says b words es items → firstSpare n ws es items s ≡ none
+  left-end c l p es items g =
+      let m : n - c ≡ 0 = omega arith in
+      rw m at (p es items g)
+
+-- WHAT HOLDS OF THE BLOCK ANYWAY
+pub in-image : (image : List ℕ) (n count s c j k u : ℕ) → n ≡ min count (length image / 4096) → 1 ≤ c → c < n → j < k → s * k ≤ 16 → u ≡ 16 * c + s * j → 1 ≤ s → sizeOf 12 (wordsOf image) c ≡ s
+    → InImage image count s u
+unfolding unitChunk chunkUnits
+in-image image n count s c j k u en lc hc hj hk eu hs es =
+    let e = block-ends s j k hj hk in
+    let x : unitChunk 12 u ≡ c = omega arith in
+    record { some′ = hs; low = rw x lc; high = rw x (omega arith); ends = omega arith; size = rw x es }

@@ -1,0 +1,143 @@
+-- `slots::find_block` meets its contract. The loops' invariants: the first spare block of all is the first of those from chunk c on, and
+-- within a chunk the first of those from its block j on.
+-- Assumes nothing.
+use mathlib.Core.Path.{_≡_, refl, sym, _∙_}
+use Prim.Native.Nat.{_+_, _-_, _*_, _/_, _≤_, _<_}
+use native.Mathlib.Omega.{arith}
+use borrow.Author.Needs.{needs}
+use Rattle.slots.specs.declared.Block.the-variants.{Nothing}
+use Rattle.slots.proofs.Search.{Left, fromChunk, fromBlock, left-start, left-open, left-next, left-here, left-close, left-end, block-ends, in-image}
+use Rattle.slots.proofs.Answer.{found-nothing, found-here}
+use Rattle.slots.proofs.find_block.Statement.{statement}
+use Rattle.slots.proofs.find_block.Tie as tie
+
+abbrev Inv-loop : tie.InvT-loop
+Inv-loop image count size buffer words chunks found₀ c blocks j₀ found j = (j ≤ blocks) × (found ≡ Nothing) × Left image chunks size buffer words (fromBlock image chunks size buffer words c blocks j)
+
+abbrev μ-loop : tie.MeasureT-loop
+μ-loop image count size buffer words chunks found₀ c blocks j₀ found j = blocks - j
+
+abbrev Inv-chunks : tie.InvT-chunks
+Inv-chunks image count size buffer words chunks found₀ c₀ found c = (1 ≤ c) × (found ≡ Nothing) × Left image chunks size buffer words (fromChunk image chunks size buffer words c)
+
+abbrev μ-chunks : tie.MeasureT-chunks
+μ-chunks image count size buffer words chunks found₀ c₀ found c = chunks - c
+
+lesser-requires : tie.Need-lesser-requires Inv-loop μ-loop Inv-chunks μ-chunks
+lesser-requires c κs = search needs
+
+chunks-holds : tie.Need-chunks-holds Inv-loop μ-loop Inv-chunks μ-chunks
+chunks-holds c =
+    let a = c .before .before .args in
+    (omega arith, refl, left-start (a .image .now) (c .lesser .result) (a .size) (a .buffer .now) (a .words))
+
+blocks-in-requires : tie.Need-blocks-in-requires Inv-loop μ-loop Inv-chunks μ-chunks
+blocks-in-requires c κs = search needs
+
+loop-holds : tie.Need-loop-holds Inv-loop μ-loop Inv-chunks μ-chunks
+loop-holds c =
+    let a = c .before .before .before .before .before .args in
+    let n = c .before .before .before .lesser .result in
+    let at = c .before .before .chunks in
+    let k = c .blocks-in in
+    (omega arith, at .inv .1, left-open (a .image .now) n (a .size) (a .buffer .now) (a .words) (at .c) (k .result) (omega arith) (k .ensures .0) (at .inv .2))
+
+mul-u : tie.Need-mul-u Inv-loop μ-loop Inv-chunks μ-chunks
+mul-u c = omega arith
+
+mul-u-2 : tie.Need-mul-u-2 Inv-loop μ-loop Inv-chunks μ-chunks
+mul-u-2 c =
+    let k = c .before .before .blocks-in in
+    let j = c .before .loop .j in
+    let e = block-ends (c .before .before .before .before .before .before .before .args .size) j (k .result) (c .loop-test .taken) (k .ensures .1) in
+    omega arith
+
+add-u : tie.Need-add-u Inv-loop μ-loop Inv-chunks μ-chunks
+add-u c =
+    let k = c .before .before .blocks-in in
+    let j = c .before .loop .j in
+    let e = block-ends (c .before .before .before .before .before .before .before .args .size) j (k .result) (c .loop-test .taken) (k .ensures .1) in
+    omega arith
+
+is-spare-requires : tie.Need-is-spare-requires Inv-loop μ-loop Inv-chunks μ-chunks
+is-spare-requires c κs = search needs
+
+add-j : tie.Need-add-j Inv-loop μ-loop Inv-chunks μ-chunks
+add-j c = omega arith
+
+loop-less : tie.Need-loop-less Inv-loop μ-loop Inv-chunks μ-chunks
+loop-less c = omega arith
+
+loop-again : tie.Need-loop-again Inv-loop μ-loop Inv-chunks μ-chunks
+loop-again c =
+    let a = c .before .before .before .before .before .before .before .before .before .args in
+    let n = c .before .before .before .before .before .before .before .lesser .result in
+    let ch = c .before .before .before .before .before .before .chunks in
+    let k = c .before .before .before .before .blocks-in in
+    let at = c .before .before .before .loop in (
+      omega arith,
+      at .inv .1,
+      left-next (a .image .now) n (a .size) (a .buffer .now) (a .words) (ch .c) (k .result) (at .j) _ (omega arith) refl
+          (λ es items g. sym (c .if1 .left) ∙ c .before .is-spare .ensures es items g) (at .inv .2),
+    )
+
+add-c : tie.Need-add-c Inv-loop μ-loop Inv-chunks μ-chunks
+add-c c = omega arith
+
+chunks-less : tie.Need-chunks-less Inv-loop μ-loop Inv-chunks μ-chunks
+chunks-less c = omega arith
+
+chunks-again : tie.Need-chunks-again Inv-loop μ-loop Inv-chunks μ-chunks
+chunks-again c =
+    let a = c .before .before .before .before .before .before .before .args in
+    let n = c .before .before .before .before .before .lesser .result in
+    let ch = c .before .before .before .before .chunks in
+    let k = c .before .before .blocks-in in
+    let at = c .before .loop in
+    (omega arith, at .inv .1, left-close (a .image .now) n (a .size) (a .buffer .now) (a .words) (ch .c) (k .result) (at .j) (omega arith) (at .inv .2))
+
+returns : tie.Need-returns Inv-loop μ-loop Inv-chunks μ-chunks
+returns c =
+    let a = c .before .before .before .before .args in
+    let n = c .before .before .lesser in
+    let ch = c .before .chunks in
+    found-nothing (a .image .now) (n .result) (a .count) (a .size) (a .buffer .now) (a .words) (ch .found) (n .ensures) (ch .inv .1)
+    (left-end (a .image .now) (n .result) (a .size) (a .buffer .now) (a .words) (ch .c) (omega arith) (ch .inv .2))
+
+returns-2 : tie.Need-returns-2 Inv-loop μ-loop Inv-chunks μ-chunks
+returns-2 c =
+    let a = c .before .before .before .before .before .before .before .before .before .args in
+    let n = c .before .before .before .before .before .before .before .lesser in
+    let ch = c .before .before .before .before .before .before .chunks in
+    let k = c .before .before .before .before .blocks-in in
+    let at = c .before .before .before .loop in
+    let some = k .ensures .2 (omega arith) in
+    found-here (a .image .now) (n .result) (a .count) (a .size) (a .buffer .now) (a .words) _ (n .ensures)
+    (left-here (a .image .now) (n .result) (a .size) (a .buffer .now) (a .words) (ch .c) (k .result) (at .j) _ (omega arith) refl
+    (λ es items g. sym (c .if1 .taken) ∙ c .before .is-spare .ensures es items g) (at .inv .2))
+    (in-image (a .image .now) (n .result) (a .count) (a .size) (ch .c) (at .j) (k .result) _ (n .ensures) (ch .inv .0) (omega arith) (omega arith) (k .ensures .1) refl (some .1) (some .0))
+
+pub find-block-spec : {M : Type 1} → statement M
+find-block-spec =
+    tie.close
+    (tie.spec
+    Inv-loop
+    μ-loop
+    Inv-chunks
+    μ-chunks
+    lesser-requires
+    chunks-holds
+    blocks-in-requires
+    loop-holds
+    mul-u
+    mul-u-2
+    add-u
+    is-spare-requires
+    add-j
+    loop-less
+    loop-again
+    add-c
+    chunks-less
+    chunks-again
+    returns
+    returns-2)

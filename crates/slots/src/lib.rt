@@ -1,0 +1,168 @@
+// Where a large value goes: the first data chunk of its block size with a block neither live nor staged, else the first free chunk.
+ghost use mathlib.Core.Path.{_≡_};
+ghost use Prim.Native.Nat.{_+_, _*_, _/_, _^_, _<_, _≤_, min};
+ghost use lib.Dec.{eqb};
+ghost use lib.ListN.{length, getD};
+ghost use Rattle.spec.specs.Basics.{pick, both};
+ghost use Rattle.spec.specs.Words.{wordsOf};
+ghost use Rattle.spec.specs.Directory.{sizeOf};
+ghost use Rattle.spec.specs.Log.{firstOf};
+ghost use Rattle.slots.specs.Blocks.{metBy, StagedBlock, Spare, BlockFound, SlotFound};
+use bits::has_bit;
+use codec::Unit;
+use codec::first_of;
+use log::size_of;
+use log::words_for;
+use placing::Found;
+use placing::free_chunk;
+use spec::FirstWord;
+
+// A block that was looked for, by its first unit.
+pub enum Block {
+    At(Unit),
+    Nothing,
+}
+
+// Where a large value goes: to a block of a data chunk, to the first block of a free chunk, or nowhere.
+pub enum Slot {
+    Data(Unit),
+    Free(usize),
+    Nowhere,
+}
+
+// What stands at a word of the batch: whether it is a put whose value is in the block asked for, and the number of words to the next item.
+pub struct Met {
+    pub here: bool,
+    pub size: usize,
+}
+
+fn lesser(a: usize, b: usize) -> usize
+    ensures { λ r. ⌜ r ≡ min a b ⌝ }
+{
+    if a < b { a } else { b }
+}
+
+// STAGED BLOCKS
+// Whether an entry with these parts is a put with its value in the block at unit u.
+fn points_to(op: u64, placement: u64, field: u64, u: usize) -> bool
+    ensures { λ r. ⌜ r ≡ both (both (eqb op 1) (eqb placement 1)) (eqb field u) ⌝ }
+{
+    if op == 1 {
+        if placement == 1 {
+            return field as usize == u;
+        }
+    }
+    false
+}
+
+fn met_at(buffer: &[u64; 1152], at: usize, u: usize) -> Met
+    requires { ⌜ at < 512 ⌝ }
+    ensures { λ r. ⌜ (r ≡ metBy u (firstOf (getD (now (buffer .entry)) at 0))) × (1 ≤ r .size) × (r .size < 2 ^ 62) ⌝ }
+{
+    let f = first_of(buffer[at]);
+    match f {
+        FirstWord::Padding => Met {
+            here: false,
+            size: 1,
+        },
+        FirstWord::Wrong => Met {
+            here: false,
+            size: 1,
+        },
+        FirstWord::Entry {
+            op,
+            placement,
+            version: _,
+            field,
+        } => {
+            let here = points_to(op, placement, field, u);
+            let size = 2 + words_for(placement, field);
+            Met { here, size }
+        }
+    }
+}
+
+// Whether a staged item points to the block at unit u: a pass over the staged entries.
+pub fn is_staged(buffer: &[u64; 1152], words: usize, u: usize) -> bool
+    ensures { λ r. ⌜ StagedBlock (now (buffer .entry)) words u r ⌝ }
+{
+    let end = lesser(words, 512);
+    let mut at = 0;
+    while at < end {
+        let met = met_at(buffer, at, u);
+        if met.here {
+            return true;
+        }
+        at += met.size;
+    }
+    false
+}
+
+// Whether the block at unit u is neither live nor staged.
+pub fn is_spare(buffer: &[u64; 1152], words: usize, u: usize) -> bool
+    ensures { λ r. ⌜ Spare (now (buffer .entry)) words u r ⌝ }
+{
+    if has_bit(buffer, u) {
+        return false;
+    }
+    if is_staged(buffer, words, u) {
+        return false;
+    }
+    true
+}
+
+// THE SEARCH
+// How many blocks of that size chunk c has.
+fn blocks_in(image: &[u8], c: usize, size: usize) -> usize
+    ensures { λ r. ⌜ (r ≡ pick (eqb (sizeOf 12 (wordsOf (now (image .entry))) c) size) (16 / size) 0) × (size * r ≤ 16) × (1 ≤ r → (sizeOf 12 (wordsOf (now (image .entry))) c ≡ size) × (1 ≤ size)) × (r ≤ 16) ⌝ }
+{
+    if size == 0 {
+        return 0;
+    }
+    if size_of(image, c) == size {
+        return 16 / size;
+    }
+    0
+}
+
+// The first unit of the first data chunk of that block size with a block neither live nor staged, lowest block, of an image of `count` chunks.
+pub fn find_block(
+    image: &[u8],
+    count: usize,
+    size: usize,
+    buffer: &[u64; 1152],
+    words: usize,
+) -> Block
+    ensures { λ r. ⌜ BlockFound (now (image .entry)) count size (now (buffer .entry)) words r ⌝ }
+{
+    let chunks = lesser(count, image.len() / 4096);
+    let mut found = Block::Nothing;
+    'chunks: for c in 1..chunks {
+        let blocks = blocks_in(image, c, size);
+        for j in 0..blocks {
+            let u = 16 * c + size * j;
+            if is_spare(buffer, words, u) {
+                found = Block::At(Unit(u as u64));
+                break 'chunks;
+            }
+        }
+    }
+    found
+}
+
+// Where a value that needs blocks of that size goes.
+pub fn slot_for(image: &[u8], count: usize, size: usize, buffer: &[u64; 1152], words: usize) -> Slot
+    ensures { λ r. ⌜ SlotFound (now (image .entry)) count size (now (buffer .entry)) words r ⌝ }
+{
+    let block = find_block(image, count, size, buffer, words);
+    match block {
+        Block::At(u) => Slot::Data(u),
+        Block::Nothing => {
+            let free = free_chunk(image, count, 3);
+            match free {
+                Found::At(c) => Slot::Free(c),
+                Found::Nothing => Slot::Nowhere,
+            }
+        }
+    }
+}

@@ -1,0 +1,80 @@
+-- What a step of a cleaning shows is what the contract of a step says.
+-- Assumes nothing.
+use mathlib.Core.Path.{_≡_, refl, _∙_, ap}
+use mathlib.Core.Logic.{_⊎_, inl, inr}
+use mathlib.Core.List.{List, [], _∷_}
+use Prim.Native.Nat.{ℕ, _+_, _<_}
+use lib.ListN.{length, drop}
+use Rattle.spec.specs.Words.{wordsOf}
+use Rattle.spec.specs.Medium.{Action}
+use Rattle.spec.specs.Calls.{Step, Cleaning, State, Rest, Busy}
+use Rattle.spec.specs.Contract.{Called}
+use Rattle.spec.specs.declared.Control.{Control}
+use Rattle.spec.specs.declared.Setup.{Setup}
+use Rattle.spec.specs.declared.Source.{Source}
+use Rattle.spec.specs.declared.Session.{Session}
+use Rattle.spec.specs.declared.Report.{Report}
+use Rattle.session.specs.State.{batchWords, batchItems, cleanActions, stateAt, stateOf, limit}
+use Rattle.session.specs.Fits.{CleanFits, RestFits, Fits}
+use Rattle.session.proofs.Kept.{emptied}
+use Rattle.acts.specs.Nth.{nth}
+use Rattle.cleaning.specs.Record.{cleanCount}
+use Rattle.cleaning.proofs.Acting.{clean-next, clean-done}
+use Rattle.cleaning_step.specs.Moves.{Acts, Over, CleanStepped}
+use Rattle.stepping.proofs.States.{busy, at-6, step-acts, step-ends}
+
+module _ (c : Control) (k : Setup) (b bytes table : List ℕ) (e : c .phase ≡ 6) (same-bytes : k .image ≡ length bytes) (same-words : k .table ≡ length table) where
+  abbrev s : Session
+  s = record { control = c; setup = k; buffer = b }
+
+  abbrev with′ : Control → List ℕ → Session
+  with′ c′ b′ = record { control = c′; setup = k; buffer = b′ }
+
+  abbrev f : Source
+  f = k .source
+
+  abbrev acts : List Action
+  acts = cleanActions k f b
+
+  abbrev F : List Action → State
+  F = Busy (k .image) (k .table) [] (Cleaning (f .entries))
+
+  -- memory as the calls left it, in a cleaning
+  fitting : Fits s (wordsOf bytes) table → CleanFits c k f b (wordsOf bytes) table (drop (c .next) acts)
+  fitting q = rw (at-6 c k b e) at (q .1)
+
+  -- an action
+  module _ (c′ : Control) (b′ bytes′ table′ : List ℕ) (r : Report) (t : Acts c c′ k f b b′ bytes bytes′ table table′ r) where
+    here : stateAt c k b ≡ F (nth acts (c .next) ∷ drop (c .next + 1) acts)
+    here = at-6 c k b e ∙ ap F (clean-next k f b (c .next) (t .here))
+
+    moved : stateAt c′ k b′ ≡ F (drop (c .next + 1) (cleanActions k f b′))
+    moved =
+        at-6 c′ k b′ (ap (λ (x : Control). x .phase) (t .control))
+        ∙ ap (λ (n : ℕ). F (drop n (cleanActions k f b′))) (ap (λ (x : Control). x .next) (t .control))
+
+    acted : Called stateOf Fits 12 limit Step s (with′ c′ b′) bytes bytes′ table table′ r
+    acted =
+        rw (t .report)
+        (step-acts s (with′ c′ b′) bytes bytes′ table table′ (k .image) (k .table) (f .entries) (Rest (k .image) (k .table) []) F (busy (k .image) (k .table) [] (Cleaning (f .entries))) same-bytes same-words
+        (nth acts (c .next)) (drop (c .next + 1) acts) here (moved ∙ ap F (t .behind)) (rw (t .report) at (t .changed)) (t .sized) (rw (at-6 c k b e) tt)
+        (λ q. (t .kept ∙ q .0, rw moved (t .fits (fitting q)))))
+
+  -- the end
+  module _ (c′ : Control) (b′ bytes′ table′ : List ℕ) (r : Report) (t : Over c c′ k f b b′ bytes bytes′ table table′ r) where
+    last : stateAt c k b ≡ F []
+    last = at-6 c k b e ∙ ap F (clean-done k f b (c .next) (t .past))
+
+    rests : CleanFits c k f b (wordsOf bytes) table (drop (c .next) acts) → RestFits (with′ (emptied c) b) (wordsOf bytes) table []
+    rests = rw (t .control, t .buffer, t .unchanged, t .same) at (t .fits)
+
+    over : Called stateOf Fits 12 limit Step s (with′ c′ b′) bytes bytes′ table table′ r
+    unfolding stateAt batchItems batchWords
+    over =
+        rw (t .report, t .control, t .buffer, t .unchanged, t .same)
+        (step-ends s (with′ (emptied c) b) bytes bytes table table (k .image) (k .table) (f .entries) (Rest (k .image) (k .table) []) F (busy (k .image) (k .table) [] (Cleaning (f .entries)))
+        same-bytes same-words last refl (λ q. (q .0, rests (fitting q))))
+
+  pub cleans : (c′ : Control) (b′ bytes′ table′ : List ℕ) (r : Report) → CleanStepped c c′ k f b b′ bytes bytes′ table table′ r → Called stateOf Fits 12 limit Step s (with′ c′ b′) bytes bytes′ table table′ r
+  cleans c′ b′ bytes′ table′ r (inl t) = acted c′ b′ bytes′ table′ r t
+  cleans c′ b′ bytes′ table′ r (inr t) = over c′ b′ bytes′ table′ r t

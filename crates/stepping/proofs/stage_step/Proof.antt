@@ -1,0 +1,50 @@
+-- `stepping::stage_step` meets its contract.
+-- Assumes nothing.
+use mathlib.Core.Path.{sym, _∙_}
+use native.Mathlib.Omega.{arith}
+use borrow.Author.Tests.{leb-true, leb-false}
+use borrow.Author.Needs.{needs}
+use lib.ListN.{length}
+use Rattle.session.specs.State.{blockActions, behindAll}
+use Rattle.block_acts.proofs.Filling.{none-left}
+use Rattle.stepping.proofs.Shows as S
+use Rattle.stepping.proofs.stage_step.Statement.{statement}
+use Rattle.stepping.proofs.stage_step.Tie as tie
+
+is-stored-requires : tie.Need-is-stored-requires
+is-stored-requires c κs = search needs
+
+returns : tie.Need-returns
+returns c = S.staging-ends _ _ _ _ _ (omega arith) (omega arith) (omega arith) (leb-true _ _ (sym (c .before .is-stored .ensures) ∙ c .if1 .taken))
+
+block-action-requires : tie.Need-block-action-requires
+block-action-requires c κs = search needs
+
+perform-requires : tie.Need-perform-requires
+perform-requires c κs = search needs
+
+add-next : tie.Need-add-next
+add-next c =
+    let a = c .before .before .before .before .before .before .before .before .before .args in
+    let l = leb-false (length (blockActions (a .setup) (a .buffer .now))) (a .control .next) (sym (c .before .before .before .before .before .before .is-stored .ensures) ∙ c .before .before .before .before .before .if1 .left) in
+    let m = none-left (a .setup) (a .buffer .now) behindAll (omega arith) in
+    omega arith
+
+same-length : tie.Need-same-length
+same-length c = search needs
+
+returns-2 : tie.Need-returns-2
+returns-2 c =
+    S.staging-acts _ _ _ _ _ (omega arith) (omega arith) (omega arith) _ _ (leb-false _ _ (sym (c .before .before .before .before .before .before .is-stored .ensures) ∙ c .before .before .before .before .before .if1 .left)) (c .before .before .before .before .block-action .ensures) (c .before .before .perform .ensures)
+
+pub stage-step-spec : {M : Type 1} → statement M
+stage-step-spec =
+    tie.close
+    (tie.spec
+    is-stored-requires
+    returns
+    block-action-requires
+    perform-requires
+    add-next
+    same-length
+    returns-2)
