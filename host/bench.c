@@ -7,7 +7,8 @@
  * entry. That of an opening is one pass in plain C over the same image, which checks header, directory and entries and fills
  * that hash; it knows neither blocks nor deletes and does not compare top entries. Look-ups are timed one by one, each
  * waiting for the one before, and overlapped, as the processor will where it can; and overlapped with both sides copying the
- * value's bytes out into a buffer.
+ * value's bytes out into a buffer. Cleaning, a full room and choosing are told in bench_clean.c; choosing has our own opening of the
+ * same image in the second column.
  * Both sides work on ordinary memory, so nothing is said of persistent memory. They go by turns, processor time is taken, and
  * of each side the best of several rounds counts. Other work on the machine still shows: a run beside it may have ratios half
  * as high again. A ratio is our time over the floor's: 1.00 is the floor itself.
@@ -15,17 +16,10 @@
  * bench [--svg FILE] */
 #define _GNU_SOURCE
 #include <inttypes.h>
-#include <stdbool.h>
-#include <stdio.h>
-#include <stdlib.h>
-#include <string.h>
-#include <time.h>
 
-#include "device.h"
-#include "zitskvoze.h"
+#include "bench.h"
 
 enum {
-    CHUNK = 512,                            /* words in a chunk */
     CHUNKS = ZKV_CHUNKS_MAX,
     BYTES = CHUNKS * ZKV_CHUNK_BYTES,
     TABLE = ZKV_TABLE_WORDS_MAX,
@@ -37,28 +31,17 @@ enum {
     OPENINGS = 10,
     LOOKS = 500,                            /* look-ups in a block */
     LOOK_BLOCKS_MAX = 60000 / LOOKS,
-    ROWS_MAX = 16
+    ROWS_MAX = 20
 };
-
-/* Nanoseconds of processor time of this thread, waits for write-backs included. */
-static double now(void)
-{
-    struct timespec t;
-    clock_gettime(CLOCK_THREAD_CPUTIME_ID, &t);
-    return (double)t.tv_sec * 1e9 + (double)t.tv_nsec;
-}
 
 static uint64_t state = 88172645463325252u;
 
 static uint64_t draw(void)
 {
-    state ^= state << 13;
-    state ^= state >> 7;
-    state ^= state << 17;
-    return state;
+    return drawn(&state);
 }
 
-static void *memory(size_t bytes)
+void *memory(size_t bytes)
 {
     void *p = mmap(NULL, bytes, PROT_READ | PROT_WRITE, MAP_PRIVATE | MAP_ANONYMOUS | MAP_POPULATE, -1, 0);
     if (p == MAP_FAILED) {
@@ -68,7 +51,7 @@ static void *memory(size_t bytes)
     return p;
 }
 
-static void wrong(const char *what)
+void wrong(const char *what)
 {
     fprintf(stderr, "bench: %s\n", what);
     exit(1);
@@ -84,7 +67,7 @@ static struct row {
 static size_t row_count;
 
 /* A row's times in one pass. */
-static void note(const char *name, const char *unit, double ours, double floor, bool raw)
+void note(const char *name, const char *unit, double ours, double floor, bool raw)
 {
     size_t i = 0;
     while (i < row_count && strcmp(rows[i].name, name) != 0) {
@@ -99,7 +82,7 @@ static void note(const char *name, const char *unit, double ours, double floor, 
 }
 
 /* ---- puts */
-static enum write_back how;
+enum write_back how;
 static uint8_t *image;                      /* ours */
 static uint64_t *floor_image;
 static uint64_t *table;
@@ -193,7 +176,7 @@ __attribute__((noinline)) static void floor_commit(size_t *chunk, size_t *line, 
 
 static void new_register(size_t full_chunks)
 {
-    static const uint8_t value[ZKV_VALUE_MAX];
+    static const uint8_t value[ZKV_LOG_VALUE_MAX];
     memset(image, 0, BYTES);
     memset(floor_image, 0, BYTES);
     memset(&record, 0, sizeof record);
@@ -222,7 +205,7 @@ static void compare_logs(size_t from)
 static void measure_puts(const char *name, size_t items, size_t size, struct way way, size_t full_chunks)
 {
     double ours[BLOCKS], floor[BLOCKS], our_sum = 0, floor_sum = 0;
-    uint8_t value[ZKV_VALUE_MAX];
+    uint8_t value[ZKV_LOG_VALUE_MAX];
     for (size_t b = 0; b < BLOCKS; b++) {
         ours[b] = floor[b] = 1e18;
     }
@@ -332,7 +315,7 @@ __attribute__((noinline)) static uint64_t floor_open(const uint64_t *w, size_t b
                 continue;
             }
             uint64_t version = first >> 4 & 0xFFFFF, length = first >> 24;
-            if ((first & 15) != 1 || version == 0 || length > ZKV_VALUE_MAX) {
+            if ((first & 15) != 1 || version == 0 || length > ZKV_LOG_VALUE_MAX) {
                 return 0;
             }
             size_t words = 2 + (length + 7) / 8;
@@ -374,7 +357,7 @@ __attribute__((noinline)) static uint64_t floor_look_up(const uint64_t *w, const
 /* The value's bytes in a buffer: what a host does that keeps them. Its first bytes, so that the copy is not left out. */
 static inline uint64_t copied_out(const uint8_t *at, uint64_t length)
 {
-    static uint8_t buffer[ZKV_VALUE_MAX];
+    static uint8_t buffer[ZKV_LOG_VALUE_MAX];
     uint64_t first;
     if (length > sizeof buffer) {
         wrong("a look-up answered too long a value");
@@ -568,9 +551,13 @@ int main(int count, char **argument)
         make_image(7500, 256, keys);
         measure_opening("opening, 7,500 values of 256 bytes", 7500, hash);
         measure_looks("look-up among 7,500 keys, one by one", keys, 7500, hash, ONE_BY_ONE);
+        measure_cleaning();
+        measure_full_room();
+        measure_choosing();
     }
     printf("write-back by %s, ordinary memory\n", write_back_name(how));
     print_table();
+    print_full_room();
     if (picture != NULL && !draw_table(picture)) {
         fprintf(stderr, "bench: %s cannot be written\n", picture);
         return 2;

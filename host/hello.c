@@ -1,5 +1,9 @@
-/* The smallest host: formats an image in ordinary memory, puts one label, and prints it back. */
+/* The smallest host: formats an image in ordinary memory, puts labels, and prints them back.
+ *
+ * hello [LABELS]       1; ends with 1 and a message where a call is refused */
+#include <inttypes.h>
 #include <stdio.h>
+#include <stdlib.h>
 
 #include "device.h"
 #include "zitskvoze.h"
@@ -10,28 +14,38 @@ static zkv_record record;
 
 #define LENT &record, image, sizeof image, table, 4096
 
+/* Carries a begun call out to its end. A refusal is never passed over: what was refused is not in the register. */
 static void run(zkv_report r)
 {
     enum write_back how = best_write_back();
-    for (; r.kind != ZKV_END && r.kind != ZKV_REFUSED; r = zkv_run(LENT)) {
+    for (; r.kind >= ZKV_BEGUN && r.kind <= ZKV_FENCE; r = zkv_run(LENT)) {
         if (r.kind == ZKV_FLUSH) {
             write_back_line(how, image + ZKV_LINE_BYTES * r.first);
         } else if (r.kind == ZKV_FENCE) {
             store_fence();
         }
     }
+    if (r.kind == ZKV_REFUSED) {
+        fprintf(stderr, "refused %" PRIu64 ": %s\n", r.first, zkv_sentence(r.first));
+        exit(1);
+    }
 }
 
-int main(void)
+int main(int count, char **argument)
 {
-    uint64_t start, length;
+    uint64_t labels = count > 1 ? strtoull(argument[1], NULL, 10) : 1, start, length;
     run(zkv_format(LENT, 0, 0, 0, 0));
-    zkv_open(LENT);
-    run(zkv_put(LENT, 4711, (const uint8_t *)"A+ 450 ml", 9));
-    run(zkv_commit(LENT));
-    if (zkv_look_up(LENT, 4711, &start, &length) != 0) {
-        return 1;
+    run(zkv_open(LENT));
+    for (uint64_t key = 4711; key < 4711 + labels; key++) {
+        run(zkv_put(LENT, key, (const uint8_t *)"A+ 450 ml", 9));
+        run(zkv_commit(LENT));
     }
-    fwrite(image + start, 1, length, stdout);
-    return putchar('\n') == EOF;
+    for (uint64_t key = 4711; key < 4711 + labels; key++) {
+        if (zkv_look_up(LENT, key, &start, &length) != 0) {
+            return 1;
+        }
+        fwrite(image + start, 1, length, stdout);
+        putchar('\n');
+    }
+    return fflush(stdout) == EOF;
 }

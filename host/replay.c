@@ -1,7 +1,7 @@
 /* Plays a script of tests/model/PROTOCOL.md on the library and prints what each call answered, so that the output can be
  * compared with the model's. It holds each refusal to its word: image, table and record before and after are compared (a
- * refused opening: the table is all zero and a step then says idle), and `changed` follows the answer if something changed.
- * The calls of the counter level are played; `choose` and `clean` answer `bad`. */
+ * refused opening: the table is all zero and a step then says idle), and `changed` follows the answer if something changed. So it
+ * does where a choosing changed something, whatever it answered. */
 #include <inttypes.h>
 #include <stdbool.h>
 #include <stdio.h>
@@ -22,6 +22,7 @@ struct lent {
 static struct lent now, before;
 static size_t bytes, words;
 static uint8_t value[VALUE_ROOM];
+static bool cleaning;              /* the call begun last is a cleaning, and has not ended */
 
 static void remember(void)
 {
@@ -75,7 +76,15 @@ static void show(zkv_report r)
         puts("fence");
         break;
     case ZKV_END:
-        puts("end");
+        if (cleaning) {
+            printf("end %" PRIu64 "\n", r.first);
+        } else {
+            puts(r.first == 0 ? "end" : "end with a count, of no cleaning");
+        }
+        cleaning = false;
+        break;
+    case ZKV_CHOSEN:
+        printf("chunk %" PRIu64 "\n", r.first);
         break;
     case ZKV_IDLE:
         puts("idle");
@@ -91,11 +100,11 @@ static void show(zkv_report r)
     }
 }
 
-/* Prints an answer, and whether a refusal changed something. */
+/* Prints an answer, and whether a refusal or a choosing changed something. */
 static void answer(zkv_report r)
 {
     show(r);
-    if (r.kind == ZKV_REFUSED && !all_same()) {
+    if ((r.kind == ZKV_REFUSED || r.kind == ZKV_CHOSEN) && !all_same()) {
         puts("changed");
     }
 }
@@ -235,6 +244,7 @@ static bool play(char *line)
         printf("table %zu\n", words);
     } else if (COMMAND("record", 0)) {
         memset(&now.record, 0, sizeof now.record);
+        cleaning = false;
         puts("record");
     } else if (COMMAND("poke", 2) && n[0] < bytes / 8) {
         memcpy(now.image + 8 * n[0], &n[1], 8);
@@ -242,6 +252,7 @@ static bool play(char *line)
     } else if (COMMAND("open", 0)) {
         remember();
         zkv_report r = zkv_open(&now.record, now.image, bytes, now.table, words);
+        cleaning = false;
         show(r);
         if (r.kind == ZKV_REFUSED && !closed()) {
             puts("changed");
@@ -261,6 +272,14 @@ static bool play(char *line)
     } else if (COMMAND("abandon", 0)) {
         remember();
         answer(zkv_abandon(&now.record, now.image, bytes, now.table, words));
+    } else if (COMMAND("choose", 0)) {
+        remember();
+        answer(zkv_choose(&now.record, now.image, bytes, now.table, words));
+    } else if (COMMAND("clean", 1)) {
+        remember();
+        zkv_report r = zkv_clean(&now.record, now.image, bytes, now.table, words, n[0]);
+        cleaning = cleaning || r.kind == ZKV_BEGUN;
+        answer(r);
     } else if (COMMAND("look", 1)) {
         look(n[0]);
     } else if (COMMAND("step", 0)) {

@@ -1,64 +1,76 @@
 /* zkv: a label register in a file, from the command line. See host/zkv.1 for what each command does.
  *
- * The file is mapped into memory and lent to the library as the image; every report is carried out on it (device.h). All that
- * is said of the image's inside comes from the library's calls. */
+ * Here: the command line. The commands are in zkv_write.c (format, put, delete, clean) and zkv_read.c (get, scan, stat, check), list
+ * in zkv_list.c, what they share in zkv_register.c, and the file under the image in image_file.c. All that is said of the image's inside comes from the
+ * library's calls, but the header's station and centre number. */
 #define _GNU_SOURCE
 #include <errno.h>
-#include <fcntl.h>
 #include <inttypes.h>
-#include <libgen.h>
-#include <stdarg.h>
 #include <stdio.h>
 #include <stdlib.h>
 #include <string.h>
-#include <sys/file.h>
-#include <sys/stat.h>
-#include <time.h>
-#include <unistd.h>
 
-#include "device.h"
-#include "zitskvoze.h"
+#include "zkv.h"
 
-enum { OK = 0, REFUSED = 1, TROUBLE = 2 };
-enum { VALUE_ROOM = 65537 };        /* more than any value's limit, so that the library sees what is too long */
+/* ---- options, by the commands that have them */
 
-static const char usage[] =
-    "usage: zkv format FILE CHUNKS [--station N] [--centre N] [--force]\n"
-    "       zkv put FILE KEY VALUEFILE|-\n"
-    "       zkv get FILE KEY\n"
-    "       zkv delete FILE KEY\n"
-    "       zkv stat FILE\n"
-    "       zkv check FILE\n"
-    "       zkv --help | --version\n"
-    "option of format, put and delete: --pause MICROSECONDS between steps\n"
-    "exit status: 0 done, 1 refused or absent, 2 usage or system error\n";
+enum { FORCE = 1, STATION = 2, CENTRE = 4, EMPTY = 8, NO_CLEAN = 16, PAUSE = 32, WAIT = 64 };
 
-/* The register that a command works on, and all that is lent to the calls. */
-static struct device device;
-static zkv_record record;
-static uint64_t *table;
-static int file = -1;
-static long pause_us;
+static const struct option {
+    const char *name;
+    unsigned bit;
+    const char *number;         /* what the number behind it is; NULL: it has none */
+    uint64_t most;
+} options[] = {
+    {"--force", FORCE, NULL, 0},
+    {"--station", STATION, "a station number: decimal, below 2^64", UINT64_MAX},
+    {"--centre", CENTRE, "a centre number: decimal, below 2^64", UINT64_MAX},
+    {"--empty", EMPTY, NULL, 0},
+    {"--no-clean", NO_CLEAN, NULL, 0},
+    {"--pause", PAUSE, "microseconds, at most 60000000", 60000000},
+    {"--wait", WAIT, "seconds, at most 1000000", 1000000},
+};
 
-__attribute__((format(printf, 1, 2))) static int trouble(const char *format, ...)
+static const struct command {
+    const char *name;
+    int words, more;            /* behind FILE, and how many more there may be */
+    unsigned options;
+    int (*run)(const char *file, char **word, const struct options *o);
+    const char *usage;
+} commands[] = {
+    {"format", 1, 0, FORCE | STATION | CENTRE | PAUSE | WAIT, command_format,
+     "FILE CHUNKS [--station N] [--centre N] [--force] [--pause MICROSECONDS] [--wait SECONDS]"},
+    {"put", 2, 0, EMPTY | NO_CLEAN | PAUSE | WAIT, command_put,
+     "FILE KEY VALUEFILE|- [--empty] [--no-clean] [--pause MICROSECONDS] [--wait SECONDS]"},
+    {"get", 1, 0, WAIT, command_get, "FILE KEY [--wait SECONDS]"},
+    {"scan", 2, 0, EMPTY | WAIT, command_scan, "FILE KEY SCANFILE|- [--empty] [--wait SECONDS]"},
+    {"delete", 1, 0, NO_CLEAN | PAUSE | WAIT, command_delete, "FILE KEY [--no-clean] [--pause MICROSECONDS] [--wait SECONDS]"},
+    {"clean", 0, 1, PAUSE | WAIT, command_clean, "FILE [CHUNK] [--pause MICROSECONDS] [--wait SECONDS]"},
+    {"list", 0, 0, WAIT, command_list, "FILE [--wait SECONDS]"},
+    {"stat", 0, 0, WAIT, command_stat, "FILE [--wait SECONDS]"},
+    {"check", 0, 0, WAIT, command_check, "FILE [--wait SECONDS]"},
+};
+
+enum { OPTIONS = sizeof options / sizeof *options, COMMANDS = sizeof commands / sizeof *commands, WORDS_MAX = 3 };
+
+static void print_usage(FILE *to)
 {
-    va_list arguments;
-    va_start(arguments, format);
-    fputs("zkv: ", stderr);
-    vfprintf(stderr, format, arguments);
-    fputc('\n', stderr);
-    va_end(arguments);
+    for (size_t i = 0; i < COMMANDS; i++) {
+        fprintf(to, "%s zkv %s %s\n", i == 0 ? "usage:" : "      ", commands[i].name, commands[i].usage);
+    }
+    fputs("       zkv --help | --version\n"
+          "exit status: 0 done (of scan: a match), 1 the key is absent, 2 usage or system, 3 refused, 4 put aside\n", to);
+}
+
+/* What is wrong with the command line, and how the command is used. */
+static int misused(const struct command *c, const char *what, const char *word)
+{
+    fprintf(stderr, "zkv: %s: %s%s%s\n", c->name, what, word != NULL ? ": " : "", word != NULL ? word : "");
+    fprintf(stderr, "usage: zkv %s %s\n", c->name, c->usage);
     return TROUBLE;
 }
 
-static int refused(uint64_t number)
-{
-    fprintf(stderr, "zkv: refused %" PRIu64 ": %s\n", number, zkv_sentence(number));
-    return REFUSED;
-}
-
-/* A decimal number below 2^64. */
-static bool number_of(const char *s, uint64_t *n)
+bool number_of(const char *s, uint64_t *n)
 {
     if (*s < '0' || *s > '9') {
         return false;
@@ -69,337 +81,115 @@ static bool number_of(const char *s, uint64_t *n)
     return errno == 0 && *end == 0;
 }
 
-/* Maps the file: with MAP_SYNC, so that a line written back is durable; else its pages are synced at each fence. */
-static int map_file(const char *path, size_t bytes, bool writing)
+static void set_option(struct options *o, unsigned bit, uint64_t n)
 {
-    int protection = writing ? PROT_READ | PROT_WRITE : PROT_READ;
-    void *at = mmap(NULL, bytes, protection, MAP_SHARED_VALIDATE | MAP_SYNC, file, 0);
-    if (at == MAP_FAILED) {
-        at = mmap(NULL, bytes, protection, MAP_SHARED, file, 0);
-        device.by_pages = true;
+    switch (bit) {
+    case FORCE:
+        o->force = true;
+        break;
+    case STATION:
+        o->station_given = true;
+        o->station = n;
+        break;
+    case CENTRE:
+        o->centre_given = true;
+        o->centre = n;
+        break;
+    case EMPTY:
+        o->empty = true;
+        break;
+    case NO_CLEAN:
+        o->no_clean = true;
+        break;
+    case PAUSE:
+        o->pause_us = (long)n;
+        break;
+    default:
+        o->wait = (long)n;
     }
-    if (at == MAP_FAILED) {
-        return trouble("%s: cannot be mapped: %s", path, strerror(errno));
-    }
-    device.image = at;
-    device.bytes = bytes;
-    device.how = best_write_back();
-    return OK;
 }
 
-static int lend_table(void)
+static const struct option *option_named(const char *name)
 {
-    table = calloc(ZKV_TABLE_WORDS_MAX, sizeof *table);
-    return table != NULL ? OK : trouble("no memory for the key table");
+    for (size_t i = 0; i < OPTIONS; i++) {
+        if (strcmp(options[i].name, name) == 0) {
+            return &options[i];
+        }
+    }
+    return NULL;
 }
 
-static int open_file(const char *path, int flags, int lock, struct stat *about)
+/* The words and options behind the command's name. */
+static int play(const struct command *c, int count, char **argument)
 {
-    file = open(path, flags | O_CLOEXEC, 0644);
-    if (file < 0) {
-        return trouble("%s: %s", path, strerror(errno));
-    }
-    if (flock(file, lock) != 0) {
-        return trouble("%s: cannot be locked: %s", path, strerror(errno));
-    }
-    if (fstat(file, about) != 0) {
-        return trouble("%s: %s", path, strerror(errno));
-    }
-    return S_ISREG(about->st_mode) ? OK : trouble("%s: not a regular file", path);
-}
-
-/* Makes all that the file holds now durable. A process that was killed in a call may have left words that are not; after this
- * it is as if the power had been cut and every word had kept its latest value. */
-static bool settle(void)
-{
-    for (size_t at = 0; at < device.bytes; at += ZKV_LINE_BYTES) {
-        write_back_line(device.how, device.image + at);
-    }
-    store_fence();
-    return !device.by_pages || fsync(file) == 0;
-}
-
-/* Maps the file and opens the register in it; *number is the refusal's, 0 where it is open. */
-static int open_register(const char *path, bool writing, uint64_t *number)
-{
-    static uint8_t nothing[ZKV_LINE_BYTES];
-    struct stat about;
-    int status = open_file(path, writing ? O_RDWR : O_RDONLY, writing ? LOCK_EX : LOCK_SH, &about);
-    if (status == OK) {
-        status = lend_table();
-    }
-    device.image = nothing;
-    if (status == OK && about.st_size > 0) {
-        status = map_file(path, (size_t)about.st_size, writing);
-    }
-    if (status != OK) {
-        return status;
-    }
-    if (device.bytes <= (size_t)ZKV_CHUNKS_MAX * ZKV_CHUNK_BYTES && device.bytes > 0 && !settle()) {
-        return trouble("%s: cannot be made durable: %s", path, strerror(errno));
-    }
-    zkv_report r = zkv_open(&record, device.image, device.bytes, table, ZKV_TABLE_WORDS_MAX);
-    *number = r.kind == ZKV_OPENED ? 0 : r.first;
-    return OK;
-}
-
-/* The same for commands that need an open register. */
-static int need_register(const char *path, bool writing)
-{
-    uint64_t number = 0;
-    int status = open_register(path, writing, &number);
-    return status != OK ? status : number != 0 ? refused(number) : OK;
-}
-
-/* Carries a begun call out to its end. */
-static int run(zkv_report begun)
-{
-    if (begun.kind != ZKV_BEGUN) {
-        return refused(begun.first);
-    }
-    for (;;) {
-        zkv_report r = zkv_step(&record, device.image, device.bytes, table, ZKV_TABLE_WORDS_MAX);
-        switch (r.kind) {
-        case ZKV_STORE:
-            break;
-        case ZKV_FLUSH:
-            device_flush(&device, r.first);
-            break;
-        case ZKV_FENCE:
-            if (!device_fence(&device)) {
-                return trouble("the image cannot be made durable: %s", strerror(errno));
+    char *word[WORDS_MAX + 1] = {NULL};
+    struct options o = {.wait = -1};
+    int words = 0;
+    bool only_words = false;
+    for (int i = 0; i < count; i++) {
+        char *a = argument[i];
+        if (only_words || strncmp(a, "--", 2) != 0) {
+            if (words == 1 + c->words + c->more) {
+                return misused(c, "a word too many", a);
             }
-            break;
-        case ZKV_END:
-            return OK;
-        default:
-            return trouble("a step answered %" PRIu64 " %" PRIu64, r.kind, r.first);
+            word[words++] = a;
+            continue;
         }
-        if (pause_us > 0) {
-            struct timespec t = {pause_us / 1000000, pause_us % 1000000 * 1000};
-            nanosleep(&t, NULL);
+        if (strcmp(a, "--") == 0) {
+            only_words = true;
+            continue;
         }
+        const struct option *p = option_named(a);
+        uint64_t n = 0;
+        if (p == NULL || !(c->options & p->bit)) {
+            return misused(c, "it has no such option", a);
+        }
+        if (p->number != NULL && (++i == count || !number_of(argument[i], &n) || n > p->most)) {
+            char what[100];
+            snprintf(what, sizeof what, "%s needs %s", a, p->number);
+            return misused(c, what, i < count ? argument[i] : NULL);
+        }
+        set_option(&o, p->bit, n);
     }
-}
-
-static int commit(void)
-{
-    return run(zkv_commit(&record, device.image, device.bytes, table, ZKV_TABLE_WORDS_MAX));
-}
-
-/* A new file's name lasts only once its folder is synced. */
-static int sync_folder(const char *path)
-{
-    char *copy = strdup(path);
-    int folder = copy != NULL ? open(dirname(copy), O_RDONLY | O_DIRECTORY | O_CLOEXEC) : -1;
-    int status = folder >= 0 && fsync(folder) == 0 ? OK : trouble("the folder of %s cannot be synced: %s", path, strerror(errno));
-    if (folder >= 0) {
-        close(folder);
+    if (words < 1 + c->words) {
+        return misused(c, words == 0 ? "FILE is missing" : "a word is missing behind", words == 0 ? NULL : word[words - 1]);
     }
-    free(copy);
-    return status;
-}
-
-struct format_options {
-    bool force;
-    uint64_t station_given, station, centre_given, centre;
-};
-
-static int command_format(const char *path, const char *chunks, struct format_options o)
-{
-    uint64_t count;
-    struct stat about;
-    if (!number_of(chunks, &count)) {
-        return trouble("%s is no number of chunks", chunks);
-    }
-    if (count < ZKV_CHUNKS_MIN || count > ZKV_CHUNKS_MAX) {
-        return refused(ZKV_IMAGE_LENGTH);
-    }
-    off_t bytes = (off_t)(count * ZKV_CHUNK_BYTES);
-    int status = open_file(path, O_RDWR | O_CREAT, LOCK_EX, &about);
-    if (status != OK) {
-        return status;
-    }
-    if (about.st_size > 0 && !o.force) {
-        return trouble("%s exists and is not empty; with --force it is formatted, and what it holds is lost", path);
-    }
-    int wrong = ftruncate(file, bytes) != 0 ? errno : posix_fallocate(file, 0, bytes);
-    if (wrong != 0) {
-        return trouble("%s: cannot get %jd bytes: %s", path, (intmax_t)bytes, strerror(wrong));
-    }
-    if (fsync(file) != 0) {
-        return trouble("%s: %s", path, strerror(errno));
-    }
-    status = sync_folder(path);
-    if (status == OK) {
-        status = lend_table();
-    }
-    if (status == OK) {
-        status = map_file(path, (size_t)bytes, true);
-    }
-    if (status != OK) {
-        return status;
-    }
-    return run(zkv_format(&record, device.image, device.bytes, table, ZKV_TABLE_WORDS_MAX, o.station_given, o.station,
-                          o.centre_given, o.centre));
-}
-
-static int command_put(const char *path, uint64_t key, const char *from)
-{
-    static uint8_t value[VALUE_ROOM];
-    bool standard = strcmp(from, "-") == 0;
-    FILE *input = standard ? stdin : fopen(from, "rb");
-    if (input == NULL) {
-        return trouble("%s: %s", from, strerror(errno));
-    }
-    size_t length = fread(value, 1, sizeof value, input);
-    if (ferror(input)) {
-        return trouble("%s: cannot be read", from);
-    }
-    if (!standard) {
-        fclose(input);
-    }
-    int status = need_register(path, true);
-    if (status == OK) {
-        status = run(zkv_put(&record, device.image, device.bytes, table, ZKV_TABLE_WORDS_MAX, key, value, length));
-    }
-    return status == OK ? commit() : status;
-}
-
-static int command_delete(const char *path, uint64_t key)
-{
-    int status = need_register(path, true);
-    if (status == OK) {
-        status = run(zkv_delete(&record, device.image, device.bytes, table, ZKV_TABLE_WORDS_MAX, key));
-    }
-    return status == OK ? commit() : status;
-}
-
-static int command_get(const char *path, uint64_t key)
-{
-    uint64_t start, length;
-    int status = need_register(path, false);
-    if (status != OK) {
-        return status;
-    }
-    uint64_t number = zkv_look_up(&record, device.image, device.bytes, table, ZKV_TABLE_WORDS_MAX, key, &start, &length);
-    if (number != 0) {
-        return refused(number);
-    }
-    fwrite(device.image + start, 1, length, stdout);
-    return OK;
-}
-
-static int command_stat(const char *path)
-{
-    int status = need_register(path, false);
-    if (status != OK) {
-        return status;
-    }
-    printf("chunks %zu\n", device.bytes / ZKV_CHUNK_BYTES);
-    printf("known keys %" PRIu64 "\n", zkv_keys(&record));
-    printf("free chunks %" PRIu64 "\n", zkv_free_chunks(device.image, device.bytes));
-    printf("lines used %" PRIu64 "\n", zkv_lines_used(device.image, device.bytes));
-    return OK;
-}
-
-static int command_check(const char *path)
-{
-    uint64_t number = 0;
-    int status = open_register(path, false, &number);
-    if (status != OK) {
-        return status;
-    }
-    if (number != 0) {
-        printf("refused %" PRIu64 ": %s\n", number, zkv_sentence(number));
-        return REFUSED;
-    }
-    puts("accepted");
-    return OK;
-}
-
-static int misused(void)
-{
-    fputs(usage, stderr);
-    return TROUBLE;
-}
-
-/* The option's number, at argument *i + 1. */
-static bool option_number(int count, char **argument, int *i, uint64_t *n)
-{
-    *i += 1;
-    return *i < count && number_of(argument[*i], n);
+    return c->run(word[0], word + 1, &o);
 }
 
 static int command(int count, char **argument)
 {
-    char *word[4];
-    int words = 0;
-    struct format_options o = {false, 0, 0, 0, 0};
-    bool for_format = false, for_steps = false;
-    for (int i = 1; i < count; i++) {
-        char *a = argument[i];
-        uint64_t n = 0;
-        if (strcmp(a, "--help") == 0) {
-            fputs(usage, stdout);
-            return OK;
-        }
-        if (strcmp(a, "--version") == 0) {
-            puts("zkv " ZKV_VERSION ", counter level");
-            return OK;
-        }
-        if (strcmp(a, "--force") == 0) {
-            o.force = for_format = true;
-        } else if (strcmp(a, "--station") == 0 && option_number(count, argument, &i, &o.station)) {
-            o.station_given = for_format = true;
-        } else if (strcmp(a, "--centre") == 0 && option_number(count, argument, &i, &o.centre)) {
-            o.centre_given = for_format = true;
-        } else if (strcmp(a, "--pause") == 0 && option_number(count, argument, &i, &n) && n <= 60000000) {
-            pause_us = (long)n;
-            for_steps = true;
-        } else if (strncmp(a, "--", 2) == 0 || words == 4) {
-            return misused();
-        } else {
-            word[words++] = a;
+    if (count < 2) {
+        print_usage(stderr);
+        return TROUBLE;
+    }
+    bool help = strcmp(argument[1], "--help") == 0, version = strcmp(argument[1], "--version") == 0;
+    if (count == 2 && help) {
+        print_usage(stdout);
+        return DONE;
+    }
+    if (count == 2 && version) {
+        puts("zkv " ZKV_VERSION ", centre level");
+        return DONE;
+    }
+    for (size_t i = 0; i < COMMANDS; i++) {
+        if (strcmp(commands[i].name, argument[1]) == 0) {
+            return play(&commands[i], count - 2, argument + 2);
         }
     }
-    if (words < 2) {
-        return misused();
-    }
-    const char *name = word[0], *path = word[1];
-    uint64_t key = 0;
-    if (for_format && strcmp(name, "format") != 0) {
-        return misused();
-    }
-    if (strcmp(name, "format") == 0 && words == 3) {
-        return command_format(path, word[2], o);
-    }
-    bool put = strcmp(name, "put") == 0 && words == 4;
-    bool get = strcmp(name, "get") == 0 && words == 3;
-    bool delete = strcmp(name, "delete") == 0 && words == 3;
-    if (for_steps && !put && !delete) {
-        return misused();
-    }
-    if (put || get || delete) {
-        if (!number_of(word[2], &key)) {
-            return trouble("%s is no key: a key is a decimal number below 2^64", word[2]);
-        }
-        return put ? command_put(path, key, word[3]) : get ? command_get(path, key) : command_delete(path, key);
-    }
-    if (strcmp(name, "stat") == 0 && words == 2) {
-        return command_stat(path);
-    }
-    if (strcmp(name, "check") == 0 && words == 2) {
-        return command_check(path);
-    }
-    return misused();
+    fprintf(stderr, "zkv: %s: %s\n", argument[1], help || version ? "it stands alone" : "there is no such command");
+    print_usage(stderr);
+    return TROUBLE;
 }
 
 int main(int count, char **argument)
 {
+    if (!image_file_guard("zkv")) {
+        return TROUBLE;
+    }
     int status = command(count, argument);
     if (fflush(stdout) != 0 || ferror(stdout)) {
-        return trouble("standard output: %s", strerror(errno));
+        return trouble("standard output", "%s", strerror(errno));
     }
     return status;
 }

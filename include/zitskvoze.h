@@ -1,16 +1,16 @@
 /* The calls of the label register for hosts in C and C++: a proved key-value store in one module of persistent memory.
  *
- * The library keeps, under each 64-bit key, the exact bytes of a value (0 to 256 of them), and survives a power cut at any
+ * The library keeps, under each 64-bit key, the exact bytes of a value (0 to 4,088 of them), and survives a power cut at any
  * moment. It has no heap, no thread, no file and no state of its own: the host lends it everything, and carries out on the
- * device what each step reports. This file is the manual of the calls. "Document 01" is the description that they are
- * proved against.
+ * device what each step reports. This file is the manual of the calls. The rules that they are proved against are R1.. in
+ * docs/RULES.md; what module, processor and host are taken to do is F1.. in docs/ARCHITECTURE.md.
  *
  * WHAT THE HOST LENDS
  *
  * - image: the persistent memory; header, directory and log. It is the register. 4 to 504 times 4,096 bytes, aligned to 64.
  * - table: the key table, volatile words that each opening fills anew. Any number of words, aligned to 8.
- * - record: the station record (zkv_record, 9,344 bytes, aligned to 8): what is open, staged and unfinished. Volatile.
- * - value: the bytes of a put, 0 to 256. Any alignment.
+ * - record: the station record (zkv_record, 9,384 bytes, aligned to 8): what is open, staged and unfinished. Volatile.
+ * - value: the bytes of a put, 0 to 4,088. Any alignment. It is lent to that call alone.
  *
  * The host allocates and frees all of them; the library keeps no pointer after a call returns. The staged values lie in the
  * record's buffer, so `value` may be reused as soon as zkv_put has returned. Fields of the record are nobody's business but
@@ -22,25 +22,29 @@
  *
  * BEGUN CALLS AND STEPS
  *
- * A call that writes is begun (zkv_format, zkv_put, zkv_delete, zkv_commit answer ZKV_BEGUN with a number of actions a) and
- * then stepped: exactly a + 1 calls of zkv_step, the last of which answers ZKV_END. Until then every other call but an
- * opening is refused with 8. A staging has 0 actions, so one step; a commit of b lines has 9 b + 4; a formatting has 582.
+ * A call that writes is begun (zkv_format, zkv_put, zkv_delete, zkv_commit, zkv_clean answer ZKV_BEGUN with a number of actions
+ * a) and then stepped: exactly a + 1 calls of zkv_step, the last of which answers ZKV_END. Until then every other call but an
+ * opening is refused with 8. A staging has 0 actions, so one step, but for a value of more than 256 bytes, which is written to a
+ * block of its own now: a store for the length and for each 8 bytes, a flush for each line, and two actions more where a free
+ * chunk is taken. A commit of b lines has 9 b + 4 actions; a cleaning that copies b lines has 9 b + 7, and 3 where it copies none;
+ * a formatting has 582.
  *
  * What a step answers, and what the host does before the next step:
  * - ZKV_STORE, first = word, second = value: nothing. The word at byte 8 * first of the image is already stored.
  * - ZKV_FLUSH, first = line: start the write-back of the 64 bytes at image + 64 * first (clwb or the like).
  * - ZKV_FENCE: wait until every write-back started before is durable (sfence; msync where the image is a file's pages).
- * - ZKV_END, first = entries copied, 0 but for a cleaning: nothing. The call is done; a commit's batch is durable.
+ * - ZKV_END, first = entries copied by a cleaning, else 0: nothing. The call is done; a commit's batch is durable.
  * - ZKV_IDLE: nothing was begun.
  * - ZKV_REFUSED, first = 1: a lent length is unlike that at the begin. Step again with the right ones.
  *
  * A step's report is the image's whole change. A batch is acknowledged to anybody only after the ZKV_END of its commit.
  *
  * Of a store's report a host needs nothing, so zkv_run takes several steps in one call: until one is to be told, whose report it
- * answers. Every step before that one stored a word, by one 8-byte move and in the order of the steps. In a commit it makes all
- * stores that come next and answers the flush or fence behind them: a commit of b lines takes b + 4 calls of zkv_run, and
- * still 9 b + 5 steps. Everywhere else it is one step, so in a formatting it answers ZKV_STORE too. What the host does at each
- * report is the same, and a power cut falls between the stores of a run as between steps. The two calls may take turns.
+ * answers. Every step before that one stored a word, by one 8-byte move and in the order of the steps. In a commit or cleaning it
+ * makes all stores that come next and answers the flush or fence behind them: a commit of b lines takes b + 4 calls of zkv_run,
+ * and still 9 b + 5 steps. Everywhere else it is one step, so in a formatting and in the staging of a large value it answers
+ * ZKV_STORE too. What the host does at each report is the same, and a power cut falls between the stores of a run as between
+ * steps. The two calls may take turns.
  * - zkv_run: to get a begun call done. It is the quicker one.
  * - zkv_step: where each store is to be seen, counted, or paused at (zkv --pause, tests, a device that is told every store).
  *
@@ -49,22 +53,24 @@
  * The record is in one of four states:
  * - closed: a zeroed record, after a refused opening, or after the end of a formatting. zkv_open and zkv_format may follow;
  *   other calls get 2.
- * - open, nothing staged: after ZKV_OPENED, the end of a commit, or ZKV_ABANDONED. zkv_put, zkv_delete, zkv_look_up, zkv_open
- *   and zkv_format may follow; zkv_commit and zkv_abandon get 14.
- * - open, something staged: after the end of a staging. All of these may follow.
+ * - open, nothing staged: after ZKV_OPENED, the end of a commit or cleaning, or ZKV_ABANDONED. zkv_put, zkv_delete, zkv_look_up,
+ *   zkv_choose, zkv_clean, zkv_open and zkv_format may follow; zkv_commit and zkv_abandon get 14.
+ * - open, something staged: after the end of a staging. All of these may follow but zkv_clean, which gets 15.
  * - unfinished: after ZKV_BEGUN. zkv_step, zkv_run and zkv_open may follow; other calls get 8 (or 2, in a formatting that was
  *   begun on a closed record). In the other states a step or run answers ZKV_IDLE and changes nothing.
  *
  * A new image: zkv_format, step to its end, zkv_open. An image from before: zkv_open. A put that lasts: zkv_put, step to the
  * end, zkv_commit, step to the end. Up to 16 puts and deletes (4,096 bytes of entries: 16 bytes and the value, rounded up to
  * 8, for each) may be staged before one commit, which makes all of them last; a power cut in it leaves all or none.
+ * When a commit gets 13: zkv_abandon, then zkv_choose and zkv_clean with the chunk that it names, stepped to the end, then stage
+ * and commit again; when zkv_choose gets 16, or zkv_clean 13, the image is full of present values.
  *
  * REFUSALS
  *
- * A refusal leaves image, table and record as they were; but a refused opening zeroes the table and closes the record.
- * The numbers are the enum zkv_refusal, in document 01's order; zkv_sentence gives the words. Where several apply, the
- * answer of an opening is the lowest; of zkv_format 1 before 8; of the other calls the first in the order 2, 1, 8, 9, 11,
- * 12, 10, 7, 14, 13.
+ * What was refused did not happen: a host looks at every answer. A refusal leaves image, table and record as they were; but a refused opening zeroes the table and closes the record.
+ * The numbers are the enum zkv_refusal, in the order of the rules; zkv_sentence gives the words. Where several apply, the
+ * answer of an opening is the lowest; of zkv_format 1 before 8; of the other calls the first in the order 2, 1, 8, 15, 9, 11,
+ * 12, 10, 7, 14, 16, 13.
  *
  * CAVEATS, AND WHAT TO DO
  *
@@ -84,10 +90,15 @@
  *   MAP_SYNC, else a flushed line may be durable in a page that the file does not have yet.
  * - A word must reach the medium whole. Aligned 8-byte stores do; tests/one_move.sh looks at the compiled code. Do not
  *   build the library in a way that changes it (instrumentation of its stores, another back end).
+ * - The format has no checksum: a byte of a value that is changed behind the calls' back opens as another value (57 to 83 of 100
+ *   one-bit flips in committed lines did). Hold what was printed against the register, and keep a digest of the image elsewhere.
  * - A table too small for the image's keys makes a refused opening slow (time by the square of the entries). Lend one of
  *   ZKV_TABLE_WORDS_MAX words where memory allows.
- * - Nothing is removed from the log at this level, so space runs out (13); known keys include deleted ones. Copy the
- *   present values to a newly formatted image. No call lists the keys yet: the host asks for those it knows.
+ * - The log only grows until it is cleaned: superseded and deleted values take space until then, and known keys include deleted
+ *   ones that still have an entry. Clean when time allows, or when 13 comes; it may take several cleanings until a commit
+ *   finds space. Commits leave a free chunk to clean into (they take one only where three are free, two for deletes alone), so that
+ *   cleaning a chosen chunk gets 13 only in an image that was filled in another way.
+ * - A cleaning changes no value, and the parts that zkv_look_up answered before it are no longer the values' places.
  */
 #ifndef ZITSKVOZE_H
 #define ZITSKVOZE_H
@@ -106,14 +117,15 @@ enum {
     ZKV_CHUNKS_MIN = 4,
     ZKV_CHUNKS_MAX = 504,
     ZKV_LINE_BYTES = 64,
-    ZKV_VALUE_MAX = 256,
+    ZKV_VALUE_MAX = 4088,
+    ZKV_LOG_VALUE_MAX = 256,  /* a longer value goes to a block */
     ZKV_BATCH_ITEMS = 16,
     ZKV_KEYS_MAX = 65536,
     ZKV_TABLE_WORDS_MAX = 262144,
     ZKV_FORMAT_ACTIONS = 582
 };
 
-/* What a report says. ZKV_CHOSEN and ZKV_PART are not answered by the calls below. */
+/* What a report says. ZKV_PART is not answered by the calls below. */
 enum zkv_kind {
     ZKV_REFUSED = 0,
     ZKV_BEGUN = 1,
@@ -191,7 +203,7 @@ static inline const char *zkv_sentence(uint64_t number)
 
 /* The station record: plain memory of this size, read and written by the calls alone. */
 typedef struct zkv_record {
-    uint64_t word[1168];
+    uint64_t word[1173];
 } zkv_record;
 
 /* What a call answers: a kind, and two numbers that are 0 where the kind has none. */
@@ -209,8 +221,9 @@ zkv_report zkv_format(zkv_record *record, const uint8_t *image, size_t bytes, co
  * unfinished call. ZKV_OPENED, or refused: 1 to 7; the table is then all zero and the record closed. */
 zkv_report zkv_open(zkv_record *record, const uint8_t *image, size_t bytes, uint64_t *table, size_t words);
 
-/* Begins staging a put of `length` bytes, which are copied into the record. One step ends it. Look-up does not see it before
- * its commit has ended. ZKV_BEGUN 0, or refused: 2, 1, 8, 9, 12, 10, 7. */
+/* Begins staging a put of `length` bytes, which are copied into the record. Look-up does not see it before its commit has ended.
+ * ZKV_BEGUN with 0 actions for a value of at most ZKV_LOG_VALUE_MAX bytes, else with those that write its block; or refused:
+ * 2, 1, 8, 9, 12, 10, 7, 13. A block that was staged and then abandoned, or superseded, is used again. */
 zkv_report zkv_put(zkv_record *record, const uint8_t *image, size_t bytes, const uint64_t *table, size_t words,
                    uint64_t key, const uint8_t *value, size_t length);
 
@@ -220,19 +233,30 @@ zkv_report zkv_delete(zkv_record *record, const uint8_t *image, size_t bytes, co
                       uint64_t key);
 
 /* Begins the commit of the staged items, in the order of their staging. ZKV_BEGUN 9 b + 4 for b lines, or refused:
- * 2, 1, 8, 14, 13; after 13 the items stay staged. */
+ * 2, 1, 8, 14, 13. After 13 the items stay staged, and every later commit carries them: forget them by zkv_abandon, or they are
+ * refused, or committed, together with what is staged later. A cleaning is refused while they stay staged (15), so: abandon, clean,
+ * stage again, commit. */
 zkv_report zkv_commit(zkv_record *record, const uint8_t *image, size_t bytes, const uint64_t *table, size_t words);
 
 /* Forgets the staged items. ZKV_ABANDONED, or refused: 2, 1, 8, 14. */
 zkv_report zkv_abandon(zkv_record *record, const uint8_t *image, size_t bytes, const uint64_t *table, size_t words);
 
+/* Chooses the chunk whose cleaning copies the fewest bytes, among log chunks that would take fewer lines afterwards; of equals the
+ * lowest number. Staged items play no part. ZKV_CHOSEN with first = chunk, or refused: 2, 1, 8, 16 where none is worth it. */
+zkv_report zkv_choose(const zkv_record *record, const uint8_t *image, size_t bytes, const uint64_t *table, size_t words);
+
+/* Begins the cleaning of a chunk: what of it is needed is copied to another chunk, then it is free. The register stays as it is; a
+ * power cut in it leaves entries twice, which an opening accepts. Its ZKV_END tells the entries copied. A data chunk is only freed,
+ * where no block of it is in use. ZKV_BEGUN 9 b + 7 for b lines to copy, 3 for none, or refused: 2, 1, 8, 15, 16, 13. */
+zkv_report zkv_clean(zkv_record *record, const uint8_t *image, size_t bytes, const uint64_t *table, size_t words, size_t chunk);
+
 /* One step of the begun call: see the table of reports above. Idle where nothing is begun, else refused with 1 alone, where a
  * lent length is unlike that at the opening (in a formatting: at its begin). */
 zkv_report zkv_step(zkv_record *record, uint8_t *image, size_t bytes, uint64_t *table, size_t words);
 
-/* Steps of the begun call until one is to be told: in a commit the stores that come next and one step more, else one step. It
- * answers the last step's report, which is as zkv_step's; each step before it stored a word, already in the image. In a commit
- * it never answers ZKV_STORE. At most 513 steps; idle and refused as zkv_step. */
+/* Steps of the begun call until one is to be told: in a commit or cleaning the stores that come next and one step more, else one
+ * step. It answers the last step's report, which is as zkv_step's; each step before it stored a word, already in the image. In a
+ * commit or cleaning it never answers ZKV_STORE. At most 513 steps; idle and refused as zkv_step. */
 zkv_report zkv_run(zkv_record *record, uint8_t *image, size_t bytes, uint64_t *table, size_t words);
 
 /* Looks a key up: 0, with the part of the image that holds its value (*length bytes from byte *start on; no copy, so read it
@@ -240,6 +264,17 @@ zkv_report zkv_run(zkv_record *record, uint8_t *image, size_t bytes, uint64_t *t
  * empty value is a part of length 0 and not a refusal. */
 uint64_t zkv_look_up(const zkv_record *record, const uint8_t *image, size_t bytes, const uint64_t *table, size_t words,
                      uint64_t key, uint64_t *start, uint64_t *length);
+
+/* Lists the present keys: 0, with the keys in rising order in `keys`, as far as its `room` words reach, and in *count how many there
+ * are (ZKV_KEYS_MAX at most); the words behind them stay. Or the refusal's number 2, 1 or 8, with 0 in *count and no key. Staged items
+ * are unseen. */
+uint64_t zkv_list_keys(const zkv_record *record, const uint8_t *image, size_t bytes, const uint64_t *table, size_t words,
+                       uint64_t *keys, size_t room, uint64_t *count);
+
+/* What is listed of a present key: 0, with its version, its value's length, and 1 in *block where the value stands in a block, 0 where
+ * it stands in the log; or the refusal's number 2, 1, 8 or 11, with 0 in all three. */
+uint64_t zkv_list_key(const zkv_record *record, const uint8_t *image, size_t bytes, const uint64_t *table, size_t words,
+                      uint64_t key, uint64_t *version, uint64_t *length, uint64_t *block);
 
 /* The known keys of the open register, deleted ones that still have an entry included; 0 where none is open, and while a
  * formatting is unfinished. */

@@ -1,0 +1,126 @@
+/* zkv: the commands that only read, get, scan, stat and check. */
+#define _GNU_SOURCE
+#include <inttypes.h>
+#include <stdio.h>
+#include <stdlib.h>
+#include <string.h>
+
+#include "zkv.h"
+
+/* A copy of the key's label, taken while the file was whole: what lies in the file may be cut away under us. */
+static int label_of(const char *file, const char *given_key, const struct options *o, uint64_t *key, uint8_t **label, uint64_t *length)
+{
+    static struct station s;
+    uint64_t start;
+    if (!number_of(given_key, key)) {
+        return trouble(file, "%s is no key: a key is a decimal number below 2^64", given_key);
+    }
+    int status = need_register(&s, file, IMAGE_READ, o);
+    if (status != DONE) {
+        return status;
+    }
+    uint64_t number = zkv_look_up(LENT(&s), *key, &start, length);
+    if (number != 0) {
+        return refused(file, number, "key %" PRIu64 ": ", *key);
+    }
+    *label = malloc(*length + 1);
+    if (*label == NULL) {
+        return trouble(file, "no memory for the label");
+    }
+    memcpy(*label, s.file.device.image + start, *length);
+    return confirmed(&s);
+}
+
+int command_get(const char *file, char **word, const struct options *o)
+{
+    uint64_t key, length;
+    uint8_t *label;
+    int status = label_of(file, word[0], o, &key, &label, &length);
+    if (status == DONE) {
+        fwrite(label, 1, length, stdout);
+    }
+    return status;
+}
+
+/* Compares what was scanned from a printed label with what the register says was printed. Bytes count from 1, as cmp(1) counts. */
+int command_scan(const char *file, char **word, const struct options *o)
+{
+    uint64_t key, length, same = 0;
+    uint8_t *label;
+    const uint8_t *scan;
+    size_t scanned;
+    int status = read_value(word[1], o->empty, &scan, &scanned);
+    if (status == DONE) {
+        status = label_of(file, word[0], o, &key, &label, &length);
+    }
+    if (status != DONE) {
+        return status;
+    }
+    while (same < length && same < scanned && label[same] == scan[same]) {
+        same++;
+    }
+    if (same == length && same == scanned) {
+        printf("match: key %" PRIu64 ", %" PRIu64 " bytes\n", key, length);
+        return DONE;
+    }
+    printf("PUT ASIDE: key %" PRIu64 ": byte %" PRIu64 ": ", key, same + 1);
+    if (same == length) {
+        printf("the label ends after %" PRIu64 " bytes, the scan has %zu%s\n", length, scanned, scanned == VALUE_ROOM ? " or more" : "");
+    } else if (same == scanned) {
+        printf("the scan ends after %zu bytes, the label has %" PRIu64 "\n", scanned, length);
+    } else {
+        printf("the label has 0x%02x, the scan 0x%02x\n", label[same], scan[same]);
+    }
+    return PUT_ASIDE;
+}
+
+int command_stat(const char *file, char **word, const struct options *o)
+{
+    static struct station s;
+    uint64_t n;
+    (void)word;
+    int status = need_register(&s, file, IMAGE_READ, o);
+    if (status != DONE) {
+        return status;
+    }
+    const uint8_t *image = s.file.device.image;
+    size_t bytes = s.file.device.bytes;
+    uint64_t labels = labels_in(&s), keys = zkv_keys(&s.record), free_chunks = zkv_free_chunks(image, bytes), lines = zkv_lines_used(image, bytes);
+    bool station = header_number(&s, STATION_BIT, &n);
+    status = confirmed(&s);
+    if (status != DONE) {
+        return status;
+    }
+    printf("chunks %zu\n", bytes / ZKV_CHUNK_BYTES);
+    printf("labels %" PRIu64 "\n", labels);
+    printf("known keys %" PRIu64 "\n", keys);
+    printf("free chunks %" PRIu64 "\n", free_chunks);
+    printf("lines used %" PRIu64 "\n", lines);
+    if (station) {
+        printf("station %" PRIu64 "\n", n);
+    }
+    if (header_number(&s, CENTRE_BIT, &n)) {
+        printf("centre %" PRIu64 "\n", n);
+    }
+    return DONE;
+}
+
+int command_check(const char *file, char **word, const struct options *o)
+{
+    static struct station s;
+    uint64_t number = 0;
+    (void)word;
+    int status = open_image(&s, file, IMAGE_READ, o, &number);
+    if (status == DONE) {
+        status = confirmed(&s);
+    }
+    if (status != DONE) {
+        return status;
+    }
+    if (number != 0) {
+        printf("refused %" PRIu64 ": %s\n", number, zkv_sentence(number));
+        return REFUSED;
+    }
+    puts("accepted");
+    return DONE;
+}

@@ -1,0 +1,151 @@
+/* zkv: messages, the register that a command works on, and the carrying out of begun calls. */
+#define _GNU_SOURCE
+#include <errno.h>
+#include <inttypes.h>
+#include <stdarg.h>
+#include <stdio.h>
+#include <stdlib.h>
+#include <string.h>
+#include <time.h>
+
+#include "zkv.h"
+
+int trouble(const char *file, const char *format, ...)
+{
+    va_list arguments;
+    va_start(arguments, format);
+    fprintf(stderr, "zkv: %s: ", file);
+    vfprintf(stderr, format, arguments);
+    fputc('\n', stderr);
+    va_end(arguments);
+    return TROUBLE;
+}
+
+int refused(const char *file, uint64_t number, const char *about, ...)
+{
+    va_list arguments;
+    va_start(arguments, about);
+    fprintf(stderr, "zkv: %s: ", file);
+    vfprintf(stderr, about, arguments);
+    fprintf(stderr, "refused %" PRIu64 ": %s", number, zkv_sentence(number));
+    if (number == ZKV_TOO_LONG) {
+        fprintf(stderr, " (at most %d bytes)", ZKV_VALUE_MAX);
+    }
+    fputc('\n', stderr);
+    va_end(arguments);
+    return number == ZKV_KEY_ABSENT ? ABSENT : REFUSED;
+}
+
+static void waiting(const char *file)
+{
+    fprintf(stderr, "zkv: %s: is locked by another program; waiting\n", file);
+}
+
+int lend(struct station *s, const struct options *o)
+{
+    s->table = calloc(ZKV_TABLE_WORDS_MAX, sizeof *s->table);
+    s->pause_us = o->pause_us;
+    return s->table != NULL ? DONE : trouble("key table", "no memory");
+}
+
+/* *number is the refusal's, 0 where the register is open. */
+int open_image(struct station *s, const char *name, enum image_file_use use, const struct options *o, uint64_t *number)
+{
+    const char *text = image_file_open(&s->file, name, use, (struct image_file_wait){o->wait, waiting});
+    if (text != NULL) {
+        return trouble(name, "%s", text);
+    }
+    int status = lend(s, o);
+    if (status == DONE) {
+        zkv_report r = zkv_open(LENT(s));
+        *number = r.kind == ZKV_OPENED ? 0 : r.first;
+    }
+    return status;
+}
+
+int need_register(struct station *s, const char *name, enum image_file_use use, const struct options *o)
+{
+    uint64_t number = 0;
+    int status = open_image(s, name, use, o, &number);
+    if (status == DONE && number != 0) {
+        return refused(name, number, "%jd bytes: ", (intmax_t)s->file.about.st_size);
+    }
+    return status;
+}
+
+/* By steps where there is to be a pause between them, else by runs. */
+int carry_out(struct station *s, zkv_report *report)
+{
+    zkv_report r = *report;
+    for (;;) {
+        switch (r.kind) {
+        case ZKV_BEGUN:
+        case ZKV_STORE:
+            break;
+        case ZKV_FLUSH:
+            device_flush(&s->file.device, r.first);
+            break;
+        case ZKV_FENCE:
+            if (!device_fence(&s->file.device)) {
+                return trouble(s->file.name, "cannot be made durable: %s", strerror(errno));
+            }
+            break;
+        case ZKV_END:
+        case ZKV_REFUSED:
+            *report = r;
+            return DONE;
+        default:
+            return trouble(s->file.name, "a step answered %" PRIu64 " %" PRIu64, r.kind, r.first);
+        }
+        if (s->pause_us > 0) {
+            struct timespec t = {s->pause_us / 1000000, s->pause_us % 1000000 * 1000};
+            nanosleep(&t, NULL);
+        }
+        r = s->pause_us > 0 ? zkv_step(LENT(s)) : zkv_run(LENT(s));
+    }
+}
+
+int confirmed(const struct station *s)
+{
+    const char *text = image_file_confirm(&s->file);
+    return text == NULL ? DONE : trouble(s->file.name, "%s", text);
+}
+
+/* The bytes of a file, of standard input where the name is `-`; VALUE_ROOM of them if there are so many or more. No bytes at all
+ * are what a program leaves that failed before us, so that they must be meant. */
+int read_value(const char *from, bool empty_meant, const uint8_t **value, size_t *length)
+{
+    static uint8_t room[VALUE_ROOM];
+    bool standard = strcmp(from, "-") == 0;
+    const char *name = standard ? "standard input" : from;
+    FILE *input = standard ? stdin : fopen(from, "rb");
+    if (input == NULL) {
+        return trouble(name, "%s", strerror(errno));
+    }
+    *value = room;
+    *length = fread(room, 1, sizeof room, input);
+    if (ferror(input)) {
+        return trouble(name, "cannot be read: %s", strerror(errno));
+    }
+    if (!standard) {
+        fclose(input);
+    }
+    return *length > 0 || empty_meant ? DONE : trouble(name, "gave 0 bytes; if that is meant, say --empty");
+}
+
+/* A number in the header of a register that is open: its word 0 tells the fields by bits, from bit 0 (the chunk count) on, and
+ * those that are there follow. */
+bool header_number(const struct station *s, unsigned bit, uint64_t *number)
+{
+    uint64_t word[4];
+    memcpy(word, s->file.device.image, sizeof word);
+    if (!(word[0] >> bit & 1)) {
+        return false;
+    }
+    unsigned before = 0;
+    for (unsigned b = 0; b < bit; b++) {
+        before += word[0] >> b & 1;
+    }
+    *number = word[1 + before];
+    return true;
+}

@@ -1,0 +1,215 @@
+/* zkv: the commands that write, format, put, delete and clean. */
+#define _GNU_SOURCE
+#include <errno.h>
+#include <inttypes.h>
+#include <stdio.h>
+#include <stdlib.h>
+#include <string.h>
+#include <unistd.h>
+
+#include "zkv.h"
+
+/* ---- format */
+
+/* A file with something in it is not formatted unasked: tells what would be lost. */
+static int is_taken(struct station *old, uint64_t number)
+{
+    char station[40] = "";
+    uint64_t n;
+    if (number != 0) {
+        return trouble(old->file.name, "exists: %jd bytes, no register: refused %" PRIu64 ": %s; --force formats it, and they are lost",
+                       (intmax_t)old->file.about.st_size, number, zkv_sentence(number));
+    }
+    if (header_number(old, STATION_BIT, &n)) {
+        snprintf(station, sizeof station, ", station %" PRIu64, n);
+    }
+    return trouble(old->file.name, "exists: a register, %" PRIu64 " labels%s; --force formats it, and they are lost", labels_in(old),
+                   station);
+}
+
+/* The register is made in a new file, which takes the name at the end: until then the name's file is as it was. */
+static int make_register(const char *file, size_t bytes, const struct options *o, const struct image_file *old)
+{
+    struct station s = {0};
+    int status = lend(&s, o);
+    if (status != DONE) {
+        return status;
+    }
+    const char *text = image_file_new(&s.file, file, bytes);
+    if (text == NULL) {
+        zkv_report r = zkv_format(LENT(&s), o->station_given, o->station, o->centre_given, o->centre);
+        status = carry_out(&s, &r);
+        if (status == DONE && r.kind == ZKV_REFUSED) {
+            status = refused(file, r.first, "%zu bytes: ", bytes);
+        }
+        if (status == DONE) {
+            text = image_file_take_name(&s.file, old);
+        }
+        if (status == DONE && text == NULL) {
+            text = image_file_confirm(&s.file);
+        }
+    }
+    if (text != NULL) {
+        status = trouble(file, "%s", text);
+    }
+    image_file_close(&s.file);
+    return status;
+}
+
+int command_format(const char *file, char **word, const struct options *o)
+{
+    uint64_t chunks;
+    struct stat about;
+    if (!number_of(word[0], &chunks)) {
+        return trouble(file, "%s is no number of chunks: a decimal number, %d to %d", word[0], ZKV_CHUNKS_MIN, ZKV_CHUNKS_MAX);
+    }
+    if (chunks < ZKV_CHUNKS_MIN || chunks > ZKV_CHUNKS_MAX) {
+        return refused(file, ZKV_IMAGE_LENGTH, "%" PRIu64 " chunks: ", chunks);
+    }
+    size_t bytes = chunks * ZKV_CHUNK_BYTES;
+    if (stat(file, &about) != 0) {
+        return errno == ENOENT ? make_register(file, bytes, o, NULL) : trouble(file, "%s", strerror(errno));
+    }
+    struct station old = {0};
+    uint64_t number = 0;
+    int status = open_image(&old, file, IMAGE_REPLACE, o, &number);
+    if (status == DONE && old.file.about.st_size > 0 && !o->force) {
+        status = is_taken(&old, number);
+    }
+    return status == DONE ? make_register(file, bytes, o, &old.file) : status;
+}
+
+/* ---- clean */
+
+struct cleaned {
+    uint64_t chunks, entries;
+};
+
+/* Cleans the chunk that is named, else the one that is chosen, and counts it; the refusal, if there is one, in *report. */
+static int clean_one(struct station *s, const uint64_t *named, struct cleaned *done, zkv_report *report)
+{
+    *report = named != NULL ? (zkv_report){ZKV_CHOSEN, *named, 0} : zkv_choose(LENT(s));
+    if (report->kind != ZKV_CHOSEN) {
+        return DONE;
+    }
+    uint64_t chunk = report->first;
+    *report = zkv_clean(LENT(s), chunk);
+    int status = carry_out(s, report);
+    if (status == DONE && report->kind == ZKV_END) {
+        done->chunks++;
+        done->entries += report->first;
+        if (isatty(STDERR_FILENO)) {
+            fprintf(stderr, "zkv: %s: chunk %" PRIu64 ": %" PRIu64 " entries copied\n", s->file.name, chunk, report->first);
+        }
+    }
+    return status;
+}
+
+/* A chunk that is named, or one after the other until none is worth it: each leaves fewer lines in use, so that this ends. */
+int command_clean(const char *file, char **word, const struct options *o)
+{
+    static struct station s;
+    struct cleaned done = {0, 0};
+    uint64_t chunk = 0;
+    zkv_report r;
+    if (word[0] != NULL && !number_of(word[0], &chunk)) {
+        return trouble(file, "%s is no chunk: a decimal number below 2^64", word[0]);
+    }
+    int status = need_register(&s, file, IMAGE_WRITE, o);
+    if (status != DONE) {
+        return status;
+    }
+    do {
+        status = clean_one(&s, word[0] != NULL ? &chunk : NULL, &done, &r);
+    } while (status == DONE && r.kind == ZKV_END && word[0] == NULL);
+    if (status != DONE) {
+        return status;
+    }
+    if (r.kind == ZKV_REFUSED && word[0] != NULL) {
+        return refused(file, r.first, "chunk %" PRIu64 ": ", chunk);
+    }
+    if (r.kind == ZKV_REFUSED && r.first != ZKV_NOT_CLEANABLE) {
+        return refused(file, r.first, "%" PRIu64 " chunks cleaned, then: ", done.chunks);
+    }
+    uint64_t free_chunks = zkv_free_chunks(s.file.device.image, s.file.device.bytes);
+    status = confirmed(&s);
+    if (status == DONE) {
+        printf("chunks cleaned %" PRIu64 "\nentries copied %" PRIu64 "\nfree chunks %" PRIu64 "\n", done.chunks, done.entries, free_chunks);
+    }
+    return status;
+}
+
+/* ---- put and delete */
+
+/* Begins the staging of the put or, where value is NULL, of the delete. */
+static zkv_report stage(struct station *s, uint64_t key, const uint8_t *value, size_t length)
+{
+    return value != NULL ? zkv_put(LENT(s), key, value, length) : zkv_delete(LENT(s), key);
+}
+
+/* Stages and commits; the refusal, if there is one, in *report. A refused commit leaves nothing staged. */
+static int change(struct station *s, uint64_t key, const uint8_t *value, size_t length, zkv_report *report)
+{
+    *report = stage(s, key, value, length);
+    int status = carry_out(s, report);
+    if (status != DONE || report->kind == ZKV_REFUSED) {
+        return status;
+    }
+    *report = zkv_commit(LENT(s));
+    status = carry_out(s, report);
+    if (status == DONE && report->kind == ZKV_REFUSED) {
+        zkv_abandon(LENT(s));
+    }
+    return status;
+}
+
+/* The same; where no space is left, chunks are cleaned and it is tried again, until it is done or no cleaning is left. */
+static int change_with_cleaning(struct station *s, uint64_t key, const uint8_t *value, size_t length, zkv_report *report)
+{
+    struct cleaned done = {0, 0};
+    for (;;) {
+        zkv_report r;
+        int status = change(s, key, value, length, report);
+        if (status != DONE || report->kind != ZKV_REFUSED || report->first != ZKV_NO_SPACE) {
+            return status;
+        }
+        status = clean_one(s, NULL, &done, &r);
+        if (status != DONE || r.kind != ZKV_END) {
+            return status;
+        }
+    }
+}
+
+static int change_key(const char *file, const char *given_key, const uint8_t *value, size_t length, const struct options *o)
+{
+    static struct station s;
+    uint64_t key;
+    zkv_report r;
+    if (!number_of(given_key, &key)) {
+        return trouble(file, "%s is no key: a key is a decimal number below 2^64", given_key);
+    }
+    int status = need_register(&s, file, IMAGE_WRITE, o);
+    if (status == DONE) {
+        status = o->no_clean ? change(&s, key, value, length, &r) : change_with_cleaning(&s, key, value, length, &r);
+    }
+    if (status != DONE) {
+        return status;
+    }
+    if (r.kind == ZKV_REFUSED && value != NULL) {
+        return refused(file, r.first, "key %" PRIu64 ": %zu bytes%s: ", key, length, length == VALUE_ROOM ? " or more" : "");
+    }
+    return r.kind == ZKV_REFUSED ? refused(file, r.first, "key %" PRIu64 ": ", key) : confirmed(&s);
+}
+
+int command_put(const char *file, char **word, const struct options *o)
+{
+    const uint8_t *value;
+    size_t length;
+    int status = read_value(word[1], o->empty, &value, &length);
+    return status == DONE ? change_key(file, word[0], value, length, o) : status;
+}
+
+int command_delete(const char *file, char **word, const struct options *o)
+{
+    return change_key(file, word[0], NULL, 0, o);
+}
