@@ -1,4 +1,4 @@
-"""Compares the definitions of crates/spec with the model of document 01 (tests/model): the prover computes the one, Python the other.
+"""Compares the definitions of crates/spec with the model of the rules (tests/model): the prover computes the one, Python the other.
 
 python3 tests/definitions.py SEED COUNT [--only PATTERN] [--show N] [--keep] [--spec FOLDER]
 

@@ -27,21 +27,28 @@ enum {
     IMAGE_MAX = (ZKV_CHUNKS_MAX + 1) * ZKV_CHUNK_BYTES,
     TABLE_MAX = 8192,
     VALUE_MAX = 8192,
+    KEYS_ROOM = 40,
     CHUNK_WORDS = 512,
-    BUFFER = 16,              /* word of the record at which its buffer starts */
+    BUFFER = 21,              /* word of the record at which its buffer starts */
     COMMITTING = 3,           /* word 0 of a record in a commit */
-    STEPS_MAX = 583,
+    CLEANING = 6,             /* word 0 of a record in a cleaning */
+    BLOCK_ACTIONS_MAX = 2 + 512 + 64,
+    CLEAN_ACTIONS_MAX = 9 * 64 + 7,
+    STEPS_MAX = CLEAN_ACTIONS_MAX + 1,
     SECONDS = 300             /* far more than a run takes */
 };
+
+_Static_assert(sizeof(zkv_record) == 8 * (BUFFER + 1152), "the record's parts are as the cases below fill them");
 
 /* ---- what is tried, for the messages */
 static const char *kind_of_case = "", *call = "";
 static uint64_t case_number;
 
 /* How often each call was accepted and refused; each must have been both. */
-enum { FORMAT, OPEN, PUT, DELETE, COMMIT, ABANDON, STEP, RUN, LOOK_UP, CALLS };
+enum { FORMAT, OPEN, PUT, DELETE, COMMIT, ABANDON, CHOOSE, CLEAN, STEP, RUN, LOOK_UP, LIST, CALLS };
 
-static const char *const call_name[CALLS] = {"format", "open", "put", "delete", "commit", "abandon", "step", "run", "look_up"};
+static const char *const call_name[CALLS] = {"format", "open", "put", "delete", "commit", "abandon",
+                                            "choose", "clean", "step", "run", "look_up", "list_keys"};
 static uint64_t tally[CALLS][2];
 
 __attribute__((noreturn, format(printf, 1, 2))) static void fault(const char *format, ...)
@@ -107,7 +114,7 @@ struct area {
     size_t room, bytes;
 };
 
-static struct area image, table, record, value, start, length;
+static struct area image, table, record, value, start, length, keys;
 static uint8_t *image_before;
 static uint64_t *table_before;
 static zkv_record record_before;
@@ -271,14 +278,14 @@ static void differs(bool is_other, uint64_t *count, const char *what)
 #endif
 }
 
-/* Steps on the copy: one, and in a commit on until one that is no store. Their number; *last is the last one's report. */
-static uint64_t step_copy(bool commit, zkv_report *last)
+/* Steps on the copy: one, and in a commit or cleaning on until one that is no store. Their number; *last is the last one's report. */
+static uint64_t step_copy(bool through, zkv_report *last)
 {
     uint64_t n = 0;
     do {
         *last = zkv_step(&record_before, image_before, image.bytes, table_before, table_words());
         n++;
-    } while (commit && last->kind == ZKV_STORE);
+    } while (through && last->kind == ZKV_STORE);
     return n;
 }
 
@@ -286,10 +293,10 @@ static uint64_t step_copy(bool commit, zkv_report *last)
 static zkv_report run_call(uint64_t *steps)
 {
     zkv_report last;
-    bool commit = the_record()->word[0] == COMMITTING;
+    bool through = the_record()->word[0] == COMMITTING || the_record()->word[0] == CLEANING;
     call = "zkv_run";
     remember();
-    uint64_t n = step_copy(commit, &last);
+    uint64_t n = step_copy(through, &last);
 #ifdef WRONG
     remember();
     for (uint64_t i = 1; i < n; i++) {
@@ -406,8 +413,8 @@ static void put_call(void)
     wild(value.at, value.bytes);
     remember();
     begun(PUT,
-          zkv_put(the_record(), image.at, image.bytes, the_table(), table_words(), some_key(), value.at, value.bytes), 0,
-          N(1) | N(2) | N(7) | N(8) | N(9) | N(10) | N(12));
+          zkv_put(the_record(), image.at, image.bytes, the_table(), table_words(), some_key(), value.at, value.bytes), BLOCK_ACTIONS_MAX,
+          N(1) | N(2) | N(7) | N(8) | N(9) | N(10) | N(12) | N(13));
     around(&value);
 }
 
@@ -442,6 +449,41 @@ static void abandon_call(void)
     }
 }
 
+/* The chunk that is answered, or 0. */
+static uint64_t choose_call(void)
+{
+    call = "zkv_choose";
+    remember();
+    zkv_report r = zkv_choose(the_record(), image.at, image.bytes, the_table(), table_words());
+    tally[CHOOSE][r.kind == ZKV_REFUSED]++;
+    image_kept();
+    table_kept();
+    record_kept();
+    if (r.kind == ZKV_REFUSED) {
+        refused(r.first, N(1) | N(2) | N(8) | N(16));
+        return 0;
+    }
+    if (r.kind != ZKV_CHOSEN || r.first == 0 || r.first >= image.bytes / ZKV_CHUNK_BYTES) {
+        fault("answered kind %" PRIu64 ", %" PRIu64, r.kind, r.first);
+    }
+    return r.first;
+}
+
+/* Of a chunk of the image mostly, else of any number. */
+static uint64_t some_chunk(void)
+{
+    static const uint64_t numbers[] = {0, 503, 504, 505, 511, 512, 1ull << 32, 1ull << 52, 1ull << 63, UINT64_MAX};
+    return !one_in(5) ? below(image.bytes / ZKV_CHUNK_BYTES + 2) : one_in(4) ? draw() : numbers[below(sizeof numbers / sizeof *numbers)];
+}
+
+static void clean_call(uint64_t chunk)
+{
+    call = "zkv_clean";
+    remember();
+    begun(CLEAN, zkv_clean(the_record(), image.at, image.bytes, the_table(), table_words(), chunk), CLEAN_ACTIONS_MAX,
+          N(1) | N(2) | N(8) | N(13) | N(15) | N(16));
+}
+
 static void look_up_call(void)
 {
     call = "zkv_look_up";
@@ -461,6 +503,38 @@ static void look_up_call(void)
         fault("a refusal with a part that is not empty");
     } else {
         refused(number, N(1) | N(2) | N(8) | N(11));
+    }
+}
+
+/* Into words that hold a pattern: those behind the keys stay, all of them on a refusal. */
+static void list_call(void)
+{
+    call = "zkv_list_keys";
+    place(&keys, 8 * (one_in(3) ? below(3) : below(KEYS_ROOM)));
+    uint64_t *count = (uint64_t *)(void *)start.at, *key = (uint64_t *)(void *)keys.at;
+    size_t room = keys.bytes / 8;
+    memset(keys.at, 0x5A, keys.bytes);
+    *count = 1;
+    remember();
+    uint64_t number = zkv_list_keys(the_record(), image.at, image.bytes, the_table(), table_words(), key, room, count);
+    tally[LIST][number != 0]++;
+    image_kept();
+    table_kept();
+    record_kept();
+    around(&keys);
+    if (number != 0) {
+        refused(number, N(1) | N(2) | N(8));
+        if (*count != 0) {
+            fault("a refusal with a count");
+        }
+    }
+    if (*count > table_words()) {
+        fault("%" PRIu64 " keys in a table of %zu words", *count, table_words());
+    }
+    for (size_t i = 0; i < room; i++) {
+        if (i >= *count && key[i] != 0x5A5A5A5A5A5A5A5Aull) {
+            fault("a word behind the keys was changed");
+        }
     }
 }
 
@@ -494,7 +568,7 @@ static void finish(void)
 static void all_calls(bool openings)
 {
     for (int n = 0; n < 14; n++) {
-        switch (below(openings ? 9 : 8)) {
+        switch (below(openings ? 11 : 10)) {
         case 0:
             if (one_in(12)) {
                 format_call();
@@ -520,7 +594,14 @@ static void all_calls(bool openings)
             break;
         case 7:
             count_calls();
+            list_call();
             finish();
+            break;
+        case 8:
+            choose_call();
+            break;
+        case 9:
+            clean_call(one_in(2) ? choose_call() : some_chunk());
             break;
         default:
             open_call();
@@ -612,7 +693,7 @@ static void near_image(void)
 static void near_record(void)
 {
     uint64_t *w = the_record()->word, chunks = image.bytes / ZKV_CHUNK_BYTES;
-    w[0] = below(7);
+    w[0] = below(8);
     w[1] = one_in(2) ? 0 : below(600);
     w[2] = below(18);
     w[3] = one_in(3) ? below(514) : below(60);
@@ -628,11 +709,17 @@ static void near_record(void)
     w[13] = below(8);
     w[14] = draw();
     w[15] = draw();
+    w[16] = one_in(8) ? 503 + below(2) : below(chunks + 2);             /* what a cleaning is in the middle of */
+    w[17] = one_in(4) ? draw() : get_word(8 + w[16]);
+    w[18] = below(66);
+    w[19] = one_in(3) ? below(514) : below(60);
+    w[20] = below(260);
     if (one_in(3)) {
         wild(w + BUFFER, 8 * 1152);
     } else {
         entries(w + BUFFER, 512, 16 * chunks);
-        memset(w + BUFFER + 512, 0, 8 * 640);
+        entries(w + BUFFER + 512, 512, 16 * chunks);
+        memset(w + BUFFER + 1024, 0, 8 * 128);
     }
     for (uint64_t n = one_in(2) ? 0 : below(3); n > 0; n--) {
         w[below(BUFFER)] = one_in(2) ? draw() : UINT64_MAX - below(3);
@@ -681,7 +768,7 @@ static void wild_record(void)
 {
     near_image();
     if (one_in(2)) {
-        the_record()->word[0] = below(7);
+        the_record()->word[0] = below(8);
     }
     if (one_in(2)) {
         the_record()->word[6] = image.bytes;
@@ -796,6 +883,7 @@ static void set_up(void)
     make_area(&value, VALUE_MAX);
     make_area(&start, 8);
     make_area(&length, 8);
+    make_area(&keys, 8 * KEYS_ROOM);
     place(&start, 8);
     place(&length, 8);
     image_before = malloc(IMAGE_MAX);

@@ -1,11 +1,13 @@
-"""Makes crates/cases/stdin, the worked cases of document 01 that are not marked P, and crates/cases/stdout, what the model says of them.
+"""Makes crates/cases/stdin, worked cases of the rules (those that are one proved table are in crate worked), and
+crates/cases/stdout, what the model says of them.
 
 python3 tests/make_cases.py            writes both files
 python3 tests/make_cases.py --check    compares them with the files kept; exit status 1 on a difference
 
-The calls stand below as document 01 tells the cases. Every line of the expected output comes from the model (tests/model), the step
-counts and the sums over the reports included; the numbers that document 01 itself gives stand beside the calls as `is_`, and the model
-must say the same. Nothing of the Rattle code is asked.
+The calls stand below as the rules tell the cases, those of the counter level first, choosing and cleaning behind them in a part of
+their own. Every line of the expected output comes from the model (tests/model), the step counts and the sums over the reports included;
+the numbers that come with the rules stand beside the calls as `is_`, and the model must say the same. Nothing of the Rattle code is
+asked.
 """
 import sys
 
@@ -27,7 +29,7 @@ class Script:
     def note(self, text):
         self.say(f'# {text}')
 
-    # ---- calls with what document 01 says of them
+    # ---- calls with what the rules say of them
     def lend(self, nbytes=16384, table=64):
         self.say(f'image {nbytes}')
         self.say(f'table {table}')
@@ -50,6 +52,13 @@ class Script:
         self.say(line, 'begun 0')
         self.run(1)
 
+    def block(self, line, nbytes, taken):
+        """A staging in a block: length and value, a flush for each line; a free chunk's directory word and its line before."""
+        words = 1 + (nbytes + 7) // 8
+        actions = words + (words + 7) // 8 + (2 if taken else 0)
+        self.say(line, f'begun {actions}')
+        self.run(actions + 1)
+
     def commit(self, b):
         """9b + 4 actions, one step more."""
         self.say('commit', f'begun {9 * b + 4}')
@@ -59,6 +68,17 @@ class Script:
         self.lend(nbytes, table)
         self.format()
         self.open()
+
+    def clean(self, chunk, b, copied):
+        """As a commit of b lines, where something is copied; then three actions more."""
+        actions = (9 * b + 4 if b else 0) + 3
+        self.say(f'clean {chunk}', f'begun {actions}')
+        ran, last = self.say('run').split('\n')
+        assert ran.split(' ')[:2] == ['ran', str(actions + 1)] and last == f'end {copied}', (ran, last, chunk)
+
+    def pokes(self, words):
+        for w, v in words.items():
+            self.say(f'poke {w} {v}')
 
     def refused(self, line, number):
         self.say(line, f'refused {number}')
@@ -194,6 +214,66 @@ def full_batch(s):
     s.say('sum')
 
 
+def blocks(s):
+    s.note('Values in blocks. Into a free chunk and into its next block; 504 bytes take two units, 505 three, 4,088 a whole chunk.')
+    s.fresh(65536)
+    s.block('put 7 257 1', 257, True)
+    s.block('put 8 504 2', 504, False)
+    s.block('put 9 505 3', 505, True)
+    s.block('put 10 4088 4', 4088, True)
+    s.refused('look 7', 11)
+    s.commit(1)
+    for k in (7, 8, 9, 10):
+        s.say(f'look {k}')
+    s.say('sum')
+
+    s.note('superseded and deleted: their blocks are used again behind the last fence, the lowest first')
+    s.block('put 7 300 5', 300, False)
+    s.stage('delete 8')
+    s.commit(1)
+    s.say('look 7')
+    s.refused('look 8', 11)
+    s.block('put 8 257 6', 257, False)
+    s.say('sum')
+    s.say('abandon', 'abandoned')
+    s.block('put 8 258 7', 258, False)
+    s.commit(1)
+    s.say('look 8')
+    s.say('sum')
+
+    s.note('one key in one batch: large, small, deleted, large again, small')
+    s.block('put 11 1000 1', 1000, True)
+    s.stage('put 11 3 1')
+    s.stage('delete 11')
+    s.block('put 11 1000 2', 1000, False)
+    s.commit(2)
+    s.say('look 11')
+    s.block('put 11 1016 3', 1016, False)
+    s.stage('put 11 3 9')
+    s.commit(1)
+    s.say('look 11')
+
+    s.note('opened anew, with another record: the same')
+    s.say('record')
+    s.open()
+    for k in range(7, 12):
+        s.say(f'look {k}')
+    s.block('put 12 1000 1', 1000, False)
+    s.say('sum')
+
+    s.note('a staging in a block step by step: directory word, its line, length, value, lines; then the end; other calls get 8')
+    s.fresh(65536)
+    s.say('put 7 257 0', 'begun 41')
+    for answer in ('store 9 514', 'flush 1', 'store 512 257', 'store 513 506097522914230528'):
+        s.say('step', answer)
+        s.refused('look 7', 8)
+    for line in ('commit', 'abandon', 'put 8 0 0', 'delete 7', 'format - -'):
+        s.refused(line, 8)
+    s.run(38)
+    s.commit(1)
+    s.say('look 7')
+
+
 def refusals(s):
     s.note('1: 4,095 bytes; a lent length unlike that at opening')
     s.lend(4095)
@@ -265,9 +345,8 @@ def refusals(s):
     s.refused('look 7', 8)
     s.run(583)
 
-    s.note('9: a put of 257 bytes at the counter; 4,089 bytes')
+    s.note('9: a put of 4,089 bytes')
     s.fresh()
-    s.refused('put 7 257 0', 9)
     s.refused('put 7 4089 0', 9)
     s.stage('put 7 256 0')
     s.say('abandon', 'abandoned')
@@ -325,6 +404,14 @@ def refusals(s):
     s.say('look 8', 'refused 11')
     s.say('look 10')
 
+    s.note('13: 257 bytes with two chunks free and no data chunk')
+    s.fresh()
+    s.stage('put 7 0 0')
+    s.commit(1)
+    s.refused('put 7 257 0', 13)
+    s.stage('put 7 256 0')
+    s.say('abandon', 'abandoned')
+
     s.note('14: commit on a fresh register; abandon too')
     s.fresh()
     s.refused('commit', 14)
@@ -332,13 +419,203 @@ def refusals(s):
     s.say('sum')
 
 
-def script():
+# ---- choosing and cleaning
+
+def four_chunks_cleaned(s):
+    s.note('Four chunks, put 7 and put 9, then delete 9. Cleaning chunk 1 copies 1 entry: word of chunk 1 is 0, of chunk 2 is 257.')
+    s.fresh()
+    s.stage('put 7 5 97')
+    s.stage('put 9 0 0')
+    s.commit(1)
+    s.stage('delete 9')
+    s.commit(1)
+    s.directory(513, 0, 0)
+    s.say('choose', 'chunk 1')
+    s.say('kept', 'kept')
+    s.clean(1, 1, 1)
+    s.directory(0, 257, 0)
+    s.say('word 1024', 'word 1024 83886097')
+    s.say('look 7', 'value 8208 5 1495')
+    s.say('show 7', 'value 7 5 1495 6162636465')
+    s.say('look 9', 'refused 11')
+    s.say('keys', 'keys 1')                         # of 9 no entry is left
+    s.refused('choose', 16)
+    s.say('sum')
+    s.note('opened anew: the same; and 9 begins at version 1 again')
+    s.say('record')
+    s.open()
+    s.say('look 7', 'value 8208 5 1495')
+    s.refused('look 9', 11)
+    s.say('keys', 'keys 1')
+    s.stage('put 9 3 40')
+    s.commit(1)
+    s.say('word 1032', f'word 1032 {first_word(1, 0, 1, 3)}')
+    s.note('the cleaning step by step: as a commit of its line, then the freeing')
+    s.fresh()
+    s.stage('put 7 5 97')
+    s.commit(1)
+    s.say('clean 1', 'begun 16')
+    for i in range(8):
+        s.say('step')
+    for answer in ('flush 128', 'fence', 'store 10 257', 'flush 1', 'fence', 'store 9 0', 'flush 1', 'fence', 'end 1', 'idle'):
+        s.say('step', answer)
+    s.directory(0, 257, 0)
+
+
+def deletes_kept(s):
+    s.note('A delete stays while an older put of its key is committed elsewhere; without one it is dropped')
+    s.fresh(20480)
+    s.pokes({9: 257, 512: first_word(1, 0, 1, 0), 513: 7, 10: 257, 1024: first_word(2, 0, 2, 0), 1025: 7})
+    s.open()
+    s.say('choose', 'chunk 1')                      # of which nothing is kept
+    s.clean(2, 1, 1)
+    s.directory(513, 0, 0, 0)
+    s.refused('look 7', 11)
+    s.say('keys', 'keys 1')
+    s.clean(1, 0, 0)
+    s.directory(0, 0, 0, 0)
+    s.say('keys', 'keys 0')
+    s.refused('look 7', 11)
+    s.say('sum')
+
+
+def chosen(s):
+    s.note('Choosing: the fewest bytes to copy, padding not counted; of equals the lowest number; none that gains no line')
+    s.fresh(24576)
+    put = first_word(1, 0, 1, 0)
+    longer = first_word(1, 0, 1, 3)
+    s.pokes({9: 2 << 8 | 1, 512: longer, 513: 1, 514: 7, 10: 2 << 8 | 1, 1024: put, 1025: 2, 11: 64 << 8 | 1, 1536: put, 1537: 3,
+             12: 257, 2048: put, 2049: 4})
+    s.open()
+    for chunk, copied in ((2, 1), (3, 1), (1, 3)):  # the first two go behind chunk 1's lines
+        s.say('choose', f'chunk {chunk}')
+        s.say('kept', 'kept')
+        s.clean(chunk, 1, copied)
+    s.refused('choose', 16)
+    for k in (1, 2, 3, 4):
+        s.say(f'look {k}')
+    s.say('sum')
+    s.note('A staged batch plays no part in choosing')
+    s.stage('put 4 1 1')
+    s.commit(1)
+    s.stage('put 4 1 2')
+    s.say('choose')
+    s.refused('clean 4', 15)
+    s.say('abandon', 'abandoned')
+
+
+def data_chunks(s):
+    s.note('A data chunk with no live block is only freed; one with a live block gets 16')
+    s.fresh(20480)
+    s.pokes({9: 257, 512: first_word(1, 1, 1, 48), 513: 5, 11: 2 << 8 | 2, 1536: 300, 12: 770})
+    s.open()
+    s.refused('clean 3', 16)
+    s.refused('choose', 16)
+    s.say('look 5', 'value 12296 300 0')
+    s.clean(4, 0, 0)
+    s.directory(257, 0, 514, 0)
+    s.stage('put 5 1 65')
+    s.commit(1)
+    s.clean(3, 0, 0)
+    s.directory(513, 0, 0, 0)
+    s.say('show 5')
+
+
+def interrupted(s):
+    s.note('A cleaning that is left after its copy is committed: twins, of which the first is chosen; and cleaned again')
+    s.fresh()
+    s.stage('put 7 5 97')
+    s.commit(1)
+    s.say('clean 1', 'begun 16')
+    for i in range(13):
+        s.say('step')
+    s.say('record')
+    s.open()
+    s.directory(257, 257, 0)
+    s.say('look 7', 'value 4112 5 1495')
+    s.say('keys', 'keys 1')
+    s.say('choose', 'chunk 2')                      # its entry is no chosen one: nothing is kept
+    s.clean(2, 0, 0)
+    s.say('look 7', 'value 4112 5 1495')
+    s.refused('choose', 16)
+
+
+def centre_refusals(s):
+    s.note('Choosing and cleaning refused. 2 and 1: no register open, a lent length unlike that at opening')
+    s.lend()
+    for line in ('choose', 'clean 1', 'clean 0'):
+        s.refused(line, 2)
+    s.fresh()
+    s.say('table 65')
+    for line in ('choose', 'clean 1'):
+        s.refused(line, 1)
+    s.say('table 64')
+    s.say('image 20480')
+    for line in ('choose', 'clean 1'):
+        s.refused(line, 1)
+    s.note('8: in a staging, a commit, a cleaning and a formatting; every other call in a cleaning')
+    s.fresh()
+    s.say('put 7 5 97', 'begun 0')
+    for line in ('choose', 'clean 1'):
+        s.refused(line, 8)
+    s.run(1)
+    s.say('commit', 'begun 13')
+    for line in ('choose', 'clean 0'):
+        s.refused(line, 8)
+    s.run(14)
+    s.say('clean 1', 'begun 16')
+    for i in range(3):
+        s.say('step')
+        for line in ('choose', 'clean 1', 'look 7', 'put 7 0 0', 'delete 7', 'commit', 'abandon', 'format - -'):
+            s.refused(line, 8)
+    s.say('run')
+    s.say('look 7', 'value 8208 5 1495')
+    s.say('format - -', 'begun 582')
+    for line in ('choose', 'clean 1'):
+        s.refused(line, 8)
+    s.run(583)
+    s.note('15: put staged, then cleaning, before 16')
+    s.fresh()
+    s.stage('put 7 5 97')
+    for line in ('clean 1', 'clean 0'):
+        s.refused(line, 15)
+    s.note('16: chunk 0, free, past the count; choosing finds none')
+    s.say('abandon', 'abandoned')
+    for chunk in (0, 1, 4, 503, 504, 505, 2 ** 32, 2 ** 64 - 1):
+        s.refused(f'clean {chunk}', 16)
+    s.refused('choose', 16)
+    s.note('13: no other log chunk with space, none free; a chunk of which nothing is kept needs none')
+    full = 1 | 64 << 8
+    s.fresh()
+    s.pokes({9: full, 512: first_word(1, 0, 1, 0), 513: 1, 10: full, 1024: first_word(1, 0, 1, 0), 1025: 2,
+             11: full, 1536: first_word(1, 0, 1, 0), 1537: 3})
+    s.open()
+    s.say('choose', 'chunk 1')
+    for chunk in (1, 2, 3):
+        s.refused(f'clean {chunk}', 13)
+    s.pokes({1025: 1})
+    s.open()
+    s.say('choose', 'chunk 2')
+    s.refused('clean 1', 13)
+    s.clean(2, 0, 0)
+    s.clean(1, 1, 1)
+    s.directory(0, 257, full)
+    s.say('look 1')
+    s.say('sum')
+
+
+COUNTER = (four_chunks, steps, numbered_header, abandoned, full_batch, refusals)
+CENTRE = (four_chunks_cleaned, deletes_kept, chosen, data_chunks, interrupted, centre_refusals)
+ARCHIVE = (blocks,)
+
+
+def script(parts):
     s = Script()
     s.say('aloud')
-    for part in (four_chunks, steps, numbered_header, abandoned, full_batch, refusals):
+    for part in parts:
         part(s)
     return s.lines
 
 
 if __name__ == '__main__':
-    sys.exit(keep('cases', script(), '--check' in sys.argv))
+    sys.exit(keep('cases', script(COUNTER + CENTRE + ARCHIVE), '--check' in sys.argv))

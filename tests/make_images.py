@@ -1,10 +1,10 @@
-"""Makes crates/opens/stdin, images with keys to look up, and crates/opens/stdout, what the model of document 01 says of them.
+"""Makes crates/opens/stdin, images with keys to look up, and crates/opens/stdout, what the model of the rules says of them.
 
 python3 tests/make_images.py            writes both files
 python3 tests/make_images.py --check    compares them with the files kept; exit status 1 on a difference
 
 Nothing of the Rattle code is asked: images are made by hand or by the model's own calls, and each answer is the model's. Beside each
-damaged image stands the number that the table of document 01 gives for its clause, and the model must say the same.
+damaged image stands the number that the table of refusals gives for its clause, and the model must say the same.
 """
 import sys
 

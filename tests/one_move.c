@@ -3,8 +3,8 @@
  * is made to differ from the new value in every byte, so that a store in parts would be seen. What is stored is learned from
  * steps on a copy; a run must make the same stores in the same order.
  *
- * Instructions are watched by the processor's trap flag. A formatting and commits of 1 and of 64 lines are stepped, so that every
- * kind of store comes; then such commits are run. Built with -DTORN the step stores byte by byte, with -DTORN_RUN the run does,
+ * Instructions are watched by the processor's trap flag. A formatting, commits of 1 and of 64 lines and cleanings of full chunks
+ * are stepped, so that every kind of store comes; then such commits and cleanings are run. Built with -DTORN the step stores byte by byte, with -DTORN_RUN the run does,
  * and this program must find it. */
 #define _GNU_SOURCE
 #include <inttypes.h>
@@ -187,9 +187,28 @@ static void commits(const uint8_t *value, bool running)
     }
 }
 
+/* Cleanings of the full log chunks. Answers whether one of them copied 64 lines. */
+static bool cleanings(bool running)
+{
+    bool full[BYTES / ZKV_CHUNK_BYTES], whole = false;
+    for (uint64_t c = 1; c < BYTES / ZKV_CHUNK_BYTES; c++) {
+        uint64_t word;
+        memcpy(&word, image + 64 + 8 * c, 8);
+        full[c] = word == (1 | 64 << 8);
+    }
+    for (uint64_t c = 1; c < BYTES / ZKV_CHUNK_BYTES; c++) {
+        if (full[c]) {
+            zkv_report r = zkv_clean(&record, image, BYTES, table, WORDS, c);
+            whole = whole || r.first == 9 * 64 + 7;
+            finish(r, running);
+        }
+    }
+    return whole;
+}
+
 int main(void)
 {
-    static uint8_t value[ZKV_VALUE_MAX];
+    static uint8_t value[ZKV_LOG_VALUE_MAX];
     struct sigaction act = {.sa_handler = trapped};
     sigaction(SIGTRAP, &act, NULL);
     for (size_t i = 0; i < sizeof value; i++) {
@@ -201,7 +220,12 @@ int main(void)
         return 1;
     }
     commits(value, false);
+    bool stepped = cleanings(false);
     commits(value, true);
+    if (!cleanings(true) || !stepped) {
+        puts("one_move: no cleaning copied 64 lines");
+        return 1;
+    }
     if (instructions < 1000 || run_instructions < 1000) {
         puts("one_move: the trap flag does not work here, nothing was watched");
         return 2;

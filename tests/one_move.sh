@@ -21,12 +21,28 @@ void zkv_step(uint8_t *image, size_t word, uint64_t value)
     p[4] = (uint8_t)(value >> 32), p[5] = (uint8_t)(value >> 40), p[6] = (uint8_t)(value >> 48), p[7] = (uint8_t)(value >> 56);
 }
 END
-gcc -O0 -c "$work/torn.c" -o "$work/torn.o"
-if python3 -B tests/stores.py "$work/torn.o" > "$work/out"; then
-    echo "one_move: stores.py did not find eight stores of a byte" >&2
-    exit 1
-fi
-grep -q '8 stores that are not whole words' "$work/out" || { cat "$work/out" >&2; exit 1; }
+cat > "$work/torn_answer.c" <<'END'
+#include <stddef.h>
+#include <stdint.h>
+void zkv_step(volatile uint8_t *answer, const uint64_t *record, volatile uint8_t *image, size_t word, uint64_t value)
+{
+    volatile uint8_t *p = image + 8 * word;
+    answer[48] = (uint8_t)record[0];
+    for (int i = 0; i < 4; i++) {
+        p[2 * i] = (uint8_t)(value >> 16 * i), p[2 * i + 1] = (uint8_t)(value >> (16 * i + 8));
+    }
+    answer[49] = (uint8_t)word;
+}
+END
+for sample in "torn -O0" "torn_answer -O2 -funroll-all-loops"; do
+    name=${sample%% *}
+    gcc ${sample#* } -c "$work/$name.c" -o "$work/torn.o"
+    if python3 -B tests/stores.py "$work/torn.o" > "$work/out"; then
+        echo "one_move: stores.py did not find eight stores of a byte" >&2
+        exit 1
+    fi
+    grep -q ' 8 stores that are not whole words' "$work/out" || { cat "$work/out" >&2; exit 1; }
+done
 python3 -B tests/stores.py "$archive" zkv_step
 python3 -B tests/stores.py "$archive" zkv_run
 

@@ -2,7 +2,8 @@
 # Compares the library with the model: scripts of calls, refusals, damaged images and power cuts are played on both, and the
 # answers must be equal line by line.
 #
-# tests/replay.sh [FIRST [COUNT [TURNS]]]     seeds FIRST .. FIRST + COUNT - 1 (1, 100), scripts of TURNS turns (60)
+# tests/replay.sh [FIRST [COUNT [TURNS [LEVEL...]]]]   seeds FIRST .. FIRST + COUNT - 1 (1, 100), scripts of TURNS turns (60), for
+#                                                      each level: counter, centre, archive (all, if none is named)
 #
 # Needs host/build/replay (make -C host) and Python 3. Stops at the first difference, shows it, and keeps the script and both
 # outputs under host/build/differ/.
@@ -11,26 +12,28 @@ cd "$(dirname "$0")/.."
 first=${1:-1}
 count=${2:-100}
 turns=${3:-60}
+[ $# -le 3 ] && set -- "$first" "$count" "$turns" counter centre archive
+shift 3
 work=$(mktemp -d)
 trap 'rm -rf "$work"' EXIT
 [ -x host/build/replay ] || { echo "host/build/replay is missing: run make -C host" >&2; exit 2; }
 python="$(python3 -c 'import sys; print(sys.executable)') -S -B"     # the interpreter itself, started quickly
 export python turns work
 
-# One seed; status 255 stops xargs.
+# One seed at the level $level; status 255 stops xargs.
 cat > "$work/one" <<'END'
 set -eu
 at="$work/$1"
-stopped() { echo "replay: seed $1: $2" >&2; exit 255; }
-$python tests/model/make_script.py "$1" "$turns" --level counter > "$at.script" || stopped "$1" "no script could be made"
-$python tests/model/replay_model.py --no-blocks < "$at.script" > "$at.model" || stopped "$1" "the model stopped"
+stopped() { echo "replay: $level, seed $1: $2" >&2; exit 255; }
+$python tests/model/make_script.py "$1" "$turns" --level "$level" > "$at.script" || stopped "$1" "no script could be made"
+$python tests/model/replay_model.py < "$at.script" > "$at.model" || stopped "$1" "the model stopped"
 status=0
 host/build/replay < "$at.script" > "$at.replay" || status=$?
 if [ "$status" -ne 0 ] || ! cmp -s "$at.model" "$at.replay"; then
     mkdir -p host/build/differ
     cp "$at.script" "$at.model" "$at.replay" host/build/differ/
     {
-        echo "replay: seed $1 differs (exit status $status). First lines that differ, model (<) and library (>):"
+        echo "replay: $level, seed $1 differs (exit status $status). First lines that differ, model (<) and library (>):"
         diff "$at.model" "$at.replay" | head -6
         echo "script and outputs: host/build/differ/$1.script, $1.model, $1.replay"
     } >&2
@@ -40,9 +43,13 @@ wc -l < "$at.model" >> "$work/lines"
 rm -f "$at.script" "$at.model" "$at.replay"
 END
 
-if ! seq "$first" $((first + count - 1)) | xargs -P "$(nproc)" -n 1 sh "$work/one" 2> "$work/errors"; then
-    grep -v '^xargs:' "$work/errors" >&2
-    exit 1
-fi
-answers=$(awk '{ n += $1 } END { print n }' "$work/lines")
-echo "replay: $count scripts (seeds $first to $((first + count - 1))), $answers answers, all equal"
+for level in "$@"; do
+    export level
+    rm -f "$work/lines"
+    if ! seq "$first" $((first + count - 1)) | xargs -P "$(nproc)" -n 1 sh "$work/one" 2> "$work/errors"; then
+        grep -v '^xargs:' "$work/errors" >&2
+        exit 1
+    fi
+    answers=$(awk '{ n += $1 } END { print n }' "$work/lines")
+    echo "replay: $level: $count scripts (seeds $first to $((first + count - 1))), $answers answers, all equal"
+done

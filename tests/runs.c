@@ -1,9 +1,9 @@
 /* Compares zkv_run with zkv_step: from the same record, image and table, a run on the one copy and steps on the other, one step
- * and in a commit on until one that is no store. The reports must be equal, and image, table and record to the byte.
+ * and in a commit or cleaning on until one that is no store. The reports must be equal, and image, table and record to the byte.
  *
  * Where they start: states reached by calls in random order, runs and steps mixed, so that a run starts at any action of a
  * call; and the six kinds of garbage (garbage.h). Of calls that are run whole, also asked: the steps of all runs together are
- * a + 1, and a commit of b lines takes b + 4 runs.
+ * a + 1, a commit of b lines takes b + 4 runs, and a cleaning that copies b lines b + 6, or 3 where it copies none.
  *
  * runs [CASES]         CASES of each kind (1,000), from fixed seeds; a message and exit status 1 at the first difference.
  * Built with -DWRONG, where the copy makes one step fewer, it counts the differences; exit status 1 if there are any. */
@@ -12,7 +12,7 @@
 #include "garbage.h"
 
 static bool runs_only;
-static uint64_t calls;
+static uint64_t calls, cleanings;      /* of a call that is run whole; of those that copied something */
 
 static zkv_report go_on(uint64_t *steps)
 {
@@ -24,22 +24,43 @@ static zkv_report go_on(uint64_t *steps)
     return step();
 }
 
-/* The commit of what is staged, by runs alone. */
-static void whole_commit(void)
+/* A begun call that stores lines and then `seals` directory words, by runs alone: a run for each flush, each fence and the end. */
+static void whole(zkv_report r, uint64_t lines, uint64_t seals)
 {
-    uint64_t steps = 0;
-    call = "zkv_commit";
-    zkv_report r = zkv_commit(the_record(), image.at, image.bytes, the_table(), table_words());
-    if (r.kind != ZKV_BEGUN) {
-        return;
-    }
+    uint64_t steps = 0, fences = seals + (lines > 0);
     runs_only = true;
     calls = 0;
     while (go_on(&steps).kind != ZKV_END) {
     }
     runs_only = false;
-    if (steps != r.first + 1 || calls != (r.first - 4) / 9 + 4) {
-        fault("a commit of %" PRIu64 " actions took %" PRIu64 " runs of %" PRIu64 " steps", r.first, calls, steps);
+    if (steps != r.first + 1 || calls != lines + seals + fences + 1) {
+        fault("a call of %" PRIu64 " actions took %" PRIu64 " runs of %" PRIu64 " steps", r.first, calls, steps);
+    }
+}
+
+/* The commit of what is staged. */
+static void whole_commit(void)
+{
+    call = "zkv_commit";
+    zkv_report r = zkv_commit(the_record(), image.at, image.bytes, the_table(), table_words());
+    if (r.kind == ZKV_BEGUN) {
+        whole(r, (r.first - 4) / 9, 1);
+    }
+}
+
+/* Cleanings by choice, until none is worth it or one is refused. */
+static void whole_cleanings(void)
+{
+    for (;;) {
+        uint64_t chunk = choose_call();
+        call = "zkv_clean";
+        zkv_report r = chunk == 0 ? (zkv_report){ZKV_REFUSED, 0, 0}
+                                  : zkv_clean(the_record(), image.at, image.bytes, the_table(), table_words(), chunk);
+        if (r.kind != ZKV_BEGUN) {
+            return;
+        }
+        whole(r, r.first == 3 ? 0 : (r.first - 7) / 9, r.first == 3 ? 1 : 2);
+        cleanings += r.first > 3;
     }
 }
 
@@ -69,7 +90,7 @@ static void by_calls(void)
     finish();
     open_call();
     for (uint64_t turns = 4 + below(8); turns > 0; turns--) {
-        switch (below(8)) {
+        switch (below(10)) {
         case 0:
             all_calls(true);
             break;
@@ -82,6 +103,12 @@ static void by_calls(void)
             break;
         case 3:
             open_call();
+            break;
+        case 4:
+            whole_cleanings();
+            break;
+        case 5:
+            clean_call(one_in(2) ? choose_call() : some_chunk());
             break;
         default:
             for (uint64_t items = 1 + below(one_in(2) ? 2 : 16); items > 0; items--) {
@@ -130,10 +157,12 @@ int main(int count, char **argument)
            beside.runs, beside.report, beside.image, beside.table, beside.record);
     return beside.report + beside.image + beside.table + beside.record > 0;
 #endif
-    if ((!both || beside.longest != 8 * 64 + 1) && each >= 1000) {
-        fputs("runs: a call was never accepted or never refused, or the longest run did not come: too little was tried\n", stderr);
+    if ((!both || beside.longest != 8 * 64 + 1 || cleanings < 100) && each >= 1000) {
+        fputs("runs: a call was never accepted or never refused, few cleanings copied, or the longest run did not come: too little was tried\n",
+              stderr);
         return 1;
     }
-    printf("runs: %" PRIu64 " runs, each as its steps; the longest of %" PRIu64 " steps\n", beside.runs, beside.longest);
+    printf("runs: %" PRIu64 " runs, each as its steps; the longest of %" PRIu64 " steps; %" PRIu64 " whole cleanings that copied\n",
+           beside.runs, beside.longest, cleanings);
     return 0;
 }

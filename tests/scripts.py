@@ -1,6 +1,6 @@
-"""Scripts of the programs over crates/player: played on the model of document 01, and kept with what the model says.
+"""Scripts of the programs over crates/player: played on the model of the rules, and kept with what the model says.
 
-A script's commands are those of tests/model/PROTOCOL.md, without choosing and cleaning, and these:
+A script's commands are those of tests/model/PROTOCOL.md and these:
 
   lend N W     the image is N bytes, all zero; the key table is W words, which hold what they held
   fill P N V   N words of the image from word P on become V, as far as it has them
@@ -22,8 +22,7 @@ sys.path[:0] = [os.path.join(TESTS, 'model')]
 import replay_model                                                             # noqa: E402
 from register_model import Image, Refused                                       # noqa: E402
 
-replay_model.NO_LARGE = True                    # the counter level: values over 256 bytes get 9
-CALLS = ('format', 'open', 'put', 'delete', 'commit', 'abandon', 'look', 'step', 'run')
+CALLS = ('format', 'open', 'put', 'delete', 'commit', 'abandon', 'choose', 'clean', 'look', 'step', 'run')
 
 
 class Model(replay_model.Player):
@@ -34,7 +33,8 @@ class Model(replay_model.Player):
 
     def memory(self):
         st = self.st
-        pending = st.pending and (st.pending[0], list(st.pending[1]), st.pending[2:])
+        p = st.pending
+        pending = p and (p.kind, list(p.actions), p.result, p.lengths)
         return list(self.image), st.open_length, st.table_words, list(st.staged), pending
 
     def shown(self, key):

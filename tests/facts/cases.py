@@ -1,13 +1,12 @@
 """Facts: what the model says of images, calls, histories of calls, media and desk books."""
 import random
 
-import register_model as model
-from register_model import (Book, Image, Item, MAX_VERSION, Medium, Refused, SIZES, Station, View, WORD, block_size, capacity, first_word, format_actions,
-                            header_words, length_allowed, parse_chunk, role_of, words_of)
+from register_model import (BASE, Book, Image, Item, MAX_VERSION, Medium, Refused, SIZES, Station, View, WORD, block_size, capacity, first_word,
+                            format_actions, header_words, length_allowed, words_of)
 
 from facts.codes import (Fact, actions_code, actions_text, call_text, entries_code, given_text, held_code, items_text, listed, of_entry, of_item, opening_code,
                          poked_text, refused, report_code, report_text, sum_of, words_text)
-from facts.images import (LARGE, LENGTHS, accepted, crowded, cut_short, foreign, fresh, has_block_twins, has_live, has_twins, large_length, old_versions, ours,
+from facts.images import (CHUNKS, LARGE, LENGTHS, accepted, crowded, cut_short, foreign, fresh, has_block_twins, has_live, has_twins, large_length, old_versions, ours,
                           pattern, pick_keys, put_words, some_damages, spare_sizes)
 
 LIMITS = (256, 4088)
@@ -54,7 +53,7 @@ class Machine:
         if c[0] == 'step':
             if not st.pending:
                 return [1] + report_code(('idle',))
-            return [1] + report_code(('refused', 1)) if self.nbytes != st.pending[3] or st._other_table() else [0]
+            return [1] + report_code(('refused', 1)) if st._unlike(image) else [0]
         try:
             st._ready(image)
             return [0]
@@ -92,7 +91,7 @@ class Machine:
     def state_code(self):
         st, items = self.st, entries_code([of_item(i) for i in self.st.staged])
         if st.pending:
-            kind, acts, result, nbytes, table = st.pending
+            kind, acts, result, (nbytes, table, _) = st.pending.kind, st.pending.actions, st.pending.result, st.pending.lengths
             if kind == 'format':
                 return [3, nbytes, table, int(st.open_length is not None)] + actions_code(acts)
             return [2, st.open_length, st.table_words, {'stage': 1, 'commit': 2, 'clean': 3 + (result or 0)}[kind]] + items + actions_code(acts)
@@ -101,7 +100,7 @@ class Machine:
     def state_text(self):
         st = self.st
         if st.pending:
-            kind, acts, result, nbytes, table = st.pending
+            kind, acts, result, (nbytes, table, _) = st.pending.kind, st.pending.actions, st.pending.result, st.pending.lengths
             if kind == 'format':
                 return f'(Formatting {"true" if st.open_length is not None else "false"} {nbytes} {table} {actions_text(acts)})'
             task = {'stage': 'Staging', 'commit': 'Committing', 'clean': f'(Cleaning {result})'}[kind]
@@ -110,7 +109,7 @@ class Machine:
 
     def call(self, c):
         """Does a call; its code."""
-        image, model.LIMIT = self.image(), self.limit
+        image, CHUNKS.limit = self.image(), self.limit
         self.st.lent_table = self.table
         barred = self.barred(c, image)
         self.last = r = self.report(c, image)
@@ -118,7 +117,7 @@ class Machine:
             self.memory[r[1]] = r[2]
         if r[0] == 'refused':
             refused(r[1], c[0])
-        left = len(self.st.pending[1]) + 1 if self.st.pending else 0
+        left = len(self.st.pending.actions) + 1 if self.st.pending else 0
         return report_code(r) + [1 if r[0] == 'refused' else 2] + barred + self.state_code() + [left]
 
     # -- a history
@@ -135,7 +134,7 @@ class Machine:
 
     def finish(self):
         if self.st.pending:
-            self.steps(len(self.st.pending[1]) + 1)
+            self.steps(len(self.st.pending.actions) + 1)
 
     def done(self, *c):
         self.do(*c)
@@ -167,7 +166,7 @@ def any_call(rng, keys, count):
 def begun(rng, m, keys, count):
     """If a call was begun, it runs to its end, now and then with another call inside it."""
     if m.st.pending and rng.random() < .3:
-        left = len(m.st.pending[1])
+        left = len(m.st.pending.actions)
         if left and rng.random() < .5:
             m.steps(rng.randrange(1, min(left, 40) + 1))
         m.do(*any_call(rng, keys, count))
@@ -200,7 +199,7 @@ def other_lengths(rng, m, keys, count):
     m.lend(*rng.choice([(b, t + 1), (b, 0), (b + 4096, t), (b - 1, t), (12288, t), (0, t), (505 * 4096, t)]))
     for _ in range(2):
         m.do(*rng.choice([any_call(rng, keys, count), ('step',), ('format', 1, None)]))
-    if m.st.pending and m.st.pending[0] == 'format':
+    if m.st.pending and m.st.pending.kind == 'format':
         m.steps(3)
     m.lend(b, t)
     m.do(*rng.choice([('look', rng.choice(keys)), ('step',), ('format', None, None)]))
@@ -472,7 +471,7 @@ def meaning_facts(rng, sheet, v, keys, table):
         st.pending = None
         try:
             st.clean(ws, c)
-            parts.append((f'chunk {c}', [1, 3 + st.pending[2]] + entries_code([]) + actions_code(st.pending[1])))
+            parts.append((f'chunk {c}', [1, 3 + st.pending.result] + entries_code([]) + actions_code(st.pending.actions)))
         except Refused as r:
             refused(r.number, 'clean')
             parts.append((f'chunk {c}', [0, r.number]))
@@ -501,7 +500,7 @@ def damage_facts(rng, sheet, ws):
 
 def staged_on(rng, ws, table, keys, n, value=None):
     """A station on the image with n items staged, none in a block; puts of a value, or of small ones with deletes between."""
-    st, model.LIMIT = Station(), 4088
+    st, CHUNKS.limit = Station(), 4088
     st.open(ws, table)
     st.lent_table = table
     for _ in range(6 * n):
@@ -530,7 +529,7 @@ def call_facts(rng, sheet, ws, keys, table, n):
         elif x < .4:
             try:
                 st.commit(ws) if st.staged and rng.random() < .6 else st.clean(ws, rng.randrange(1, count))
-                del st.pending[1][:rng.randrange(len(st.pending[1]) + 1)]
+                del st.pending.actions[:rng.randrange(len(st.pending.actions) + 1)]
             except Refused:
                 pass
         elif x < .55:
@@ -538,7 +537,7 @@ def call_facts(rng, sheet, ws, keys, table, n):
                 st = Station()
                 st.lent_table = table
             st.format(ws, None, 3)
-            del st.pending[1][:rng.choice([582, 581, 579, 575])]
+            del st.pending.actions[:rng.choice([582, 581, 579, 575])]
         k = rng.choice(keys + [UNKNOWN])
         c = rng.choice([('put', k, 1, rng.choice([0, 3, 256, 257])), ('delete', k), ('commit',), ('abandon',), ('look', k), ('choose',),
                         ('clean', rng.randrange(count + 2)), ('format', 9, None), ('step',), ('step',)])
@@ -591,7 +590,7 @@ def cut_fact(rng, sheet, ws, keys, table):
                 st.commit(ws)
         except Refused:
             continue
-        acts = list(st.pending[1])
+        acts = list(st.pending.actions)
         if len(acts) <= 25:
             break
     if acts is None:
@@ -603,7 +602,7 @@ def cut_fact(rng, sheet, ws, keys, table):
         med.act(a)
     at = sorted({a[1] for a in acts if a[0] == 'store'})[-12:]
     for w in at:
-        parts.append((f'word {w}', [len(med.values[w])] + med.values[w][::-1]))
+        parts.append((f'word {w}', [len(med.possible(w))] + med.possible(w)[::-1]))
     parts.append(('what is read', [sum_of(med.latest())]))
     left = med.cut(lambda w, v: newest_first(v, picks[w % len(picks)]))
     parts += [('the image left', [sum_of(left)]), ('its opening', opening_code(left, len(ws) * 8, table))]
@@ -613,9 +612,9 @@ def cut_fact(rng, sheet, ws, keys, table):
 # ---- facts beside the images
 
 def example_sheet():
-    """Document 01's own numbers, written here as it has them: worked by hand, and the examples of its refusals."""
+    """The numbers that come with the rules, written here as they were given: worked by hand, and the examples of refusals."""
     empty = header_words(4) + [0] * 2040
-    s = Sheet('examples', 'Examples of document 01', empty)
+    s = Sheet('examples', 'Examples of the rules', empty)
     s.add('header', 'headerWords 16 G.Absent G.Absent', [1, 16, 0, 0, 0, 0, 0, 18446744073709551599])
     s.add('directory', '(logWord 0 2 ∷ dataWord 0 3 ∷ [])', [513, 770])
     entries = ['entry 1 0 1 5 7 []', 'entry 1 0 1 0 7 []', 'entry 2 0 2 0 7 []', 'entry 1 1 1 48 7 []']
@@ -689,10 +688,8 @@ def order_sheet():
 
 
 def header_right(words, count):
-    v = View.__new__(View)
-    v.words, v.count = words, count
     try:
-        v._header()
+        BASE.header(words, count * 4096)
         return 1
     except Refused:
         return 0
@@ -712,7 +709,7 @@ def number_sheet(seed):
     s.add('lengths', f'map (λ b. bit (lengthAllowed 12 b)) {listed(xs)}', [int(length_allowed(x)) for x in xs])
     xs = [0, 1, 2, 3, 257, 256, 513, 514, 770, 1 | 64 << 8, 1 | 65 << 8, 2 | 16 << 8, 2 | 17 << 8, WORD - 1, 1 << 63]
     xs += [rng.choice([0, 1, 2, 3, 5, 6, 130, rng.randrange(256)]) | rng.choice([*range(10), 16, 63, 64, 65, rng.randrange(100)]) << 8 for _ in range(40)]
-    s.add_parts('roles', f'each (λ w. roleCode (roleOf 12 w)) {listed(xs)}', [(f'word {x}', role_of(x) or (3, 0)) for x in xs])
+    s.add_parts('roles', f'each (λ w. roleCode (roleOf 12 w)) {listed(xs)}', [(f'word {x}', BASE.role(x, CHUNKS) or (3, 0)) for x in xs])
     text, parts = [], []
     for _ in range(30):
         n = rng.choice([4, 16, 504])
@@ -727,7 +724,7 @@ def number_sheet(seed):
     for j in range(4):
         n, a, b = rng.choice([4, 5, 16, 504]), rng.choice([None, 0, rng.getrandbits(64)]), rng.choice([None, 0, rng.getrandbits(64)])
         s.add(f'header-{j}', f'headerWords {n} {given_text(a)} {given_text(b)}', header_words(n, a, b))
-        s.add(f'format-{j}', f'actionsCode (formatOf {n} {given_text(a)} {given_text(b)})', actions_code(format_actions(n, a, b)))
+        s.add(f'format-{j}', f'actionsCode (formatOf {n} {given_text(a)} {given_text(b)})', actions_code(format_actions(header_words(n, a, b))))
         value = bytes(rng.randrange(256) for _ in range(rng.choice([0, 1, 7, 8, 9, 15, 31])))
         s.add(f'packed-{j}', f'packed {listed(value)}', words_of(value))
         s.add(f'bytes-{j}', f'valueBytes {len(value)} (packed {listed(value)})', value)
@@ -756,10 +753,10 @@ def log_sheet(seed, count):
             else:
                 ws += [rng.getrandbits(64)]
         ws = ws[:lines * 8]
-        v = View.__new__(View)
-        v.words = ws
+        v = View.__new__(View)                          # of one chunk, its lines alone
+        v.words, v.geo = ws, CHUNKS
         try:
-            code = [1] + entries_code([of_entry(v, e) for e in parse_chunk(ws, 0, lines)])
+            code = [1] + entries_code([of_entry(v, e) for e in v._parse(0, lines)])
         except Refused:
             code = [0]
         s.add(str(j), f'parsedCode (entriesOf {listed(ws)} 0 {lines})', code)
@@ -778,7 +775,7 @@ def medium_sheet(seed, count):
         picks, med = [rng.randrange(4) for _ in range(rng.choice([1, 3, 8]))], Medium(ws)
         for a in acts:
             med.act(a)
-        parts = [(f'word {w}', [len(v)] + v[::-1]) for w, v in enumerate(med.values)]
+        parts = [(f'word {w}', [len(v)] + v[::-1]) for w, v in enumerate(map(med.possible, range(len(med.now))))]
         parts += [('by reports', [sum_of(x for _, c in parts for x in c)]), ('what is read', med.latest())]
         parts.append(('after the cut', med.cut(lambda w, v: newest_first(v, picks[w % len(picks)]))))
         s.add_parts(str(j), f'mediaCode {listed(ws)} {actions_text(acts)} {listed(picks)}', parts)

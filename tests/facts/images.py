@@ -1,7 +1,7 @@
 """Images: as formatting leaves them, made by calls, after power cuts, foreign; and damage to them, a clause at a time."""
-import register_model as model
-from register_model import MAX_VERSION, Medium, Refused, SIZES, Station, UNITS, View, WORD, first_word, header_words, words_of
+from register_model import GEOMETRY, MAX_VERSION, Medium, Refused, SIZES, Station, UNITS, View, WORD, first_word, header_words, words_of
 
+CHUNKS = GEOMETRY[12]           # chunks of 4,096 bytes; its limit is the level's largest value
 LENGTHS = [0, 1, 7, 8, 9, 16, 30, 100, 255, 256]
 LARGE = [257, 300, 503, 504, 505, 760, 761, 1016, 1017, 1272, 1273, 2040, 2041, 4087, 4088]
 
@@ -33,7 +33,7 @@ def run_out(st, image):
 
 def ours(rng, count, keys, turns, large=False):
     """An image that random calls made; large values have one of two lengths."""
-    image, st, model.LIMIT, lengths = fresh(rng, count), Station(), 4088, [large_length(rng), large_length(rng)]
+    image, st, CHUNKS.limit, lengths = fresh(rng, count), Station(), 4088, [large_length(rng), large_length(rng)]
     st.open(image, 400)
     for turn in range(turns + 1):
         x, k = rng.random() if turn < turns else .8, rng.choice(keys)
@@ -72,7 +72,7 @@ def cut_short(rng, count, keys, large):
         except Refused:
             continue
         last = rng.random() < .4
-        for _ in range(rng.randrange(len(st.pending[1]) + 1) if last else len(st.pending[1]) + 1):
+        for _ in range(rng.randrange(len(st.pending.actions) + 1) if last else len(st.pending.actions) + 1):
             med.act(st.step(image))
         if last:
             break

@@ -1,0 +1,128 @@
+#!/usr/bin/env bash
+# Cleaning by the program zkv: a register that is full of superseded labels takes new ones again, a put cleans when it must, a refused
+# put leaves everything as it was, and puts and cleanings that are killed (kill -9) at random moments lose no label.
+#
+# tests/clean.sh [KILLS [SEED]]     16 kills, seed 1; needs host/build/zkv (make -C host)
+set -euo pipefail
+cd "$(dirname "$0")/.."
+kills=${1:-16}
+RANDOM=${2:-1}
+zkv=$PWD/host/build/zkv
+[ -x "$zkv" ] || { echo "host/build/zkv is missing: run make -C host" >&2; exit 2; }
+work=$(mktemp -d)
+trap 'rm -rf "$work"' EXIT
+cd "$work"
+fail() { echo "clean: $*" >&2; exit 1; }
+# status COMMAND...: its exit status, output to out and err.
+status() { local s=0; "$@" > out 2> err || s=$?; echo "$s"; }
+all_right() {
+    [ "$("$zkv" check image)" = accepted ] || fail "$1: the image is refused"
+    for file in now.*; do
+        "$zkv" get image "${file#now.}" | cmp -s - "$file" || fail "$1: key ${file#now.} has other bytes"
+    done
+}
+label() { head -c "$((RANDOM % 100 + 150))" /dev/urandom > next; }
+
+# Filled with labels of six keys until no space is left.
+"$zkv" format image 5
+for ((n = 0; n < 400; n++)); do
+    key=$((RANDOM % 6 + 1))
+    label
+    s=$(status "$zkv" put image "$key" next --no-clean)
+    [ "$s" -eq 0 ] || break
+    cp next "now.$key"
+done
+[ "$s" -eq 3 ] || fail "a put into a full register ends with $s"
+grep -q 'refused 13: there is no space left' err || fail "a put into a full register says: $(cat err)"
+cp image before
+s=$(status "$zkv" put image 1 next --no-clean)
+[ "$s" -eq 3 ] || fail "a second put into a full register ends with $s"
+cmp -s image before || fail "a refused put changed the image"
+all_right "full"
+[ "$(status "$zkv" delete image 99)" -eq 1 ] || fail "a delete of an absent key in a full register does not end with 1"
+
+# A put that cleans; then all of the rest.
+"$zkv" put image 1 next || fail "a put that may clean is refused"
+cp next now.1
+all_right "after a put that cleaned"
+if command -v script > /dev/null; then      # a terminal is told of each chunk
+    cp image other
+    script -qec "$zkv clean other" /dev/null > terminal < /dev/null || fail "clean on a terminal"
+    grep -q 'zkv: other: chunk [1-9]: [0-9]* entries copied' terminal || fail "a terminal shows: $(cat terminal)"
+fi
+"$zkv" clean image > out 2> err || fail "clean"
+[ ! -s err ] || fail "clean says without a terminal: $(cat err)"
+grep -qx 'chunks cleaned [1-9][0-9]*' out || fail "nothing was cleaned: $(cat out)"
+grep -qx 'free chunks 3' out || fail "six labels take more than one chunk: $(cat out)"
+all_right "after clean"
+"$zkv" clean image > out || fail "a second clean"
+grep -qx 'chunks cleaned 0' out || fail "something was left to clean: $(cat out)"
+for chunk in 0 5 504 18446744073709551615; do
+    [ "$(status "$zkv" clean image "$chunk")" -eq 3 ] || fail "clean $chunk does not end with 3"
+    grep -qF "zkv: image: chunk $chunk: refused 16" err || fail "clean $chunk says: $(cat err)"
+done
+[ "$(status "$zkv" clean image one)" -eq 2 ] || fail "clean one does not end with 2"
+[ "$(status "$zkv" clean image 1 2)" -eq 2 ] || fail "clean 1 2 does not end with 2"
+chunk=
+for c in 1 2 3 4; do                        # the one chunk that is in use, by its name
+    s=$(status "$zkv" clean image "$c")
+    [ "$s" -ne 0 ] || { chunk=$c; break; }
+    [ "$s" -eq 3 ] || fail "clean $c ends with $s"
+done
+[ -n "$chunk" ] || fail "no chunk can be cleaned by its name"
+grep -qx 'entries copied 6' out || fail "chunk $chunk has the labels of six keys, and clean says: $(cat out)"
+all_right "after clean of a chunk by its name"
+
+# Full of present labels: no cleaning helps, and nothing is lost; a delete makes space again.
+"$zkv" format full 4
+for ((key = 1; key <= 64; key++)); do
+    printf 'label %-42d' "$key" | "$zkv" put full "$key" -         # 48 bytes: an entry of one line
+done
+[ "$(status "$zkv" put full 65 next)" -eq 3 ] || fail "a 65th label of a line does not end with 3"
+grep -q 'key 65: .* refused 13' err || fail "a register full of present labels says: $(cat err)"
+for ((key = 1; key <= 64; key++)); do
+    [ "$("$zkv" get full "$key")" = "$(printf 'label %-42d' "$key")" ] || fail "label $key is lost"
+done
+"$zkv" delete full 7
+printf 'label 65' | "$zkv" put full 65 - || fail "a put after a delete"
+
+# Puts and cleanings that are killed. Before each the register is nearly full, so that a put has to clean.
+killed=0 cleaning=0
+for ((n = 1; n <= kills; n++)); do
+    for ((i = 0; i < 400; i++)); do
+        key=$((RANDOM % 6 + 1))
+        label
+        "$zkv" put image "$key" next --no-clean 2> /dev/null || break
+        cp next "now.$key"
+    done
+    key=$((RANDOM % 6 + 1))
+    label
+    if ((n % 2)); then
+        "$zkv" put image "$key" next --pause 1500 2> /dev/null &
+    else
+        "$zkv" clean image --pause 1500 > /dev/null 2>&1 &
+        cleaning=$((cleaning + 1))
+    fi
+    job=$!
+    sleep "0.$((RANDOM % 4))$((RANDOM % 10))"
+    kill -9 "$job" 2> /dev/null || true
+    s=0
+    wait "$job" 2> /dev/null || s=$?
+    case $s in
+    0) ;;
+    137) killed=$((killed + 1)) ;;
+    *) fail "number $n ended with status $s" ;;
+    esac
+    if ((n % 2)); then
+        if "$zkv" get image "$key" | cmp -s - next; then
+            cp next "now.$key"
+        else
+            [ "$s" -ne 0 ] || fail "put $n ended, and get does not show it"
+        fi
+    fi
+    all_right "after number $n"
+    "$zkv" clean image > /dev/null || fail "clean after number $n"
+    all_right "after number $n and a clean"
+done
+[ "$killed" -ge $((kills / 4)) ] || fail "only $killed of $kills were killed in the middle: too little was tried"
+echo "clean: filled, cleaned and filled again; $killed of $kills puts and cleanings killed in the middle ($cleaning cleanings tried); no label lost"
