@@ -40,11 +40,10 @@
  * A step's report is the image's whole change. A batch is acknowledged to anybody only after the ZKV_END of its commit.
  *
  * Of a store's report a host needs nothing, so zkv_run takes several steps in one call: until one is to be told, whose report it
- * answers. Every step before that one stored a word, by one 8-byte move and in the order of the steps. In a commit or cleaning it
- * makes all stores that come next and answers the flush or fence behind them: a commit of b lines takes b + 4 calls of zkv_run,
- * and still 9 b + 5 steps. Everywhere else it is one step, so in a formatting and in the staging of a large value it answers
- * ZKV_STORE too. What the host does at each report is the same, and a power cut falls between the stores of a run as between
- * steps. The two calls may take turns.
+ * answers. Every step before that one stored a word, by one 8-byte move and in the order of the steps. So it makes all stores that
+ * come next and answers the flush, fence, end, idle or refusal behind them, never ZKV_STORE: a commit of b lines takes b + 4 calls
+ * of zkv_run, and still 9 b + 5 steps. What the host does at each report is the same, and a power cut falls between the stores of a
+ * run as between steps. The two calls may take turns.
  * - zkv_run: to get a begun call done. It is the quicker one.
  * - zkv_step: where each store is to be seen, counted, or paused at (zkv --pause, tests, a device that is told every store).
  *
@@ -254,9 +253,9 @@ zkv_report zkv_clean(zkv_record *record, const uint8_t *image, size_t bytes, con
  * lent length is unlike that at the opening (in a formatting: at its begin). */
 zkv_report zkv_step(zkv_record *record, uint8_t *image, size_t bytes, uint64_t *table, size_t words);
 
-/* Steps of the begun call until one is to be told: in a commit or cleaning the stores that come next and one step more, else one
- * step. It answers the last step's report, which is as zkv_step's; each step before it stored a word, already in the image. In a
- * commit or cleaning it never answers ZKV_STORE. At most 513 steps; idle and refused as zkv_step. */
+/* Steps of the begun call until one is to be told: those that store a word, as many as come next, and one step more. It answers
+ * the last step's report, which is as zkv_step's and never ZKV_STORE; each step before it stored a word, already in the image. At
+ * most 513 steps; idle and refused as zkv_step. */
 zkv_report zkv_run(zkv_record *record, uint8_t *image, size_t bytes, uint64_t *table, size_t words);
 
 /* Looks a key up: 0, with the part of the image that holds its value (*length bytes from byte *start on; no copy, so read it

@@ -30,8 +30,6 @@ enum {
     KEYS_ROOM = 40,
     CHUNK_WORDS = 512,
     BUFFER = 21,              /* word of the record at which its buffer starts */
-    COMMITTING = 3,           /* word 0 of a record in a commit */
-    CLEANING = 6,             /* word 0 of a record in a cleaning */
     BLOCK_ACTIONS_MAX = 2 + 512 + 64,
     CLEAN_ACTIONS_MAX = 9 * 64 + 7,
     STEPS_MAX = CLEAN_ACTIONS_MAX + 1,
@@ -278,14 +276,14 @@ static void differs(bool is_other, uint64_t *count, const char *what)
 #endif
 }
 
-/* Steps on the copy: one, and in a commit or cleaning on until one that is no store. Their number; *last is the last one's report. */
-static uint64_t step_copy(bool through, zkv_report *last)
+/* Steps on the copy until one that is no store. Their number; *last is the last one's report. */
+static uint64_t step_copy(zkv_report *last)
 {
     uint64_t n = 0;
     do {
         *last = zkv_step(&record_before, image_before, image.bytes, table_before, table_words());
         n++;
-    } while (through && last->kind == ZKV_STORE);
+    } while (last->kind == ZKV_STORE);
     return n;
 }
 
@@ -293,13 +291,12 @@ static uint64_t step_copy(bool through, zkv_report *last)
 static zkv_report run_call(uint64_t *steps)
 {
     zkv_report last;
-    bool through = the_record()->word[0] == COMMITTING || the_record()->word[0] == CLEANING;
     call = "zkv_run";
     remember();
-    uint64_t n = step_copy(through, &last);
+    uint64_t n = step_copy(&last);
 #ifdef WRONG
     remember();
-    for (uint64_t i = 1; i < n; i++) {
+    for (uint64_t i = 1 + beside.runs % 2; i < n; i++) {
         last = zkv_step(&record_before, image_before, image.bytes, table_before, table_words());
     }
 #endif

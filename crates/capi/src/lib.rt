@@ -10,7 +10,7 @@ ghost use Rattle.spec.specs.Contract.{Called};
 ghost use Rattle.session.specs.State.{stateOf, limit};
 ghost use Rattle.session.specs.Fits.{Fits};
 ghost use Rattle.calls.specs.Begun.{given};
-ghost use Rattle.running.specs.Run.{RestRun, Run};
+ghost use Rattle.stepping.specs.Inner.{RunsOn};
 ghost use Rattle.store.specs.Look.{Reported};
 ghost use Rattle.store.specs.Choice.{Chosen};
 ghost use Rattle.store.specs.List.{KeysListed, KeyListed};
@@ -227,17 +227,17 @@ pub extern "C" fn zkv_step(s: &mut Session, image: &mut [u8], table: &mut [u64])
 
 // A run in numbers, where a commit's short way is not gone (`store::run_rest`).
 fn run_whole(s: &mut Session, image: &mut [u8], table: &mut [u64]) -> Answer
-    ensures { λ r. ⌜ Told (RestRun (now (s .entry)) (now (s .exit)) (now (image .entry)) (now (image .exit)) (now (table .entry)) (now (table .exit))) r ⌝ }
+    ensures { λ r. ⌜ Told (RunsOn (now (s .entry)) (now (s .exit)) (now (image .entry)) (now (image .exit)) (now (table .entry)) (now (table .exit))) r ⌝ }
 {
     let report = store::run_rest(s, image, table);
     told(report)
 }
 
-// Several steps in one: in a commit (`store::run_inner`) or a cleaning (`store::run_rest`) that has not come to its last action the stores
-// that come next and the action behind them, else one step.
+// Several steps in one: those that store a word, as many as come next, and the step behind them; in a commit on the short way
+// (`store::run_inner`), else `store::run_rest`.
 #[no_mangle]
 pub extern "C" fn zkv_run(s: &mut Session, image: &mut [u8], table: &mut [u64]) -> Answer
-    ensures { λ r. ⌜ Told (Run (now (s .entry)) (now (s .exit)) (now (image .entry)) (now (image .exit)) (now (table .entry)) (now (table .exit))) r ⌝ }
+    ensures { λ r. ⌜ Told (RunsOn (now (s .entry)) (now (s .exit)) (now (image .entry)) (now (image .exit)) (now (table .entry)) (now (table .exit))) r ⌝ }
 {
     let c = s.control;
     let k = s.setup;

@@ -4,12 +4,12 @@ use mathlib.Core.Path.{_≡_, refl, sym, _∙_, ap, subst}
 use mathlib.Core.Logic.{by-cases}
 use mathlib.Core.Bool.{Bool, true, false}
 use mathlib.Core.List.{List}
-use Prim.Native.Nat.{ℕ, zero, _+_, _-_, _≤_, _<_}
+use Prim.Native.Nat.{ℕ, zero, suc, _+_, _-_, _≤_, _<_}
 use native.Mathlib.Omega.{arith}
 use native.Mathlib.Decide.{ℕ-discrete}
 use lib.ListN.{length}
 use Rattle.spec.specs.Medium.{Action}
-use Rattle.spec.specs.Calls.{Step, asReport}
+use Rattle.spec.specs.Calls.{Step, asReport, stepsLeft}
 use Rattle.spec.specs.Contract.{Changed, Called}
 use Rattle.spec.specs.declared.Control.{Control}
 use Rattle.spec.specs.declared.Setup.{Setup}
@@ -28,7 +28,7 @@ use Rattle.cleaning_step.proofs.Shows.{shows-acts}
 use Rattle.stepping.specs.Inner.{Inner, toNext, Runs, RunsOn, isStore}
 use Rattle.stepping.proofs.Cleaning.{cleans}
 use Rattle.stepping.proofs.Inner.{stored-first}
-use Rattle.running.specs.Run.{Copying, CleaningRun, RestRun, Run}
+use Rattle.running.specs.Run.{Copying, CleaningRun}
 
 -- a report that tells of a store
 store-is : (r : Report) → isStore r ≡ true → (w : ℕ) × ((v : ℕ) × (r ≡ R.Store w v))
@@ -111,3 +111,33 @@ module _ (c : Control) (k : Setup) (b bytes : List ℕ) where
         (so-far .stores (cleanCount (k .source .words) - 2) (omega arith) (omega arith))
         (ap (λ (x : Action). isStore (asReport x)) (clean-flush k (k .source) b (cleanCount (k .source .words) - 2) (omega arith))));
   }
+
+-- ANY STEPS: those made so far each stored a word, so that with whatever run follows they are one
+pub record Stored (s s₁ : Session) (bytes bytes₁ table table₁ : List ℕ) : Type 0 where
+  pub sized : length bytes₁ ≡ length bytes
+  pub tabled : length table₁ ≡ length table
+  pub run : (s′ : Session) (bytes″ table″ : List ℕ) (r : Report) → Runs s₁ s′ bytes₁ bytes″ table₁ table″ r → Runs s s′ bytes bytes″ table table″ r
+
+pub none-made : (s : Session) (bytes table : List ℕ) → Stored s s bytes bytes table table
+none-made s bytes table = record { sized = refl; tabled = refl; run = λ s′ bytes″ table″ r q. q }
+
+module _ (s s₁ s₂ : Session) (bytes bytes₁ bytes₂ table table₁ table₂ : List ℕ) (r : Report) (so-far : Stored s s₁ bytes bytes₁ table table₁)
+    (step : Called stateOf Fits 12 limit Step s₁ s₂ bytes₁ bytes₂ table₁ table₂ r) where
+  pub long : length bytes₂ ≡ length bytes
+  long = changed-length r bytes₁ bytes₂ (step .image) ∙ so-far .sized
+
+  pub wide : length table₂ ≡ length table
+  wide = step .sized ∙ so-far .tabled
+
+  -- one that stored is one more, and one step fewer is left
+  pub one-made : isStore r ≡ true → Stored s s₂ bytes bytes₂ table table₂
+  one-made t =
+      let w = store-is r t in
+      record { sized = long; tabled = wide; run = λ s′ bytes″ table″ r′ q. so-far .run s′ bytes″ table″ r′ (stored-first (rw (w .1 .1) at step) q) }
+
+  pub fewer : isStore r ≡ true → stepsLeft (stateOf s₁) ≡ suc (stepsLeft (stateOf s₂))
+  fewer t = let w = store-is r t in (rw (w .1 .1) at (step .outcome)) .0
+
+  -- one that did not is the last
+  pub made : isStore r ≡ false → RunsOn s s₂ bytes bytes₂ table table₂ r
+  made t = (so-far .run s₂ bytes₂ table₂ r (zero, step), t)

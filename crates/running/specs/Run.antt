@@ -1,5 +1,4 @@
--- A run: the stores that come next and the action behind them, in a commit or a cleaning that has not come to its last action; anywhere else
--- one step.
+-- Where a cleaning's run goes by its own short loop, and what it comes to.
 -- Assumes nothing.
 use mathlib.Core.Path.{_≡_}
 use mathlib.Core.List.{List}
@@ -25,15 +24,3 @@ pub record CleaningRun (c : Control) (k : Setup) (b bytes bytes′ : List ℕ) (
   pub sized : length bytes′ ≡ length bytes
   pub runs : (table : List ℕ) → Copying c k (length bytes) (length table)
       → RunsOn (record { control = c; setup = k; buffer = b }) (record { control = toNext next c; setup = k; buffer = b }) bytes bytes′ table table r
-
--- a run where a commit's short way is not gone
-pub record RestRun (s s′ : Session) (bytes bytes′ table table′ : List ℕ) (r : Report) : Type 0 where
-  pub within : Copying (s .control) (s .setup) (length bytes) (length table) → RunsOn s s′ bytes bytes′ table table′ r
-  pub without : (Copying (s .control) (s .setup) (length bytes) (length table) → ⊥) → Called stateOf Fits 12 limit Step s s′ bytes bytes′ table table′ r
-
--- WHAT A RUN DOES
-pub record Run (s s′ : Session) (bytes bytes′ table table′ : List ℕ) (r : Report) : Type 0 where
-  pub commit : Inner (s .control) (s .setup) (length bytes) (length table) → RunsOn s s′ bytes bytes′ table table′ r
-  pub cleaning : Copying (s .control) (s .setup) (length bytes) (length table) → RunsOn s s′ bytes bytes′ table table′ r
-  pub otherwise : (Inner (s .control) (s .setup) (length bytes) (length table) → ⊥) → (Copying (s .control) (s .setup) (length bytes) (length table) → ⊥)
-      → Called stateOf Fits 12 limit Step s s′ bytes bytes′ table table′ r

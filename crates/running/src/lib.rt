@@ -1,8 +1,8 @@
-// Several steps of a cleaning in one call: the stores that come next, and the action behind them. Elsewhere one step.
+// Several steps in one call: those that store a word, as many as come next, and the one behind them. A cleaning has a short loop of its own.
 ghost use mathlib.Core.Path.{_≡_};
 ghost use mathlib.Core.Bool.{true, false};
-ghost use Rattle.stepping.specs.Inner.{isStore};
-ghost use Rattle.running.specs.Run.{Copying, CleaningRun, RestRun};
+ghost use Rattle.stepping.specs.Inner.{isStore, RunsOn};
+ghost use Rattle.running.specs.Run.{Copying, CleaningRun};
 use spec::Control;
 use spec::Report;
 use spec::Setup;
@@ -71,7 +71,31 @@ fn run_cleaning(control: Control, setup: Setup, buffer: &[u64; 1152], image: &mu
     }
 }
 
-// In a cleaning that has not come to its last action a run; elsewhere one step.
+// Steps up to one that stores nothing, whatever is begun.
+fn run_steps(
+    control: Control,
+    setup: Setup,
+    buffer: &mut [u64; 1152],
+    image: &mut [u8],
+    table: &mut [u64],
+) -> Stepped
+    ensures { λ r. ⌜ RunsOn (record { control = control; setup = setup; buffer = now (buffer .entry) }) (record { control = r .control; setup = setup; buffer = now (buffer .exit) }) (now (image .entry)) (now (image .exit)) (now (table .entry)) (now (table .exit)) (r .report) ⌝ }
+{
+    let mut so_far = control;
+    loop {
+        let step = stepping::step_core(so_far, setup, buffer, image, table);
+        let report = step.report;
+        so_far = step.control;
+        if is_store(report) {} else {
+            return Stepped {
+                control: so_far,
+                report,
+            };
+        }
+    }
+}
+
+// The stores that come next, and the step behind them.
 pub fn run_core(
     control: Control,
     setup: Setup,
@@ -79,7 +103,7 @@ pub fn run_core(
     image: &mut [u8],
     table: &mut [u64],
 ) -> Stepped
-    ensures { λ r. ⌜ RestRun (record { control = control; setup = setup; buffer = now (buffer .entry) }) (record { control = r .control; setup = setup; buffer = now (buffer .exit) }) (now (image .entry)) (now (image .exit)) (now (table .entry)) (now (table .exit)) (r .report) ⌝ }
+    ensures { λ r. ⌜ RunsOn (record { control = control; setup = setup; buffer = now (buffer .entry) }) (record { control = r .control; setup = setup; buffer = now (buffer .exit) }) (now (image .entry)) (now (image .exit)) (now (table .entry)) (now (table .exit)) (r .report) ⌝ }
 {
     if is_copying(control, setup, image.len(), table.len()) {
         let run = run_cleaning(control, setup, buffer, image);
@@ -97,5 +121,5 @@ pub fn run_core(
             report,
         };
     }
-    stepping::step_core(control, setup, buffer, image, table)
+    run_steps(control, setup, buffer, image, table)
 }

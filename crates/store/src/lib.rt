@@ -8,7 +8,6 @@ ghost use Rattle.session.specs.State.{stateOf, limit};
 ghost use Rattle.session.specs.Fits.{Fits};
 ghost use Rattle.calls.specs.Begun.{given};
 ghost use Rattle.stepping.specs.Inner.{RunsOn, OnShortWay};
-ghost use Rattle.running.specs.Run.{RestRun};
 ghost use Rattle.store.specs.Look.{Reported, Shown};
 ghost use Rattle.store.specs.Choice.{Chosen};
 ghost use Rattle.store.specs.List.{KeysListed, KeyListed};
@@ -161,9 +160,9 @@ pub fn run_inner(s: &mut Session, image: &mut [u8], table: &mut [u64]) -> Report
     m.report
 }
 
-// Where the short way is not gone: in a cleaning that has not come to its last action the same of its stores; anywhere else one step.
+// The same whatever is begun: the steps that store a word, as many as come next, and the step behind them, whose report is told.
 pub fn run_rest(s: &mut Session, image: &mut [u8], table: &mut [u64]) -> Report
-    ensures { λ r. ⌜ RestRun (now (s .entry)) (now (s .exit)) (now (image .entry)) (now (image .exit)) (now (table .entry)) (now (table .exit)) r ⌝ }
+    ensures { λ r. ⌜ RunsOn (now (s .entry)) (now (s .exit)) (now (image .entry)) (now (image .exit)) (now (table .entry)) (now (table .exit)) r ⌝ }
 {
     let c = s.control;
     let k = s.setup;

@@ -2,9 +2,8 @@
 -- All that the proof knows of a function that it calls (`is_inner`, `run_inner`, `told`, `run_whole`, `same`) is that it meets its contract.
 -- Assumes nothing.
 use mathlib.Core.Path.{_≡_}
-use Rattle.running.specs.Run.{RestRun, Run}
-use Rattle.capi.specs.Answers.{answerOf, Told}
 use Rattle.stepping.specs.Inner.{RunsOn, OnShortWay, Inner}
+use Rattle.capi.specs.Answers.{answerOf, Told}
 use mathlib.Core.Bool.{true, false}
 use mathlib.Core.Path.{refl, ap, sym, subst}
 use mathlib.Core.Bool.{Bool, not}
@@ -128,7 +127,7 @@ abbrev Of-run-whole′ : {M : Type 1} (𝓤 : URA M) (H : Heap 𝓤) (A : Atoms 
 Of-run-whole′ 𝓤 H A mem run = tripleOf 𝓤 H A run-whole′.signature (run-whole′.spec 𝓤 H A mem run)
 
 abbrev Said-run-whole′ : Answer → Session → Session → List ℕ → List ℕ → List ℕ → List ℕ → Type 0
-Said-run-whole′ r x-s z-s x-image z-image x-table z-table = Told (RestRun (x-s) (z-s) (x-image) (z-image) (x-table) (z-table)) r
+Said-run-whole′ r x-s z-s x-image z-image x-table z-table = Told (RunsOn (x-s) (z-s) (x-image) (z-image) (x-table) (z-table)) r
 
 -- the contract of `same`, and what it ensures
 abbrev Of-same′ : {M : Type 1} (𝓤 : URA M) (H : Heap 𝓤) (A : Atoms 𝓤) (mem : Memory → SProp 𝓤) (run : Routine → Fun 𝓤) → Contract 𝓤
@@ -198,7 +197,7 @@ module _ {M : Type 1} (𝓤 : URA M) (H : Heap 𝓤) (A : Atoms 𝓤) (W : Given
       → ent 𝓤 (⋆ 𝓤 H A (‵ (flft κ-s q-s) ∷ ‵ (flft κ-image q-image) ∷ ‵ (flft κ-table q-table) ∷ ‵ (fres γ-s (T-Session.the-row .coded .code z-s)) ∷ ‵ (finally u8 γ-image z-image) ∷ ‵ (finally u64 γ-table z-table) ∷ ‵ (T-Answer.the-row .own r (w ∷ [])) ∷ [])) (Post w)
   exits-1 r-short r-report r w z-s z-image z-table e-short held e-report e l-image l-table =
       qed W (‵ (flft κ-s q-s) ∷ ‵ (flft κ-image q-image) ∷ ‵ (flft κ-table q-table) ∷ ‵ (fres γ-s (T-Session.the-row .coded .code z-s)) ∷ ‵ (finally u8 γ-image z-image) ∷ ‵ (finally u64 γ-table z-table) ∷ ‵ (T-Answer.the-row .own r (w ∷ [])) ∷ []) ∵
-      suffices ! _ (ends-at 𝓤 H A self.ended stayed (self.clauses 𝓤 H A at-mem run) W (((κ-s, (κ-image, (κ-table, tt))), (q-s, (q-image, (q-table, tt))), bounds, a, vals), tt) w r (z-s, (z-image, (z-table, tt))) (tt, (l-image, (l-table, tt)))) $ says ! ((r-report, (record { commit = e-report .within; cleaning = λ q. e-report .within (e-short .0 (is-true r-short held)); otherwise = λ n q. absurd (n (e-short .0 (is-true r-short held))) }, e))) $
+      suffices ! _ (ends-at 𝓤 H A self.ended stayed (self.clauses 𝓤 H A at-mem run) W (((κ-s, (κ-image, (κ-table, tt))), (q-s, (q-image, (q-table, tt))), bounds, a, vals), tt) w r (z-s, (z-image, (z-table, tt))) (tt, (l-image, (l-table, tt)))) $ says ! ((r-report, (e-report .within (e-short .0 (is-true r-short held)), e))) $
       nothing ! $ move ! (3 ∷ 0 ∷ []) $ join ! $ move ! (2 ∷ 0 ∷ []) $ join ! $ move ! (1 ∷ 0 ∷ []) $ join ! $ frame ! $
       nothing ! $ move ! (3 ∷ 0 ∷ []) $ fjoin ! $ move ! (2 ∷ 0 ∷ []) $ fjoin ! $ move ! (1 ∷ 0 ∷ []) $ fjoin ! $ done !
 
@@ -206,7 +205,7 @@ module _ {M : Type 1} (𝓤 : URA M) (H : Heap 𝓤) (A : Atoms 𝓤) (W : Given
       → ent 𝓤 (⋆ 𝓤 H A (‵ (flft κ-s q-s) ∷ ‵ (flft κ-image q-image) ∷ ‵ (flft κ-table q-table) ∷ ‵ (fres γ-s (T-Session.the-row .coded .code z-s)) ∷ ‵ (finally u8 γ-image z-image) ∷ ‵ (finally u64 γ-table z-table) ∷ ‵ (T-Answer.the-row .own r (w ∷ [])) ∷ [])) (Post w)
   exits-2 r-short r-answer r w z-s z-image z-table e-short failed e-answer e l-image l-table =
       qed W (‵ (flft κ-s q-s) ∷ ‵ (flft κ-image q-image) ∷ ‵ (flft κ-table q-table) ∷ ‵ (fres γ-s (T-Session.the-row .coded .code z-s)) ∷ ‵ (finally u8 γ-image z-image) ∷ ‵ (finally u64 γ-table z-table) ∷ ‵ (T-Answer.the-row .own r (w ∷ [])) ∷ []) ∵
-      suffices ! _ (ends-at 𝓤 H A self.ended stayed (self.clauses 𝓤 H A at-mem run) W (((κ-s, (κ-image, (κ-table, tt))), (q-s, (q-image, (q-table, tt))), bounds, a, vals), tt) w r (z-s, (z-image, (z-table, tt))) (tt, (l-image, (l-table, tt)))) $ says ! (subst (Told (Run x-s z-s x-image z-image x-table z-table)) (sym e) (e-answer .0, (record { commit = λ h. absurd (e-short .1 (is-false r-short failed) h); cleaning = λ q. e-answer .1 .0 .within q; otherwise = λ n q. e-answer .1 .0 .without q }, e-answer .1 .1))) $
+      suffices ! _ (ends-at 𝓤 H A self.ended stayed (self.clauses 𝓤 H A at-mem run) W (((κ-s, (κ-image, (κ-table, tt))), (q-s, (q-image, (q-table, tt))), bounds, a, vals), tt) w r (z-s, (z-image, (z-table, tt))) (tt, (l-image, (l-table, tt)))) $ says ! (subst (Told (RunsOn x-s z-s x-image z-image x-table z-table)) (sym e) e-answer) $
       nothing ! $ move ! (3 ∷ 0 ∷ []) $ join ! $ move ! (2 ∷ 0 ∷ []) $ join ! $ move ! (1 ∷ 0 ∷ []) $ join ! $ frame ! $
       nothing ! $ move ! (3 ∷ 0 ∷ []) $ fjoin ! $ move ! (2 ∷ 0 ∷ []) $ fjoin ! $ move ! (1 ∷ 0 ∷ []) $ fjoin ! $ done !
 

@@ -14,13 +14,10 @@ same-length : tie.Need-same-length
 same-length c = search needs
 
 returns : tie.Need-returns
-returns c = record {
-  within = λ h. c .before .before .run-cleaning .ensures .runs _ h;
-  without = λ n. absurd (n (c .before .before .before .before .before .before .is-copying .ensures .0 (c .before .before .before .before .before .if1 .taken)));
-}
+returns c = c .before .before .run-cleaning .ensures .runs _ (c .before .before .before .before .before .before .is-copying .ensures .0 (c .before .before .before .before .before .if1 .taken))
 
-step-core-requires : tie.Need-step-core-requires
-step-core-requires c κs = search needs
+run-steps-requires : tie.Need-run-steps-requires
+run-steps-requires c κs = search needs
 
 same-length-2 : tie.Need-same-length-2
 same-length-2 c = search needs
@@ -29,10 +26,7 @@ same-length-3 : tie.Need-same-length-3
 same-length-3 c = search needs
 
 returns-2 : tie.Need-returns-2
-returns-2 c = record {
-  within = λ h. absurd (c .before .before .before .before .before .before .before .before .before .is-copying .ensures .1 (c .before .before .before .before .before .before .before .before .if1 .left) h);
-  without = λ n. c .before .before .before .before .step-core .ensures;
-}
+returns-2 c = c .before .before .before .before .run-steps .ensures
 
 pub run-core-spec : {M : Type 1} → statement M
 run-core-spec =
@@ -42,7 +36,7 @@ run-core-spec =
     run-cleaning-requires
     same-length
     returns
-    step-core-requires
+    run-steps-requires
     same-length-2
     same-length-3
     returns-2)
