@@ -1,7 +1,7 @@
 // Speed of the key table against a plain C hash table with as many slots, in one run.
-// Both tables have 131,072 slots of two words and hold 65,536 keys. The keys are worked through in blocks, the two tables
-// by turns; of each block the best time of several rounds counts, so that other work on the machine disturbs little.
-// Times are nanoseconds a call. A ratio is C's time over Rattle's: 1.00 is equal, more is faster than C.
+// Both tables have 131,072 slots of two words and hold 65,536 keys. The keys are worked through in blocks, the two
+// tables by turns; of each block the best time of several rounds counts, so that other work on the machine disturbs
+// little. Times are nanoseconds a call. A ratio is C's time over Rattle's: 1.00 is equal, more is faster than C.
 #include <stdbool.h>
 #include <stddef.h>
 #include <stdint.h>

@@ -1,16 +1,19 @@
-// Opening and look-up beside plain C floors, in one run. Ours are the public calls of the archive that a host links, over a record as a
-// host keeps it: zkv_open and zkv_look_up.
-// The floor of an opening checks the same things in one pass over the same image (header sum, directory words, every entry's first word,
-// length and fill) and fills a plain open-addressing hash. The floor of a look-up is one probe of that hash and one read of the entry: it
-// trusts table and image. Two more look-ups in C stand beside it, for whoever asks what the tests cost and what the table's word saves:
-// one over the proved table that makes the tests that the proved one makes for any lent memory (phase and lengths of the record, the
-// value within the image), and one without tests whose hash holds the value's length, so that it reads no entry.
-// Look-ups are timed in three rows, each side with the same loop around it:
-// - place: the keys are known beforehand, so that the processor works on several look-ups at once; only where the value lies is used.
+// Opening and look-up beside plain C floors, in one run. Ours are the public calls of the archive that a host links,
+// over a record as a host keeps it: zkv_open and zkv_look_up.
+// The floor of an opening checks the same things in one pass over the same image (header sum, directory words, every
+// entry's first word, length and fill) and fills a plain open-addressing hash. The floor of a look-up is one probe of
+// that hash and one read of the entry: it trusts table and image. Two more look-ups in C stand beside it, for whoever
+// asks what the tests cost and what the table's word saves: one over the proved table that makes the tests that the
+// proved one makes for any lent memory (phase and lengths of the record, the value within the image), and one without
+// tests whose hash holds the value's length, so that it reads no entry. Look-ups are timed in three rows, each side
+// with the same loop around it:
+// - place: the keys are known beforehand, so that the processor works on several look-ups at once; only where the value
+//   lies is used.
 // - copied: the same, and the value's bytes are copied out into a buffer, as for a printer.
 // - waiting: one by one; each key is known only once a byte of the value before was read, as for a clerk.
-// Ratios: our time over C's for an opening (at most 2 is the aim), C's time over ours for a look-up (at least 0.7 is the aim).
-// The best of many rounds counts, for look-ups that of each block of keys, so that other work disturbs little.
+// Ratios: our time over C's for an opening (at most 2 is the aim), C's time over ours for a look-up (at least 0.7 is
+// the aim). The best of many rounds counts, for look-ups that of each block of keys, so that other work disturbs
+// little.
 #include <stdint.h>
 #include <stdio.h>
 #include <stdlib.h>
@@ -246,7 +249,8 @@ enum side { OURS, FLOOR, TESTED, SIZED, SIDES };
 static uint8_t label[ZKV_VALUE_MAX];
 static volatile uint8_t none = 0;
 
-// The look-ups of a block of keys; the sum is of what they answered. The set is copied, so that no loop reads it anew from memory.
+// The look-ups of a block of keys; the sum is of what they answered. The set is copied, so that no loop reads it anew
+// from memory.
 #define DEFINE_BLOCK(name, look)                                                                                        \
     __attribute__((noinline)) static uint64_t name(const struct set *set, const uint64_t *keys, enum row row)           \
     {                                                                                                                   \

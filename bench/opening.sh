@@ -1,5 +1,6 @@
 #!/bin/sh
-# Builds the archive of the public calls and the benchmark of opening and look-up over it, and runs it. Run from the repository root.
+# Builds the archive of the public calls and the benchmark of opening and look-up over it, and runs it. Run from the
+# repository root.
 set -e
 rt staticlib capi
 mkdir -p target/bench

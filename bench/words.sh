@@ -1,5 +1,6 @@
 #!/bin/sh
-# Shows that reading and storing a word is one machine move each, behind the test of the bounds. Run from the repository root.
+# Shows that reading and storing a word is one machine move each, behind the test of the bounds. Run from the repository
+# root.
 set -e
 rt staticlib bench_words
 for f in bench_load bench_save; do

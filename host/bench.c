@@ -1,17 +1,17 @@
 /* Speed of the register beside a plain C floor, in one run: a table of ratios, and with --svg a picture of it.
  *
- * A durable put is staging, commit and all steps, with real write-backs (clwb or the best there is) and fences; its floor
- * makes the same words, stores, write-backs and fences in plain C, with no index and no check. The same without write-backs
- * and fences shows what the processor spends; our time less the floor's is then what we take over the raw stores. Puts go by
- * zkv_run, and by zkv_step where the row says so. The floor of a look-up is one probe of a plain C hash and one read of the
- * entry. That of an opening is one pass in plain C over the same image, which checks header, directory and entries and fills
- * that hash; it knows neither blocks nor deletes and does not compare top entries. Look-ups are timed one by one, each
- * waiting for the one before, and overlapped, as the processor will where it can; and overlapped with both sides copying the
- * value's bytes out into a buffer. Cleaning, a full room and choosing are told in bench_clean.c; choosing has our own opening of the
- * same image in the second column.
- * Both sides work on ordinary memory, so nothing is said of persistent memory. They go by turns, processor time is taken, and
- * of each side the best of several rounds counts. Other work on the machine still shows: a run beside it may have ratios half
- * as high again. A ratio is our time over the floor's: 1.00 is the floor itself.
+ * A durable put is staging, commit and all steps, with real write-backs (clwb or the best there is) and fences; its
+ * floor makes the same words, stores, write-backs and fences in plain C, with no index and no check. The same without
+ * write-backs and fences shows what the processor spends; our time less the floor's is then what we take over the raw
+ * stores. Puts go by zkv_run, and by zkv_step where the row says so. The floor of a look-up is one probe of a plain C
+ * hash and one read of the entry. That of an opening is one pass in plain C over the same image, which checks header,
+ * directory and entries and fills that hash; it knows neither blocks nor deletes and does not compare top entries.
+ * Look-ups are timed one by one, each waiting for the one before, and overlapped, as the processor will where it can;
+ * and overlapped with both sides copying the value's bytes out into a buffer. Cleaning, a full room and choosing are
+ * told in bench_clean.c; choosing has our own opening of the same image in the second column.
+ * Both sides work on ordinary memory, so nothing is said of persistent memory. They go by turns, processor time is
+ * taken, and of each side the best of several rounds counts. Other work on the machine still shows: a run beside it may
+ * have ratios half as high again. A ratio is our time over the floor's: 1.00 is the floor itself.
  *
  * bench [--svg FILE] */
 #define _GNU_SOURCE
@@ -369,8 +369,8 @@ static inline uint64_t copied_out(const uint8_t *at, uint64_t length)
 }
 
 /* The look-ups of a block of keys, by the floor's hash or, where that is none, by the register; the sum is of what they answered.
- * Where they wait, each key is known only once the look-up before has answered, as for a clerk; else the processor works on several
- * at once. The values are copied out or only found. */
+ * Where they wait, each key is known only once the look-up before has answered, as for a clerk; else the processor
+ * works on several at once. The values are copied out or only found. */
 static inline __attribute__((always_inline)) uint64_t look_block(const uint64_t *keys, const uint64_t *hash, bool wait, bool copy)
 {
     const uint64_t *w = (const uint64_t *)(const void *)image;

@@ -1,8 +1,8 @@
 /* Rows of the benchmark: cleaning a chunk, a full room in steady state, and choosing, each beside plain C.
  *
- * The plain C store keeps the same log in the same places: a hash from key to place and version, and for each chunk how many words of
- * it are in use, which it keeps up to date so that its choosing looks at no entry. It checks nothing. Both sides must leave the same
- * image, to the byte. */
+ * The plain C store keeps the same log in the same places: a hash from key to place and version, and for each chunk how
+ * many words of it are in use, which it keeps up to date so that its choosing looks at no entry. It checks nothing.
+ * Both sides must leave the same image, to the byte. */
 #define _GNU_SOURCE
 #include <inttypes.h>
 

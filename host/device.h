@@ -1,8 +1,8 @@
 /* The device under an image, for host programs on x86-64: write-back of a line, fence, and images in files.
  *
- * A line is written back by clwb where the processor has it, else by clflushopt, else by clflush. A fence is sfence. Where the
- * image's file is not on persistent memory (a mapping with MAP_SYNC is tried first), a fence also syncs the pages whose lines
- * were flushed since the fence before. */
+ * A line is written back by clwb where the processor has it, else by clflushopt, else by clflush. A fence is sfence.
+ * Where the image's file is not on persistent memory (a mapping with MAP_SYNC is tried first), a fence also syncs the
+ * pages whose lines were flushed since the fence before. */
 #ifndef ZKV_DEVICE_H
 #define ZKV_DEVICE_H
 

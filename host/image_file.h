@@ -1,7 +1,7 @@
 /* The file under an image, for host programs: opened, locked, mapped, made durable, exchanged as a whole.
  *
- * A function that answers text answers NULL where it is done, else what is wrong, without the file's name, in words that hold
- * until the next call here. Nothing is printed here but by the handler of image_file_guard. */
+ * A function that answers text answers NULL where it is done, else what is wrong, without the file's name, in words
+ * that hold until the next call here. Nothing is printed here but by the handler of image_file_guard. */
 #ifndef ZKV_IMAGE_FILE_H
 #define ZKV_IMAGE_FILE_H
 
@@ -33,13 +33,13 @@ struct image_file_wait {
 };
 
 /* From here on a store or load that the system has no page for (a full disk, a file that was cut) ends the program with a
- * message and status 2, and a file that may not grow is an error and no signal. Descriptors 0 to 2 that are closed become ones
- * that cannot be used, so that no file gets their number. Answers whether it could. */
+ * message and status 2, and a file that may not grow is an error and no signal. Descriptors 0 to 2 that are closed
+ * become ones that cannot be used, so that no file gets their number. Answers whether it could. */
 bool image_file_guard(const char *program);
 
 /* Opens a regular file, waits for its lock, opens again if the name meanwhile is another file's, maps it, and makes all that it
- * holds durable: a process that was killed in a call may have left words that are not; after this it is as if the power had
- * been cut and every word had kept its latest value. */
+ * holds durable: a process that was killed in a call may have left words that are not; after this it is as if the power
+ * had been cut and every word had kept its latest value. */
 const char *image_file_open(struct image_file *f, const char *name, enum image_file_use use, struct image_file_wait wait);
 
 /* Makes a new file of so many bytes, all zero, under another name beside the one it is to have, and maps it to be written. */

@@ -1,7 +1,7 @@
 /* Plays a script of tests/model/PROTOCOL.md on the library and prints what each call answered, so that the output can be
- * compared with the model's. It holds each refusal to its word: image, table and record before and after are compared (a
- * refused opening: the table is all zero and a step then says idle), and `changed` follows the answer if something changed. So it
- * does where a choosing changed something, whatever it answered. */
+ * compared with the model's. It holds each refusal to its word: image, table and record before and after are compared
+ * (a refused opening: the table is all zero and a step then says idle), and `changed` follows the answer if something
+ * changed. So it does where a choosing changed something, whatever it answered. */
 #include <inttypes.h>
 #include <stdbool.h>
 #include <stdio.h>

@@ -1,8 +1,8 @@
 /* zkv: a label register in a file, from the command line. See host/zkv.1 for what each command does.
  *
- * Here: the command line. The commands are in zkv_write.c (format, put, delete, clean) and zkv_read.c (get, scan, stat, check), list
- * in zkv_list.c, what they share in zkv_register.c, and the file under the image in image_file.c. All that is said of the image's inside comes from the
- * library's calls, but the header's station and centre number. */
+ * Here: the command line. The commands are in zkv_write.c (format, put, delete, clean) and zkv_read.c (get, scan, stat,
+ * check), list in zkv_list.c, what they share in zkv_register.c, and the file under the image in image_file.c. All that
+ * is said of the image's inside comes from the library's calls, but the header's station and centre number. */
 #define _GNU_SOURCE
 #include <errno.h>
 #include <inttypes.h>

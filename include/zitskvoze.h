@@ -1,20 +1,21 @@
 /* The calls of the label register for hosts in C and C++: a proved key-value store in one module of persistent memory.
  *
- * The library keeps, under each 64-bit key, the exact bytes of a value (0 to 4,088 of them), and survives a power cut at any
- * moment. It has no heap, no thread, no file and no state of its own: the host lends it everything, and carries out on the
- * device what each step reports. This file is the manual of the calls. The rules that they are proved against are R1.. in
- * docs/RULES.md; what module, processor and host are taken to do is F1.. in docs/ARCHITECTURE.md.
+ * The library keeps, under each 64-bit key, the exact bytes of a value (0 to 4,088 of them), and survives a power cut
+ * at any moment. It has no heap, no thread, no file and no state of its own: the host lends it everything, and carries
+ * out on the device what each step reports. This file is the manual of the calls. The rules that they are proved
+ * against are R1.. in docs/RULES.md; what module, processor and host are taken to do is F1.. in docs/ARCHITECTURE.md.
  *
  * WHAT THE HOST LENDS
  *
- * - image: the persistent memory; header, directory and log. It is the register. 4 to 504 times 4,096 bytes, aligned to 64.
+ * - image: the persistent memory; header, directory and log. It is the register. 4 to 504 times 4,096 bytes, aligned to
+ *   64.
  * - table: the key table, volatile words that each opening fills anew. Any number of words, aligned to 8.
  * - record: the station record (zkv_record, 9,384 bytes, aligned to 8): what is open, staged and unfinished. Volatile.
  * - value: the bytes of a put, 0 to 4,088. Any alignment. It is lent to that call alone.
  *
- * The host allocates and frees all of them; the library keeps no pointer after a call returns. The staged values lie in the
- * record's buffer, so `value` may be reused as soon as zkv_put has returned. Fields of the record are nobody's business but
- * the library's. Make a new record by zeroing it: `zkv_record r = {0};`, nothing is open in it.
+ * The host allocates and frees all of them; the library keeps no pointer after a call returns. The staged values lie in
+ * the record's buffer, so `value` may be reused as soon as zkv_put has returned. Fields of the record are nobody's
+ * business but the library's. Make a new record by zeroing it: `zkv_record r = {0};`, nothing is open in it.
  * A table of t words holds t / 4 keys, rounded down, at most 65,536 (ZKV_TABLE_WORDS_MAX words hold them).
  * Every call is lent the same image, table and record as the call before, with the same lengths. Only an opening may be
  * lent another record and table; its table must not be smaller than at the opening before.
@@ -22,12 +23,12 @@
  *
  * BEGUN CALLS AND STEPS
  *
- * A call that writes is begun (zkv_format, zkv_put, zkv_delete, zkv_commit, zkv_clean answer ZKV_BEGUN with a number of actions
- * a) and then stepped: exactly a + 1 calls of zkv_step, the last of which answers ZKV_END. Until then every other call but an
- * opening is refused with 8. A staging has 0 actions, so one step, but for a value of more than 256 bytes, which is written to a
- * block of its own now: a store for the length and for each 8 bytes, a flush for each line, and two actions more where a free
- * chunk is taken. A commit of b lines has 9 b + 4 actions; a cleaning that copies b lines has 9 b + 7, and 3 where it copies none;
- * a formatting has 582.
+ * A call that writes is begun (zkv_format, zkv_put, zkv_delete, zkv_commit, zkv_clean answer ZKV_BEGUN with a number of
+ * actions a) and then stepped: exactly a + 1 calls of zkv_step, the last of which answers ZKV_END. Until then every
+ * other call but an opening is refused with 8. A staging has 0 actions, so one step, but for a value of more than 256
+ * bytes, which is written to a block of its own now: a store for the length and for each 8 bytes, a flush for each
+ * line, and two actions more where a free chunk is taken. A commit of b lines has 9 b + 4 actions; a cleaning that
+ * copies b lines has 9 b + 7, and 3 where it copies none; a formatting has 582.
  *
  * What a step answers, and what the host does before the next step:
  * - ZKV_STORE, first = word, second = value: nothing. The word at byte 8 * first of the image is already stored.
@@ -39,48 +40,51 @@
  *
  * A step's report is the image's whole change. A batch is acknowledged to anybody only after the ZKV_END of its commit.
  *
- * Of a store's report a host needs nothing, so zkv_run takes several steps in one call: until one is to be told, whose report it
- * answers. Every step before that one stored a word, by one 8-byte move and in the order of the steps. So it makes all stores that
- * come next and answers the flush, fence, end, idle or refusal behind them, never ZKV_STORE: a commit of b lines takes b + 4 calls
- * of zkv_run, and still 9 b + 5 steps. What the host does at each report is the same, and a power cut falls between the stores of a
- * run as between steps. The two calls may take turns.
+ * Of a store's report a host needs nothing, so zkv_run takes several steps in one call: until one is to be told, whose
+ * report it answers. Every step before that one stored a word, by one 8-byte move and in the order of the steps. So it
+ * makes all stores that come next and answers the flush, fence, end, idle or refusal behind them, never ZKV_STORE: a
+ * commit of b lines takes b + 4 calls of zkv_run, and still 9 b + 5 steps. What the host does at each report is the
+ * same, and a power cut falls between the stores of a run as between steps. The two calls may take turns.
  * - zkv_run: to get a begun call done. It is the quicker one.
- * - zkv_step: where each store is to be seen, counted, or paused at (zkv --pause, tests, a device that is told every store).
+ * - zkv_step: where each store is to be seen, counted, or paused at (zkv --pause, tests, a device that is told every
+ *   store).
  *
  * WHICH CALL MAY FOLLOW WHICH
  *
  * The record is in one of four states:
- * - closed: a zeroed record, after a refused opening, or after the end of a formatting. zkv_open and zkv_format may follow;
- *   other calls get 2.
- * - open, nothing staged: after ZKV_OPENED, the end of a commit or cleaning, or ZKV_ABANDONED. zkv_put, zkv_delete, zkv_look_up,
- *   zkv_choose, zkv_clean, zkv_open and zkv_format may follow; zkv_commit and zkv_abandon get 14.
+ * - closed: a zeroed record, after a refused opening, or after the end of a formatting. zkv_open and zkv_format may
+ *   follow; other calls get 2.
+ * - open, nothing staged: after ZKV_OPENED, the end of a commit or cleaning, or ZKV_ABANDONED. zkv_put, zkv_delete,
+ *   zkv_look_up, zkv_choose, zkv_clean, zkv_open and zkv_format may follow; zkv_commit and zkv_abandon get 14.
  * - open, something staged: after the end of a staging. All of these may follow but zkv_clean, which gets 15.
- * - unfinished: after ZKV_BEGUN. zkv_step, zkv_run and zkv_open may follow; other calls get 8 (or 2, in a formatting that was
- *   begun on a closed record). In the other states a step or run answers ZKV_IDLE and changes nothing.
+ * - unfinished: after ZKV_BEGUN. zkv_step, zkv_run and zkv_open may follow; other calls get 8 (or 2, in a formatting
+ *   that was begun on a closed record). In the other states a step or run answers ZKV_IDLE and changes nothing.
  *
- * A new image: zkv_format, step to its end, zkv_open. An image from before: zkv_open. A put that lasts: zkv_put, step to the
- * end, zkv_commit, step to the end. Up to 16 puts and deletes (4,096 bytes of entries: 16 bytes and the value, rounded up to
- * 8, for each) may be staged before one commit, which makes all of them last; a power cut in it leaves all or none.
- * When a commit gets 13: zkv_abandon, then zkv_choose and zkv_clean with the chunk that it names, stepped to the end, then stage
- * and commit again; when zkv_choose gets 16, or zkv_clean 13, the image is full of present values.
+ * A new image: zkv_format, step to its end, zkv_open. An image from before: zkv_open. A put that lasts: zkv_put, step
+ * to the end, zkv_commit, step to the end. Up to 16 puts and deletes (4,096 bytes of entries: 16 bytes and the value,
+ * rounded up to 8, for each) may be staged before one commit, which makes all of them last; a power cut in it leaves
+ * all or none. When a commit gets 13: zkv_abandon, then zkv_choose and zkv_clean with the chunk that it names, stepped
+ * to the end, then stage and commit again; when zkv_choose gets 16, or zkv_clean 13, the image is full of present
+ * values.
  *
  * REFUSALS
  *
- * What was refused did not happen: a host looks at every answer. A refusal leaves image, table and record as they were; but a refused opening zeroes the table and closes the record.
- * The numbers are the enum zkv_refusal, in the order of the rules; zkv_sentence gives the words. Where several apply, the
- * answer of an opening is the lowest; of zkv_format 1 before 8; of the other calls the first in the order 2, 1, 8, 15, 9, 11,
- * 12, 10, 7, 14, 16, 13.
+ * What was refused did not happen: a host looks at every answer. A refusal leaves image, table and record as they were;
+ * but a refused opening zeroes the table and closes the record. The numbers are the enum zkv_refusal, in the order of
+ * the rules; zkv_sentence gives the words. Where several apply, the answer of an opening is the lowest; of zkv_format 1
+ * before 8; of the other calls the first in the order 2, 1, 8, 15, 9, 11, 12, 10, 7, 14, 16, 13.
  *
  * CAVEATS, AND WHAT TO DO
  *
- * - An opening in the middle of an unfinished call, with no power cut in between, is outside the promise: it is safe, but
- *   may show a batch that a later cut takes back. Step to the end first.
- * - A process that was killed and not the power: the caches, or the system's pages, may still hold unfenced words. Write
- *   back the whole image and fence (or fsync its file) before opening; then it is as after a cut that kept every latest
- *   word, and the promise holds.
+ * - An opening in the middle of an unfinished call, with no power cut in between, is outside the promise: it is safe,
+ *   but may show a batch that a later cut takes back. Step to the end first.
+ * - A process that was killed and not the power: the caches, or the system's pages, may still hold unfenced words.
+ *   Write back the whole image and fence (or fsync its file) before opening; then it is as after a cut that kept every
+ *   latest word, and the promise holds.
  * - Formatting an image that holds a register destroys it. zkv_format does not ask: the host does.
  * - Memory altered behind the calls' back (image, table or record): every call is still safe, reads and writes nothing
- *   outside what is lent, and ends after its count; but any number of the table may come, and values may be wrong. Open again.
+ *   outside what is lent, and ends after its count; but any number of the table may come, and values may be wrong. Open
+ *   again.
  * - Lengths must be true: a length above what is really there is beyond any proof.
  * - The archive is for x86-64 Linux. Words are little-endian, so an image may be moved between machines of that kind.
  * - One call at a time, one writer to an image. The library has no lock: the host needs one, also between processes
@@ -89,14 +93,15 @@
  *   MAP_SYNC, else a flushed line may be durable in a page that the file does not have yet.
  * - A word must reach the medium whole. Aligned 8-byte stores do; tests/one_move.sh looks at the compiled code. Do not
  *   build the library in a way that changes it (instrumentation of its stores, another back end).
- * - The format has no checksum: a byte of a value that is changed behind the calls' back opens as another value (57 to 83 of 100
- *   one-bit flips in committed lines did). Hold what was printed against the register, and keep a digest of the image elsewhere.
- * - A table too small for the image's keys makes a refused opening slow (time by the square of the entries). Lend one of
- *   ZKV_TABLE_WORDS_MAX words where memory allows.
- * - The log only grows until it is cleaned: superseded and deleted values take space until then, and known keys include deleted
- *   ones that still have an entry. Clean when time allows, or when 13 comes; it may take several cleanings until a commit
- *   finds space. Commits leave a free chunk to clean into (they take one only where three are free, two for deletes alone), so that
- *   cleaning a chosen chunk gets 13 only in an image that was filled in another way.
+ * - The format has no checksum: a byte of a value that is changed behind the calls' back opens as another value (57 to
+ *   83 of 100 one-bit flips in committed lines did). Hold what was printed against the register, and keep a digest of
+ *   the image elsewhere.
+ * - A table too small for the image's keys makes a refused opening slow (time by the square of the entries). Lend one
+ *   of ZKV_TABLE_WORDS_MAX words where memory allows.
+ * - The log only grows until it is cleaned: superseded and deleted values take space until then, and known keys include
+ *   deleted ones that still have an entry. Clean when time allows, or when 13 comes; it may take several cleanings
+ *   until a commit finds space. Commits leave a free chunk to clean into (they take one only where three are free, two
+ *   for deletes alone), so that cleaning a chosen chunk gets 13 only in an image that was filled in another way.
  * - A cleaning changes no value, and the parts that zkv_look_up answered before it are no longer the values' places.
  */
 #ifndef ZITSKVOZE_H
@@ -221,8 +226,8 @@ zkv_report zkv_format(zkv_record *record, const uint8_t *image, size_t bytes, co
 zkv_report zkv_open(zkv_record *record, const uint8_t *image, size_t bytes, uint64_t *table, size_t words);
 
 /* Begins staging a put of `length` bytes, which are copied into the record. Look-up does not see it before its commit has ended.
- * ZKV_BEGUN with 0 actions for a value of at most ZKV_LOG_VALUE_MAX bytes, else with those that write its block; or refused:
- * 2, 1, 8, 9, 12, 10, 7, 13. A block that was staged and then abandoned, or superseded, is used again. */
+ * ZKV_BEGUN with 0 actions for a value of at most ZKV_LOG_VALUE_MAX bytes, else with those that write its block; or
+ * refused: 2, 1, 8, 9, 12, 10, 7, 13. A block that was staged and then abandoned, or superseded, is used again. */
 zkv_report zkv_put(zkv_record *record, const uint8_t *image, size_t bytes, const uint64_t *table, size_t words,
                    uint64_t key, const uint8_t *value, size_t length);
 
@@ -232,21 +237,23 @@ zkv_report zkv_delete(zkv_record *record, const uint8_t *image, size_t bytes, co
                       uint64_t key);
 
 /* Begins the commit of the staged items, in the order of their staging. ZKV_BEGUN 9 b + 4 for b lines, or refused:
- * 2, 1, 8, 14, 13. After 13 the items stay staged, and every later commit carries them: forget them by zkv_abandon, or they are
- * refused, or committed, together with what is staged later. A cleaning is refused while they stay staged (15), so: abandon, clean,
- * stage again, commit. */
+ * 2, 1, 8, 14, 13. After 13 the items stay staged, and every later commit carries them: forget them by zkv_abandon, or
+ * they are refused, or committed, together with what is staged later. A cleaning is refused while they stay staged
+ * (15), so: abandon, clean, stage again, commit. */
 zkv_report zkv_commit(zkv_record *record, const uint8_t *image, size_t bytes, const uint64_t *table, size_t words);
 
 /* Forgets the staged items. ZKV_ABANDONED, or refused: 2, 1, 8, 14. */
 zkv_report zkv_abandon(zkv_record *record, const uint8_t *image, size_t bytes, const uint64_t *table, size_t words);
 
 /* Chooses the chunk whose cleaning copies the fewest bytes, among log chunks that would take fewer lines afterwards; of equals the
- * lowest number. Staged items play no part. ZKV_CHOSEN with first = chunk, or refused: 2, 1, 8, 16 where none is worth it. */
+ * lowest number. Staged items play no part. ZKV_CHOSEN with first = chunk, or refused: 2, 1, 8, 16 where none is worth
+ * it. */
 zkv_report zkv_choose(const zkv_record *record, const uint8_t *image, size_t bytes, const uint64_t *table, size_t words);
 
 /* Begins the cleaning of a chunk: what of it is needed is copied to another chunk, then it is free. The register stays as it is; a
- * power cut in it leaves entries twice, which an opening accepts. Its ZKV_END tells the entries copied. A data chunk is only freed,
- * where no block of it is in use. ZKV_BEGUN 9 b + 7 for b lines to copy, 3 for none, or refused: 2, 1, 8, 15, 16, 13. */
+ * power cut in it leaves entries twice, which an opening accepts. Its ZKV_END tells the entries copied. A data chunk is
+ * only freed, where no block of it is in use. ZKV_BEGUN 9 b + 7 for b lines to copy, 3 for none, or refused: 2, 1, 8,
+ * 15, 16, 13. */
 zkv_report zkv_clean(zkv_record *record, const uint8_t *image, size_t bytes, const uint64_t *table, size_t words, size_t chunk);
 
 /* One step of the begun call: see the table of reports above. Idle where nothing is begun, else refused with 1 alone, where a
@@ -254,19 +261,19 @@ zkv_report zkv_clean(zkv_record *record, const uint8_t *image, size_t bytes, con
 zkv_report zkv_step(zkv_record *record, uint8_t *image, size_t bytes, uint64_t *table, size_t words);
 
 /* Steps of the begun call until one is to be told: those that store a word, as many as come next, and one step more. It answers
- * the last step's report, which is as zkv_step's and never ZKV_STORE; each step before it stored a word, already in the image. At
- * most 513 steps; idle and refused as zkv_step. */
+ * the last step's report, which is as zkv_step's and never ZKV_STORE; each step before it stored a word, already in the
+ * image. At most 513 steps; idle and refused as zkv_step. */
 zkv_report zkv_run(zkv_record *record, uint8_t *image, size_t bytes, uint64_t *table, size_t words);
 
 /* Looks a key up: 0, with the part of the image that holds its value (*length bytes from byte *start on; no copy, so read it
- * before the next call that is begun); or the refusal's number 2, 1, 8 or 11, with 0 in both. Staged items are unseen. An
- * empty value is a part of length 0 and not a refusal. */
+ * before the next call that is begun); or the refusal's number 2, 1, 8 or 11, with 0 in both. Staged items are unseen.
+ * An empty value is a part of length 0 and not a refusal. */
 uint64_t zkv_look_up(const zkv_record *record, const uint8_t *image, size_t bytes, const uint64_t *table, size_t words,
                      uint64_t key, uint64_t *start, uint64_t *length);
 
 /* Lists the present keys: 0, with the keys in rising order in `keys`, as far as its `room` words reach, and in *count how many there
- * are (ZKV_KEYS_MAX at most); the words behind them stay. Or the refusal's number 2, 1 or 8, with 0 in *count and no key. Staged items
- * are unseen. */
+ * are (ZKV_KEYS_MAX at most); the words behind them stay. Or the refusal's number 2, 1 or 8, with 0 in *count and no
+ * key. Staged items are unseen. */
 uint64_t zkv_list_keys(const zkv_record *record, const uint8_t *image, size_t bytes, const uint64_t *table, size_t words,
                        uint64_t *keys, size_t room, uint64_t *count);
 

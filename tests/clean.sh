@@ -1,6 +1,7 @@
 #!/usr/bin/env bash
-# Cleaning by the program zkv: a register that is full of superseded labels takes new ones again, a put cleans when it must, a refused
-# put leaves everything as it was, and puts and cleanings that are killed (kill -9) at random moments lose no label.
+# Cleaning by the program zkv: a register that is full of superseded labels takes new ones again, a put cleans when it
+# must, a refused put leaves everything as it was, and puts and cleanings that are killed (kill -9) at random moments
+# lose no label.
 #
 # tests/clean.sh [KILLS [SEED]]     16 kills, seed 1; needs host/build/zkv (make -C host)
 set -euo pipefail

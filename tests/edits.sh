@@ -1,6 +1,6 @@
 #!/usr/bin/env bash
-# Tries the must-fail edits that the gate leaves out: tests/edits/CRATE/NAME.edit, in the form of crates/CRATE/must-fail. Each is refused by the
-# prover, or this ends with status 1.
+# Tries the must-fail edits that the gate leaves out: tests/edits/CRATE/NAME.edit, in the form of
+# crates/CRATE/must-fail. Each is refused by the prover, or this ends with status 1.
 #   tests/edits.sh            all crates that have such edits
 #   tests/edits.sh CRATE..    these
 set -euo pipefail

@@ -1,9 +1,9 @@
 /* Garbage for the library: records, buffers, tables and images, wild and near the right ones, played through every call. For
  * tests/robust.c and tests/runs.c.
  *
- * Every lent area lies directly before or directly behind a page that cannot be touched, and what is left of its pages holds a
- * pattern. Each call is held to what holds for any memory (see the head of robust.c). zkv_run is held to zkv_step: steps on a
- * copy must come to the same report, image, table and record, to the byte.
+ * Every lent area lies directly before or directly behind a page that cannot be touched, and what is left of its pages
+ * holds a pattern. Each call is held to what holds for any memory (see the head of robust.c). zkv_run is held to
+ * zkv_step: steps on a copy must come to the same report, image, table and record, to the byte.
  *
  * A program that includes this defines PROGRAM (its name), and go_on. Built with -DWRONG the copy makes one step fewer;
  * differences are then counted and the program goes on. */

@@ -1,7 +1,7 @@
 #!/usr/bin/env bash
-# The tour of the program zkv: format, put, get; then puts that are killed (kill -9) at random moments, each followed by a
-# check of the image and a look at every key. Earlier keys must give their exact bytes, the key in flight its old or its
-# new. A kill counts as a power cut: F9 of docs/ARCHITECTURE.md.
+# The tour of the program zkv: format, put, get; then puts that are killed (kill -9) at random moments, each followed by
+# a check of the image and a look at every key. Earlier keys must give their exact bytes, the key in flight its old or
+# its new. A kill counts as a power cut: F9 of docs/ARCHITECTURE.md.
 #
 # tests/kill.sh [PUTS [SEED]]       30 puts, seed 1; needs host/build/zkv (make -C host)
 set -euo pipefail

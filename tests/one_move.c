@@ -1,11 +1,11 @@
 /* Watches the image after every machine instruction of zkv_step and of zkv_run: each word that is stored must go from its old to
- * its new value in one instruction, and nothing else of the image may change. Before a step or run each word that it will store
- * is made to differ from the new value in every byte, so that a store in parts would be seen. What is stored is learned from
- * steps on a copy; a run must make the same stores in the same order.
+ * its new value in one instruction, and nothing else of the image may change. Before a step or run each word that it
+ * will store is made to differ from the new value in every byte, so that a store in parts would be seen. What is stored
+ * is learned from steps on a copy; a run must make the same stores in the same order.
  *
- * Instructions are watched by the processor's trap flag. A formatting, commits of 1 and of 64 lines and cleanings of full chunks
- * are stepped, so that every kind of store comes; then such commits and cleanings are run. Built with -DTORN the step stores byte by byte, with -DTORN_RUN the run does,
- * and this program must find it. */
+ * Instructions are watched by the processor's trap flag. A formatting, commits of 1 and of 64 lines and cleanings of
+ * full chunks are stepped, so that every kind of store comes; then such commits and cleanings are run. Built with
+ * -DTORN the step stores byte by byte, with -DTORN_RUN the run does, and this program must find it. */
 #define _GNU_SOURCE
 #include <inttypes.h>
 #include <signal.h>

@@ -1,7 +1,7 @@
 #!/bin/sh
-# A store into the image, by zkv_step or zkv_run, is one machine move of 8 bytes, so that a power cut never tears a word: looks at
-# the compiled archive (objdump, tests/stores.py), and watches the image instruction by instruction (tests/one_move.c). Both
-# are first shown to find a store in parts.
+# A store into the image, by zkv_step or zkv_run, is one machine move of 8 bytes, so that a power cut never tears a
+# word: looks at the compiled archive (objdump, tests/stores.py), and watches the image instruction by instruction
+# (tests/one_move.c). Both are first shown to find a store in parts.
 #
 # tests/one_move.sh [ARCHIVE]       target/staticlib/libcapi.a if none is named; needs gcc, objdump, Python 3
 set -eu

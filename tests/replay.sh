@@ -1,12 +1,13 @@
 #!/bin/sh
-# Compares the library with the model: scripts of calls, refusals, damaged images and power cuts are played on both, and the
-# answers must be equal line by line.
+# Compares the library with the model: scripts of calls, refusals, damaged images and power cuts are played on both, and
+# the answers must be equal line by line.
 #
-# tests/replay.sh [FIRST [COUNT [TURNS [LEVEL...]]]]   seeds FIRST .. FIRST + COUNT - 1 (1, 100), scripts of TURNS turns (60), for
-#                                                      each level: counter, centre, archive (all, if none is named)
+# tests/replay.sh [FIRST [COUNT [TURNS [LEVEL...]]]]   seeds FIRST .. FIRST + COUNT - 1 (1, 100), scripts of TURNS turns
+#                                                      (60), for each level: counter, centre, archive (all, if none is
+#                                                      named)
 #
-# Needs host/build/replay (make -C host) and Python 3. Stops at the first difference, shows it, and keeps the script and both
-# outputs under host/build/differ/.
+# Needs host/build/replay (make -C host) and Python 3. Stops at the first difference, shows it, and keeps the script and
+# both outputs under host/build/differ/.
 set -eu
 cd "$(dirname "$0")/.."
 first=${1:-1}

@@ -1,13 +1,14 @@
 /* Lends the library garbage: records, buffers, tables and images, wild and near the right ones, through every call.
  *
- * Every lent area lies directly before or directly behind a page that cannot be touched, and what is left of its pages holds a
- * pattern (garbage.h). Asked of every call, whatever it is lent:
+ * Every lent area lies directly before or directly behind a page that cannot be touched, and what is left of its pages
+ * holds a pattern (garbage.h). Asked of every call, whatever it is lent:
  *   - it touches nothing outside what is lent, and returns;
- *   - its answer is one of those that the call has, and a refusal leaves image, table and record as they were (a refused
- *     opening: a table of zeros, and a step then says idle);
- *   - only steps change the image, each by the one word that it reports; a run does what the steps do that it stands for;
- *   - a begun call of a actions ends with its step number a + 1, though image and table are altered between the steps; one
- *     that a garbage record is in the middle of ends after at most 584. Steps and runs take turns by chance;
+ *   - its answer is one of those that the call has, and a refusal leaves image, table and record as they were (a
+ *     refused opening: a table of zeros, and a step then says idle);
+ *   - only steps change the image, each by the one word that it reports; a run does what the steps do that it stands
+ *     for;
+ *   - a begun call of a actions ends with its step number a + 1, though image and table are altered between the steps;
+ *     one that a garbage record is in the middle of ends after at most 584. Steps and runs take turns by chance;
  *   - choosing changes nothing, whatever it answers.
  *
  * robust [CASES]       CASES of each kind (1,000), from fixed seeds; a message and exit status 1 at the first fault. */

@@ -1,12 +1,15 @@
 /* Compares zkv_run with zkv_step: from the same record, image and table, a run on the one copy and steps on the other, until one
  * that is no store. The reports must be equal, and image, table and record to the byte.
  *
- * Where they start: states reached by calls in random order, runs and steps mixed, so that a run starts at any action of a
- * call; and the six kinds of garbage (garbage.h). Of calls that are run whole, also asked: the steps of all runs together are
- * a + 1, a commit of b lines takes b + 4 runs, and a cleaning that copies b lines b + 6, or 3 where it copies none.
+ * Where they start: states reached by calls in random order, runs and steps mixed, so that a run starts at any action
+ * of a call; and the six kinds of garbage (garbage.h). Of calls that are run whole, also asked: the steps of all runs
+ * together are a + 1, a commit of b lines takes b + 4 runs, and a cleaning that copies b lines b + 6, or 3 where it
+ * copies none.
  *
- * runs [CASES]         CASES of each kind (1,000), from fixed seeds; a message and exit status 1 at the first difference.
- * Built with -DWRONG, where the copy makes a step or two fewer, it counts the differences; exit status 1 if there are any. */
+ * runs [CASES]         CASES of each kind (1,000), from fixed seeds; a message and exit status 1 at the first
+ *                      difference.
+ * Built with -DWRONG, where the copy makes a step or two fewer, it counts the differences; exit status 1 if there are
+ * any. */
 #define _GNU_SOURCE
 #define PROGRAM "runs"
 #include "garbage.h"

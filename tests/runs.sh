@@ -1,6 +1,6 @@
 #!/bin/sh
-# Compares zkv_run with zkv_step (tests/runs.c). The comparison is first shown to find, in report, image, table and record, that
-# the stepped copy made a step or two fewer.
+# Compares zkv_run with zkv_step (tests/runs.c). The comparison is first shown to find, in report, image, table and
+# record, that the stepped copy made a step or two fewer.
 #
 # tests/runs.sh [CASES]             of each kind (1,000); needs host/build/runs and runs_wrong (make -C host)
 set -eu

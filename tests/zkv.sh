@@ -1,6 +1,6 @@
 #!/usr/bin/env bash
-# The program zkv in bad company: closed descriptors, files exchanged or cut under it, full disks, locks held by others, FIFOs,
-# links, limits, empty input, wrong usage; what its exit statuses and messages say; scans and lists.
+# The program zkv in bad company: closed descriptors, files exchanged or cut under it, full disks, locks held by others,
+# FIFOs, links, limits, empty input, wrong usage; what its exit statuses and messages say; scans and lists.
 #
 # tests/zkv.sh [PROGRAM]        host/build/zkv; says every check that does not hold, and ends with 1 if there is one
 set -uo pipefail
