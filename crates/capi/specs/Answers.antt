@@ -94,7 +94,8 @@ CountedBy (C.Keys k) answer count = (answer ≡ 0) × (count ≡ k)
 abbrev pub CountTold : (Counted → Type 0) → ℕ → ℕ → Type 0
 CountTold P answer count = (r : Counted) × (P r × CountedBy r answer count)
 
--- What is listed of a key, in numbers: 0 or the refusal's number; version, length, and 1 for a value in a block, 0 for one in the log; 0 on a refusal.
+-- What is listed of a key, in numbers: 0 or the refusal's number; version, length, and 1 for a value in a block, 0 for
+-- one in the log; 0 on a refusal.
 abbrev pub bit : Bool → ℕ
 bit b = pick b 1 0
 

@@ -1,5 +1,6 @@
-// The public calls for a host in C: each stands for the call of `store` whose contract it cites, with plain numbers in and out.
-// A slice is a pointer and a count, the record a pointer, an `Answer` a struct of three 64-bit numbers. None has a `requires`.
+// The public calls for a host in C: each stands for the call of `store` whose contract it cites, with plain numbers in
+// and out. A slice is a pointer and a count, the record a pointer, an `Answer` a struct of three 64-bit numbers. None
+// has a `requires`.
 ghost use mathlib.Core.Path.{_≡_};
 ghost use lib.ListN.{length};
 ghost use Rattle.spec.specs.Words.{wordsOf};
@@ -30,7 +31,8 @@ pub struct Answer {
     pub second: u64,
 }
 
-// The numbers of a report; a refusal has that of document 01's table. Two different reports have different numbers (proofs/Lossless.antt).
+// The numbers of a report; a refusal has that of document 01's table. Two different reports have different numbers
+// (proofs/Lossless.antt).
 fn told(report: Report) -> Answer
     ensures { λ r. ⌜ r ≡ answerOf report ⌝ }
 {
@@ -233,8 +235,8 @@ fn run_whole(s: &mut Session, image: &mut [u8], table: &mut [u64]) -> Answer
     told(report)
 }
 
-// Several steps in one: those that store a word, as many as come next, and the step behind them; in a commit on the short way
-// (`store::run_inner`), else `store::run_rest`.
+// Several steps in one: those that store a word, as many as come next, and the step behind them; in a commit on the
+// short way (`store::run_inner`), else `store::run_rest`.
 #[no_mangle]
 pub extern "C" fn zkv_run(s: &mut Session, image: &mut [u8], table: &mut [u64]) -> Answer
     ensures { λ r. ⌜ Told (RunsOn (now (s .entry)) (now (s .exit)) (now (image .entry)) (now (image .exit)) (now (table .entry)) (now (table .exit))) r ⌝ }
@@ -251,8 +253,9 @@ pub extern "C" fn zkv_run(s: &mut Session, image: &mut [u8], table: &mut [u64]) 
     }
 }
 
-// A look-up's report in numbers: 0 or the refusal's number, and the part's first byte and length, 0 where there is none. An absent key has
-// an arm of its own, and neighbouring arms store in another order: so the compiler keeps them apart, and a key that is found pays for neither.
+// A look-up's report in numbers: 0 or the refusal's number, and the part's first byte and length, 0 where there is
+// none. An absent key has an arm of its own, and neighbouring arms store in another order: so the compiler keeps them
+// apart, and a key that is found pays for neither.
 fn shown(report: Report, start: &mut u64, length: &mut u64) -> u64
     ensures { λ r. ⌜ ShownBy report r (now (start .exit)) (now (length .exit)) ⌝ }
 {
@@ -285,7 +288,8 @@ fn shown(report: Report, start: &mut u64, length: &mut u64) -> u64
     }
 }
 
-// Where in the image the value of a key lies (`store::find`): the answer is 0, or the refusal's number with `start` and `length` 0.
+// Where in the image the value of a key lies (`store::find`): the answer is 0, or the refusal's number with `start` and
+// `length` 0.
 #[no_mangle]
 pub extern "C" fn zkv_look_up(
     s: &Session,
@@ -318,7 +322,8 @@ fn counted(listed: Counted, count: &mut u64) -> u64
     }
 }
 
-// The present keys, rising, into the lent words as far as these reach (`store::list_keys`); `count` gets how many there are.
+// The present keys, rising, into the lent words as far as these reach (`store::list_keys`); `count` gets how many there
+// are.
 #[no_mangle]
 pub extern "C" fn zkv_list_keys(
     s: &mut Session,
@@ -363,7 +368,8 @@ fn spelt(listed: Listed, version: &mut u64, length: &mut u64, block: &mut u64) -
     }
 }
 
-// Of a present key its version, its value's length, and 1 where a block has it, 0 where the log has (`store::list_key`).
+// Of a present key its version, its value's length, and 1 where a block has it, 0 where the log has
+// (`store::list_key`).
 #[no_mangle]
 pub extern "C" fn zkv_list_key(
     s: &Session,

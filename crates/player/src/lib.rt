@@ -1,5 +1,6 @@
 // Plays a script of calls on one station: lends it image, key table and record, and prints what each call answers.
-// The calls are the cores, with the record's small parts by value and its buffer lent. tests/scripts.py has the commands.
+// The calls are the cores, with the record's small parts by value and its buffer lent. tests/scripts.py has the
+// commands.
 mod memory;
 mod show;
 mod sums;
@@ -71,8 +72,8 @@ fn command_of(word: u64) -> Command {
     }
 }
 
-// The station's record, but for its buffer; the lengths lent; whether the last call left image, table and record as they were; and
-// whether lines are shown before they are played.
+// The station's record, but for its buffer; the lengths lent; whether the last call left image, table and record as
+// they were; and whether lines are shown before they are played.
 struct State {
     control: Control,
     setup: Setup,

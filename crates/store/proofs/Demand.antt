@@ -1,5 +1,5 @@
--- DEMAND 3 of the archive level, and so of every level: every list of calls and power cuts, choosings and cleanings and values up to the
--- largest block's included, for the very contracts that the public functions ensure.
+-- DEMAND 3 of the archive level, and so of every level: every list of calls and power cuts, choosings and cleanings and
+-- values up to the largest block's included, for the very contracts that the public functions ensure.
 -- Assumes nothing.
 use Rattle.spec.specs.History.{Demand3}
 use Rattle.session.specs.State.{limit, stateOf}

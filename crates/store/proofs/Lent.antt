@@ -1,4 +1,5 @@
--- The arrays of a `Session` that lies in memory, each taken out as a place of its own and put back: what a thin function needs to lend one where it lies. Made by walk_thin.py.
+-- The arrays of a `Session` that lies in memory, each taken out as a place of its own and put back: what a thin
+-- function needs to lend one where it lies. Made by walk_thin.py.
 --     shown, hidden    the record's cell as its borrow has it, and by its parts
 --     cut      the record's cell  ⊢  each array in memory ∗ the rest
 --     back     each array in memory, at any list ∗ the rest  ⊢  the record's cell

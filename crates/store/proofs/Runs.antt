@@ -1,5 +1,5 @@
--- A RUN IS A LIST OF STEPS of the theorem on histories: `Runs`, which the call that takes several steps ensures, says the same as
--- `Stepped`, the very steps of demand 3, with reports that each store a word and then the one that is told.
+-- A RUN IS A LIST OF STEPS of the theorem on histories: `Runs`, which the call that takes several steps ensures, says
+-- the same as `Stepped`, the very steps of demand 3, with reports that each store a word and then the one that is told.
 -- Assumes nothing.
 use mathlib.Core.Path.{_≡_, refl}
 use mathlib.Core.List.{List, [], _∷_, _++_}

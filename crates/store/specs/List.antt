@@ -1,4 +1,5 @@
--- What the listing of the present keys, and of one of them, answers through the station record. Record, image and table are as they were.
+-- What the listing of the present keys, and of one of them, answers through the station record. Record, image and table
+-- are as they were.
 -- Assumes nothing.
 use mathlib.Core.Path.{_≡_}
 use mathlib.Core.List.{List}

@@ -1,6 +1,7 @@
 // The public calls: thin functions over the station record, which is lent as one `&mut` and altered in place.
-// Each copies the record's small parts, lends its buffer where it lies to the core that does the work, and stores the small parts back.
-// Every call is lent record, image and key table. None has a `requires`: what each answers and leaves is said by `Called`.
+// Each copies the record's small parts, lends its buffer where it lies to the core that does the work, and stores the
+// small parts back. Every call is lent record, image and key table. None has a `requires`: what each answers and leaves
+// is said by `Called`.
 ghost use mathlib.Core.Path.{_≡_};
 ghost use Rattle.spec.specs.Calls.{Open, Put, Delete, Commit, Abandon, Clean, Step, Format};
 ghost use Rattle.spec.specs.Contract.{Called};
@@ -137,8 +138,8 @@ pub fn step(s: &mut Session, image: &mut [u8], table: &mut [u64]) -> Report
     m.report
 }
 
-// THE SHORT WAY: the same step where `stepping::is_inner` says that it may be gone; elsewhere nothing is done, and the report is idle. Of
-// the record it alters the number of the next action alone.
+// THE SHORT WAY: the same step where `stepping::is_inner` says that it may be gone; elsewhere nothing is done, and the
+// report is idle. Of the record it alters the number of the next action alone.
 pub fn step_inner(s: &mut Session, image: &mut [u8], table: &mut [u64]) -> Report
     ensures { λ r. ⌜ OnShortWay (Called stateOf Fits 12 limit Step) (now (s .entry)) (now (s .exit)) (now (image .entry)) (now (image .exit)) (now (table .entry)) (now (table .exit)) r ⌝ }
 {
@@ -160,7 +161,8 @@ pub fn run_inner(s: &mut Session, image: &mut [u8], table: &mut [u64]) -> Report
     m.report
 }
 
-// The same whatever is begun: the steps that store a word, as many as come next, and the step behind them, whose report is told.
+// The same whatever is begun: the steps that store a word, as many as come next, and the step behind them, whose report
+// is told.
 pub fn run_rest(s: &mut Session, image: &mut [u8], table: &mut [u64]) -> Report
     ensures { λ r. ⌜ RunsOn (now (s .entry)) (now (s .exit)) (now (image .entry)) (now (image .exit)) (now (table .entry)) (now (table .exit)) r ⌝ }
 {
@@ -181,7 +183,8 @@ pub fn find(s: &Session, image: &[u8], table: &[u64], key: u64) -> Report
     recovery::find(c, k, image, table, key)
 }
 
-// Look-up: the part of the image that holds the value, the empty part on a refusal; `answer` gets 0 or the refusal's number.
+// Look-up: the part of the image that holds the value, the empty part on a refusal; `answer` gets 0 or the refusal's
+// number.
 pub fn look_up<'a>(
     s: &Session,
     image: &'a [u8],
@@ -197,7 +200,8 @@ pub fn look_up<'a>(
 }
 
 // LISTING
-// The present keys, rising, into the lent words as far as these reach, and how many there are. The record stays as it is.
+// The present keys, rising, into the lent words as far as these reach, and how many there are. The record stays as it
+// is.
 pub fn list_keys(s: &mut Session, image: &[u8], table: &[u64], keys: &mut [u64]) -> Counted
     ensures { λ r. ⌜ KeysListed (now (s .entry)) (now (s .exit)) (now (image .entry)) (now (table .entry)) (now (keys .entry)) (now (keys .exit)) r ⌝ }
 {

@@ -1,4 +1,5 @@
--- The other calls' refusals: an example for each number of document 01's table, what is nearest to it and accepted, and their order.
+-- The other calls' refusals: an example for each number of document 01's table, what is nearest to it and accepted, and
+-- their order.
 -- Assumes nothing.
 use mathlib.Core.Bool.{true, false}
 use mathlib.Core.List.{List, [], _∷_}

@@ -84,7 +84,8 @@ rows =
     ∷ Words (flushed (commit 5)) is Words (67 ∷ 1 ∷ [])
     -- freeing
     ∷ counted (freeOf 1 513) is Words (1 ∷ 1 ∷ 1 ∷ 3 ∷ [])
-    -- staging of values in the log, and in a free chunk: its directory word, the length and 33, 33, 34, 63, 64, 511 words
+    -- staging of values in the log, and in a free chunk: its directory word, the length and 33, 33, 34, 63, 64, 511
+    -- words
     ∷ counted (staging 256) is Words (0 ∷ 0 ∷ 0 ∷ 0 ∷ [])
     ∷ counted (staging 257) is Words (35 ∷ 6 ∷ 0 ∷ 41 ∷ [])
     ∷ counted (staging 264) is Words (35 ∷ 6 ∷ 0 ∷ 41 ∷ [])

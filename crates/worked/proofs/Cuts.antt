@@ -1,4 +1,5 @@
--- Power cuts, computed: what a right program leaves at each step, and what wrong ones leave, document 01's slips among them.
+-- Power cuts, computed: what a right program leaves at each step, and what wrong ones leave, document 01's slips among
+-- them.
 -- Assumes nothing.
 use mathlib.Core.List.{List, [], _∷_, _++_, map}
 use Prim.Native.Nat.{ℕ}
@@ -22,8 +23,8 @@ use Rattle.spec.specs.declared.Report.the-variants as R
 use Rattle.worked.specs.Images.{first, log, blocks, minus}
 use Rattle.worked.specs.Cut.{Seen, Refusal, Holds, Sight, _show_, _shows_, sightHolds, seen, newest, older, byTurns, losing, keepingOnly, after, afterEach}
 
--- An image of four chunks: the directory words of chunks 1 and 2, eight words in the first line of chunk 1, the words behind them
--- up to chunk 2, and the words of chunk 2, with those behind these.
+-- An image of four chunks: the directory words of chunks 1 and 2, eight words in the first line of chunk 1, the words
+-- behind them up to chunk 2, and the words of chunk 2, with those behind these.
 abbrev image : ℕ → ℕ → List ℕ → ℕ → List ℕ → ℕ → List ℕ
 image one two line behind words rest =
     1 ∷ 4 ∷ 0 ∷ 0 ∷ 0 ∷ 0 ∷ 0 ∷ minus 5 ∷ 0 ∷ one ∷ two ∷ 0 ∷ (replicate 500 0 ++ (line ++ (replicate 504 behind ++ (words ++ replicate rest 3))))
@@ -72,7 +73,8 @@ cleaning c ws = actionsOf (planClean basePower 4 ws (entriesIn basePower 4 ws) [
 abbrev droppingDeletes : List Action
 droppingDeletes = appendOf basePower 1 (log 1) 1 (encodeAll (entry 1 0 1 1 9 (33 ∷ []) ∷ [])) ++ freeOf 2 (log 1)
 
--- BLOCKS: put 7, version 1, in the block at unit 32; a commit of version 2 in the log; another value stored in that block
+-- BLOCKS: put 7, version 1, in the block at unit 32; a commit of version 2 in the log; another value stored in that
+-- block
 abbrev inBlock : List ℕ
 inBlock = image (log 1) (blocks 2) (first 1 1 1 32 ∷ 7 ∷ 0 ∷ 0 ∷ 0 ∷ 0 ∷ 0 ∷ 0 ∷ []) 3 (257 ∷ replicate 33 1) 990
 
@@ -98,12 +100,13 @@ rows =
     -- the end is reported after the last fence: whatever the cut, what opens is what the book says
     ∷ inBook shows new
     ∷ after commit older (over 3) keys shows new
-    -- SLIP: the last fence is left out; the end is reported before the directory word is stored; the entries' line is not flushed
+    -- SLIP: the last fence is left out; the end is reported before the directory word is stored; the entries' line is
+    -- not flushed
     ∷ after (take 12 commit) older (over 3) keys shows old
     ∷ after (take 10 commit) newest (over 3) keys shows old
     ∷ after (take 8 commit ++ drop 9 commit) older (over 3) keys shows Refusal 4
-    -- SLIP: the directory word is stored before the entries are fenced. No cut, no harm; else words of an earlier use are read as
-    -- entries: 3 is refused, 17 and 17 are a put of key 17
+    -- SLIP: the directory word is stored before the entries are fenced. No cut, no harm; else words of an earlier use
+    -- are read as entries: 3 is refused, 17 and 17 are a put of key 17
     ∷ after unfenced older (over 3) keys shows new
     ∷ after (take 10 unfenced) (keepingOnly 9) (over 3) keys shows Refusal 4
     ∷ after (take 10 unfenced) (keepingOnly 9) (over 17) (7 ∷ 9 ∷ 17 ∷ []) shows Holds (Value (104 ∷ []) ∷ Absent ∷ Value [] ∷ [])
@@ -114,7 +117,8 @@ rows =
     -- once chunk 1 is freed, the delete may go
     ∷ seen (runWords (cleaning 1 deleted) deleted) keys shows new
     ∷ seen (runWords (cleaning 2 (runWords (cleaning 1 deleted) deleted)) (runWords (cleaning 1 deleted) deleted)) keys shows new
-    -- SLIP: the superseded block is stored to before the new entry's last fence: a cut may show the old entry with the other value
+    -- SLIP: the superseded block is stored to before the new entry's last fence: a cut may show the old entry with the
+    -- other value
     ∷ seen inBlock (7 ∷ []) shows Holds (Value (valueBytes 257 (replicate 33 1)) ∷ [])
     ∷ after (superseding ++ reusing) older inBlock (7 ∷ []) shows Holds (Value (33 ∷ []) ∷ [])
     ∷ after (take 12 superseding ++ reusing) (losing 9) inBlock (7 ∷ []) shows Holds (Value (valueBytes 257 (replicate 33 2)) ∷ [])
@@ -123,7 +127,8 @@ rows =
     ∷ seen (image (log 1) 0 (first 1 0 1 1 ∷ 0 ∷ 104 ∷ 0 ∷ 34 ∷ 0 ∷ 0 ∷ 0 ∷ []) 3 [] 1024) (0 ∷ 34 ∷ []) shows Holds (Absent ∷ Absent ∷ [])
     -- SLIP: a caret or escape in a value altered: all 256 bytes come back
     ∷ seen (runWords (appendOf basePower 1 (log 1) 1 (encodeAll (entry 1 0 1 256 9 (packed (upFrom 0 256)) ∷ []))) (over 3)) (9 ∷ []) shows Holds (Value (upFrom 0 256) ∷ [])
-    -- formatting over a register: the old one until word 0 is fenced, then none; without its first three actions, half of the old one
+    -- formatting over a register: the old one until word 0 is fenced, then none; without its first three actions, half
+    -- of the old one
     ∷ afterEach formatting newest (settledAt deleted) keys show (new ∷ replicate 12 (Refusal 2))
     ∷ afterEach formatting older (settledAt deleted) keys show (replicate 3 new ++ replicate 10 (Refusal 2))
     ∷ after (drop 3 formatting) newest (image (log 1) (log 1) put7 3 (first 1 0 1 1 ∷ 9 ∷ 33 ∷ 0 ∷ 0 ∷ 0 ∷ 0 ∷ 0 ∷ []) 1016) keys shows Holds (Absent ∷ Value (33 ∷ []) ∷ [])

@@ -1,4 +1,5 @@
--- For every clause of an opening's refusals 1 to 7: an image that is refused by it, and its nearest neighbour that is accepted.
+-- For every clause of an opening's refusals 1 to 7: an image that is refused by it, and its nearest neighbour that is
+-- accepted.
 -- Assumes nothing.
 use mathlib.Core.List.{List, [], _∷_}
 use Prim.Native.Nat.{ℕ, _+_}
@@ -14,7 +15,8 @@ use Rattle.spec.specs.Opening.{opening}
 use Rattle.spec.specs.declared.Given.the-variants as G
 use Rattle.worked.specs.Images.{image, Case, caseHolds, refused, refuses, Faults, faultsHold, faults, faulty, lent, with, changed, _becomes_, first, log, blocks, minus}
 
--- the image as it is; in its place the header of an empty register of n chunks (words past the end of a list count as 0)
+-- the image as it is; in its place the header of an empty register of n chunks (words past the end of a list count as
+-- 0)
 abbrev same : List ℕ → List ℕ
 same ws = ws
 
@@ -114,7 +116,8 @@ cases =
     -- 4: a delete with its lowest or its highest bit from 24
     ∷ refuses 4 (521 becomes first 2 0 1 1 ∷ 522 becomes 13 ∷ []) (521 becomes first 2 0 1 0 ∷ 522 becomes 13 ∷ [])
     ∷ refuses 4 (521 becomes first 2 0 1 549755813888 ∷ 522 becomes 13 ∷ []) (521 becomes first 2 0 1 0 ∷ 522 becomes 13 ∷ [])
-    -- 4: the key is past the committed lines, of a put, a put in a block and a delete; the neighbour ends with the lines
+    -- 4: the key is past the committed lines, of a put, a put in a block and a delete; the neighbour ends with the
+    -- lines
     ∷ refuses 4 (559 becomes first 1 0 1 0 ∷ []) (558 becomes first 1 0 1 0 ∷ 559 becomes 13 ∷ [])
     ∷ refuses 4 (1216 becomes 257 ∷ 559 becomes first 1 1 1 38 ∷ []) (1216 becomes 257 ∷ 558 becomes first 1 1 1 38 ∷ 559 becomes 13 ∷ [])
     ∷ refuses 4 (559 becomes first 2 0 1 0 ∷ []) (558 becomes first 2 0 1 0 ∷ 559 becomes 13 ∷ [])
@@ -165,7 +168,8 @@ cases =
     ∷ refuses 6 (521 becomes first 1 0 1 0 ∷ 522 becomes 7 ∷ []) (521 becomes first 1 0 1 0 ∷ 522 becomes 7 ∷ 523 becomes first 2 0 2 0 ∷ 524 becomes 7 ∷ [])
     -- 6: a put in a block and one in the log; the neighbour is a second put in the same block
     ∷ refuses 6 (521 becomes first 1 0 1 256 ∷ 522 becomes 9 ∷ []) (521 becomes first 1 1 1 32 ∷ 522 becomes 9 ∷ [])
-    -- 6: two puts in blocks, of unequal bytes, the first or the last; of unequal lengths; what follows the values may differ
+    -- 6: two puts in blocks, of unequal bytes, the first or the last; of unequal lengths; what follows the values may
+    -- differ
     ∷ refuses 6 (520 becomes 9 ∷ 1121 becomes 2 ∷ []) (520 becomes 9 ∷ [])
     ∷ refuses 6 (520 becomes 9 ∷ 1153 becomes 2 ∷ []) (520 becomes 9 ∷ [])
     ∷ refuses 6 (520 becomes 9 ∷ 1120 becomes 258 ∷ []) (520 becomes 9 ∷ 1154 becomes 4 ∷ [])

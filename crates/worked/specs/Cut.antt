@@ -35,7 +35,8 @@ seenBy (Accepted es) ws keys = Holds (map (contents basePower 4 ws) keys)
 abbrev pub seen : List ℕ → List ℕ → Seen
 seen ws keys = seenBy (opening basePower 16384 ws 64) ws keys
 
--- Which value each word keeps: its newest; the one before; by turns; the newest save for word w; only word w the newest.
+-- Which value each word keeps: its newest; the one before; by turns; the newest save for word w; only word w the
+-- newest.
 abbrev pub newest : ℕ → ℕ
 newest i = 0
 

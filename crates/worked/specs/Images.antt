@@ -41,8 +41,8 @@ minus n = 18446744073709551616 - n
 abbrev pub block : List ℕ
 block = 257 ∷ (replicate 33 1 ++ replicate 62 3)
 
--- Four chunks: chunk 1 log with six lines, chunk 2 data with blocks of three units, chunk 3 free. Words that mean nothing are 3,
--- which is wrong as a directory word and as an entry's first word; those of chunk 3 are 0.
+-- Four chunks: chunk 1 log with six lines, chunk 2 data with blocks of three units, chunk 3 free. Words that mean
+-- nothing are 3, which is wrong as a directory word and as an entry's first word; those of chunk 3 are 0.
 --
 --   word 512 | put 7, version 1, five bytes in the log
 --   word 515 | put 9, version 1, in the block at unit 32: word 1024, 257 bytes

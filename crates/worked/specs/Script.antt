@@ -46,7 +46,8 @@ directory m = getD (m .words) 9 0 ∷ getD (m .words) 10 0 ∷ getD (m .words) 1
 abbrev pub chunks : ℕ
 chunks = 4
 
--- the present keys below 16: key, version, length and placement of each that is in the log, as the program `list` prints them
+-- the present keys below 16: key, version, length and placement of each that is in the log, as the program `list`
+-- prints them
 abbrev pub listedEntry : Option Entry → List ℕ
 listedEntry none = []
 listedEntry (some e) = pick (eqb (e .op) 1) (e .key ∷ e .version ∷ e .field ∷ e .placement ∷ []) []
@@ -55,8 +56,8 @@ abbrev pub listing : List Entry → List ℕ → List ℕ
 listing es [] = []
 listing es (k ∷ ks) = listedEntry (chosen k es) ++ listing es ks
 
--- A line of a script: a call that answers directly; a call that is begun with so many actions, after which the directory is this
--- and the end is reported with this count; what a key has; what is listed.
+-- A line of a script: a call that answers directly; a call that is begun with so many actions, after which the
+-- directory is this and the end is reported with this count; what a key has; what is listed.
 pub data Line : Type 0 where
   Answers : Call → Shown → Line
   Runs : Call → ℕ → List ℕ → ℕ → Line

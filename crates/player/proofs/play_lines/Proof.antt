@@ -1,4 +1,5 @@
--- `player::play_lines` is safe and ends. The measure is what is left of the text: the next line starts behind this one. Assumes nothing.
+-- `player::play_lines` is safe and ends. The measure is what is left of the text: the next line starts behind this one.
+-- Assumes nothing.
 use borrow.Author.Needs.{needs}
 use mathlib.Core.Path.{_≡_}
 use Prim.Native.Nat.{_-_}

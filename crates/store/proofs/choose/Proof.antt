@@ -1,5 +1,6 @@
--- `store::choose` meets its contract: a walk of its MIR, made by walk_read.py. The borrow of the record is looked into, `control` and `setup` copied out, and shut again; all other references are given to `choose_core` for good, and what it returns is the result.
--- All that the proof knows of `choose_core` is that it meets its contract.
+-- `store::choose` meets its contract: a walk of its MIR, made by walk_read.py. The borrow of the record is looked into,
+-- `control` and `setup` copied out, and shut again; all other references are given to `choose_core` for good, and what
+-- it returns is the result. All that the proof knows of `choose_core` is that it meets its contract.
 -- Assumes nothing.
 use Rattle.choosing.specs.Choices.{Choosing}
 use mathlib.Core.Path.{_≡_, refl}

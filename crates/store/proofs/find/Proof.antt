@@ -1,5 +1,6 @@
--- `store::find` meets its contract: a walk of its MIR, made by walk_read.py. The borrow of the record is looked into, `control` and `setup` copied out, and shut again; all other references are given to `recovery::find` for good, and what it returns is the result.
--- All that the proof knows of `recovery::find` is that it meets its contract.
+-- `store::find` meets its contract: a walk of its MIR, made by walk_read.py. The borrow of the record is looked into,
+-- `control` and `setup` copied out, and shut again; all other references are given to `recovery::find` for good, and
+-- what it returns is the result. All that the proof knows of `recovery::find` is that it meets its contract.
 -- Assumes nothing.
 use Rattle.store.specs.Look.{Reported}
 use Rattle.recovery.specs.Look.{Reporting}

@@ -1,5 +1,6 @@
--- `store::list_key` meets its contract: a walk of its MIR, made by walk_read.py. The borrow of the record is looked into, `control` and `setup` copied out, and shut again; all other references are given to `list_key` for good, and what it returns is the result.
--- All that the proof knows of `list_key` is that it meets its contract.
+-- `store::list_key` meets its contract: a walk of its MIR, made by walk_read.py. The borrow of the record is looked
+-- into, `control` and `setup` copied out, and shut again; all other references are given to `list_key` for good, and
+-- what it returns is the result. All that the proof knows of `list_key` is that it meets its contract.
 -- Assumes nothing.
 use Rattle.listing.specs.Contract.{ListingKey}
 use mathlib.Core.Path.{_≡_, refl}

@@ -1,5 +1,7 @@
--- `store::list_keys` meets its contract: a walk of its MIR, made by walk_thin.py. The borrow of the record is opened and its control copied out; the other references are given to `list_core` for good; what it returns is taken apart, the control stored back, and the borrow closed.
--- All that the proof knows of `list_core` is that it meets its contract.
+-- `store::list_keys` meets its contract: a walk of its MIR, made by walk_thin.py. The borrow of the record is opened
+-- and its control copied out; the other references are given to `list_core` for good; what it returns is taken apart,
+-- the control stored back, and the borrow closed. All that the proof knows of `list_core` is that it meets its
+-- contract.
 -- Assumes nothing.
 use mathlib.Core.Path.{_≡_}
 use Rattle.listing.specs.Contract.{ListingKeys}

@@ -1,5 +1,6 @@
--- `store::look_up` meets its contract: a walk of its MIR, made by walk_read.py. The borrow of the record is looked into, `control` and `setup` copied out, and shut again; all other references are given to `look_up_core` for good, and what it returns is the result.
--- All that the proof knows of `look_up_core` is that it meets its contract.
+-- `store::look_up` meets its contract: a walk of its MIR, made by walk_read.py. The borrow of the record is looked
+-- into, `control` and `setup` copied out, and shut again; all other references are given to `look_up_core` for good,
+-- and what it returns is the result. All that the proof knows of `look_up_core` is that it meets its contract.
 -- Assumes nothing.
 use Rattle.store.specs.Look.{Shown}
 use Rattle.recovery.specs.Look.{Showing}

@@ -1,4 +1,6 @@
--- `store::stage_delete` meets its contract: a walk of its MIR, made by walk_thin.py. The borrow of the record is opened and its control copied out; `buffer` is lent where it lies, for a lifetime made for the call; the other references are given to `delete_core` for good; what it returns is taken apart, the control stored back, and the borrow closed.
+-- `store::stage_delete` meets its contract: a walk of its MIR, made by walk_thin.py. The borrow of the record is opened
+-- and its control copied out; `buffer` is lent where it lies, for a lifetime made for the call; the other references
+-- are given to `delete_core` for good; what it returns is taken apart, the control stored back, and the borrow closed.
 -- All that the proof knows of `delete_core` is that it meets its contract.
 -- Assumes nothing.
 use mathlib.Core.Path.{_≡_}

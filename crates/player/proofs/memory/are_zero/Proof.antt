@@ -1,4 +1,5 @@
--- `player::memory::are_zero` meets its contract: the words passed are zero. The measure is what is left of the words. Assumes nothing.
+-- `player::memory::are_zero` meets its contract: the words passed are zero. The measure is what is left of the words.
+-- Assumes nothing.
 use borrow.Author.Needs.{needs}
 use mathlib.Core.Bool.{false≢true}
 use mathlib.Core.Path.{_≡_}

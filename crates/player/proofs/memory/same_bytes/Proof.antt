@@ -1,4 +1,5 @@
--- `player::memory::same_bytes` meets its contract: the bytes passed are equal. The measure is what is left to compare. Assumes nothing.
+-- `player::memory::same_bytes` meets its contract: the bytes passed are equal. The measure is what is left to compare.
+-- Assumes nothing.
 use borrow.Author.Needs.{needs}
 use mathlib.Core.Bool.{false≢true}
 use mathlib.Core.Path.{_≡_}

@@ -1,4 +1,5 @@
--- `player::memory::same_words` meets its contract: the words passed are equal. The measure is what is left to compare. Assumes nothing.
+-- `player::memory::same_words` meets its contract: the words passed are equal. The measure is what is left to compare.
+-- Assumes nothing.
 use borrow.Author.Needs.{needs}
 use mathlib.Core.Bool.{false≢true}
 use mathlib.Core.Path.{_≡_}
