@@ -17,8 +17,11 @@ use Rattle.spec.specs.Directory.{freeChunks}
 use Rattle.spec.specs.Log.{Entry, Parsed, Wrong, Entries}
 use Rattle.spec.specs.Contents.{Held, Absent, Value, highest, tops, chosen, meaning, contentsBy, keysOf, liveBlocks}
 use Rattle.spec.specs.Opening.{Opening, Refused, Accepted, opening}
-use Rattle.spec.specs.Calls.{Call, Step, State, Closed, Rest, Busy, Formatting, Task, Staging, Committing, Cleaning, Plan, Refuse, Begin}
-use Rattle.spec.specs.Calls.{number, numbersOf, answer, next, barred, wordsAfter, mediumAfter, asReport, refusals, stepsLeft, planClean, chosenChunk, lookUp}
+use Rattle.spec.specs.Plans.{Task, Staging, Committing, Cleaning, Plan, Refuse, Begin}
+use Rattle.spec.specs.Machine.{Call, Step, State, Closed, Rest, Busy, Formatting}
+use Rattle.spec.specs.Reports.{number, numbersOf, wordsAfter, mediumAfter, asReport}
+use Rattle.spec.specs.Plans.{planClean, chosenChunk, lookUp}
+use Rattle.spec.specs.Machine.{answer, next, barred, refusals, stepsLeft}
 use Rattle.spec.specs.Book.{Item, Book}
 use Rattle.spec.specs.History.{shows}
 use Rattle.spec.specs.declared.Role.{Role}
@@ -254,8 +257,8 @@ SPEC_NAMES = {
     'Directory': ['logWord', 'dataWord'],
     'Log': ['Entry', 'entriesOf', 'headOf'],
     'Contents': ['Held', 'Absent', 'Value', 'entriesIn'],
-    'Calls': ['Call', 'Format', 'Open', 'Put', 'Delete', 'Commit', 'Abandon', 'LookUp', 'Choose', 'Clean', 'Step', 'State', 'Closed', 'Rest', 'Busy', 'Formatting',
-              'Task', 'Staging', 'Committing', 'Cleaning', 'entry'],
+    'Plans': ['Task', 'Staging', 'Committing', 'Cleaning', 'entry'],
+    'Machine': ['Call', 'Format', 'Open', 'Put', 'Delete', 'Commit', 'Abandon', 'LookUp', 'Choose', 'Clean', 'Step', 'State', 'Closed', 'Rest', 'Busy', 'Formatting'],
     'Book': ['newBook', 'nothing', 'doneItems', 'note', 'noteCut', 'noteOpen'],
     'History': ['shows'],
 }

@@ -10,9 +10,9 @@ use Rattle.spec.specs.Places.{basePower, chunkWords, chunkLines, base, firstLin
 use Rattle.spec.specs.Medium.{Store, Flush, Fence}
 use Rattle.spec.specs.Directory.{logWord}
 use Rattle.spec.specs.Actions.{linesFor, padded}
-use Rattle.spec.specs.Calls.{asReport, runWords}
-use Rattle.spec.specs.declared.Control.{Control}
-use Rattle.spec.specs.declared.Setup.{Setup}
+use Rattle.spec.specs.Reports.{asReport, runWords}
+use Rattle.session.specs.declared.Control.{Control}
+use Rattle.session.specs.declared.Setup.{Setup}
 use Rattle.spec.specs.declared.Report.the-variants as R
 use Rattle.session.specs.State.{bufferPart, batchRoom, batchWords, chunkIn, linesIn, commitActions}
 use Rattle.session.proofs.Part.{length-part, part-word, staged-length}

@@ -9,9 +9,9 @@ use Rattle.spec.specs.Places.{basePower, chunkBytes, maxChunks, chunksIn}
 use Rattle.spec.specs.Medium.{Action, Store, Flush, Fence}
 use Rattle.spec.specs.Header.{headerMap, headerTail, headerWords}
 use Rattle.spec.specs.Actions.{writes, flushes, firstWordOf, fillOf, blankOf, formatOf}
-use Rattle.spec.specs.Calls.{asReport}
+use Rattle.spec.specs.Reports.{asReport}
 use Rattle.spec.specs.declared.Given.{Given}
-use Rattle.spec.specs.declared.Setup.{Setup}
+use Rattle.session.specs.declared.Setup.{Setup}
 use Rattle.spec.specs.declared.Report.{Report}
 use Rattle.spec.specs.declared.Report.the-variants as R
 use Rattle.codec.specs.Headers.{header-words}

@@ -10,7 +10,8 @@ use lib.ListN.{length, getD, drop, List·getD-append, drop-of-length-le}
 use lib.Seq.{drop-cons, getD-append-add}
 use Rattle.spec.specs.Medium.{Action, Store, Flush, Fence}
 use Rattle.spec.specs.Actions.{writes, flushes}
-use Rattle.spec.specs.Calls.{asReport, wordsAfter, runWords, nextReport}
+use Rattle.spec.specs.Reports.{asReport, wordsAfter, runWords}
+use Rattle.spec.specs.Machine.{nextReport}
 use Rattle.spec.specs.declared.Report.{Report}
 use Rattle.spec.specs.declared.Report.the-variants as R
 use Rattle.acts.specs.Nth.{nth, nthReport}

@@ -7,9 +7,9 @@ use Rattle.spec.specs.Places.{basePower, chunksIn}
 use Rattle.spec.specs.Header.{headerWords}
 use Rattle.spec.specs.Medium.{Action, Fence}
 use Rattle.spec.specs.Actions.{linesFor}
-use Rattle.spec.specs.Calls.{asReport}
+use Rattle.spec.specs.Reports.{asReport}
 use Rattle.spec.specs.declared.Report.{Report}
-use Rattle.spec.specs.declared.Setup.{Setup}
+use Rattle.session.specs.declared.Setup.{Setup}
 use Rattle.session.specs.State.{batchRoom, givenBy}
 
 -- the action number i, counted from 0, and its report; past the end a fence

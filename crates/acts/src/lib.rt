@@ -6,10 +6,10 @@ ghost use Rattle.spec.specs.Actions.{linesFor, padded, firstWordOf};
 ghost use Rattle.spec.specs.Contract.{Changed};
 ghost use Rattle.session.specs.State.{bufferPart, batchRoom, chunkIn, linesIn, commitActions, givenBy, formatActions};
 ghost use Rattle.acts.specs.Nth.{nthReport, commitCount, formatCount, registerWord};
-use spec::Control;
+use session::Control;
 use spec::Given;
 use spec::Report;
-use spec::Setup;
+use session::Setup;
 
 pub fn at_most(x: usize, bound: usize) -> usize
     ensures { λ r. ⌜ r ≡ min x bound ⌝ }

@@ -19,7 +19,8 @@ use Rattle.spec.specs.Blocks.{pointed}
 use Rattle.spec.specs.Contents.{Held, highest, contentsBy, meaning, keysOf, capacity}
 use Rattle.spec.specs.Opening.{Accepted, opening, fine}
 use Rattle.spec.specs.Actions.{linesFor, commitOf, appendOf}
-use Rattle.spec.specs.Calls.{logPlace, asReport, wordsAfter, runWords}
+use Rattle.spec.specs.Reports.{asReport, wordsAfter, runWords}
+use Rattle.spec.specs.Plans.{logPlace}
 use Rattle.theory_medium.proofs.Words as W
 use Rattle.theory_medium.proofs.Places.{lines-least}
 use Rattle.theory_medium.proofs.Through.{through-end}

@@ -14,7 +14,7 @@ use Rattle.spec.specs.Blocks.{blockLimit, blockSize}
 use Rattle.spec.specs.Directory.{isSize}
 use Rattle.spec.specs.Actions.{takeOf, blockOf}
 use Rattle.spec.specs.Opening.{Accepted, opening}
-use Rattle.spec.specs.Calls.{Slot, InData, InFree, Nowhere, Staging, Begin, entry, slotFor, stageLarge}
+use Rattle.spec.specs.Plans.{Slot, InData, InFree, Nowhere, Staging, Begin, entry, slotFor, stageLarge}
 use Rattle.theory_medium.proofs.Sizes.{block-size}
 use Rattle.theory_cuts.specs.Stage.{BlockWords}
 use Rattle.theory_calls.proofs.Large.{block-words}

@@ -21,7 +21,8 @@ use Rattle.spec.specs.Blocks.{pointed}
 use Rattle.spec.specs.Contents.{Held, contentsBy, meaning, keysOf, capacity}
 use Rattle.spec.specs.Opening.{Accepted, opening, fine}
 use Rattle.spec.specs.Actions.{takeOf, blockOf}
-use Rattle.spec.specs.Calls.{entry, InData, InFree, slotFor, hasSpace, asReport, wordsAfter, runWords}
+use Rattle.spec.specs.Reports.{asReport, wordsAfter, runWords}
+use Rattle.spec.specs.Plans.{entry, InData, InFree, slotFor, hasSpace}
 use Rattle.theory_medium.proofs.Words as W
 use Rattle.theory_medium.proofs.Through.{through-end}
 use Rattle.theory_medium.proofs.Places.{units-least, unit-at}

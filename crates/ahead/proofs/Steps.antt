@@ -10,10 +10,11 @@ use Rattle.spec.specs.Places.{basePower, chunksIn}
 use Rattle.spec.specs.Medium.{Action}
 use Rattle.spec.specs.Log.{Entry, encodeAll}
 use Rattle.spec.specs.Contents.{capacity}
-use Rattle.spec.specs.Calls.{maxItems, wordsAfter, runWords}
-use Rattle.spec.specs.declared.Control.{Control}
-use Rattle.spec.specs.declared.Setup.{Setup}
-use Rattle.spec.specs.declared.Session.{Session}
+use Rattle.spec.specs.Reports.{wordsAfter, runWords}
+use Rattle.spec.specs.Plans.{maxItems}
+use Rattle.session.specs.declared.Control.{Control}
+use Rattle.session.specs.declared.Setup.{Setup}
+use Rattle.session.specs.declared.Session.{Session}
 use Rattle.theory_log.specs.Batch.{AllRight}
 use Rattle.theory_log.specs.Contents.{CountsOn}
 use Rattle.bits.specs.Bits.{hasBit}

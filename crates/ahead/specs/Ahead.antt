@@ -10,9 +10,10 @@ use Rattle.spec.specs.Medium.{Action}
 use Rattle.spec.specs.Log.{Entry, encodeAll}
 use Rattle.spec.specs.Contents.{capacity}
 use Rattle.spec.specs.Opening.{Accepted, opening}
-use Rattle.spec.specs.Calls.{maxItems, runWords}
-use Rattle.spec.specs.declared.Control.{Control}
-use Rattle.spec.specs.declared.Session.{Session}
+use Rattle.spec.specs.Reports.{runWords}
+use Rattle.spec.specs.Plans.{maxItems}
+use Rattle.session.specs.declared.Control.{Control}
+use Rattle.session.specs.declared.Session.{Session}
 use Rattle.theory_log.specs.Batch.{AllRight}
 use Rattle.theory_log.specs.Contents.{CountsOn}
 use Rattle.session.specs.State.{batchRoom, batchWords}

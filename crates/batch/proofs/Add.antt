@@ -9,7 +9,7 @@ use lib.ListN.{length, getD, set, take}
 use lib.Seq.{take-all}
 use Rattle.spec.specs.Basics.{both}
 use Rattle.spec.specs.Log.{Entry, headOf, encode, encodeAll}
-use Rattle.spec.specs.Calls.{entry}
+use Rattle.spec.specs.Plans.{entry}
 use Rattle.theory_log.specs.Batch.{Kind, put, block, delete}
 use Rattle.codec.specs.Firsts.{headWord}
 use Rattle.words.specs.Overlay.{overlay, length-overlay, getD-overlay-outside}

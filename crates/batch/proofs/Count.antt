@@ -12,7 +12,7 @@ use Rattle.spec.specs.Basics.{pick, either, isIn, distinct}
 use Rattle.spec.specs.Medium.{Mem}
 use Rattle.spec.specs.Log.{Entry}
 use Rattle.spec.specs.Contents.{known, capacity}
-use Rattle.spec.specs.Calls.{fitsKeys}
+use Rattle.spec.specs.Plans.{fitsKeys}
 use Rattle.theory_medium.proofs.Lists.{number-l, number-r, number-cases, distinct-is, distinct-old, distinct-new, distinct-equal}
 use Rattle.theory_log.proofs.Keys.{keys-known}
 use Rattle.session.specs.Fits.{keyList}

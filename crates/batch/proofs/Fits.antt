@@ -14,8 +14,8 @@ use Rattle.spec.specs.Basics.{both}
 use Rattle.spec.specs.Log.{Entry, encodeAll}
 use Rattle.spec.specs.Blocks.{pointed}
 use Rattle.spec.specs.Contents.{highest}
-use Rattle.spec.specs.Calls.{maxItems, fitsBatch}
-use Rattle.spec.specs.declared.Control.{Control}
+use Rattle.spec.specs.Plans.{maxItems, fitsBatch}
+use Rattle.session.specs.declared.Control.{Control}
 use Rattle.theory_medium.proofs.Lists.{not-both}
 use Rattle.theory_log.specs.Batch.{Kind, put, block, delete, Right}
 use Rattle.theory_log.specs.Contents.{Mem, CountsOn}

@@ -7,7 +7,7 @@ use Prim.Native.Nat.{ℕ, _+_}
 use lib.ListN.{length}
 use Rattle.spec.specs.Log.{Entry, Entries, Parsed, parse, encodeAll, moved, placed}
 use Rattle.spec.specs.Contents.{listed}
-use Rattle.spec.specs.declared.Control.{Control}
+use Rattle.session.specs.declared.Control.{Control}
 use Rattle.theory_log.specs.Batch.{Right, AllRight}
 use Rattle.theory_log.specs.Contents.{Mem}
 use Rattle.theory_log.proofs.Contents.{mem-cases}

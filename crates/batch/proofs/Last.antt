@@ -12,7 +12,7 @@ use borrow.Author.Tests.{eqb-true}
 use Rattle.spec.specs.Basics.{pick, either, isSome, isIn}
 use Rattle.spec.specs.Log.{Entry}
 use Rattle.spec.specs.Contents.{highest, chosen}
-use Rattle.spec.specs.Calls.{isPut, present}
+use Rattle.spec.specs.Plans.{isPut, present}
 use Rattle.theory_medium.proofs.Lists.{not-both}
 use Rattle.theory_log.specs.Contents.{CountsOn}
 use Rattle.theory_log.specs.Fold.{foldE}

@@ -7,7 +7,7 @@ use Prim.Native.Nat.{ℕ, _+_, min}
 use lib.Dec.{eqb}
 use Rattle.spec.specs.Basics.{pick, all}
 use Rattle.spec.specs.Log.{Entry, wordsFor, encodeAll}
-use Rattle.spec.specs.Calls.{isDelete}
+use Rattle.spec.specs.Plans.{isDelete}
 use Rattle.spec.specs.declared.FirstWord.{FirstWord}
 use Rattle.spec.specs.declared.FirstWord.the-variants as F
 use Rattle.theory_log.specs.Batch.{AllRight}

@@ -4,7 +4,7 @@ ghost use Prim.Native.Nat.{_+_, _^_, _<_, _≤_, min};
 ghost use lib.ListN.{getD};
 ghost use Rattle.spec.specs.Words.{packed};
 ghost use Rattle.spec.specs.Log.{firstOf};
-ghost use Rattle.spec.specs.Calls.{entry};
+ghost use Rattle.spec.specs.Plans.{entry};
 ghost use Rattle.session.specs.State.{batchRoom};
 ghost use Rattle.batch.specs.Items.{itemBy, laterOf, LastStaged, OnlyDeletes};
 ghost use Rattle.batch.specs.Added.{Added};

@@ -15,10 +15,10 @@ use Rattle.spec.specs.Places.{basePower, chunkUnits, firstUnit, unitWord, lineO
 use Rattle.spec.specs.Medium.{Action, Store, Flush, Fence}
 use Rattle.spec.specs.Directory.{dataWord}
 use Rattle.spec.specs.Actions.{writes, flushes, linesFor, takeOf, blockOf}
-use Rattle.spec.specs.Calls.{asReport}
+use Rattle.spec.specs.Reports.{asReport}
 use Rattle.spec.specs.declared.Report.{Report}
 use Rattle.spec.specs.declared.Report.the-variants as R
-use Rattle.spec.specs.declared.Setup.{Setup}
+use Rattle.session.specs.declared.Setup.{Setup}
 use Rattle.session.specs.State.{bufferPart, chunkIn}
 use Rattle.session.proofs.Part.{length-part, part-word}
 use Rattle.theory_cuts.proofs.Cells.{length-writes, length-flushes}

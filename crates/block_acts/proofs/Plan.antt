@@ -10,7 +10,7 @@ use Rattle.spec.specs.Words.{packed}
 use Rattle.spec.specs.Places.{basePower, chunkUnits, firstUnit, unitChunk, unitIn}
 use Rattle.spec.specs.Medium.{Action}
 use Rattle.spec.specs.Actions.{takeOf, blockOf}
-use Rattle.spec.specs.declared.Setup.{Setup}
+use Rattle.session.specs.declared.Setup.{Setup}
 use Rattle.session.specs.State.{chunkIn, heldWords, unitOf, blockActions}
 
 module _ (k : Setup) (b v : List ℕ) (held : heldWords b ≡ length v ∷ packed v) where

@@ -7,7 +7,7 @@ use lib.ListN.{length, set, replicate}
 use Rattle.spec.specs.Places.{chunkUnits, firstUnit}
 use Rattle.spec.specs.Medium.{Store, Flush, Fence}
 use Rattle.spec.specs.Actions.{blockOf}
-use Rattle.spec.specs.declared.Setup.{Setup}
+use Rattle.session.specs.declared.Setup.{Setup}
 use Rattle.acts.specs.Nth.{nth}
 use Rattle.session.specs.State.{heldWords, unitOf, blockActions, noSource}
 

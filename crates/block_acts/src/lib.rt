@@ -11,7 +11,7 @@ use acts::at_most;
 use bits::buffer_length;
 use codec::Unit;
 use spec::Report;
-use spec::Setup;
+use session::Setup;
 use words::pack_into;
 
 // THE VALUE

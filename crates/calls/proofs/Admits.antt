@@ -11,8 +11,8 @@ use borrow.Author.Tests.{leb-true, ltb-true, le-leb, lt-leb, lt-ltb, le-ltb}
 use Rattle.spec.specs.Basics.{pick, both, negate}
 use Rattle.spec.specs.Log.{Entry}
 use Rattle.spec.specs.Contents.{highest, capacity}
-use Rattle.spec.specs.Calls.{Plan, Refuse, need, nextVersion, fitsBatch, fitsKeys, maxItems, maxVersion}
-use Rattle.spec.specs.declared.Control.{Control}
+use Rattle.spec.specs.Plans.{Plan, Refuse, need, nextVersion, fitsBatch, fitsKeys, maxItems, maxVersion}
+use Rattle.session.specs.declared.Control.{Control}
 use Rattle.spec.specs.declared.Refusal.{Refusal}
 use Rattle.spec.specs.declared.Refusal.the-variants as N
 use Rattle.theory_medium.proofs.Lists.{both-l, both-r}

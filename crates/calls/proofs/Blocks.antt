@@ -16,11 +16,12 @@ use Rattle.spec.specs.Medium.{Action}
 use Rattle.spec.specs.Log.{Entry, encodeAll}
 use Rattle.spec.specs.Blocks.{blockLimit, blockSize}
 use Rattle.spec.specs.Contents.{highest, capacity, entriesIn}
-use Rattle.spec.specs.Calls.{Put, Staging, Busy, Plan, Begin, Refuse, entry, maxItems, itemsOf, slotFor, stageLarge, planPut, stepsLeft, next}
-use Rattle.spec.specs.Contract.{StagesIn, Called}
-use Rattle.spec.specs.declared.Control.{Control}
-use Rattle.spec.specs.declared.Setup.{Setup}
-use Rattle.spec.specs.declared.Session.{Session}
+use Rattle.spec.specs.Plans.{Staging, Plan, Begin, Refuse, entry, maxItems, slotFor, stageLarge, planPut}
+use Rattle.spec.specs.Machine.{Put, Busy, itemsOf, stepsLeft, next}
+use Rattle.spec.specs.Contract.{StagesIn}
+use Rattle.session.specs.declared.Control.{Control}
+use Rattle.session.specs.declared.Setup.{Setup}
+use Rattle.session.specs.declared.Session.{Session}
 use Rattle.spec.specs.declared.Refusal.{Refusal}
 use Rattle.spec.specs.declared.Refusal.the-variants as N
 use Rattle.spec.specs.declared.Report.the-variants as R
@@ -47,6 +48,7 @@ use Rattle.calls.specs.declared.Admission.the-variants as A
 use Rattle.calls.specs.Staging.{VersionOf, admitOf}
 use Rattle.calls.proofs.Staging as S
 use Rattle.calls.proofs.Admits.{planBy, Admitting, admitted, turned, fresh-then, plan-admits}
+use Rattle.session.specs.Promise.{Does}
 
 -- the limit as the code asks for it
 pub within : {n : ℕ} → n ≤ 4088 → n ≤ limit
@@ -100,7 +102,7 @@ module _ (c : Control) (k : Setup) (b bytes table : List ℕ) (g : Gated) (asks 
       ∙ ap (λ (h : ℕ). planBy (admitOf c last 2 room) (placing chunks (suc h) f)) (sym (y .version)))
 
   -- 12, 10, 7
-  pub block-refused : (x : Refusal) → a ≡ A.Refused x → Called stateOf Fits 12 limit (Put key v) s s bytes bytes table table (R.Refused x)
+  pub block-refused : (x : Refusal) → a ≡ A.Refused x → Does (Put key v) s s bytes bytes table table (R.Refused x)
   block-refused x e =
       refused 12 limit s bytes table x (Put key v) refl (λ f. f) (λ f. sym (rw (S.opened c k b bytes table g asks passes, block-plan f, sym told ∙ e)))
       (S.barred c k b bytes table g asks passes (R.Refused x)) (inr (inr (inr (inr (turned c last 2 room x (sym told ∙ e)))))) (refl, refl) (inl (x, refl))
@@ -135,7 +137,7 @@ module _ (c : Control) (k : Setup) (b bytes table : List ℕ) (g : Gated) (asks 
         (record { blocks = rests f .fits .built .blocks; staged = fits-staged c b n ws (es f) (items f) (rests f .fits .batch) })
 
     -- 13
-    pub block-nowhere : r .found ≡ false → Called stateOf Fits 12 limit (Put key v) s (record { control = c; setup = k; buffer = after }) bytes bytes table table (R.Refused N.NoSpace)
+    pub block-nowhere : r .found ≡ false → Does (Put key v) s (record { control = c; setup = k; buffer = after }) bytes bytes table table (R.Refused N.NoSpace)
     block-nowhere z =
         rw (staged .nothing z .0)
         (refused 12 limit s bytes table N.NoSpace (Put key v) refl (λ f. f) (λ f. sym (rw (S.opened c k b bytes table g asks passes, plan-is f, none-found f)))
@@ -229,7 +231,7 @@ module _ (c : Control) (k : Setup) (b bytes table : List ℕ) (g : Gated) (asks 
                   in-room written (omega arith) (omega arith) right (counts-more (es f) (items f) item (q .batch .counts) h) keys (rw l at o)),
             )
 
-      pub block-begun : Called stateOf Fits 12 limit (Put key v) s s′ bytes bytes table table (R.Begun (r .count))
+      pub block-begun : Does (Put key v) s s′ bytes bytes table table (R.Begun (r .count))
       unfolding next
       block-begun = record {
         exact = λ f. record {

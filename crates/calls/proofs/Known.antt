@@ -13,7 +13,7 @@ use borrow.Author.Tests.{eq-eqb, ne-eqb}
 use Rattle.spec.specs.Basics.{negate}
 use Rattle.spec.specs.Log.{Entry, Entries, firstOf, imageEntries}
 use Rattle.spec.specs.Contents.{highest, chosen, known}
-use Rattle.spec.specs.Calls.{isPut, present}
+use Rattle.spec.specs.Plans.{isPut, present}
 use Rattle.spec.specs.declared.FirstWord.{FirstWord}
 use Rattle.theory_log.specs.Contents.{CountsOn}
 use Rattle.theory_log.proofs.Contents.{versionOf, chosen-best, highest-best, chosen-is}

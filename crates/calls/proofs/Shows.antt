@@ -17,12 +17,11 @@ use Rattle.spec.specs.Header.{headerMap}
 use Rattle.spec.specs.Medium.{Action}
 use Rattle.spec.specs.Actions.{formatOf}
 use Rattle.spec.specs.Log.{Entry}
-use Rattle.spec.specs.Calls.{Rest, Call, Format, Abandon, Formatting, gate, refusedBy, isUnfinished, isOpen, answer, next}
-use Rattle.spec.specs.Contract.{Called}
-use Rattle.spec.specs.declared.Control.{Control}
-use Rattle.spec.specs.declared.Setup.{Setup}
-use Rattle.spec.specs.declared.Source.{Source}
-use Rattle.spec.specs.declared.Session.{Session}
+use Rattle.spec.specs.Machine.{Rest, Call, Format, Abandon, Formatting, gate, refusedBy, isUnfinished, isOpen, answer, next}
+use Rattle.session.specs.declared.Control.{Control}
+use Rattle.session.specs.declared.Setup.{Setup}
+use Rattle.session.specs.declared.Source.{Source}
+use Rattle.session.specs.declared.Session.{Session}
 use Rattle.spec.specs.declared.Given.{Given}
 use Rattle.spec.specs.declared.Given.the-variants as H
 use Rattle.spec.specs.declared.Refusal.{Refusal}
@@ -40,6 +39,7 @@ use Rattle.recovery.specs.declared.Gated.the-variants as G
 use Rattle.recovery.specs.Asks.{gateOf, Asking}
 use Rattle.recovery.proofs.Gates.{refused, Gating, turned-down, AtRest, at-rest, Passed, gate-passed}
 use Rattle.calls.specs.Begun.{numberIn, unfinishedAt, formattingAt}
+use Rattle.session.specs.Promise.{Does}
 
 module _ (c : Control) (k : Setup) (b bytes table : List ℕ) where
   abbrev s : Session
@@ -48,7 +48,7 @@ module _ (c : Control) (k : Setup) (b bytes table : List ℕ) where
   -- ## The gate
 
   module _ (g : Gated) (asks : Asking c k (length bytes) (length table) g) where
-    pub at-gate : (call : Call) → Gating call → (n : Refusal) → g ≡ G.Refused n → Called stateOf Fits 12 limit call s s bytes bytes table table (R.Refused n)
+    pub at-gate : (call : Call) → Gating call → (n : Refusal) → g ≡ G.Refused n → Does call s s bytes bytes table table (R.Refused n)
     at-gate call t n e = turned-down 12 limit s bytes table n (asks .asked b ∙ ap gateOf e) call t
 
     module _ (passes : g ≡ G.Open) where
@@ -75,7 +75,7 @@ module _ (c : Control) (k : Setup) (b bytes table : List ℕ) where
       filled [] h = absurd (h refl)
       filled (e ∷ es) h = refl
 
-      pub abandon-none : c .items ≡ 0 → Called stateOf Fits 12 limit Abandon s s bytes bytes table table (R.Refused N.NothingStaged)
+      pub abandon-none : c .items ≡ 0 → Does Abandon s s bytes bytes table table (R.Refused N.NothingStaged)
       abandon-none h = refused 12 limit s bytes table N.NothingStaged Abandon refl (λ f. f) answered (passed (R.Refused N.NothingStaged)) (inr (inr (inr (inl refl)))) (refl, refl) (inl (N.NothingStaged, refl))
         where
           answered : Fits s (wordsOf bytes) table → R.Refused N.NothingStaged ≡ answer 12 limit Abandon (stateOf s) (wordsOf bytes) (length bytes) (length table)
@@ -104,7 +104,7 @@ module _ (c : Control) (k : Setup) (b bytes table : List ℕ) where
             hint = f .hint;
           }
 
-      pub abandon-done : (c .items ≡ 0 → ⊥) → Called stateOf Fits 12 limit Abandon s bare bytes bytes table table R.Abandoned
+      pub abandon-done : (c .items ≡ 0 → ⊥) → Does Abandon s bare bytes bytes table table R.Abandoned
       unfolding stateAt batchItems batchWords next
       abandon-done h = record {
         exact = λ f.
@@ -180,18 +180,18 @@ module _ (c : Control) (k : Setup) (b bytes table : List ℕ) where
         go true = rw (told station centre .0, told station centre .1)
         go false = rw (told station centre .0, told station centre .1)
 
-    pub format-length : lengthAllowed 12 (length bytes) ≡ false → Called stateOf Fits 12 limit (Format station centre) s s bytes bytes table table (R.Refused N.ImageLength)
+    pub format-length : lengthAllowed 12 (length bytes) ≡ false → Does (Format station centre) s s bytes bytes table table (R.Refused N.ImageLength)
     unfolding next
     format-length h = refused 12 limit s bytes table N.ImageLength (Format station centre) refl (λ f q. absurd (not-both true refl q)) (λ f. rw h)
         (λ r q. absurd (let z : _≡_ {A = ℕ} 0 1 = cc in omega arith)) (inl refl) (refl, refl) (rw h, rw h)
 
-    pub format-unfinished : lengthAllowed 12 (length bytes) ≡ true → unfinishedAt (c .phase) ≡ true → Called stateOf Fits 12 limit (Format station centre) s s bytes bytes table table (R.Refused N.Unfinished)
+    pub format-unfinished : lengthAllowed 12 (length bytes) ≡ true → unfinishedAt (c .phase) ≡ true → Does (Format station centre) s s bytes bytes table table (R.Refused N.Unfinished)
     unfolding stateAt next
     format-unfinished h u = refused 12 limit s bytes table N.Unfinished (Format station centre) refl (λ f q. absurd (not-both true refl q)) (λ f. rw (h, unfinished-by (c .phase), u))
         (λ r q. absurd (let z : _≡_ {A = ℕ} 0 1 = cc in omega arith)) (inr (inl refl)) (refl, refl) (rw (h, unfinished-by (c .phase), u), rw (h, unfinished-by (c .phase), u))
 
     begins : lengthAllowed 12 (length bytes) ≡ true → unfinishedAt (c .phase) ≡ false
-        → Called stateOf Fits 12 limit (Format station centre) s formatting bytes bytes table table (R.Begun 582)
+        → Does (Format station centre) s formatting bytes bytes table table (R.Begun 582)
     unfolding stateAt next
     begins h u = record {
       exact = λ proper. record {
@@ -211,7 +211,7 @@ module _ (c : Control) (k : Setup) (b bytes table : List ℕ) where
 
     pub format-begun : (phase fields x y : ℕ) (f : Source) → phase ≡ formattingAt (c .phase) → fields ≡ headerMap station centre → x ≡ numberIn station → y ≡ numberIn centre → f ≡ noSource
         → lengthAllowed 12 (length bytes) ≡ true → unfinishedAt (c .phase) ≡ false
-        → Called stateOf Fits 12 limit (Format station centre) s
+        → Does (Format station centre) s
         (record {
           control = record { phase = phase; next = 0; items = 0; words = 0; keys = 0; fresh = 0 };
           setup = record { image = length bytes; table = length table; chunk = 0; old = 0; lines = 0; first = 0; least = 0; fields = fields; station = x; centre = y; source = f };

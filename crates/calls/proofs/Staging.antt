@@ -16,11 +16,12 @@ use Rattle.spec.specs.Medium.{Action}
 use Rattle.spec.specs.Log.{Entry, Entries, filled, maxInLog, imageEntries}
 use Rattle.spec.specs.Blocks.{blockLimit}
 use Rattle.spec.specs.Contents.{highest, capacity, entriesIn}
-use Rattle.spec.specs.Calls.{Call, Put, Delete, Staging, Busy, Begin, entry, maxVersion, itemsOf, planPut, planDelete, stepsLeft, gate, refusedBy, answer, next}
-use Rattle.spec.specs.Contract.{StagesIn, Anyway, Again, Ready, Barred, Called}
-use Rattle.spec.specs.declared.Control.{Control}
-use Rattle.spec.specs.declared.Setup.{Setup}
-use Rattle.spec.specs.declared.Session.{Session}
+use Rattle.spec.specs.Plans.{Staging, Begin, entry, maxVersion, planPut, planDelete}
+use Rattle.spec.specs.Machine.{Call, Put, Delete, Busy, itemsOf, stepsLeft, gate, refusedBy, answer, next}
+use Rattle.spec.specs.Contract.{StagesIn, Anyway, Again, Ready, Barred}
+use Rattle.session.specs.declared.Control.{Control}
+use Rattle.session.specs.declared.Setup.{Setup}
+use Rattle.session.specs.declared.Session.{Session}
 use Rattle.spec.specs.declared.Refusal.{Refusal}
 use Rattle.spec.specs.declared.Refusal.the-variants as N
 use Rattle.spec.specs.declared.Report.{Report}
@@ -52,6 +53,8 @@ use Rattle.calls.specs.Staging.{NewestOf, VersionOf, presentBy, admitOf,
 use Rattle.calls.proofs.Shows as Shows
 use Rattle.calls.proofs.Known.{Numbered, Says, newest-says, version-says}
 use Rattle.calls.proofs.Admits.{planBy, Admitting, admitted, turned, fresh-then, plan-admits}
+use Rattle.session.specs.Promise.{Does}
+use Rattle.session.specs.Fits.{Proper}
 
 -- ## The new entries are right
 
@@ -78,8 +81,8 @@ module _ (c : Control) (k : Setup) (b bytes table : List ℕ) where
   room = capacity (length table)
 
   -- a refusal that is answered leaves the record
-  pub left : (call : Call) (n : Refusal) (r : Staged) → r ≡ refusedWith c n → Called stateOf Fits 12 limit call s s bytes bytes table table (R.Refused n)
-      → Called stateOf Fits 12 limit call s (record { control = r .control; setup = k; buffer = b }) bytes bytes table table (r .report)
+  pub left : (call : Call) (n : Refusal) (r : Staged) → r ≡ refusedWith c n → Does call s s bytes bytes table table (R.Refused n)
+      → Does call s (record { control = r .control; setup = k; buffer = b }) bytes bytes table table (r .report)
   left call n r e h = rw e h
 
   module _ (g : Gated) (asks : Asking c k (length bytes) (length table) g) (passes : g ≡ G.Open) where
@@ -121,7 +124,7 @@ module _ (c : Control) (k : Setup) (b bytes table : List ℕ) where
 
     -- ## Too long
 
-    pub put-long : (key : ℕ) (v : List ℕ) → limit < length v → Called stateOf Fits 12 limit (Put key v) s s bytes bytes table table (R.Refused N.TooLong)
+    pub put-long : (key : ℕ) (v : List ℕ) → limit < length v → Does (Put key v) s s bytes bytes table table (R.Refused N.TooLong)
     unfolding planPut
     put-long key v l =
         refused 12 limit s bytes table N.TooLong (Put key v) refl (λ f. f) (λ f. sym (rw (opened, lt-leb (length v) limit l)))
@@ -196,12 +199,12 @@ module _ (c : Control) (k : Setup) (b bytes table : List ℕ) where
               )
 
         -- the call, by what it answers and leaves
-        staged : (call : Call) → (Ready stateOf Fits 12 limit call s ws table → Fits s ws table) → ((Fit : Type 0) → Fit → Again call (R.Begun 0) Fit) → Barred stateOf Fits 12 limit call s bytes table (R.Begun 0)
+        staged : (call : Call) → (Ready Proper stateOf Fits 12 limit call s ws table → Fits s ws table) → ((Fit : Type 0) → Fit → Again call (R.Begun 0) Fit) → Barred Proper stateOf Fits 12 limit call s bytes table (R.Begun 0)
             → Right e → e .placement ≡ 0 → e .at ≡ 0 → e .version ≡ suc last → e .key ≡ key
             → ((f : Fits s ws table) → (answer 12 limit call (stateOf s) ws (length bytes) (length table) ≡ R.Begun 0)
             × (next 12 limit call (stateOf s) ws (length bytes) (length table) ≡ Busy (k .image) (k .table) (items f ++ (e ∷ [])) Staging []))
             → Anyway 12 limit call (stateOf s) (stateOf s′) ws (length bytes) (length table) (R.Begun 0)
-            → Called stateOf Fits 12 limit call s s′ bytes bytes table table (R.Begun 0)
+            → Does call s s′ bytes bytes table table (R.Begun 0)
         staged call ready again bars right in-log at-zero version of-key goes any = record {
           exact = λ r. let f = ready r in record {
             answered = sym (goes f .0);
@@ -236,14 +239,14 @@ module _ (c : Control) (k : Setup) (b bytes table : List ℕ) where
             ∙ ap (λ (h : ℕ). planBy (admitOf c last need-words room) (Begin (items f ++ (entry 1 0 (suc h) (length v) key (packed v) ∷ [])) Staging [])) (sym (y .version)))
 
         module _ (l : length v ≤ 256) (a : Admission) (told : a ≡ admitOf c last need-words room) where
-          pub put-refused : (x : Refusal) → a ≡ A.Refused x → Called stateOf Fits 12 limit (Put key v) s s bytes bytes table table (R.Refused x)
+          pub put-refused : (x : Refusal) → a ≡ A.Refused x → Does (Put key v) s s bytes bytes table table (R.Refused x)
           put-refused x e =
               refused 12 limit s bytes table x (Put key v) refl (λ f. f) (λ f. sym (rw (opened, put-plan l f, sym told ∙ e)))
               (barred (R.Refused x)) (inr (inr (inr (inr (turned c last need-words room x (sym told ∙ e)))))) (refl, refl) (inl (x, refl))
 
           pub put-done : (small : AreBytes v) (fresh : ℕ) → a ≡ A.Admitted fresh → (after : List ℕ) (words : ℕ)
               → Added b after (c .words) words (entry 1 0 (last + 1) (length v) key (packed v)) → (r : Staged) → r ≡ oneMore c words fresh
-              → Called stateOf Fits 12 limit (Put key v) s (record { control = r .control; setup = k; buffer = after }) bytes bytes table table (r .report)
+              → Does (Put key v) s (record { control = r .control; setup = k; buffer = after }) bytes bytes table table (r .report)
           unfolding next
           put-done small fresh e after words added r is-r = rw is-r
               (staged item fresh adm after words added (Put key v) (λ f. f) (λ Fit f. f) (barred (R.Begun 0)) right refl refl next-is refl
@@ -281,21 +284,21 @@ module _ (c : Control) (k : Setup) (b bytes table : List ℕ) where
           (plan-admits c b (chunksIn 12 (k .image)) ws (es f) (items f) (batch f) key (n .version) 2 (length table) (y .version) (y .old) _
           ∙ ap (λ (h′ : ℕ). planBy (admitOf c (n .version) 2 room) (Begin (items f ++ (entry 2 0 (suc h′) 0 key [] ∷ [])) Staging [])) (sym (y .version)))
 
-      pub delete-absent : presentBy ws n ≡ false → Called stateOf Fits 12 limit (Delete key) s s bytes bytes table table (R.Refused N.KeyAbsent)
+      pub delete-absent : presentBy ws n ≡ false → Does (Delete key) s s bytes bytes table table (R.Refused N.KeyAbsent)
       unfolding planDelete
       delete-absent h =
           refused 12 limit s bytes table N.KeyAbsent (Delete key) refl (λ f. f) (λ f. sym (rw (opened, parsed f, rests f .state, sym (says f key n is .shown) ∙ h)))
           (barred (R.Refused N.KeyAbsent)) (inr (inr (inr (inl refl)))) (refl, refl) (inl (N.KeyAbsent, refl))
 
       module _ (h : presentBy ws n ≡ true) (a : Admission) (told : a ≡ admitOf c (n .version) 2 room) where
-        pub delete-refused : (x : Refusal) → a ≡ A.Refused x → Called stateOf Fits 12 limit (Delete key) s s bytes bytes table table (R.Refused x)
+        pub delete-refused : (x : Refusal) → a ≡ A.Refused x → Does (Delete key) s s bytes bytes table table (R.Refused x)
         delete-refused x e =
             refused 12 limit s bytes table x (Delete key) refl (λ f. f) (λ f. sym (rw (opened, delete-plan h f, sym told ∙ e)))
             (barred (R.Refused x)) (inr (inr (inr (inr (turned c (n .version) 2 room x (sym told ∙ e)))))) (refl, refl) (inl (x, refl))
 
         pub delete-done : (fresh : ℕ) → a ≡ A.Admitted fresh → (after : List ℕ) (words : ℕ)
             → Added b after (c .words) words (entry 2 0 (n .version + 1) 0 key []) → (r : Staged) → r ≡ oneMore c words fresh
-            → Called stateOf Fits 12 limit (Delete key) s (record { control = r .control; setup = k; buffer = after }) bytes bytes table table (r .report)
+            → Does (Delete key) s (record { control = r .control; setup = k; buffer = after }) bytes bytes table table (r .report)
         unfolding next
         delete-done fresh e after words added r is-r = rw is-r
             (staged key (n .version) version-is item fresh adm after words added (Delete key) (λ f. f) (λ Fit f. f) (barred (R.Begun 0)) right refl refl next-is refl

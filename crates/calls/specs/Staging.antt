@@ -8,8 +8,8 @@ use lib.Dec.{eqb, leb, ltb}
 use lib.ListN.{getD}
 use Rattle.spec.specs.Basics.{pick, both}
 use Rattle.spec.specs.Log.{Entry, firstOf}
-use Rattle.spec.specs.Calls.{maxItems, maxVersion}
-use Rattle.spec.specs.declared.Control.{Control}
+use Rattle.spec.specs.Plans.{maxItems, maxVersion}
+use Rattle.session.specs.declared.Control.{Control}
 use Rattle.spec.specs.declared.FirstWord.{FirstWord}
 use Rattle.spec.specs.declared.FirstWord.the-variants as F
 use Rattle.spec.specs.declared.Refusal.{Refusal}

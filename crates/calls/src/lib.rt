@@ -6,19 +6,17 @@ ghost use lib.ListN.{length, getD};
 ghost use Rattle.spec.specs.Words.{wordsOf};
 ghost use Rattle.spec.specs.Header.{bitOf, headerMap};
 ghost use Rattle.spec.specs.Log.{firstOf};
-ghost use Rattle.spec.specs.Calls.{Format, Put, Delete, Abandon};
-ghost use Rattle.spec.specs.Contract.{Called};
-ghost use Rattle.session.specs.State.{stateOf, limit};
-ghost use Rattle.session.specs.Fits.{Fits};
+ghost use Rattle.spec.specs.Machine.{Format, Put, Delete, Abandon};
 ghost use Rattle.calls.specs.Begun.{given, numberIn, unfinishedAt, formattingAt};
 ghost use Rattle.calls.specs.Staging.{NewestOf, VersionOf, putIn, presentBy, newKeys, admitOf, refusedWith, oneMore};
+ghost use Rattle.session.specs.Promise.{Does};
 use recovery::Gated;
-use spec::Control;
+use session::Control;
 use spec::FirstWord;
 use spec::Given;
 use spec::Refusal;
 use spec::Report;
-use spec::Setup;
+use session::Setup;
 
 // The record's small parts after a call, and its report.
 pub struct Moved {
@@ -36,7 +34,7 @@ pub fn abandon_core(
     image: &[u8],
     table: &[u64],
 ) -> Moved
-    ensures { λ r. ⌜ Called stateOf Fits 12 limit Abandon (record { control = control; setup = setup; buffer = now (buffer .entry) }) (record { control = r .control; setup = r .setup; buffer = now (buffer .entry) }) (now (image .entry)) (now (image .entry)) (now (table .entry)) (now (table .entry)) (r .report) ⌝ }
+    ensures { λ r. ⌜ Does Abandon (record { control = control; setup = setup; buffer = now (buffer .entry) }) (record { control = r .control; setup = r .setup; buffer = now (buffer .entry) }) (now (image .entry)) (now (image .entry)) (now (table .entry)) (now (table .entry)) (r .report) ⌝ }
 {
     let g = recovery::gate(control, setup, image.len(), table.len());
     match g {
@@ -125,7 +123,7 @@ pub fn format_core(
     station: Given,
     centre: Given,
 ) -> Moved
-    ensures { λ r. ⌜ Called stateOf Fits 12 limit (Format station centre) (record { control = control; setup = setup; buffer = now (buffer .entry) }) (record { control = r .control; setup = r .setup; buffer = now (buffer .entry) }) (now (image .entry)) (now (image .entry)) (now (table .entry)) (now (table .entry)) (r .report) ⌝ }
+    ensures { λ r. ⌜ Does (Format station centre) (record { control = control; setup = setup; buffer = now (buffer .entry) }) (record { control = r .control; setup = r .setup; buffer = now (buffer .entry) }) (now (image .entry)) (now (image .entry)) (now (table .entry)) (now (table .entry)) (r .report) ⌝ }
 {
     let bytes = image.len();
     let words = table.len();
@@ -195,7 +193,7 @@ pub fn format_told(
     centre_given: bool,
     centre: u64,
 ) -> Moved
-    ensures { λ r. ⌜ Called stateOf Fits 12 limit (Format (given «station_given» station) (given «centre_given» centre)) (record { control = control; setup = setup; buffer = now (buffer .entry) }) (record { control = r .control; setup = r .setup; buffer = now (buffer .entry) }) (now (image .entry)) (now (image .entry)) (now (table .entry)) (now (table .entry)) (r .report) ⌝ }
+    ensures { λ r. ⌜ Does (Format (given «station_given» station) (given «centre_given» centre)) (record { control = control; setup = setup; buffer = now (buffer .entry) }) (record { control = r .control; setup = r .setup; buffer = now (buffer .entry) }) (now (image .entry)) (now (image .entry)) (now (table .entry)) (now (table .entry)) (r .report) ⌝ }
 {
     let a = told(station_given, station);
     let b = told(centre_given, centre);
@@ -373,7 +371,7 @@ fn put_in_log(
     value: &[u8],
 ) -> Staged
     requires { ⌜ length (now value) ≤ 256 ⌝ }
-    ensures { λ r. ⌜ Called stateOf Fits 12 limit (Put key (now (value .entry))) (record { control = control; setup = setup; buffer = now (buffer .entry) }) (record { control = r .control; setup = setup; buffer = now (buffer .exit) }) (now (image .entry)) (now (image .entry)) (now (table .entry)) (now (table .entry)) (r .report) ⌝ }
+    ensures { λ r. ⌜ Does (Put key (now (value .entry))) (record { control = control; setup = setup; buffer = now (buffer .entry) }) (record { control = r .control; setup = setup; buffer = now (buffer .exit) }) (now (image .entry)) (now (image .entry)) (now (table .entry)) (now (table .entry)) (r .report) ⌝ }
 {
     let g = recovery::gate(control, setup, image.len(), table.len());
     match g {
@@ -407,7 +405,7 @@ fn put_in_block(
     value: &[u8],
 ) -> Moved
     requires { ⌜ 256 < length (now value) ⌝ }
-    ensures { λ r. ⌜ Called stateOf Fits 12 limit (Put key (now (value .entry))) (record { control = control; setup = setup; buffer = now (buffer .entry) }) (record { control = r .control; setup = r .setup; buffer = now (buffer .exit) }) (now (image .entry)) (now (image .entry)) (now (table .entry)) (now (table .entry)) (r .report) ⌝ }
+    ensures { λ r. ⌜ Does (Put key (now (value .entry))) (record { control = control; setup = setup; buffer = now (buffer .entry) }) (record { control = r .control; setup = r .setup; buffer = now (buffer .exit) }) (now (image .entry)) (now (image .entry)) (now (table .entry)) (now (table .entry)) (r .report) ⌝ }
 {
     let g = recovery::gate(control, setup, image.len(), table.len());
     match g {
@@ -480,7 +478,7 @@ pub fn put_core(
     key: u64,
     value: &[u8],
 ) -> Moved
-    ensures { λ r. ⌜ Called stateOf Fits 12 limit (Put key (now (value .entry))) (record { control = control; setup = setup; buffer = now (buffer .entry) }) (record { control = r .control; setup = r .setup; buffer = now (buffer .exit) }) (now (image .entry)) (now (image .entry)) (now (table .entry)) (now (table .entry)) (r .report) ⌝ }
+    ensures { λ r. ⌜ Does (Put key (now (value .entry))) (record { control = control; setup = setup; buffer = now (buffer .entry) }) (record { control = r .control; setup = r .setup; buffer = now (buffer .exit) }) (now (image .entry)) (now (image .entry)) (now (table .entry)) (now (table .entry)) (r .report) ⌝ }
 {
     if value.len() <= 256 {
         let staged = put_in_log(control, setup, buffer, image, table, key, value);
@@ -504,7 +502,7 @@ pub fn delete_core(
     table: &[u64],
     key: u64,
 ) -> Staged
-    ensures { λ r. ⌜ Called stateOf Fits 12 limit (Delete key) (record { control = control; setup = setup; buffer = now (buffer .entry) }) (record { control = r .control; setup = setup; buffer = now (buffer .exit) }) (now (image .entry)) (now (image .entry)) (now (table .entry)) (now (table .entry)) (r .report) ⌝ }
+    ensures { λ r. ⌜ Does (Delete key) (record { control = control; setup = setup; buffer = now (buffer .entry) }) (record { control = r .control; setup = setup; buffer = now (buffer .exit) }) (now (image .entry)) (now (image .entry)) (now (table .entry)) (now (table .entry)) (r .report) ⌝ }
 {
     let g = recovery::gate(control, setup, image.len(), table.len());
     match g {

@@ -2,10 +2,13 @@
 -- Assumes nothing.
 use mathlib.Core.Path.{_≡_}
 use mathlib.Core.Bool.{Bool}
+use mathlib.Core.Option.{Option, none, some}
 use Prim.Native.Nat.{ℕ}
 use lib.Dec.{eqb}
+use lib.ListN.{getD}
 use Rattle.spec.specs.Basics.{pick, negate}
-use Rattle.spec.specs.Calls.{number}
+use Rattle.spec.specs.Reports.{number, numbersOf, refusalOf, placeOf}
+use Rattle.spec.specs.declared.Refusal.{Refusal}
 use Rattle.spec.specs.declared.Report.{Report}
 use Rattle.spec.specs.declared.Report.the-variants as R
 use Rattle.listing.specs.declared.Counted.{Counted}
@@ -17,19 +20,22 @@ use Rattle.capi.specs.declared.Answer.{Answer}
 abbrev pub answer : ℕ → ℕ → ℕ → Answer
 answer kind first second = record { kind = kind; first = first; second = second }
 
--- A report's kind and its values; 0 where it has none. A refusal has its number in document 01's table.
+-- A report's kind, and its values as the rules give them (`Reports.numbersOf`), 0 where it has none.
+abbrev pub kindIn : Report → ℕ
+kindIn (R.Refused n) = 0
+kindIn (R.Begun a) = 1
+kindIn (R.Store w v) = 2
+kindIn (R.Flush l) = 3
+kindIn R.Fence = 4
+kindIn (R.End n) = 5
+kindIn R.Idle = 6
+kindIn R.Opened = 7
+kindIn R.Abandoned = 8
+kindIn (R.Chosen c) = 9
+kindIn (R.Part a n) = 10
+
 abbrev pub answerOf : Report → Answer
-answerOf (R.Refused n) = answer 0 (number n) 0
-answerOf (R.Begun a) = answer 1 a 0
-answerOf (R.Store w v) = answer 2 w v
-answerOf (R.Flush l) = answer 3 l 0
-answerOf R.Fence = answer 4 0 0
-answerOf (R.End n) = answer 5 n 0
-answerOf R.Idle = answer 6 0 0
-answerOf R.Opened = answer 7 0 0
-answerOf R.Abandoned = answer 8 0 0
-answerOf (R.Chosen c) = answer 9 c 0
-answerOf (R.Part a n) = answer 10 a n
+answerOf r = answer (kindIn r) (getD (numbersOf r) 0 0) (getD (numbersOf r) 1 0)
 
 -- The numbers are those of a report of which P holds.
 abbrev pub Told : (Report → Type 0) → Answer → Type 0
@@ -40,44 +46,26 @@ abbrev pub isGiven : ℕ → Bool
 isGiven mark = negate (eqb mark 0)
 
 -- A look-up's numbers: 0 or the refusal's number; the first byte and the length of the part, 0 where there is none.
+abbrev pub numberOr : Option Refusal → ℕ
+numberOr none = 0
+numberOr (some n) = number n
+
 abbrev pub numberIn : Report → ℕ
-numberIn (R.Refused n) = number n
-numberIn (R.Begun a) = 0
-numberIn (R.Store w v) = 0
-numberIn (R.Flush l) = 0
-numberIn R.Fence = 0
-numberIn (R.End n) = 0
-numberIn R.Idle = 0
-numberIn R.Opened = 0
-numberIn R.Abandoned = 0
-numberIn (R.Chosen c) = 0
-numberIn (R.Part a n) = 0
+numberIn r = numberOr (refusalOf r)
+
+abbrev pub startOr : Option (ℕ × ℕ) → ℕ
+startOr none = 0
+startOr (some (a, n)) = a
 
 abbrev pub startIn : Report → ℕ
-startIn (R.Refused n) = 0
-startIn (R.Begun a) = 0
-startIn (R.Store w v) = 0
-startIn (R.Flush l) = 0
-startIn R.Fence = 0
-startIn (R.End n) = 0
-startIn R.Idle = 0
-startIn R.Opened = 0
-startIn R.Abandoned = 0
-startIn (R.Chosen c) = 0
-startIn (R.Part a n) = a
+startIn r = startOr (placeOf r)
+
+abbrev pub lengthOr : Option (ℕ × ℕ) → ℕ
+lengthOr none = 0
+lengthOr (some (a, n)) = n
 
 abbrev pub lengthIn : Report → ℕ
-lengthIn (R.Refused n) = 0
-lengthIn (R.Begun a) = 0
-lengthIn (R.Store w v) = 0
-lengthIn (R.Flush l) = 0
-lengthIn R.Fence = 0
-lengthIn (R.End n) = 0
-lengthIn R.Idle = 0
-lengthIn R.Opened = 0
-lengthIn R.Abandoned = 0
-lengthIn (R.Chosen c) = 0
-lengthIn (R.Part a n) = n
+lengthIn r = lengthOr (placeOf r)
 
 abbrev pub ShownBy : Report → ℕ → ℕ → ℕ → Type 0
 ShownBy r number start length = (number ≡ numberIn r) × ((start ≡ startIn r) × (length ≡ lengthIn r))

@@ -6,10 +6,7 @@ ghost use lib.ListN.{length};
 ghost use Rattle.spec.specs.Words.{wordsOf};
 ghost use Rattle.spec.specs.Places.{chunksIn};
 ghost use Rattle.spec.specs.Directory.{freeChunks};
-ghost use Rattle.spec.specs.Calls.{Format, Open, Put, Delete, Commit, Abandon, Clean, Step};
-ghost use Rattle.spec.specs.Contract.{Called};
-ghost use Rattle.session.specs.State.{stateOf, limit};
-ghost use Rattle.session.specs.Fits.{Fits};
+ghost use Rattle.spec.specs.Machine.{Format, Open, Put, Delete, Commit, Abandon, Clean, Step};
 ghost use Rattle.calls.specs.Begun.{given};
 ghost use Rattle.stepping.specs.Inner.{RunsOn};
 ghost use Rattle.store.specs.Look.{Reported};
@@ -17,11 +14,12 @@ ghost use Rattle.store.specs.Choice.{Chosen};
 ghost use Rattle.store.specs.List.{KeysListed, KeyListed};
 ghost use Rattle.stat.specs.Counts.{linesUsed, Known};
 ghost use Rattle.capi.specs.Answers.{answerOf, Told, isGiven, ShownBy, Shown, CountedBy, CountTold, bit, ListedBy, ListTold};
+ghost use Rattle.session.specs.Promise.{Does};
 use listing::Counted;
 use listing::Listed;
 use spec::Refusal;
 use spec::Report;
-use spec::Session;
+use session::Session;
 
 // A report in numbers: its kind, 0 to 10 in the order of `Report`, and its values, 0 where it has none.
 #[repr(C)]
@@ -31,7 +29,7 @@ pub struct Answer {
     pub second: u64,
 }
 
-// The numbers of a report; a refusal has that of document 01's table. Two different reports have different numbers
+// The numbers of a report; a refusal has that of the rules' table. Two different reports have different numbers
 // (proofs/Lossless.antt).
 fn told(report: Report) -> Answer
     ensures { λ r. ⌜ r ≡ answerOf report ⌝ }
@@ -113,7 +111,7 @@ pub extern "C" fn zkv_format(
     centre_given: u64,
     centre: u64,
 ) -> Answer
-    ensures { λ r. ⌜ Told (Called stateOf Fits 12 limit (Format (given (isGiven «station_given») station) (given (isGiven «centre_given») centre)) (now (s .entry)) (now (s .exit)) (now (image .entry)) (now (image .entry)) (now (table .entry)) (now (table .entry))) r ⌝ }
+    ensures { λ r. ⌜ Told (Does (Format (given (isGiven «station_given») station) (given (isGiven «centre_given») centre)) (now (s .entry)) (now (s .exit)) (now (image .entry)) (now (image .entry)) (now (table .entry)) (now (table .entry))) r ⌝ }
 {
     let a = is_given(station_given);
     let b = is_given(centre_given);
@@ -124,7 +122,7 @@ pub extern "C" fn zkv_format(
 // Opens the register of the lent image (`store::open_register`).
 #[no_mangle]
 pub extern "C" fn zkv_open(s: &mut Session, image: &[u8], table: &mut [u64]) -> Answer
-    ensures { λ r. ⌜ Told (Called stateOf Fits 12 limit Open (now (s .entry)) (now (s .exit)) (now (image .entry)) (now (image .entry)) (now (table .entry)) (now (table .exit))) r ⌝ }
+    ensures { λ r. ⌜ Told (Does Open (now (s .entry)) (now (s .exit)) (now (image .entry)) (now (image .entry)) (now (table .entry)) (now (table .exit))) r ⌝ }
 {
     let report = store::open_register(s, image, table);
     told(report)
@@ -139,7 +137,7 @@ pub extern "C" fn zkv_put(
     key: u64,
     value: &[u8],
 ) -> Answer
-    ensures { λ r. ⌜ Told (Called stateOf Fits 12 limit (Put key (now (value .entry))) (now (s .entry)) (now (s .exit)) (now (image .entry)) (now (image .entry)) (now (table .entry)) (now (table .entry))) r ⌝ }
+    ensures { λ r. ⌜ Told (Does (Put key (now (value .entry))) (now (s .entry)) (now (s .exit)) (now (image .entry)) (now (image .entry)) (now (table .entry)) (now (table .entry))) r ⌝ }
 {
     let report = store::stage_put(s, image, table, key, value);
     told(report)
@@ -148,7 +146,7 @@ pub extern "C" fn zkv_put(
 // Begins staging a delete (`store::stage_delete`).
 #[no_mangle]
 pub extern "C" fn zkv_delete(s: &mut Session, image: &[u8], table: &[u64], key: u64) -> Answer
-    ensures { λ r. ⌜ Told (Called stateOf Fits 12 limit (Delete key) (now (s .entry)) (now (s .exit)) (now (image .entry)) (now (image .entry)) (now (table .entry)) (now (table .entry))) r ⌝ }
+    ensures { λ r. ⌜ Told (Does (Delete key) (now (s .entry)) (now (s .exit)) (now (image .entry)) (now (image .entry)) (now (table .entry)) (now (table .entry))) r ⌝ }
 {
     let report = store::stage_delete(s, image, table, key);
     told(report)
@@ -157,7 +155,7 @@ pub extern "C" fn zkv_delete(s: &mut Session, image: &[u8], table: &[u64], key: 
 // Begins the commit of the staged items (`store::commit`).
 #[no_mangle]
 pub extern "C" fn zkv_commit(s: &mut Session, image: &[u8], table: &[u64]) -> Answer
-    ensures { λ r. ⌜ Told (Called stateOf Fits 12 limit Commit (now (s .entry)) (now (s .exit)) (now (image .entry)) (now (image .entry)) (now (table .entry)) (now (table .entry))) r ⌝ }
+    ensures { λ r. ⌜ Told (Does Commit (now (s .entry)) (now (s .exit)) (now (image .entry)) (now (image .entry)) (now (table .entry)) (now (table .entry))) r ⌝ }
 {
     let report = store::commit(s, image, table);
     told(report)
@@ -166,7 +164,7 @@ pub extern "C" fn zkv_commit(s: &mut Session, image: &[u8], table: &[u64]) -> An
 // Forgets the staged items (`store::abandon`).
 #[no_mangle]
 pub extern "C" fn zkv_abandon(s: &mut Session, image: &[u8], table: &[u64]) -> Answer
-    ensures { λ r. ⌜ Told (Called stateOf Fits 12 limit Abandon (now (s .entry)) (now (s .exit)) (now (image .entry)) (now (image .entry)) (now (table .entry)) (now (table .entry))) r ⌝ }
+    ensures { λ r. ⌜ Told (Does Abandon (now (s .entry)) (now (s .exit)) (now (image .entry)) (now (image .entry)) (now (table .entry)) (now (table .entry))) r ⌝ }
 {
     let report = store::abandon(s, image, table);
     told(report)
@@ -184,7 +182,7 @@ pub extern "C" fn zkv_choose(s: &Session, image: &[u8], table: &[u64]) -> Answer
 // Begins the cleaning of a chunk (`store::clean`).
 #[no_mangle]
 pub extern "C" fn zkv_clean(s: &mut Session, image: &[u8], table: &[u64], chunk: usize) -> Answer
-    ensures { λ r. ⌜ Told (Called stateOf Fits 12 limit (Clean chunk) (now (s .entry)) (now (s .exit)) (now (image .entry)) (now (image .entry)) (now (table .entry)) (now (table .entry))) r ⌝ }
+    ensures { λ r. ⌜ Told (Does (Clean chunk) (now (s .entry)) (now (s .exit)) (now (image .entry)) (now (image .entry)) (now (table .entry)) (now (table .entry))) r ⌝ }
 {
     let report = store::clean(s, image, table, chunk);
     told(report)
@@ -193,7 +191,7 @@ pub extern "C" fn zkv_clean(s: &mut Session, image: &[u8], table: &[u64], chunk:
 // STEPS
 // The step in numbers, whatever is begun (`store::step`).
 fn step_whole(s: &mut Session, image: &mut [u8], table: &mut [u64]) -> Answer
-    ensures { λ r. ⌜ Told (Called stateOf Fits 12 limit Step (now (s .entry)) (now (s .exit)) (now (image .entry)) (now (image .exit)) (now (table .entry)) (now (table .exit))) r ⌝ }
+    ensures { λ r. ⌜ Told (Does Step (now (s .entry)) (now (s .exit)) (now (image .entry)) (now (image .exit)) (now (table .entry)) (now (table .exit))) r ⌝ }
 {
     let report = store::step(s, image, table);
     told(report)
@@ -213,7 +211,7 @@ fn same(a: Answer) -> Answer
 // One step of the call that is begun: on the short way where it may be gone (`store::step_inner`), else `store::step`.
 #[no_mangle]
 pub extern "C" fn zkv_step(s: &mut Session, image: &mut [u8], table: &mut [u64]) -> Answer
-    ensures { λ r. ⌜ Told (Called stateOf Fits 12 limit Step (now (s .entry)) (now (s .exit)) (now (image .entry)) (now (image .exit)) (now (table .entry)) (now (table .exit))) r ⌝ }
+    ensures { λ r. ⌜ Told (Does Step (now (s .entry)) (now (s .exit)) (now (image .entry)) (now (image .exit)) (now (table .entry)) (now (table .exit))) r ⌝ }
 {
     let c = s.control;
     let k = s.setup;

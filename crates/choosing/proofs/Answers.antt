@@ -12,11 +12,13 @@ use Rattle.spec.specs.Basics.{both}
 use Rattle.spec.specs.Words.{wordsOf}
 use Rattle.spec.specs.Places.{chunkBytes, chunksIn}
 use Rattle.spec.specs.Log.{Entries, imageEntries}
-use Rattle.spec.specs.Calls.{Choose, State, isRefused, gate, answer, next, chosenOr, chosenChunk}
-use Rattle.spec.specs.Contract.{Changed, Anyway, Outcome, Called}
-use Rattle.spec.specs.declared.Control.{Control}
-use Rattle.spec.specs.declared.Setup.{Setup}
-use Rattle.spec.specs.declared.Session.{Session}
+use Rattle.spec.specs.Reports.{isRefused}
+use Rattle.spec.specs.Plans.{chosenOr, chosenChunk}
+use Rattle.spec.specs.Machine.{Choose, State, gate, answer, next}
+use Rattle.spec.specs.Contract.{Changed, Anyway, Outcome}
+use Rattle.session.specs.declared.Control.{Control}
+use Rattle.session.specs.declared.Setup.{Setup}
+use Rattle.session.specs.declared.Session.{Session}
 use Rattle.spec.specs.declared.Refusal.{Refusal}
 use Rattle.spec.specs.declared.Refusal.the-variants as N
 use Rattle.spec.specs.declared.Report.the-variants as R
@@ -32,6 +34,8 @@ use Rattle.recovery.proofs.Gates.{turned-down, at-rest}
 use Rattle.choosing.specs.declared.Choice.{Choice}
 use Rattle.choosing.specs.declared.Choice.the-variants as C
 use Rattle.choosing.specs.Choices.{choiceOf, InCount, Chooses, reportOf, ChosenIn, Choosing}
+use Rattle.session.specs.Promise.{Does}
+use Rattle.session.specs.Fits.{Proper}
 
 report-or : (o : Option ℕ) → reportOf (choiceOf o) ≡ chosenOr o
 report-or none = refl
@@ -47,7 +51,7 @@ unfolding next
 next-same σ ws bytes words = sym (pick-same (both (isRefused (answer 12 limit Choose σ ws bytes words)) true) σ)
 
 module _ (s : Session) (bytes table : List ℕ) where
-  outcome : (r : Choice) → Outcome stateOf Fits 12 limit Choose s s table table (reportOf r)
+  outcome : (r : Choice) → Outcome Proper stateOf Fits 12 limit Choose s s table table (reportOf r)
   outcome (C.At c) = (refl, refl)
   outcome C.Nothing = (inr (inr (inr (inl refl))), (refl, refl))
 
@@ -60,7 +64,7 @@ module _ (s : Session) (bytes table : List ℕ) where
   unchanged C.Nothing = refl
 
   -- behind the gate
-  found : (r : Choice) → gate (stateOf s) (length bytes) (length table) ≡ none → Chooses (wordsOf bytes) table (chunksIn 12 (length bytes)) r → Called stateOf Fits 12 limit Choose s s bytes bytes table table (reportOf r)
+  found : (r : Choice) → gate (stateOf s) (length bytes) (length table) ≡ none → Chooses (wordsOf bytes) table (chunksIn 12 (length bytes)) r → Does Choose s s bytes bytes table table (reportOf r)
   found r g h = record {
     exact = λ f. record { answered = answered f; became = next-same (stateOf s) (wordsOf bytes) (length bytes) (length table); fits = f };
     first = λ r′ q. absurd (let p : none ≡ some r′ = rw g at q in let z : _≡_ {A = ℕ} 0 1 = cc in omega arith);

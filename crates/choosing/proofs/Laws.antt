@@ -14,7 +14,7 @@ use Rattle.spec.specs.Basics.{both}
 use Rattle.spec.specs.Directory.{linesOf}
 use Rattle.spec.specs.Log.{Entry}
 use Rattle.spec.specs.Actions.{linesFor}
-use Rattle.spec.specs.Calls.{copyWords, worthCleaning, isBetter}
+use Rattle.spec.specs.Plans.{copyWords, worthCleaning, isBetter}
 use Rattle.placing.proofs.Space.{log-lines}
 use Rattle.gathering.specs.declared.Tally.{Tally}
 use Rattle.gathering.specs.Gathering.{Measured}

@@ -10,7 +10,7 @@ use native.Mathlib.Omega.{arith}
 use borrow.Author.Tests.{eq-eqb}
 use Rattle.spec.specs.Basics.{pick}
 use Rattle.spec.specs.Log.{Entry}
-use Rattle.spec.specs.Calls.{worthCleaning, better, best, chosenChunk}
+use Rattle.spec.specs.Plans.{worthCleaning, better, best, chosenChunk}
 use Rattle.theory_cuts.specs.Accepted.{Ok}
 use Rattle.volatile.specs.Known.{Indexed}
 use Rattle.placing.proofs.Search.{taken, taken-start, taken-more}

@@ -12,21 +12,20 @@ use Rattle.spec.specs.Basics.{pick}
 use Rattle.spec.specs.Places.{chunksIn}
 use Rattle.spec.specs.Directory.{linesOf}
 use Rattle.spec.specs.Log.{Entry}
-use Rattle.spec.specs.Calls.{Choose, copyWords, worthCleaning, isBetter, better, chosenChunk}
-use Rattle.spec.specs.Contract.{Called}
-use Rattle.spec.specs.declared.Control.{Control}
-use Rattle.spec.specs.declared.Setup.{Setup}
+use Rattle.spec.specs.Plans.{copyWords, worthCleaning, isBetter, better, chosenChunk}
+use Rattle.spec.specs.Machine.{Choose}
+use Rattle.session.specs.declared.Control.{Control}
+use Rattle.session.specs.declared.Setup.{Setup}
 use Rattle.spec.specs.declared.Refusal.the-variants as N
 use Rattle.spec.specs.declared.Report.{Report}
 use Rattle.spec.specs.declared.Report.the-variants as R
 use Rattle.theory_cuts.specs.Accepted.{Ok}
 use Rattle.volatile.specs.Known.{Indexed}
-use Rattle.session.specs.State.{stateOf, limit}
-use Rattle.session.specs.Fits.{Fits}
 use Rattle.recovery.specs.Look.{sessionOf}
 use Rattle.choosing.specs.declared.Candidate.{Candidate}
 use Rattle.choosing.specs.declared.Choice.{Choice}
 use Rattle.choosing.specs.declared.Choice.the-variants as C
+use Rattle.session.specs.Promise.{Does}
 
 -- ONE CHUNK: what is said of it is so of an image with these words and entries
 pub record Describes (ws : List ℕ) (es : List Entry) (x : Candidate) : Type 0 where
@@ -88,7 +87,7 @@ ChosenIn n (R.Chosen c) = (1 ≤ c) × (c < n)
 ChosenIn n (R.Part a m) = ⊥
 
 abbrev pub ChosenBy : Control → Setup → (bytes table : List ℕ) → Report → Type 0
-ChosenBy c k bytes table r = (b : List ℕ) → Called stateOf Fits 12 limit Choose (sessionOf c k b) (sessionOf c k b) bytes bytes table table r
+ChosenBy c k bytes table r = (b : List ℕ) → Does Choose (sessionOf c k b) (sessionOf c k b) bytes bytes table table r
 
 pub record Choosing (c : Control) (k : Setup) (bytes table : List ℕ) (r : Report) : Type 0 where
   pub called : ChosenBy c k bytes table r

@@ -6,10 +6,10 @@ ghost use Rattle.spec.specs.Actions.{linesFor};
 ghost use Rattle.choosing.specs.Choices.{Weighed, Worth, Compared, Bettered, Chooses, Choosing};
 use log::lines_of;
 use recovery::Gated;
-use spec::Control;
+use session::Control;
 use spec::Refusal;
 use spec::Report;
-use spec::Setup;
+use session::Setup;
 
 // The chunk that was chosen, or none.
 pub enum Choice {

@@ -15,8 +15,8 @@ use Rattle.spec.specs.Places.{basePower, chunkWords, chunkLines, base, firstLin
 use Rattle.spec.specs.Medium.{Action, Store, Flush, Fence}
 use Rattle.spec.specs.Directory.{logWord, freedWord}
 use Rattle.spec.specs.Actions.{linesFor, padded, freeOf}
-use Rattle.spec.specs.Calls.{asReport}
-use Rattle.spec.specs.declared.Setup.{Setup}
+use Rattle.spec.specs.Reports.{asReport}
+use Rattle.session.specs.declared.Setup.{Setup}
 use Rattle.spec.specs.declared.Report.{Report}
 use Rattle.spec.specs.declared.Report.the-variants as R
 use Rattle.session.specs.State.{bufferPart, batchRoom, chunkIn, linesIn, sourceIn, keptWords, appendActions, copyActions, cleanActions}
@@ -25,7 +25,7 @@ use Rattle.theory_cuts.proofs.Append.{append-count}
 use Rattle.acts.specs.Nth.{nth, nthReport, commitCount}
 use Rattle.acts.proofs.Nth.{drop-nth, drop-past, nth-front, nth-back}
 use Rattle.acts.proofs.Append.{padded-word, nth-store, nth-flush, nth-fence, nth-seal, nth-seal-flush, nth-last}
-use Rattle.spec.specs.declared.Source.{Source}
+use Rattle.session.specs.declared.Source.{Source}
 use Rattle.cleaning.specs.Record.{copyCount, cleanCount}
 
 -- THE KEPT WORDS

@@ -13,9 +13,10 @@ use Rattle.spec.specs.Directory.{isLog, roleAt, linesOf}
 use Rattle.spec.specs.Log.{Entry, encodeAll}
 use Rattle.spec.specs.Contents.{keptIn}
 use Rattle.spec.specs.Actions.{linesFor}
-use Rattle.spec.specs.Calls.{logPlace, appendTo, hasLive, free, runWords}
-use Rattle.spec.specs.declared.Control.{Control}
-use Rattle.spec.specs.declared.Setup.{Setup}
+use Rattle.spec.specs.Reports.{runWords}
+use Rattle.spec.specs.Plans.{logPlace, appendTo, hasLive, free}
+use Rattle.session.specs.declared.Control.{Control}
+use Rattle.session.specs.declared.Setup.{Setup}
 use Rattle.theory_cuts.specs.Accepted.{Ok}
 use Rattle.theory_cuts.proofs.Opening.{opens-ok}
 use Rattle.theory_cuts.proofs.Append.{padding}
@@ -26,7 +27,7 @@ use Rattle.session.proofs.Part.{chunk-in, lines-in}
 use Rattle.acts.specs.Nth.{nth}
 use Rattle.leaving.proofs.Fence.{lines-few, cleaned, stands-here, stands-copied}
 use Rattle.gathering.specs.Gathering.{AreaWritten}
-use Rattle.spec.specs.declared.Source.{Source}
+use Rattle.session.specs.declared.Source.{Source}
 use Rattle.cleaning.specs.Ahead.{Ahead}
 use Rattle.cleaning.specs.Record.{cleaning, copyingTo, sourceOf}
 use Rattle.cleaning.proofs.Forward.{lo, hi, below-ahead, place-small, clean-forward, clean-forward-none, clean-forward-data}

@@ -20,7 +20,8 @@ use Rattle.spec.specs.Opening.{Accepted, opening}
 use Rattle.spec.specs.Actions.{linesFor, padded, commitOf, appendOf, freeOf}
 use Rattle.spec.specs.declared.Role.{Role}
 use Rattle.spec.specs.declared.Role.the-variants as R
-use Rattle.spec.specs.Calls.{logPlace, hasSpace, hasLive, asReport, wordsAfter, runWords}
+use Rattle.spec.specs.Reports.{asReport, wordsAfter, runWords}
+use Rattle.spec.specs.Plans.{logPlace, hasSpace, hasLive}
 use Rattle.theory_medium.proofs.Words as W
 use Rattle.theory_log.proofs.Directory.{lines-is, size-is}
 use Rattle.theory_log.proofs.Walk.{slice-long}

@@ -10,9 +10,9 @@ use Rattle.spec.specs.Medium.{Action}
 use Rattle.spec.specs.Log.{Entry}
 use Rattle.spec.specs.Contents.{capacity}
 use Rattle.spec.specs.Actions.{linesFor}
-use Rattle.spec.specs.Calls.{asReport, wordsAfter}
-use Rattle.spec.specs.declared.Control.{Control}
-use Rattle.spec.specs.declared.Setup.{Setup}
+use Rattle.spec.specs.Reports.{asReport, wordsAfter}
+use Rattle.session.specs.declared.Control.{Control}
+use Rattle.session.specs.declared.Setup.{Setup}
 use Rattle.theory_cuts.specs.Accepted.{Ok}
 use Rattle.theory_cuts.proofs.Opening.{opens-ok}
 use Rattle.session.specs.State.{batchWords}
@@ -21,7 +21,7 @@ use Rattle.session.proofs.Kept.{none-fit, emptied}
 use Rattle.session.specs.Cleaned.{after}
 use Rattle.leaving.specs.Passes.{Emptied, Emptying, Holds}
 use Rattle.leaving.proofs.Fence.{long-enough, opened-log}
-use Rattle.spec.specs.declared.Source.{Source}
+use Rattle.session.specs.declared.Source.{Source}
 use Rattle.cleaning.specs.Ends.{Ends}
 use Rattle.cleaning.proofs.Forward.{lo, hi, action-length}
 

@@ -5,9 +5,9 @@ use mathlib.Core.List.{List}
 use Prim.Native.Nat.{ℕ, _+_, _*_, _/_, _≤_, min}
 use lib.ListN.{length}
 use Rattle.spec.specs.Actions.{linesFor}
-use Rattle.spec.specs.declared.Setup.{Setup}
+use Rattle.session.specs.declared.Setup.{Setup}
 use Rattle.session.specs.State.{batchRoom, chunkIn, linesIn, sourceIn, sourceLines}
-use Rattle.spec.specs.declared.Source.{Source}
+use Rattle.session.specs.declared.Source.{Source}
 
 -- where the code finds the chunk's words and their copies
 pub record Ends (k : Setup) (f : Source) (at end from until : ℕ) : Type 0 where

@@ -9,10 +9,10 @@ use Rattle.spec.specs.Basics.{pick}
 use Rattle.spec.specs.Places.{directoryWord}
 use Rattle.spec.specs.Directory.{linesOf}
 use Rattle.spec.specs.Actions.{linesFor}
-use Rattle.spec.specs.declared.Control.{Control}
-use Rattle.spec.specs.declared.Setup.{Setup}
+use Rattle.session.specs.declared.Control.{Control}
+use Rattle.session.specs.declared.Setup.{Setup}
 use Rattle.session.specs.State.{batchRoom}
-use Rattle.spec.specs.declared.Source.{Source}
+use Rattle.session.specs.declared.Source.{Source}
 
 -- how many they are
 abbrev pub copyCount : ℕ → ℕ

@@ -7,8 +7,8 @@ ghost use Rattle.acts.specs.Nth.{nthReport};
 ghost use Rattle.session.specs.State.{sourceIn, keptWords, appendActions, cleanActions};
 ghost use Rattle.cleaning.specs.Record.{copyCount, cleanCount};
 use spec::Report;
-use spec::Setup;
-use spec::Source;
+use session::Setup;
+use session::Source;
 
 // How many actions copy so many words: none where there are none.
 pub fn copy_count(words: usize) -> usize

@@ -12,11 +12,12 @@ use Rattle.spec.specs.Places.{chunksIn}
 use Rattle.spec.specs.Medium.{Action}
 use Rattle.spec.specs.Log.{Entry}
 use Rattle.spec.specs.Contents.{listed, entriesIn}
-use Rattle.spec.specs.Calls.{Clean, Cleaning, State, Rest, Busy, Begin, Refuse, gate, refusedBy, itemsOf, planned, planClean, next}
-use Rattle.spec.specs.Contract.{Exact, Called}
-use Rattle.spec.specs.declared.Control.{Control}
-use Rattle.spec.specs.declared.Setup.{Setup}
-use Rattle.spec.specs.declared.Session.{Session}
+use Rattle.spec.specs.Plans.{Cleaning, Begin, Refuse, planned, planClean}
+use Rattle.spec.specs.Machine.{Clean, State, Rest, Busy, gate, refusedBy, itemsOf, next}
+use Rattle.spec.specs.Contract.{Exact}
+use Rattle.session.specs.declared.Control.{Control}
+use Rattle.session.specs.declared.Setup.{Setup}
+use Rattle.session.specs.declared.Session.{Session}
 use Rattle.spec.specs.declared.Refusal.{Refusal}
 use Rattle.spec.specs.declared.Report.{Report}
 use Rattle.spec.specs.declared.Report.the-variants as R
@@ -32,6 +33,8 @@ use Rattle.cleaning.specs.Record.{cleaning}
 use Rattle.cleaning.proofs.Forward.{lo, hi}
 use Rattle.planning.proofs.Begun.{Begun}
 use Rattle.cleaning_begin.specs.Outsets.{Turned, Set, Outsets}
+use Rattle.session.specs.Promise.{Does}
+use Rattle.session.specs.Fits.{Proper}
 
 -- the record at the begin, read as a state
 begun-state : (c : Control) (k : Setup) (b : List ℕ) → stateAt (cleaning c) k b ≡ Busy (k .image) (k .table) [] (Cleaning (k .source .entries)) (cleanActions k (k .source) b)
@@ -48,7 +51,7 @@ module _ (c : Control) (k : Setup) (b bytes table : List ℕ) (s : ℕ) (g : Gat
   abbrev n : ℕ
   n = chunksIn 12 (length bytes)
 
-  pub gate-refuses : (x : Refusal) → g ≡ G.Refused x → Called stateOf Fits 12 limit (Clean s) m m bytes bytes table table (R.Refused x)
+  pub gate-refuses : (x : Refusal) → g ≡ G.Refused x → Does (Clean s) m m bytes bytes table table (R.Refused x)
   gate-refuses x e = Gates.turned-down 12 limit m bytes table x (asks .asked b ∙ ap gateOf e) (Clean s) tt
 
   module _ (e : g ≡ G.Open) where
@@ -74,7 +77,7 @@ module _ (c : Control) (k : Setup) (b bytes table : List ℕ) (s : ℕ) (g : Gat
         ∙ ap (λ (es : List Entry). planClean 12 n ws es (rests q .items) s) (own-entries q)
         ∙ ap (λ (x : ℕ). planClean 12 (chunksIn 12 x) ws (rests q .fits .entries) (rests q .items) s) (sym (rests q .same-bytes))
 
-    turned : (c′ : Control) (k′ : Setup) (b′ : List ℕ) (r : Report) → Turned c c′ k k′ b b′ bytes table s r → Called stateOf Fits 12 limit (Clean s) m (record { control = c′; setup = k′; buffer = b′ }) bytes bytes table table r
+    turned : (c′ : Control) (k′ : Setup) (b′ : List ℕ) (r : Report) → Turned c c′ k k′ b b′ bytes table s r → Does (Clean s) m (record { control = c′; setup = k′; buffer = b′ }) bytes bytes table table r
     turned c′ k′ b′ r t =
         rw (t .report, t .control, t .setup, t .buffer)
         (Gates.refused 12 limit m bytes table (t .number) (Clean s) refl (λ q. q)
@@ -102,7 +105,7 @@ module _ (c : Control) (k : Setup) (b bytes table : List ℕ) (s : ℕ) (g : Gat
         plan : planClean 12 n ws (entriesIn 12 n ws) (itemsOf (stateOf m)) s ≡ Begin [] (Cleaning (k′ .source .entries)) acts
         plan = plan-is q ∙ ap (λ (l : List Entry). planClean 12 (chunksIn 12 (k .image)) ws (rests q .fits .entries) l s) (h .0) ∙ h .1 .plan
 
-        exactly : Exact stateOf Fits 12 limit (Clean s) m m′ bytes bytes table table (R.Begun (t .actions))
+        exactly : Exact Proper stateOf Fits 12 limit (Clean s) m m′ bytes bytes table table (R.Begun (t .actions))
         unfolding next
         exactly = record {
           answered = rw (opened, plan) (ap R.Begun (t .count));
@@ -113,7 +116,7 @@ module _ (c : Control) (k : Setup) (b bytes table : List ℕ) (s : ℕ) (g : Gat
           );
         }
 
-      begun : Called stateOf Fits 12 limit (Clean s) m (record { control = c′; setup = k′; buffer = b′ }) bytes bytes table table r
+      begun : Does (Clean s) m (record { control = c′; setup = k′; buffer = b′ }) bytes bytes table table r
       begun = rw (t .report, t .control) (record {
         exact = λ q. exactly q (t .right (rests q .same-bytes) (rests q .items) (rests q .fits));
         first = passed (R.Begun (t .actions));
@@ -124,6 +127,6 @@ module _ (c : Control) (k : Setup) (b bytes table : List ℕ) (s : ℕ) (g : Gat
       })
 
     pub cleans : (c′ : Control) (k′ : Setup) (b′ : List ℕ) (r : Report) → Outsets c c′ k k′ b b′ bytes table s r
-        → Called stateOf Fits 12 limit (Clean s) m (record { control = c′; setup = k′; buffer = b′ }) bytes bytes table table r
+        → Does (Clean s) m (record { control = c′; setup = k′; buffer = b′ }) bytes bytes table table r
     cleans c′ k′ b′ r (inl t) = turned c′ k′ b′ r t
     cleans c′ k′ b′ r (inr t) = begun c′ k′ b′ r t

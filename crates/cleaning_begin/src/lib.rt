@@ -1,16 +1,14 @@
 // The begin of a cleaning: the gate, its plan, and the kept words gathered where it is not turned down.
 ghost use Rattle.spec.specs.Words.{wordsOf};
-ghost use Rattle.spec.specs.Calls.{Clean};
-ghost use Rattle.spec.specs.Contract.{Called};
-ghost use Rattle.session.specs.State.{stateOf, limit};
-ghost use Rattle.session.specs.Fits.{Fits};
+ghost use Rattle.spec.specs.Machine.{Clean};
 ghost use Rattle.cleaning_begin.specs.Outsets.{KeptGathered, Outsets};
+ghost use Rattle.session.specs.Promise.{Does};
 use planning::CleanPlan;
 use recovery::Gated;
-use spec::Control;
+use session::Control;
 use spec::Report;
-use spec::Setup;
-use spec::Source;
+use session::Setup;
+use session::Source;
 
 // The record's small parts after the begin, and what it reports.
 pub struct Outset {
@@ -97,7 +95,7 @@ pub fn clean_core(
     table: &[u64],
     number: usize,
 ) -> Outset
-    ensures { λ r. ⌜ Called stateOf Fits 12 limit (Clean number) (record { control = control; setup = setup; buffer = now (buffer .entry) }) (record { control = r .control; setup = r .setup; buffer = now (buffer .exit) }) (now (image .entry)) (now (image .entry)) (now (table .entry)) (now (table .entry)) (r .report) ⌝ }
+    ensures { λ r. ⌜ Does (Clean number) (record { control = control; setup = setup; buffer = now (buffer .entry) }) (record { control = r .control; setup = r .setup; buffer = now (buffer .exit) }) (now (image .entry)) (now (image .entry)) (now (table .entry)) (now (table .entry)) (r .report) ⌝ }
 {
     let gated = recovery::gate(control, setup, image.len(), table.len());
     match gated {

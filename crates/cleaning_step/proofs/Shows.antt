@@ -9,10 +9,10 @@ use lib.ListN.{length, drop}
 use Rattle.spec.specs.Words.{wordsOf}
 use Rattle.spec.specs.Medium.{Action}
 use Rattle.spec.specs.Actions.{linesFor}
-use Rattle.spec.specs.Calls.{asReport, wordsAfter}
+use Rattle.spec.specs.Reports.{asReport, wordsAfter}
 use Rattle.spec.specs.Contract.{Changed}
-use Rattle.spec.specs.declared.Control.{Control}
-use Rattle.spec.specs.declared.Setup.{Setup}
+use Rattle.session.specs.declared.Control.{Control}
+use Rattle.session.specs.declared.Setup.{Setup}
 use Rattle.spec.specs.declared.Report.{Report}
 use Rattle.spec.specs.declared.Report.the-variants as R
 use Rattle.session.specs.State.{batchRoom, chunkIn, linesIn, sourceIn, sourceLines, cleanActions}
@@ -20,7 +20,7 @@ use Rattle.session.proofs.Kept.{emptied}
 use Rattle.acts.specs.Nth.{nth, nthReport}
 use Rattle.acts.proofs.Performed.{changed-words}
 use Rattle.leaving.specs.Passes.{Emptying}
-use Rattle.spec.specs.declared.Source.{Source}
+use Rattle.session.specs.declared.Source.{Source}
 use Rattle.cleaning.specs.Record.{cleanCount}
 use Rattle.cleaning.proofs.Acting.{clean-done, clean-next}
 use Rattle.cleaning.proofs.Keeping.{acted, action-kept, last-kept, end-kept}

@@ -7,15 +7,15 @@ use Prim.Native.Nat.{ℕ, _+_, _/_, _≤_, _<_}
 use lib.ListN.{length, drop}
 use Rattle.spec.specs.Words.{wordsOf}
 use Rattle.spec.specs.Contract.{Changed}
-use Rattle.spec.specs.declared.Control.{Control}
-use Rattle.spec.specs.declared.Setup.{Setup}
+use Rattle.session.specs.declared.Control.{Control}
+use Rattle.session.specs.declared.Setup.{Setup}
 use Rattle.spec.specs.declared.Report.{Report}
 use Rattle.spec.specs.declared.Report.the-variants as R
 use Rattle.session.specs.Fits.{RestFits, CleanFits}
 use Rattle.session.proofs.Kept.{emptied}
 use Rattle.acts.specs.Nth.{nthReport}
 use Rattle.leaving.specs.Passes.{Emptying}
-use Rattle.spec.specs.declared.Source.{Source}
+use Rattle.session.specs.declared.Source.{Source}
 use Rattle.session.specs.State.{cleanActions}
 use Rattle.cleaning.specs.Record.{cleanCount}
 use Rattle.cleaning.specs.Ends.{Ends}

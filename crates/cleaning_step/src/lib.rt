@@ -2,10 +2,10 @@
 ghost use Prim.Native.Nat.{_/_};
 ghost use Rattle.spec.specs.Words.{wordsOf};
 ghost use Rattle.cleaning_step.specs.Moves.{ChunkLeft, CleanStepped};
-use spec::Control;
+use session::Control;
 use spec::Report;
-use spec::Setup;
-use spec::Source;
+use session::Setup;
+use session::Source;
 
 // What a step leaves of the record, and what it reports.
 pub struct Moved {

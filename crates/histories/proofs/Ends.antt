@@ -12,9 +12,10 @@ use Rattle.spec.specs.Basics.{both}
 use Rattle.spec.specs.Words.{wordsOf}
 use Rattle.spec.specs.Medium.{Action, Store, Flush, Fence}
 use Rattle.spec.specs.Log.{Entry}
-use Rattle.spec.specs.Calls.{Step, Task, State, Rest, Busy, itemsThen, countOf, asReport, nextReport, stepAnswer, isRefused, next}
+use Rattle.spec.specs.Reports.{asReport, isRefused}
+use Rattle.spec.specs.Plans.{Task}
+use Rattle.spec.specs.Machine.{Step, State, Rest, Busy, itemsThen, countOf, nextReport, stepAnswer, next}
 use Rattle.spec.specs.Contract.{SteppedOn, Ends}
-use Rattle.spec.specs.declared.Session.{Session}
 use Rattle.spec.specs.declared.Report.{Report}
 use Rattle.spec.specs.declared.Report.the-variants as R
 
@@ -31,8 +32,8 @@ module _ (p limit b t : ℕ) (items : List Entry) (task : Task) (ws : List ℕ) 
   moves (Flush l) acts = rw (reports (Flush l ∷ acts))
   moves Fence acts = rw (reports (Fence ∷ acts))
 
-module _ (stateOf : Session → State) (Fits : Session → List ℕ → List ℕ → Type 0) (p limit : ℕ) where
-  pub ends : Ends stateOf Fits p limit
+module _ {S : Type 0} (Proper : S → Type 0) (stateOf : S → State) (Fits : S → List ℕ → List ℕ → Type 0) (p limit : ℕ) where
+  pub ends : Ends Proper stateOf Fits p limit
   ends s b t items task [] [] e w h = absurd (omega arith)
   ends s b t items task [] (r ∷ r′ ∷ rs) e w h = absurd (omega arith)
   ends s b t items task [] (r ∷ []) e (s′, (bytes, (bytes′, (table, (table′, (eb, (et, (c, w)))))))) h =

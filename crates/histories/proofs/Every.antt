@@ -6,21 +6,20 @@ use mathlib.Core.List.{List}
 use native.Mathlib.Omega.{arith}
 use Rattle.spec.specs.Places.{basePower, chunkUnits}
 use Rattle.spec.specs.Blocks.{blockLimit}
-use Rattle.spec.specs.Calls.{State}
+use Rattle.spec.specs.Machine.{State}
 use Rattle.spec.specs.History.{Demand3}
-use Rattle.spec.specs.declared.Session.{Session}
 use Rattle.theory_calls.proofs.Hold.{laws-hold}
 use Rattle.histories.proofs.Theorem.{demand3}
 
-pub every-list : (p : ℕ) → 12 ≤ p → p ≤ 16 → (limit : ℕ) → limit ≤ blockLimit p → (stateOf : Session → State) (Fits : Session → List ℕ → List ℕ → Type 0)
-    → Demand3 stateOf Fits p limit
-every-list p low high limit fits stateOf Fits = demand3 p limit (laws-hold p low high limit fits) stateOf Fits
+pub every-list : (p : ℕ) → 12 ≤ p → p ≤ 16 → (limit : ℕ) → limit ≤ blockLimit p → {S : Type 0} (Proper : S → Type 0) (stateOf : S → State) (Fits : S → List ℕ → List ℕ → Type 0)
+    → Demand3 Proper stateOf Fits p limit
+every-list p low high limit fits Proper stateOf Fits = demand3 p limit (laws-hold p low high limit fits) Proper stateOf Fits
 
 -- at the counter and the centre, whose largest value is 256 bytes
-pub at-the-counter : (stateOf : Session → State) (Fits : Session → List ℕ → List ℕ → Type 0) → Demand3 stateOf Fits basePower 256
+pub at-the-counter : {S : Type 0} (Proper : S → Type 0) (stateOf : S → State) (Fits : S → List ℕ → List ℕ → Type 0) → Demand3 Proper stateOf Fits basePower 256
 unfolding blockLimit chunkUnits
 at-the-counter = every-list basePower (omega arith) (omega arith) 256 (omega arith)
 
 -- at the archive, whose largest value is a block's limit
-pub at-the-archive : (stateOf : Session → State) (Fits : Session → List ℕ → List ℕ → Type 0) → Demand3 stateOf Fits basePower (blockLimit basePower)
+pub at-the-archive : {S : Type 0} (Proper : S → Type 0) (stateOf : S → State) (Fits : S → List ℕ → List ℕ → Type 0) → Demand3 Proper stateOf Fits basePower (blockLimit basePower)
 at-the-archive = every-list basePower (omega arith) (omega arith) (blockLimit basePower) (omega arith)

@@ -19,11 +19,11 @@ use native.Mathlib.Omega.{arith}
 use lib.ListN.{length, set}
 use Rattle.spec.specs.Words.{wordsOf}
 use Rattle.spec.specs.Medium.{Medium, Store, Flush, Fence, latest}
-use Rattle.spec.specs.Calls.{State, mediumAfter, isRefused}
+use Rattle.spec.specs.Reports.{mediumAfter, isRefused}
+use Rattle.spec.specs.Machine.{State}
 use Rattle.spec.specs.Book.{Book, noteOpen}
 use Rattle.spec.specs.Contract.{Changed}
 use Rattle.spec.specs.History.{Lent, World}
-use Rattle.spec.specs.declared.Session.{Session}
 use Rattle.spec.specs.declared.Refusal.{Refusal}
 use Rattle.spec.specs.declared.Report.{Report}
 use Rattle.spec.specs.declared.Report.the-variants as R
@@ -35,13 +35,13 @@ use Rattle.histories.proofs.Kept.{StandsBy, Holds}
 abbrev pub Either : (p bytes least : ℕ) → Book → Medium → Type 0
 Either p bytes least b m = StandsBy p bytes least (noteOpen false b) [] m ⊎ StandsBy p bytes least (noteOpen true b) [] m
 
-module _ (p : ℕ) (stateOf : Session → State) (Fits : Session → List ℕ → List ℕ → Type 0) (bytes : ℕ) where
-  abbrev pub HeldAt : Option Lent → World → Book → Type 0
+module _ (p : ℕ) {S : Type 0} (Proper : S → Type 0) (stateOf : S → State) (Fits : S → List ℕ → List ℕ → Type 0) (bytes : ℕ) where
+  abbrev pub HeldAt : Option (Lent S) → World S → Book → Type 0
   HeldAt none w b = Either p bytes (w .least) b (w .medium)
   HeldAt (some l) w b =
       Fits (l .session) (wordsOf (w .image)) (l .table) × (length (l .table) ≡ w .least) × Holds p bytes (w .least) (w .unfinished) b (stateOf (l .session)) (w .medium)
 
-  pub record Inv (w : World) (b : Book) : Type 0 where
+  pub record Inv (w : World S) (b : Book) : Type 0 where
     pub agrees : wordsOf (w .image) ≡ latest (w .medium)
     pub sized : length (w .image) ≡ bytes
     pub held : HeldAt (w .lent) w b

@@ -25,7 +25,9 @@ use Rattle.spec.specs.Medium.{Medium, Action, Store, Flush, Fence, latest}
 use Rattle.spec.specs.Log.{Entry}
 use Rattle.spec.specs.Blocks.{pointed}
 use Rattle.spec.specs.Contents.{entriesIn, chosen}
-use Rattle.spec.specs.Calls.{Call, Put, Delete, Commit, Abandon, LookUp, Choose, Clean, Step, Task, State, Closed, Rest, Busy, Formatting, Plan, Refuse, Begin, gate, planPut, planDelete, planCommit, planClean, itemsOf, planned, begun, asReport, mediumAfter, gated, chosenOr, chosenChunk, partOf, partOr, lookUp, countOf, itemsThen, isRefused, emptied, answer, next}
+use Rattle.spec.specs.Reports.{asReport, mediumAfter, isRefused}
+use Rattle.spec.specs.Plans.{Task, Plan, Refuse, Begin, planPut, planDelete, planCommit, planClean, planned, chosenOr, chosenChunk, partOf, partOr, lookUp}
+use Rattle.spec.specs.Machine.{Call, Put, Delete, Commit, Abandon, LookUp, Choose, Clean, Step, State, Closed, Rest, Busy, Formatting, gate, itemsOf, begun, gated, countOf, itemsThen, emptied, answer, next}
 use Rattle.spec.specs.Book.{Book, doneBatch, note}
 use Rattle.spec.specs.History.{unfinishedAfter, shows}
 use Rattle.spec.specs.declared.Refusal.{Refusal}

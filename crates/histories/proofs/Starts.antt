@@ -17,11 +17,11 @@ use Rattle.spec.specs.Log.{Entry}
 use Rattle.spec.specs.Contents.{contents}
 use Rattle.spec.specs.Opening.{Opening, Refused, Accepted, opening}
 use Rattle.spec.specs.Actions.{formatOf}
-use Rattle.spec.specs.Calls.{Format, Open, Step, State, Closed, Formatting, asReport, mediumAfter, opened, isUnfinished, isOpen, isRefused, nextReport, stepped, answer, next}
+use Rattle.spec.specs.Reports.{asReport, mediumAfter, isRefused}
+use Rattle.spec.specs.Machine.{Format, Open, Step, State, Closed, Formatting, opened, isUnfinished, isOpen, nextReport, stepped, answer, next}
 use Rattle.spec.specs.Book.{newBook, nothing, isEnd}
-use Rattle.spec.specs.Contract.{Proper, Exact, Called}
+use Rattle.spec.specs.Contract.{Exact, Called}
 use Rattle.spec.specs.History.{World, Stepped, world}
-use Rattle.spec.specs.declared.Session.{Session}
 use Rattle.spec.specs.declared.Given.{Given}
 use Rattle.spec.specs.declared.Refusal.the-variants as N
 use Rattle.spec.specs.declared.Report.{Report}
@@ -35,7 +35,7 @@ use Rattle.histories.proofs.Events as E
 use Rattle.histories.proofs.Invariant as I
 use Rattle.histories.proofs.Invariant.{Inv}
 
-module _ (p limit : ℕ) (laws : Laws p limit) (stateOf : Session → State) (Fits : Session → List ℕ → List ℕ → Type 0) where
+module _ (p limit : ℕ) (laws : Laws p limit) {S : Type 0} (Proper : S → Type 0) (stateOf : S → State) (Fits : S → List ℕ → List ℕ → Type 0) where
   -- FIRST START: steps from a formatting's begin up to a reported end have done all its actions, and nothing else.
   apart : (r r′ : Report) → r ≡ r′ → isEnd r ≡ true → isEnd r′ ≡ false → ⊥
   apart r r′ e x y = I.false-true (sym y ∙ ap isEnd (sym e) ∙ x)
@@ -57,8 +57,8 @@ module _ (p limit : ℕ) (laws : Laws p limit) (stateOf : Session → State) (Fi
   next-end (Flush l) = refl
   next-end Fence = refl
 
-  format-step : (o : Bool) (acts : List Action) (s s₁ : Session) (image image₁ table table₁ : List ℕ) (r : Report) (l t : ℕ)
-      → stateOf s ≡ Formatting o l t acts → l ≡ length image → t ≡ length table → Fits s (wordsOf image) table → Called stateOf Fits p limit Step s s₁ image image₁ table table₁ r
+  format-step : (o : Bool) (acts : List Action) (s s₁ : S) (image image₁ table table₁ : List ℕ) (r : Report) (l t : ℕ)
+      → stateOf s ≡ Formatting o l t acts → l ≡ length image → t ≡ length table → Fits s (wordsOf image) table → Called Proper stateOf Fits p limit Step s s₁ image image₁ table table₁ r
       → (r ≡ nextReport 0 acts) × (stateOf s₁ ≡ stepped (Formatting o l t acts))
   unfolding next
   format-step o acts s s₁ image image₁ table table₁ r l t e x y f c = (
@@ -67,16 +67,16 @@ module _ (p limit : ℕ) (laws : Laws p limit) (stateOf : Session → State) (Fi
   )
 
   -- a record with no register open reports no end
-  closed-walk : (rs : List Report) (n : ℕ) (m m′ : Medium) (s s′ : Session) (image image′ table table′ : List ℕ) → stateOf s ≡ Closed → Fits s (wordsOf image) table
-      → Stepped stateOf Fits p limit (rs ++ (R.End n ∷ [])) m s image table m′ s′ image′ table′ → ⊥
+  closed-walk : (rs : List Report) (n : ℕ) (m m′ : Medium) (s s′ : S) (image image′ table table′ : List ℕ) → stateOf s ≡ Closed → Fits s (wordsOf image) table
+      → Stepped Proper stateOf Fits p limit (rs ++ (R.End n ∷ [])) m s image table m′ s′ image′ table′ → ⊥
   unfolding next
   closed-walk [] n m m′ s s′ image image′ table table′ e f (s₁, (image₁, (table₁, (c, rest)))) = apart (R.End n) R.Idle (c .exact f .answered ∙ rw e) refl refl
   closed-walk (r ∷ rs) n m m′ s s′ image image′ table table′ e f (s₁, (image₁, (table₁, (c, rest)))) =
       closed-walk rs n (mediumAfter r m) m′ s₁ s′ image₁ image′ table₁ table′ (c .exact f .became ∙ rw e) (c .exact f .fits) rest
 
-  format-walk : (A : Medium → Type 0) (l t : ℕ) (o : Bool) (acts : List Action) (rs : List Report) (n : ℕ) (m m′ : Medium) (s s′ : Session) (image image′ table table′ : List ℕ)
+  format-walk : (A : Medium → Type 0) (l t : ℕ) (o : Bool) (acts : List Action) (rs : List Report) (n : ℕ) (m m′ : Medium) (s s′ : S) (image image′ table table′ : List ℕ)
       → stateOf s ≡ Formatting o l t acts → l ≡ length image → t ≡ length table → Fits s (wordsOf image) table → wordsOf image ≡ latest m → Through Anything A acts m
-      → Stepped stateOf Fits p limit (rs ++ (R.End n ∷ [])) m s image table m′ s′ image′ table′ → A m′ × (wordsOf image′ ≡ latest m′) × (length image′ ≡ l)
+      → Stepped Proper stateOf Fits p limit (rs ++ (R.End n ∷ [])) m s image table m′ s′ image′ table′ → A m′ × (wordsOf image′ ≡ latest m′) × (length image′ ≡ l)
   format-walk A l t o [] [] n m m′ s s′ image image′ table table′ e x y f g h (s₁, (image₁, (table₁, (c, rest)))) =
       let q = I.image-follows (R.End n) m image image₁ (c .image) g in
       rw (rest .0, rest .1 .1 .0) (h, q .0, q .1 ∙ sym x)
@@ -104,14 +104,14 @@ module _ (p limit : ℕ) (laws : Laws p limit) (stateOf : Session → State) (Fi
       go true false e f = (refl, f)
       go false busy e f = absurd (I.false-true (ap isRefused e))
 
-  pub format-start : (m m′ : Medium) (s s₀ s′ : Session) (image image′ table table₀ table′ : List ℕ) (station centre : Given) (a n : ℕ) (rs : List Report)
-      → wordsOf image ≡ latest m → Proper s → Called stateOf Fits p limit (Format station centre) s s₀ image image table table₀ (R.Begun a)
-      → Stepped stateOf Fits p limit (rs ++ (R.End n ∷ [])) m s₀ image table₀ m′ s′ image′ table′
-      → (length image ≡ 8 * base p (chunksIn p (length image))) × Inv p stateOf Fits (length image) (world stateOf Fits p limit m′ image′ none 0) (newBook nothing)
+  pub format-start : (m m′ : Medium) (s s₀ s′ : S) (image image′ table table₀ table′ : List ℕ) (station centre : Given) (a n : ℕ) (rs : List Report)
+      → wordsOf image ≡ latest m → Proper s → Called Proper stateOf Fits p limit (Format station centre) s s₀ image image table table₀ (R.Begun a)
+      → Stepped Proper stateOf Fits p limit (rs ++ (R.End n ∷ [])) m s₀ image table₀ m′ s′ image′ table′
+      → (length image ≡ 8 * base p (chunksIn p (length image))) × Inv p Proper stateOf Fits (length image) (world Proper stateOf Fits p limit m′ image′ none 0) (newBook nothing)
   format-start m m′ s s₀ s′ image image′ table table₀ table′ station centre a n rs agrees proper c steps =
       (made .1, record { agrees = walked .1; sized = walked .2; held = inl (walked .0) })
     where
-      x : Exact stateOf Fits p limit (Format station centre) s s₀ image image table table₀ (R.Begun a)
+      x : Exact Proper stateOf Fits p limit (Format station centre) s s₀ image image table table₀ (R.Begun a)
       x = c .exact proper
 
       started : (lengthAllowed p (length image) ≡ true) × (stateOf s₀ ≡ Formatting (isOpen (stateOf s)) (length image) (length table) (formatOf (chunksIn p (length image)) station centre))
@@ -132,18 +132,18 @@ module _ (p limit : ℕ) (laws : Laws p limit) (stateOf : Session → State) (Fi
   opened-accepts (Refused n) e = absurd (I.false-true (ap isRefused e))
   opened-accepts (Accepted es) e = (es, refl)
 
-  pub opening-start : (s s′ : Session) (image table table′ : List ℕ) → Proper s → Called stateOf Fits p limit Open s s′ image image table table′ R.Opened
+  pub opening-start : (s s′ : S) (image table table′ : List ℕ) → Proper s → Called Proper stateOf Fits p limit Open s s′ image image table table′ R.Opened
       → (length image ≡ 8 * base p (chunksIn p (length image)))
-      × Inv p stateOf Fits (length image) (world stateOf Fits p limit (settledAt (wordsOf image)) image (some (record { session = s′; table = table′ })) (length table′))
+      × Inv p Proper stateOf Fits (length image) (world Proper stateOf Fits p limit (settledAt (wordsOf image)) image (some (record { session = s′; table = table′ })) (length table′))
       (newBook (contents p (chunksIn p (length image)) (wordsOf image)))
   opening-start s s′ image table table′ proper c = (
     stands .1,
-    E.opened p limit laws stateOf Fits (length image) (stands .1) before (newBook (contents p (chunksIn p (length image)) (wordsOf image))) false s s′ image table table′ R.Opened
+    E.opened p limit laws Proper stateOf Fits (length image) (stands .1) before (newBook (contents p (chunksIn p (length image)) (wordsOf image))) false s s′ image table table′ R.Opened
         (sym (W.latest-settled (wordsOf image))) refl (stands .0) (le-refl (length table)) proper c .1,
   )
     where
-      before : World
-      before = world stateOf Fits p limit (settledAt (wordsOf image)) image none (length table)
+      before : World S
+      before = world Proper stateOf Fits p limit (settledAt (wordsOf image)) image none (length table)
 
       found : (es : List Entry) × (opening p (length image) (wordsOf image) (length table) ≡ Accepted es)
       found = opened-accepts (opening p (length image) (wordsOf image) (length table)) (c .exact proper .answered)

@@ -16,8 +16,8 @@ use Rattle.spec.specs.Log.{Entry, Entries, imageEntries, encodeAll, moved, plac
 use Rattle.spec.specs.Blocks.{pointed}
 use Rattle.spec.specs.Contents.{highest, keysOf, capacity}
 use Rattle.spec.specs.Opening.{fine}
-use Rattle.spec.specs.declared.Control.{Control}
-use Rattle.spec.specs.declared.Setup.{Setup}
+use Rattle.session.specs.declared.Control.{Control}
+use Rattle.session.specs.declared.Setup.{Setup}
 use Rattle.theory_log.specs.Batch.{AllRight}
 use Rattle.theory_log.specs.Contents.{Mem, Top, CountsOn}
 use Rattle.theory_log.proofs.Contents.{larger-r, below-highest, counts-same, highest-insert}

@@ -11,8 +11,8 @@ use Rattle.spec.specs.Places.{basePower, maxChunks}
 use Rattle.spec.specs.Log.{Entry, Entries, imageEntries, encodeAll, placed}
 use Rattle.spec.specs.Blocks.{pointed}
 use Rattle.spec.specs.Contents.{highest, chosen, keysOf, capacity, liveBlocks}
-use Rattle.spec.specs.declared.Control.{Control}
-use Rattle.spec.specs.declared.Setup.{Setup}
+use Rattle.session.specs.declared.Control.{Control}
+use Rattle.session.specs.declared.Setup.{Setup}
 use Rattle.theory_log.specs.Batch.{AllRight}
 use Rattle.theory_log.specs.Contents.{Mem, Top, CountsOn}
 use Rattle.index.specs.declared.Info.{Info}

@@ -7,9 +7,9 @@ ghost use Rattle.joining.specs.Blocks.{blockAt, namedBy, twinBlock, Free
 ghost use Rattle.joining.specs.Joining.{Scanned, Superseded, OneJoined, Staged, Joining};
 use index::Info;
 use log::Next;
-use spec::Control;
+use session::Control;
 use spec::FirstWord;
-use spec::Setup;
+use session::Setup;
 
 // THE BLOCKS OF SUPERSEDED ENTRIES
 // The block of an entry with these parts, if it is a put in one, leaves the bits.

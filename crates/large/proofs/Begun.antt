@@ -13,11 +13,11 @@ use Rattle.spec.specs.Words.{wordsOf, packed}
 use Rattle.spec.specs.Places.{chunkBytes, chunkUnits, chunksIn, firstUnit, unitChunk, unitIn, directoryWord}
 use Rattle.spec.specs.Log.{Entry, encodeAll}
 use Rattle.spec.specs.Blocks.{blockLimit, blockSize}
-use Rattle.spec.specs.Calls.{Staging, Plan, Begin, entry, InData, InFree, slotFor, stageLarge}
-use Rattle.spec.specs.Calls as K
+use Rattle.spec.specs.Plans.{Staging, Plan, Begin, entry, InData, InFree, slotFor, stageLarge}
+use Rattle.spec.specs.Plans as K
 use Rattle.spec.specs.Actions.{takeOf, blockOf}
 use Rattle.spec.specs.Medium.{Action}
-use Rattle.spec.specs.declared.Setup.{Setup}
+use Rattle.session.specs.declared.Setup.{Setup}
 use Rattle.theory_log.specs.Batch.{block, Right}
 use Rattle.theory_medium.proofs.Sizes as Z
 use Rattle.codec.specs.declared.Unit.{Unit as UnitNumber}

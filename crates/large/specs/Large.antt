@@ -9,8 +9,8 @@ use Rattle.spec.specs.Words.{wordsOf, packed}
 use Rattle.spec.specs.Places.{chunksIn, unitChunk, unitIn}
 use Rattle.spec.specs.Log.{Entry, encodeAll}
 use Rattle.spec.specs.Blocks.{blockSize}
-use Rattle.spec.specs.Calls.{Staging, Plan, Refuse, Begin, entry, slotFor, stageLarge}
-use Rattle.spec.specs.declared.Setup.{Setup}
+use Rattle.spec.specs.Plans.{Staging, Plan, Refuse, Begin, entry, slotFor, stageLarge}
+use Rattle.session.specs.declared.Setup.{Setup}
 use Rattle.spec.specs.declared.Refusal.the-variants as N
 use Rattle.theory_log.specs.Batch.{Right}
 use Rattle.bits.specs.Bits.{hasBit}

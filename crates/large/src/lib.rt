@@ -9,7 +9,7 @@ use codec::block_size;
 use placing::directory_word;
 use slots::Slot;
 use slots::slot_for;
-use spec::Setup;
+use session::Setup;
 
 // What a staging of a large value leaves: the setup, the staged words, and the number of actions; or nothing found, and nothing changed.
 pub struct Large {

@@ -11,7 +11,7 @@ use Rattle.spec.specs.Places.{base, directoryWord, firstLine, lineOf}
 use Rattle.spec.specs.Directory.{logWord, freedWord}
 use Rattle.spec.specs.Medium.{Action, Store, Flush, Fence}
 use Rattle.spec.specs.Actions.{writes, flushes, linesFor, padded, bodyOf, sealOf, commitOf, appendOf, freeOf}
-use Rattle.spec.specs.Calls.{asReport, wordsAfter, runWords}
+use Rattle.spec.specs.Reports.{asReport, wordsAfter, runWords}
 use Rattle.theory_log.proofs.Walk.{slice-at}
 use Rattle.words.specs.Overlay.{overlay, length-overlay, getD-overlay-outside, getD-overlay-inside}
 

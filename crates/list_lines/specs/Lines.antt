@@ -3,7 +3,7 @@
 use mathlib.Core.Bool.{Bool, true, false}
 use mathlib.Core.List.{List, [], _∷_, _++_}
 use Prim.Native.Nat.{ℕ}
-use Rattle.spec.specs.Calls.{number}
+use Rattle.spec.specs.Reports.{number}
 use Rattle.spec.specs.declared.Refusal.{Refusal}
 use Rattle.text.specs.Text.{decimal}
 

@@ -16,10 +16,10 @@ use Rattle.spec.specs.Words.{wordsOf}
 use Rattle.spec.specs.Log.{Entry}
 use Rattle.spec.specs.Contents.{listed, capacity}
 use Rattle.spec.specs.Opening.{Opening, Refused, Accepted, opening}
-use Rattle.spec.specs.Calls.{Open, gate, number, opened, next}
-use Rattle.spec.specs.Contract.{Called}
-use Rattle.spec.specs.declared.Control.{Control}
-use Rattle.spec.specs.declared.Setup.{Setup}
+use Rattle.spec.specs.Reports.{number}
+use Rattle.spec.specs.Machine.{Open, gate, opened, next}
+use Rattle.session.specs.declared.Control.{Control}
+use Rattle.session.specs.declared.Setup.{Setup}
 use Rattle.spec.specs.declared.Refusal.{Refusal}
 use Rattle.spec.specs.declared.Report.{Report}
 use Rattle.spec.specs.declared.Report.the-variants as R
@@ -40,6 +40,7 @@ use Rattle.listing.proofs.Answers.{register, present-fit}
 use Rattle.list_lines.specs.Lines.{refusedText, countText, lineText}
 use Rattle.list_lines.proofs.Pieces.{line-length, number-length}
 use Rattle.list_text.specs.Print.{listedText, linesText, registerText, openedText, listText, mostText, Opened, Key, Keys, Register, Image}
+use Rattle.session.specs.Promise.{Does}
 
 -- ## A key
 
@@ -155,7 +156,7 @@ not-refused (R.Chosen c) n k e = let z : _≡_ {A = ℕ} 0 1 = cc in omega arith
 not-refused (R.Part a m) n k e = let z : _≡_ {A = ℕ} 0 1 = cc in omega arith
 
 module _ (c₀ : Control) (k₀ : Setup) (c : Control) (k : Setup) (bytes table table′ buffer buffer′ keys out out′ : List ℕ) (report : Report)
-    (h : Called stateOf Fits 12 limit Open (sessionOf c₀ k₀ buffer) (sessionOf c k buffer′) bytes bytes table table′ report) (r : ℕ) where
+    (h : Does Open (sessionOf c₀ k₀ buffer) (sessionOf c k buffer′) bytes bytes table table′ report) (r : ℕ) where
   abbrev verdict : Opening
   verdict = opening 12 (length bytes) (wordsOf bytes) (length table)
 

@@ -10,10 +10,10 @@ use Rattle.spec.specs.Places.{basePower}
 use Rattle.spec.specs.Log.{Entry}
 use Rattle.spec.specs.Contents.{capacity}
 use Rattle.spec.specs.Opening.{Opening, Refused, Accepted, opening}
-use Rattle.spec.specs.Calls.{gate}
-use Rattle.spec.specs.Contract.{bufferWords}
-use Rattle.spec.specs.declared.Control.{Control}
-use Rattle.spec.specs.declared.Setup.{Setup}
+use Rattle.spec.specs.Machine.{gate}
+use Rattle.session.specs.Fits.{bufferWords}
+use Rattle.session.specs.declared.Control.{Control}
+use Rattle.session.specs.declared.Setup.{Setup}
 use Rattle.session.specs.State.{stateAt}
 use Rattle.session.specs.Fits.{Fits}
 use Rattle.recovery.specs.Look.{sessionOf}

@@ -2,9 +2,9 @@
 ghost use Rattle.list_text.specs.Print.{Key, Keys, Register, Image};
 use listing::Counted;
 use listing::Listed;
-use spec::Control;
+use session::Control;
 use spec::Report;
-use spec::Setup;
+use session::Setup;
 
 // The line of a key, none where it is absent.
 fn put_key(

@@ -14,9 +14,9 @@ use Rattle.spec.specs.Places.{unitWord, chunksIn}
 use Rattle.spec.specs.Log.{Entry, Entries, imageEntries}
 use Rattle.spec.specs.Contents.{listed, keysOf, capacity}
 use Rattle.theory_medium.proofs.Lists.{filter-length}
-use Rattle.spec.specs.Calls.{gate}
-use Rattle.spec.specs.declared.Control.{Control}
-use Rattle.spec.specs.declared.Setup.{Setup}
+use Rattle.spec.specs.Machine.{gate}
+use Rattle.session.specs.declared.Control.{Control}
+use Rattle.session.specs.declared.Setup.{Setup}
 use Rattle.spec.specs.declared.Refusal.{Refusal}
 use Rattle.spec.specs.declared.Refusal.the-variants as N
 use Rattle.theory_cuts.specs.Accepted.{Ok}

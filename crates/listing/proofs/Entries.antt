@@ -17,7 +17,7 @@ use Rattle.spec.specs.Log.{Entry}
 use Rattle.spec.specs.Blocks.{pointed, blockBytes}
 use Rattle.spec.specs.Words.{valueBytes}
 use Rattle.spec.specs.Contents.{Absent, Value, chosen, meaning, held}
-use Rattle.spec.specs.Calls.{lookUp, partOr}
+use Rattle.spec.specs.Plans.{lookUp, partOr}
 use Rattle.spec.specs.declared.Report.the-variants as R
 use Rattle.spec.specs.declared.Refusal.the-variants as N
 use Rattle.theory_log.specs.Batch.{Kind, put, block, delete}

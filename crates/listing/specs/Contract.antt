@@ -12,9 +12,9 @@ use Rattle.spec.specs.Medium.{Mem}
 use Rattle.spec.specs.Places.{basePower, chunksIn}
 use Rattle.spec.specs.Log.{Entry}
 use Rattle.spec.specs.Contents.{entriesIn}
-use Rattle.spec.specs.Calls.{gate}
-use Rattle.spec.specs.declared.Control.{Control}
-use Rattle.spec.specs.declared.Setup.{Setup}
+use Rattle.spec.specs.Machine.{gate}
+use Rattle.session.specs.declared.Control.{Control}
+use Rattle.session.specs.declared.Setup.{Setup}
 use Rattle.spec.specs.declared.Refusal.{Refusal}
 use Rattle.spec.specs.declared.Refusal.the-variants as N
 use Rattle.index.specs.Index.{slots, Probed}

@@ -5,9 +5,9 @@ ghost use Rattle.spec.specs.Words.{wordsOf};
 ghost use Rattle.listing.specs.Listing.{byEntry, byWord};
 ghost use Rattle.listing.specs.Contract.{Taken, Gathering, ListingKeys, ListingKey};
 use recovery::Gated;
-use spec::Control;
+use session::Control;
 use spec::Refusal;
-use spec::Setup;
+use session::Setup;
 
 // What is listed of a key, or why nothing is.
 pub enum Listed {

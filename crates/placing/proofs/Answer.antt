@@ -10,7 +10,7 @@ use lib.ListN.{getD}
 use Rattle.spec.specs.Basics.{upFrom, filter, first}
 use Rattle.spec.specs.Places.{directoryWord}
 use Rattle.spec.specs.Directory.{linesOf}
-use Rattle.spec.specs.Calls.{hasSpace, freeChunk, logPlace}
+use Rattle.spec.specs.Plans.{hasSpace, freeChunk, logPlace}
 use Rattle.placing.specs.declared.Found.{Found}
 use Rattle.placing.specs.declared.Found.the-variants as F
 use Rattle.placing.specs.declared.Place.{Place}

@@ -13,7 +13,7 @@ use borrow.Author.Tests.{eq-eqb, ne-eqb, leb-false, lt-leb, lt-ltb, le-ltb}
 use Rattle.spec.specs.Basics.{pick, both, negate, upFrom, filter, first}
 use Rattle.spec.specs.Places.{chunkLines, directoryWord}
 use Rattle.spec.specs.Directory.{isLog, roleAt, linesOf}
-use Rattle.spec.specs.Calls.{hasSpace, freeChunk, logPlace}
+use Rattle.spec.specs.Plans.{hasSpace, freeChunk, logPlace}
 use Rattle.theory_medium.proofs.Lists.{not-both}
 use Rattle.session.specs.Fits.{NoneBelow}
 use Rattle.placing.specs.declared.Found.{Found}

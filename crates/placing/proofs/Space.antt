@@ -12,7 +12,7 @@ use Rattle.spec.specs.Basics.{pick, both}
 use Rattle.spec.specs.Places.{chunkLines, directoryWord}
 use Rattle.spec.specs.Directory.{isSize, roleBy, roleOf, roleAt, isLog, linesIn, linesOf}
 use Rattle.spec.specs.declared.Role.the-variants as R
-use Rattle.spec.specs.Calls.{hasSpace}
+use Rattle.spec.specs.Plans.{hasSpace}
 use Rattle.theory_log.proofs.Directory.{lines-is}
 use Rattle.theory_medium.proofs.Lists.{both-l}
 

@@ -10,7 +10,7 @@ use lib.ListN.{getD}
 use Rattle.spec.specs.Basics.{pick}
 use Rattle.spec.specs.Places.{directoryWord}
 use Rattle.spec.specs.Directory.{linesOf}
-use Rattle.spec.specs.Calls.{logPlace}
+use Rattle.spec.specs.Plans.{logPlace}
 use Rattle.session.specs.Fits.{NoneBelow}
 use Rattle.placing.specs.declared.Found.{Found}
 use Rattle.placing.specs.declared.Found.the-variants as F

@@ -6,7 +6,7 @@ ghost use mathlib.Core.Option.{some};
 ghost use Rattle.spec.specs.Words.{wordsOf};
 ghost use Rattle.spec.specs.Places.{directoryWord};
 ghost use Rattle.spec.specs.Directory.{roleAt, isFree};
-ghost use Rattle.spec.specs.Calls.{hasSpace, freeChunk};
+ghost use Rattle.spec.specs.Plans.{hasSpace, freeChunk};
 ghost use Rattle.placing.specs.Found.{foundOf, placeOf, startOf, Stops, Searching};
 use log::lines_of;
 use log::role_at;

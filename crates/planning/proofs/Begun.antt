@@ -12,9 +12,9 @@ use Rattle.spec.specs.Places.{directoryWord, chunksIn}
 use Rattle.spec.specs.Directory.{isLog, roleAt, linesOf}
 use Rattle.spec.specs.Log.{Entry, encodeAll}
 use Rattle.spec.specs.Contents.{keptIn}
-use Rattle.spec.specs.Calls.{Cleaning, Begin, appendTo, hasLive, free, planClean}
-use Rattle.spec.specs.declared.Control.{Control}
-use Rattle.spec.specs.declared.Setup.{Setup}
+use Rattle.spec.specs.Plans.{Cleaning, Begin, appendTo, hasLive, free, planClean}
+use Rattle.session.specs.declared.Control.{Control}
+use Rattle.session.specs.declared.Setup.{Setup}
 use Rattle.theory_cuts.specs.Accepted.{Ok}
 use Rattle.theory_cuts.proofs.Opening.{opens-ok}
 use Rattle.session.specs.State.{bufferPart, batchRoom, sourceIn, sourceLines, keptWords, cleanActions}
@@ -25,7 +25,7 @@ use Rattle.leaving.proofs.Fence.{lines-few}
 use Rattle.gathering.specs.declared.Tally.{Tally}
 use Rattle.gathering.specs.Gathering.{Gathered}
 use Rattle.gathering.proofs.Chunks.{chunk-gathered}
-use Rattle.spec.specs.declared.Source.{Source}
+use Rattle.session.specs.declared.Source.{Source}
 use Rattle.cleaning.specs.Record.{cleaning, copyingTo, sourceOf}
 use Rattle.cleaning.proofs.Forward.{lo, hi}
 use Rattle.cleaning.proofs.Acting.{length-clean, clean-next}

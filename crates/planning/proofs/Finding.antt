@@ -16,7 +16,7 @@ use Rattle.spec.specs.Medium.{Mem as Among}
 use Rattle.spec.specs.Directory.{isLog, roleAt, linesOf}
 use Rattle.spec.specs.Log.{Entry}
 use Rattle.spec.specs.Contents.{liveBlocks}
-use Rattle.spec.specs.Calls.{hasSpace, freeChunk, logPlace, hasLive}
+use Rattle.spec.specs.Plans.{hasSpace, freeChunk, logPlace, hasLive}
 use Rattle.theory_medium.proofs.Lists.{isIn-mem, mem-isIn, not-both}
 use Rattle.bits.specs.Bits.{hasBit}
 use Rattle.placing.specs.declared.Found.{Found}

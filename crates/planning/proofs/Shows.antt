@@ -17,10 +17,11 @@ use Rattle.spec.specs.Directory.{isFree, isLog, roleAt, linesOf}
 use Rattle.spec.specs.Log.{Entry, encodeAll}
 use Rattle.spec.specs.Contents.{keptIn}
 use Rattle.spec.specs.Actions.{linesFor}
-use Rattle.spec.specs.Calls.{Cleaning, Refuse, Begin, logPlace, appendTo, inUse, hasLive, free, planClean, Clean, refusals}
+use Rattle.spec.specs.Plans.{Cleaning, Refuse, Begin, logPlace, appendTo, inUse, hasLive, free, planClean}
+use Rattle.spec.specs.Machine.{Clean, refusals}
 use Rattle.spec.specs.Contract.{MemRefusal}
-use Rattle.spec.specs.declared.Control.{Control}
-use Rattle.spec.specs.declared.Setup.{Setup}
+use Rattle.session.specs.declared.Control.{Control}
+use Rattle.session.specs.declared.Setup.{Setup}
 use Rattle.spec.specs.declared.Refusal.{Refusal}
 use Rattle.spec.specs.declared.Refusal.the-variants as N
 use Rattle.theory_cuts.specs.Accepted.{Ok}
@@ -34,7 +35,7 @@ use Rattle.placing.proofs.Space.{log-lines}
 use Rattle.gathering.specs.declared.Tally.{Tally}
 use Rattle.gathering.specs.Gathering.{Measured}
 use Rattle.gathering.proofs.Chunks.{chunk-measured}
-use Rattle.spec.specs.declared.Source.{Source}
+use Rattle.session.specs.declared.Source.{Source}
 use Rattle.cleaning.specs.Record.{cleanCount, sourceOf}
 use Rattle.cleaning.proofs.Forward.{lo, hi}
 use Rattle.cleaning.proofs.Acting.{count-none}

@@ -14,16 +14,17 @@ use Rattle.spec.specs.Directory.{isFree, isLog, roleAt, linesOf}
 use Rattle.spec.specs.Log.{Entry, encodeAll}
 use Rattle.spec.specs.Contents.{keptIn}
 use Rattle.spec.specs.Actions.{linesFor}
-use Rattle.spec.specs.Calls.{Clean, logPlace, hasLive, Refuse, planClean, refusals}
+use Rattle.spec.specs.Plans.{logPlace, hasLive, Refuse, planClean}
+use Rattle.spec.specs.Machine.{Clean, refusals}
 use Rattle.spec.specs.Contract.{MemRefusal}
-use Rattle.spec.specs.declared.Control.{Control}
-use Rattle.spec.specs.declared.Setup.{Setup}
+use Rattle.session.specs.declared.Control.{Control}
+use Rattle.session.specs.declared.Setup.{Setup}
 use Rattle.theory_cuts.specs.Accepted.{Ok}
 use Rattle.bits.specs.Bits.{hasBit}
 use Rattle.volatile.specs.Known.{Indexed}
 use Rattle.session.specs.State.{batchRoom}
 use Rattle.session.specs.Fits.{RestFits, Built}
-use Rattle.spec.specs.declared.Source.{Source}
+use Rattle.session.specs.declared.Source.{Source}
 use Rattle.cleaning.specs.Record.{cleanCount, sourceOf}
 use Rattle.planning.specs.declared.CleanPlan.{CleanPlan}
 use Rattle.planning.specs.declared.CleanPlan.the-variants as P

@@ -2,17 +2,17 @@
 ghost use mathlib.Core.Path.{_≡_};
 ghost use Prim.Native.Nat.{_*_, _%_};
 ghost use Rattle.spec.specs.Words.{wordsOf};
-ghost use Rattle.spec.specs.Calls.{hasSpace, logPlace};
+ghost use Rattle.spec.specs.Plans.{hasSpace, logPlace};
 ghost use Rattle.placing.specs.Found.{placeOf, Stops};
 ghost use Rattle.planning.specs.Plans.{anyBit, LogPlanned, DataPlanned, CleanPlanned};
 use log::lines_of;
 use placing::Found;
 use placing::Place;
-use spec::Control;
+use session::Control;
 use spec::Refusal;
 use spec::Role;
-use spec::Setup;
-use spec::Source;
+use session::Setup;
+use session::Source;
 
 // A cleaning's begin: turned down, or where its copies go (chunk, its directory word, its committed lines), where the next commit
 // looks for space, what the record is to hold of the cleaned chunk, and the number of actions.

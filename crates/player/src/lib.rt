@@ -7,10 +7,10 @@ mod sums;
 
 use script::Line;
 use script::Token;
-use spec::Control;
+use session::Control;
 use spec::Given;
 use spec::Report;
-use spec::Setup;
+use session::Setup;
 
 // What a line of a script asks for.
 enum Command {

@@ -3,9 +3,9 @@ ghost use mathlib.Core.Path.{_≡_};
 ghost use mathlib.Core.Bool.{true};
 ghost use Prim.Native.Nat.{ℕ, _<_};
 ghost use lib.ListN.{length, getD};
-use spec::Control;
-use spec::Setup;
-use spec::Source;
+use session::Control;
+use session::Setup;
+use session::Source;
 
 pub fn zero_bytes(bytes: &mut [u8]) {
     let mut i = 0;

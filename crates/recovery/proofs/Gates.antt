@@ -16,11 +16,12 @@ use Rattle.spec.specs.Basics.{pick, both, either}
 use Rattle.spec.specs.Words.{wordsOf}
 use Rattle.spec.specs.Medium.{Action}
 use Rattle.spec.specs.Log.{Entry}
-use Rattle.spec.specs.Calls.{Call, Format, Open, Put, Delete, Commit, Abandon, LookUp, Choose, Clean, Step, State, Closed, Rest, Busy, Formatting, Staging, Committing, Cleaning, gate, answer, next, refusals, refusedBy, isOpening}
+use Rattle.spec.specs.Plans.{Staging, Committing, Cleaning}
+use Rattle.spec.specs.Machine.{Call, Format, Open, Put, Delete, Commit, Abandon, LookUp, Choose, Clean, Step, State, Closed, Rest, Busy, Formatting, gate, answer, next, refusals, refusedBy, isOpening, kindOf}
 use Rattle.spec.specs.Contract.{MemRefusal, Anyway, Again, Ready, Kept, Barred, Called}
-use Rattle.spec.specs.declared.Control.{Control}
-use Rattle.spec.specs.declared.Setup.{Setup}
-use Rattle.spec.specs.declared.Session.{Session}
+use Rattle.session.specs.declared.Control.{Control}
+use Rattle.session.specs.declared.Setup.{Setup}
+use Rattle.session.specs.declared.Session.{Session}
 use Rattle.spec.specs.declared.Refusal.{Refusal}
 use Rattle.spec.specs.declared.Refusal.the-variants as N
 use Rattle.spec.specs.declared.Report.{Report}
@@ -29,6 +30,7 @@ use Rattle.theory_medium.proofs.Lists.{both-l, both-r}
 use Rattle.session.specs.State.{batchItems, stateAt, stateOf}
 use Rattle.session.specs.Fits.{RestFits, FitsAt, Fits}
 use Rattle.recovery.specs.Asks.{begunAt, gateFor, closedOr, sameLengths}
+use Rattle.session.specs.Fits.{Proper}
 
 -- ## The record's gate
 
@@ -119,11 +121,11 @@ gate-number (Formatting true b t acts) bytes words n h = late n (both (eqb b byt
 
 module _ (p limit : ℕ) (s : Session) (bytes table : List ℕ) (n : Refusal) where
   -- a refused call that leaves all as it was
-  pub refused : (k : Call) → isOpening k ≡ false → (Ready stateOf Fits p limit k s (wordsOf bytes) table → Again k (R.Refused n) (Fits s (wordsOf bytes) table))
-      → (Ready stateOf Fits p limit k s (wordsOf bytes) table → R.Refused n ≡ answer p limit k (stateOf s) (wordsOf bytes) (length bytes) (length table))
-      → Barred stateOf Fits p limit k s bytes table (R.Refused n) → MemRefusal n (refusals k) → Kept stateOf Fits p limit k s s table table
+  pub refused : (k : Call) → isOpening (kindOf k) ≡ false → (Ready Proper stateOf Fits p limit k s (wordsOf bytes) table → Again k (R.Refused n) (Fits s (wordsOf bytes) table))
+      → (Ready Proper stateOf Fits p limit k s (wordsOf bytes) table → R.Refused n ≡ answer p limit k (stateOf s) (wordsOf bytes) (length bytes) (length table))
+      → Barred Proper stateOf Fits p limit k s bytes table (R.Refused n) → MemRefusal n (refusals k) → Kept Proper stateOf Fits p limit k s s table table
       → Anyway p limit k (stateOf s) (stateOf s) (wordsOf bytes) (length bytes) (length table) (R.Refused n)
-      → Called stateOf Fits p limit k s s bytes bytes table table (R.Refused n)
+      → Called Proper stateOf Fits p limit k s s bytes bytes table table (R.Refused n)
   unfolding next
   refused k o f a b m kept any = record {
     exact = λ r. record { answered = a r; became = sym (rw (sym (a r), o)); fits = f r };
@@ -154,7 +156,7 @@ module _ (p limit : ℕ) (s : Session) (bytes table : List ℕ) (n : Refusal) (g
   member : {A : Type 0} → Early n A
   member = gate-number (stateOf s) (length bytes) (length table) n g
 
-  pub turned-down : (k : Call) → Gating k → Called stateOf Fits p limit k s s bytes bytes table table (R.Refused n)
+  pub turned-down : (k : Call) → Gating k → Called Proper stateOf Fits p limit k s s bytes bytes table table (R.Refused n)
   turned-down (Format a b) t = absurd t
   turned-down Open t = absurd t
   turned-down (Put k v) t = refused p limit s bytes table n (Put k v) refl (λ f. f) (λ f. sym (rw g)) only member (refl, refl) (inl (n, refl))

@@ -17,11 +17,13 @@ use Rattle.spec.specs.Directory.{sizeOf}
 use Rattle.spec.specs.Log.{Entry, Entries, wordsFor, imageEntries}
 use Rattle.spec.specs.Blocks.{pointed}
 use Rattle.spec.specs.Contents.{chosen}
-use Rattle.spec.specs.Calls.{LookUp, State, isRefused, gate, answer, next, partOr, lookUp, number}
-use Rattle.spec.specs.Contract.{Changed, Anyway, Outcome, Called}
-use Rattle.spec.specs.declared.Control.{Control}
-use Rattle.spec.specs.declared.Setup.{Setup}
-use Rattle.spec.specs.declared.Session.{Session}
+use Rattle.spec.specs.Reports.{isRefused, number}
+use Rattle.spec.specs.Plans.{partOr, lookUp}
+use Rattle.spec.specs.Machine.{LookUp, State, gate, answer, next}
+use Rattle.spec.specs.Contract.{Changed, Anyway, Outcome}
+use Rattle.session.specs.declared.Control.{Control}
+use Rattle.session.specs.declared.Setup.{Setup}
+use Rattle.session.specs.declared.Session.{Session}
 use Rattle.spec.specs.declared.Refusal.{Refusal}
 use Rattle.spec.specs.declared.Refusal.the-variants as N
 use Rattle.spec.specs.declared.Report.the-variants as R
@@ -52,6 +54,8 @@ use Rattle.recovery.specs.declared.Gated.the-variants as G
 use Rattle.recovery.specs.Asks.{gateOf, Asking}
 use Rattle.recovery.specs.Look.{reportOf, within, blockPart, partBy, firstWord, partAt, PartIn, InImage, Looking, sessionOf, Locating, Showing}
 use Rattle.recovery.proofs.Gates.{turned-down, at-rest}
+use Rattle.session.specs.Promise.{Does}
+use Rattle.session.specs.Fits.{Proper}
 
 -- ## Any memory: 11, or a part of the image
 
@@ -227,7 +231,7 @@ unfolding next
 next-same σ key ws bytes words = sym (pick-same (both (isRefused (answer 12 limit (LookUp key) σ ws bytes words)) true) σ)
 
 module _ (s : Session) (key : ℕ) (bytes table : List ℕ) where
-  outcome : (r : Located) → PartIn (length bytes) r → Outcome stateOf Fits 12 limit (LookUp key) s s table table (reportOf r)
+  outcome : (r : Located) → PartIn (length bytes) r → Outcome Proper stateOf Fits 12 limit (LookUp key) s s table table (reportOf r)
   outcome (L.Refused n) h = (inr (inr (inr (inl h))), (refl, refl))
   outcome (L.Part a n) h = (refl, refl)
 
@@ -239,7 +243,7 @@ module _ (s : Session) (key : ℕ) (bytes table : List ℕ) where
   unchanged (L.Refused n) = refl
   unchanged (L.Part a n) = refl
 
-  looked : (r : Located) → gate (stateOf s) (length bytes) (length table) ≡ none → Looking key bytes table r → Called stateOf Fits 12 limit (LookUp key) s s bytes bytes table table (reportOf r)
+  looked : (r : Located) → gate (stateOf s) (length bytes) (length table) ≡ none → Looking key bytes table r → Does (LookUp key) s s bytes bytes table table (reportOf r)
   looked r g l = record {
     exact = λ f. record { answered = exact f; became = next-same (stateOf s) key (wordsOf bytes) (length bytes) (length table); fits = f };
     first = λ r′ h. absurd (let q : none ≡ some r′ = rw g at h in let z : _≡_ {A = ℕ} 0 1 = cc in omega arith);

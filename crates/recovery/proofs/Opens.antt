@@ -14,12 +14,11 @@ use Rattle.spec.specs.Header.{headerRight}
 use Rattle.spec.specs.Log.{Entry, Parsed, Wrong, Entries, imageEntries}
 use Rattle.spec.specs.Contents.{keysOf, capacity, liveBlocks}
 use Rattle.spec.specs.Opening.{Opening, Refused, Accepted, directoryTest, blocksTest, agreeTest, apartTest, fitsTable, openLog, opening}
-use Rattle.spec.specs.Calls.{Closed, Rest, Open, next}
-use Rattle.spec.specs.Contract.{Called}
-use Rattle.spec.specs.declared.Control.{Control}
-use Rattle.spec.specs.declared.Setup.{Setup}
-use Rattle.spec.specs.declared.Source.{Source}
-use Rattle.spec.specs.declared.Session.{Session}
+use Rattle.spec.specs.Machine.{Closed, Rest, Open, next}
+use Rattle.session.specs.declared.Control.{Control}
+use Rattle.session.specs.declared.Setup.{Setup}
+use Rattle.session.specs.declared.Source.{Source}
+use Rattle.session.specs.declared.Session.{Session}
 use Rattle.spec.specs.declared.Refusal.{Refusal}
 use Rattle.spec.specs.declared.Refusal.the-variants as N
 use Rattle.spec.specs.declared.Report.the-variants as R
@@ -33,13 +32,14 @@ use Rattle.volatile.specs.Known.{Indexed, FillInv}
 use Rattle.volatile.proofs.Fill.{fill-end, fill-fits}
 use Rattle.tops.specs.declared.Checked.{Checked}
 use Rattle.tops.specs.Pass.{Listed, Tested, Examined}
-use Rattle.session.specs.State.{batchWords, batchItems, noSource, stateAt, stateOf, limit}
-use Rattle.session.specs.Fits.{RestFits, Fits}
+use Rattle.session.specs.State.{batchWords, batchItems, noSource, stateAt, stateOf}
+use Rattle.session.specs.Fits.{RestFits}
 use Rattle.session.proofs.Kept.{none-fit}
 use Rattle.recovery.specs.declared.Verdict.{Verdict}
 use Rattle.recovery.specs.declared.Verdict.the-variants as J
 use Rattle.recovery.specs.Pass.{Filling}
 use Rattle.recovery.specs.Judged.{firstRefusal, Judged, JudgingLog, Judging}
+use Rattle.session.specs.Promise.{Does}
 
 -- ## The log
 
@@ -204,7 +204,7 @@ state-rest keys bytes words b = ap (Rest bytes words) (no-items keys b)
 -- nothing is barred, and the image stays
 module _ (c : Control) (k : Setup) (buffer bytes table table′ buffer′ : List ℕ) (v : Verdict) (judging : Judging bytes table table′ buffer buffer′ v) where
   pub opens-refused : (n : Refusal) → v ≡ J.Refused n → (table″ : List ℕ) → table″ ≡ zeros (length table′)
-      → Called stateOf Fits 12 limit Open (session c k buffer) (session closed k buffer′) bytes bytes table table″ (R.Refused n)
+      → Does Open (session c k buffer) (session closed k buffer′) bytes bytes table table″ (R.Refused n)
   unfolding next
   opens-refused n e table″ z =
       let j : Judged (opening 12 (length bytes) (wordsOf bytes) (length table)) table′ buffer′ (J.Refused n) = rw e at (judging .judged) in
@@ -222,7 +222,7 @@ module _ (c : Control) (k : Setup) (buffer bytes table table′ buffer′ : List
         anyway = inl (n, refl);
       }
 
-  opens : (keys : ℕ) → v ≡ J.Accepted keys → Called stateOf Fits 12 limit Open (session c k buffer) (session (atRest keys) (lent (length bytes) (length table) noSource) buffer′) bytes bytes table table′ R.Opened
+  opens : (keys : ℕ) → v ≡ J.Accepted keys → Does Open (session c k buffer) (session (atRest keys) (lent (length bytes) (length table) noSource) buffer′) bytes bytes table table′ R.Opened
   unfolding next
   opens keys e =
       let j : Judged (opening 12 (length bytes) (wordsOf bytes) (length table)) table′ buffer′ (J.Accepted keys) = rw e at (judging .judged) in
@@ -266,5 +266,5 @@ module _ (c : Control) (k : Setup) (buffer bytes table table′ buffer′ : List
           }
 
   pub opens-accepted : (keys : ℕ) (f : Source) → v ≡ J.Accepted keys → f ≡ noSource
-      → Called stateOf Fits 12 limit Open (session c k buffer) (session (atRest keys) (lent (length bytes) (length table) f) buffer′) bytes bytes table table′ R.Opened
+      → Does Open (session c k buffer) (session (atRest keys) (lent (length bytes) (length table) f) buffer′) bytes bytes table table′ R.Opened
   opens-accepted keys f e q = rw q (opens keys e)

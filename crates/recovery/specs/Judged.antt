@@ -11,7 +11,7 @@ use Rattle.spec.specs.Places.{maxChunks}
 use Rattle.spec.specs.Log.{Entry, imageEntries}
 use Rattle.spec.specs.Contents.{liveBlocks}
 use Rattle.spec.specs.Opening.{Opening, Refused, Accepted, openLog, opening}
-use Rattle.spec.specs.Calls.{Open, refusals}
+use Rattle.spec.specs.Machine.{Open, refusals}
 use Rattle.spec.specs.Contract.{MemRefusal}
 use Rattle.spec.specs.declared.Refusal.{Refusal}
 use Rattle.bits.specs.Bits.{hasBit}

@@ -9,20 +9,21 @@ use Rattle.spec.specs.Basics.{pick}
 use Rattle.spec.specs.Words.{wordsOf}
 use Rattle.spec.specs.Places.{unitWord}
 use Rattle.spec.specs.Log.{Entry}
-use Rattle.spec.specs.Calls.{LookUp, lookUp, number}
-use Rattle.spec.specs.Contract.{Called, partBytes}
-use Rattle.spec.specs.declared.Control.{Control}
-use Rattle.spec.specs.declared.Setup.{Setup}
-use Rattle.spec.specs.declared.Session.{Session}
+use Rattle.spec.specs.Reports.{number}
+use Rattle.spec.specs.Plans.{lookUp}
+use Rattle.spec.specs.Machine.{LookUp}
+use Rattle.spec.specs.Contract.{partBytes}
+use Rattle.session.specs.declared.Control.{Control}
+use Rattle.session.specs.declared.Setup.{Setup}
+use Rattle.session.specs.declared.Session.{Session}
 use Rattle.spec.specs.declared.Refusal.the-variants as N
 use Rattle.spec.specs.declared.Report.{Report}
 use Rattle.spec.specs.declared.Report.the-variants as R
 use Rattle.theory_cuts.specs.Accepted.{Ok}
 use Rattle.volatile.specs.Known.{Indexed}
-use Rattle.session.specs.State.{stateOf, limit}
-use Rattle.session.specs.Fits.{Fits}
 use Rattle.recovery.specs.declared.Located.{Located}
 use Rattle.recovery.specs.declared.Located.the-variants as L
+use Rattle.session.specs.Promise.{Does}
 
 abbrev pub reportOf : Located → Report
 reportOf (L.Refused n) = R.Refused n
@@ -69,7 +70,7 @@ sessionOf c k b = record { control = c; setup = k; buffer = b }
 
 -- THE CALL, whatever the buffer holds: record, image and table stay
 abbrev pub LookedUp : Control → Setup → ℕ → List ℕ → List ℕ → Report → Type 0
-LookedUp c k key bytes table r = (b : List ℕ) → Called stateOf Fits 12 limit (LookUp key) (sessionOf c k b) (sessionOf c k b) bytes bytes table table r
+LookedUp c k key bytes table r = (b : List ℕ) → Does (LookUp key) (sessionOf c k b) (sessionOf c k b) bytes bytes table table r
 
 pub record Locating (c : Control) (k : Setup) (key : ℕ) (bytes table : List ℕ) (r : Located) : Type 0 where
   pub called : LookedUp c k key bytes table (reportOf r)

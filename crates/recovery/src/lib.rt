@@ -10,22 +10,21 @@ ghost use Rattle.spec.specs.Places.{lengthAllowed};
 ghost use Rattle.spec.specs.Header.{headerRight};
 ghost use Rattle.spec.specs.Directory.{isRole, directoryRight};
 ghost use Rattle.spec.specs.Opening.{directoryTest};
-ghost use Rattle.spec.specs.Calls.{Open, number};
-ghost use Rattle.spec.specs.Contract.{Called};
+ghost use Rattle.spec.specs.Reports.{number};
+ghost use Rattle.spec.specs.Machine.{Open};
 ghost use Rattle.index.specs.Index.{zeros};
-ghost use Rattle.session.specs.State.{stateOf, limit};
-ghost use Rattle.session.specs.Fits.{Fits};
 ghost use Rattle.recovery.specs.Pass.{Entering, Hastened, Filling};
 ghost use Rattle.recovery.specs.Judged.{firstRefusal, JudgingLog, Judging};
 ghost use Rattle.recovery.specs.Asks.{closedOr, Asking};
 ghost use Rattle.recovery.specs.Look.{within, blockPart, firstWord, partAt, Looking, Locating, Reporting, Showing};
+ghost use Rattle.session.specs.Promise.{Does};
 use log::Short;
-use spec::Control;
+use session::Control;
 use spec::LogStep;
 use spec::Refusal;
 use spec::Report;
 use spec::Role;
-use spec::Setup;
+use session::Setup;
 
 // THE TESTS OF AN IMAGE
 // 1: the length is that of 4 to 504 whole chunks.
@@ -389,7 +388,7 @@ pub fn open_core(
     image: &[u8],
     table: &mut [u64],
 ) -> Opened
-    ensures { λ r. ⌜ Called stateOf Fits 12 limit Open (record { control = control; setup = setup; buffer = now (buffer .entry) }) (record { control = r .control; setup = r .setup; buffer = now (buffer .exit) }) (now (image .entry)) (now (image .entry)) (now (table .entry)) (now (table .exit)) (r .report) ⌝ }
+    ensures { λ r. ⌜ Does Open (record { control = control; setup = setup; buffer = now (buffer .entry) }) (record { control = r .control; setup = r .setup; buffer = now (buffer .exit) }) (now (image .entry)) (now (image .entry)) (now (table .entry)) (now (table .exit)) (r .report) ⌝ }
 {
     let bytes = image.len();
     let words = table.len();
@@ -582,7 +581,7 @@ pub fn find(control: Control, setup: Setup, image: &[u8], table: &[u64], key: u6
     }
 }
 
-// A refusal's number in the table of document 01.
+// A refusal's number in the rules' table.
 pub fn number(refusal: Refusal) -> u64
     ensures { λ r. ⌜ r ≡ number refusal ⌝ }
 {

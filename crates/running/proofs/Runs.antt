@@ -9,16 +9,16 @@ use native.Mathlib.Omega.{arith}
 use native.Mathlib.Decide.{ℕ-discrete}
 use lib.ListN.{length}
 use Rattle.spec.specs.Medium.{Action}
-use Rattle.spec.specs.Calls.{Step, asReport, stepsLeft}
-use Rattle.spec.specs.Contract.{Changed, Called}
-use Rattle.spec.specs.declared.Control.{Control}
-use Rattle.spec.specs.declared.Setup.{Setup}
-use Rattle.spec.specs.declared.Session.{Session}
+use Rattle.spec.specs.Reports.{asReport}
+use Rattle.spec.specs.Machine.{Step, stepsLeft}
+use Rattle.spec.specs.Contract.{Changed}
+use Rattle.session.specs.declared.Control.{Control}
+use Rattle.session.specs.declared.Setup.{Setup}
+use Rattle.session.specs.declared.Session.{Session}
 use Rattle.spec.specs.declared.Report.{Report}
 use Rattle.spec.specs.declared.Report.the-variants as R
 use Rattle.theory_medium.proofs.Lists.{not-both}
-use Rattle.session.specs.State.{cleanActions, stateOf, limit}
-use Rattle.session.specs.Fits.{Fits}
+use Rattle.session.specs.State.{cleanActions, stateOf}
 use Rattle.acts.specs.Nth.{nthReport}
 use Rattle.acts.proofs.Performed.{changed-length}
 use Rattle.cleaning.specs.Record.{cleanCount}
@@ -29,6 +29,7 @@ use Rattle.stepping.specs.Inner.{Inner, toNext, Runs, RunsOn, isStore}
 use Rattle.stepping.proofs.Cleaning.{cleans}
 use Rattle.stepping.proofs.Inner.{stored-first}
 use Rattle.running.specs.Run.{Copying, CleaningRun}
+use Rattle.session.specs.Promise.{Does}
 
 -- a report that tells of a store
 store-is : (r : Report) → isStore r ≡ true → (w : ℕ) × ((v : ℕ) × (r ≡ R.Store w v))
@@ -51,7 +52,7 @@ counted c e = ap (λ (p : ℕ). record { phase = p; next = c .next + 1; items = 
 -- ONE ACTION that is not the last
 module _ (c : Control) (k : Setup) (b bytes bytes′ table : List ℕ) (h : Copying c k (length bytes) (length table)) where
   abbrev Stepping : Report → Control → Type 0
-  Stepping r x = Called stateOf Fits 12 limit Step (record { control = c; setup = k; buffer = b }) (record { control = x; setup = k; buffer = b }) bytes bytes′ table table r
+  Stepping r x = Does Step (record { control = c; setup = k; buffer = b }) (record { control = x; setup = k; buffer = b }) bytes bytes′ table table r
 
   acts-once : (r : Report) → r ≡ nthReport (cleanActions k (k .source) b) (c .next) → Changed r bytes bytes′ → Stepping r (toNext (c .next + 1) c)
   acts-once r e changed =
@@ -81,7 +82,7 @@ module _ (c : Control) (k : Setup) (b bytes : List ℕ) where
     still table h = (h .0, (h .1 .0 ∙ sym (so-far .sized), (h .1 .1 .0, inside)))
 
     stepped : (table : List ℕ) → Copying c k (length bytes) (length table)
-        → Called stateOf Fits 12 limit Step (record { control = toNext n c; setup = k; buffer = b }) (record { control = toNext (n + 1) c; setup = k; buffer = b }) bytes₁ bytes₂ table table r
+        → Does Step (record { control = toNext n c; setup = k; buffer = b }) (record { control = toNext (n + 1) c; setup = k; buffer = b }) bytes₁ bytes₂ table table r
     stepped table h = acts-once (toNext n c) k b bytes₁ bytes₂ table (still table h) r e changed
 
     pub one-stored : isStore r ≡ true → StoredTo c k b bytes bytes₂ (n + 1)
@@ -122,7 +123,7 @@ pub none-made : (s : Session) (bytes table : List ℕ) → Stored s s bytes byte
 none-made s bytes table = record { sized = refl; tabled = refl; run = λ s′ bytes″ table″ r q. q }
 
 module _ (s s₁ s₂ : Session) (bytes bytes₁ bytes₂ table table₁ table₂ : List ℕ) (r : Report) (so-far : Stored s s₁ bytes bytes₁ table table₁)
-    (step : Called stateOf Fits 12 limit Step s₁ s₂ bytes₁ bytes₂ table₁ table₂ r) where
+    (step : Does Step s₁ s₂ bytes₁ bytes₂ table₁ table₂ r) where
   pub long : length bytes₂ ≡ length bytes
   long = changed-length r bytes₁ bytes₂ (step .image) ∙ so-far .sized
 

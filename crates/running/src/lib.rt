@@ -3,9 +3,9 @@ ghost use mathlib.Core.Path.{_≡_};
 ghost use mathlib.Core.Bool.{true, false};
 ghost use Rattle.stepping.specs.Inner.{isStore, RunsOn};
 ghost use Rattle.running.specs.Run.{Copying, CleaningRun};
-use spec::Control;
+use session::Control;
 use spec::Report;
-use spec::Setup;
+use session::Setup;
 use stepping::Advanced;
 use stepping::Stepped;
 

@@ -8,9 +8,9 @@ use Rattle.spec.specs.Places.{basePower, chunksIn}
 use Rattle.spec.specs.Log.{Entry, moved, placed, parse}
 use Rattle.spec.specs.Contents.{listed}
 use Rattle.spec.specs.Actions.{appendOf}
-use Rattle.spec.specs.declared.Control.{Control}
-use Rattle.spec.specs.declared.Setup.{Setup}
-use Rattle.spec.specs.declared.Session.{Session}
+use Rattle.session.specs.declared.Control.{Control}
+use Rattle.session.specs.declared.Setup.{Setup}
+use Rattle.session.specs.declared.Session.{Session}
 use Rattle.bits.specs.Bits.{WordsKept}
 use Rattle.session.specs.State.{batchRoom, batchWords, batchItems, chunkIn, linesIn, commitActions}
 use Rattle.session.specs.Fits.{ItemsFit, BatchFits, Built, RestFits, batchPlace, CommitFits}

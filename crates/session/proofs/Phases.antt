@@ -10,9 +10,10 @@ use borrow.Author.Tests.{ne-eqb}
 use Rattle.spec.specs.Basics.{pick}
 use Rattle.spec.specs.Medium.{Action}
 use Rattle.spec.specs.Log.{Entry}
-use Rattle.spec.specs.Calls.{Staging, Committing, Cleaning, Closed, Rest, Busy, Formatting}
-use Rattle.spec.specs.declared.Control.{Control}
-use Rattle.spec.specs.declared.Setup.{Setup}
+use Rattle.spec.specs.Plans.{Staging, Committing, Cleaning}
+use Rattle.spec.specs.Machine.{Closed, Rest, Busy, Formatting}
+use Rattle.session.specs.declared.Control.{Control}
+use Rattle.session.specs.declared.Setup.{Setup}
 use Rattle.session.specs.State.{batchItems, stateBy, stateAt}
 
 module _ (c : Control) (k : Setup) (b : List ℕ) where

@@ -15,18 +15,26 @@ use Rattle.spec.specs.Blocks.{pointed}
 use Rattle.spec.specs.Contents.{capacity, liveBlocks}
 use Rattle.spec.specs.Opening.{Accepted, fine, opening}
 use Rattle.spec.specs.Actions.{linesFor}
-use Rattle.spec.specs.Calls.{Staging, Committing, Cleaning, State, Closed, Rest, Busy, Formatting, maxItems, hasSpace, runWords}
-use Rattle.spec.specs.Contract.{Proper}
-use Rattle.spec.specs.declared.Control.{Control}
-use Rattle.spec.specs.declared.Setup.{Setup}
-use Rattle.spec.specs.declared.Source.{Source}
-use Rattle.spec.specs.declared.Session.{Session}
+use Rattle.spec.specs.Reports.{runWords}
+use Rattle.spec.specs.Plans.{Staging, Committing, Cleaning, maxItems, hasSpace}
+use Rattle.spec.specs.Machine.{State, Closed, Rest, Busy, Formatting}
+use Rattle.session.specs.declared.Control.{Control}
+use Rattle.session.specs.declared.Setup.{Setup}
+use Rattle.session.specs.declared.Source.{Source}
+use Rattle.session.specs.declared.Session.{Session}
 use Rattle.theory_log.specs.Batch.{AllRight}
 use Rattle.theory_log.specs.Contents.{CountsOn, Mem, Top}
 use Rattle.bits.specs.Bits.{hasBit}
 use Rattle.volatile.specs.Known.{Indexed}
 use Rattle.session.specs.State.{batchRoom, batchWords, stateOf}
 use Rattle.session.specs.Cleaned.{before, copiesOf, after, Cleaned, Stand}
+
+-- a value of the type `Session`: antt's list has no length, the array has so many words
+abbrev pub bufferWords : ℕ
+bufferWords = 1152
+
+abbrev pub Proper : Session → Type 0
+Proper s = length (s .buffer) ≡ bufferWords
 
 abbrev pub keyList : List Entry → List ℕ
 keyList es = map (λ (e : Entry). e .key) es

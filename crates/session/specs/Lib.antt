@@ -1,3 +1,4 @@
 pub mod Cleaned
 pub mod State
 pub mod Fits
+pub mod Promise

@@ -28,11 +28,12 @@ use Rattle.spec.specs.Log.{Entry, moved, parse}
 use Rattle.spec.specs.Blocks.{blockLimit}
 use Rattle.spec.specs.Contents.{listed}
 use Rattle.spec.specs.Actions.{takeOf, blockOf, appendOf, freeOf, formatOf}
-use Rattle.spec.specs.Calls.{Staging, Committing, Cleaning, State, Closed, Rest, Busy, Formatting}
-use Rattle.spec.specs.declared.Control.{Control}
-use Rattle.spec.specs.declared.Setup.{Setup}
-use Rattle.spec.specs.declared.Source.{Source}
-use Rattle.spec.specs.declared.Session.{Session}
+use Rattle.spec.specs.Plans.{Staging, Committing, Cleaning}
+use Rattle.spec.specs.Machine.{State, Closed, Rest, Busy, Formatting}
+use Rattle.session.specs.declared.Control.{Control}
+use Rattle.session.specs.declared.Setup.{Setup}
+use Rattle.session.specs.declared.Source.{Source}
+use Rattle.session.specs.declared.Session.{Session}
 use Rattle.spec.specs.declared.Given.{Given}
 use Rattle.spec.specs.declared.Given.the-variants as G
 

@@ -10,7 +10,7 @@ use lib.ListN.{length}
 use Rattle.spec.specs.Words.{wordsOf}
 use Rattle.spec.specs.Directory.{roleAt, isFree}
 use Rattle.spec.specs.Log.{Entry}
-use Rattle.spec.specs.Calls.{freeChunk, orFree, slotFor}
+use Rattle.spec.specs.Plans.{freeChunk, orFree, slotFor}
 use Rattle.codec.specs.declared.Unit.{Unit as UnitNumber}
 use Rattle.placing.specs.declared.Found.{Found}
 use Rattle.placing.specs.declared.Found.the-variants as F

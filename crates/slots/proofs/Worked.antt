@@ -7,7 +7,7 @@ use lib.ListN.{set, replicate}
 use Rattle.spec.specs.Places.{chunkUnits, chunkLines, firstUnit}
 use Rattle.spec.specs.Directory.{sizeFor, isSize, roleOf, sizeOf}
 use Rattle.spec.specs.Log.{Entry}
-use Rattle.spec.specs.Calls.{entry, InData, InFree, Nowhere, slotFor}
+use Rattle.spec.specs.Plans.{entry, InData, InFree, Nowhere, slotFor}
 
 -- the first words of an image whose chunk 1 has this directory word, with the other chunks free
 abbrev words : ℕ → List ℕ

@@ -14,8 +14,8 @@ use Rattle.spec.specs.Places.{unitChunk}
 use Rattle.spec.specs.Directory.{sizeOf, roleAt, isFree}
 use Rattle.spec.specs.Log.{Entry, wordsFor}
 use Rattle.spec.specs.Contents.{pointers, liveBlocks}
-use Rattle.spec.specs.Calls.{blocksFrom, InData, InFree, slotFor}
-use Rattle.spec.specs.Calls as K
+use Rattle.spec.specs.Plans.{blocksFrom, InData, InFree, slotFor}
+use Rattle.spec.specs.Plans as K
 use Rattle.spec.specs.declared.FirstWord.{FirstWord}
 use Rattle.spec.specs.declared.FirstWord.the-variants as F
 use Rattle.codec.specs.declared.Unit.{Unit as UnitNumber}

@@ -9,7 +9,7 @@ use lib.ListN.{replicate}
 use Rattle.spec.specs.Basics.{every, sameList, pick}
 use Rattle.spec.specs.Medium.{Action, Store, Flush, Fence, Medium, run, values, cellAt, latest, cut, settledAt}
 use Rattle.spec.specs.Contents.{Held, Absent, Value, sameHeld}
-use Rattle.spec.specs.Calls.{Put, Delete, Commit, Abandon, Step}
+use Rattle.spec.specs.Machine.{Put, Delete, Commit, Abandon, Step}
 use Rattle.spec.specs.Book.{Item, Book, newBook, note, noteCut, noteOpen}
 use Rattle.spec.specs.declared.Refusal.the-variants as N
 use Rattle.spec.specs.declared.Report.the-variants as R

@@ -16,7 +16,7 @@ use Rattle.spec.specs.Blocks.{blockTest}
 use Rattle.spec.specs.Contents.{Held, Absent, Value, sameHeld, chosen, tops, capacity, contents, entriesIn, keptIn}
 use Rattle.spec.specs.Opening.{Opening, Refused, Accepted, opening}
 use Rattle.spec.specs.Actions.{appendOf, commitOf, bodyOf, padded}
-use Rattle.spec.specs.Calls.{Plan, Refuse, Begin, Slot, InData, InFree, Nowhere, entry, planCommit, logPlace, slotFor}
+use Rattle.spec.specs.Plans.{Plan, Refuse, Begin, Slot, InData, InFree, Nowhere, entry, planCommit, logPlace, slotFor}
 
 -- Four chunks: the directory words of chunks 1 and 2, eight words in the first line of each; words that mean nothing are 3.
 abbrev image : ℕ → ℕ → List ℕ → List ℕ → List ℕ

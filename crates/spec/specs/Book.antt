@@ -7,7 +7,8 @@ use Prim.Native.Nat.{ℕ}
 use lib.Dec.{eqb}
 use Rattle.spec.specs.Basics.{pick, negate}
 use Rattle.spec.specs.Contents.{Held, Absent, Value}
-use Rattle.spec.specs.Calls.{Call, Format, Open, Put, Delete, Commit, Abandon, LookUp, Choose, Clean, Step, isRefused}
+use Rattle.spec.specs.Reports.{isRefused}
+use Rattle.spec.specs.Machine.{Call, Format, Open, Put, Delete, Commit, Abandon, LookUp, Choose, Clean, Step}
 use Rattle.spec.specs.declared.Report.{Report}
 use Rattle.spec.specs.declared.Report.the-variants as R
 

@@ -3,72 +3,55 @@
 use mathlib.Core.Path.{_≡_}
 use mathlib.Core.Logic.{_⊎_}
 use mathlib.Core.Bool.{Bool, true, false}
-use mathlib.Core.Option.{some}
+use mathlib.Core.Option.{Option, none, some}
 use mathlib.Core.List.{List, [], _∷_, _++_, map}
-use Prim.Native.Nat.{ℕ, zero, suc, _+_, _≤_, _<_}
-use lib.ListN.{length, replicate, set}
-use lib.Seq.{slice}
+use Prim.Native.Nat.{ℕ, zero, suc, _+_, _*_, _/_, _≤_, _<_}
+use lib.ListN.{length, drop, replicate, set}
 use Rattle.spec.specs.Words.{wordsOf}
 use Rattle.spec.specs.Places.{chunksIn}
-use Rattle.spec.specs.Medium.{Action}
+use Rattle.spec.specs.Medium.{Action, Store, Flush, Fence}
 use Rattle.spec.specs.Log.{Entry}
-use Rattle.spec.specs.Calls.{Call, Format, Open, Put, Delete, Commit, Abandon, LookUp, Choose, Clean, Step, Staging, Committing, Cleaning, State, Closed, Rest, Busy, Formatting, Task, itemsOf, countOf, asReport, answer, next, barred, refusals, stepsLeft, isRefused}
-use Rattle.spec.specs.declared.Session.{Session}
+use Rattle.spec.specs.Reports.{actionOf, partIn, asReport, isRefused}
+use Rattle.spec.specs.Plans.{Staging, Committing, Cleaning, Task}
+use Rattle.spec.specs.Machine.{Kind, ToFormat, ToOpen, ToWork, ToStep, kindOf, Call, Format, Open, Put, Delete, Commit, Abandon, LookUp, Choose, Clean, Step, State, Closed, Rest, Busy, Formatting, itemsOf, countOf, answer, next, barred, refusals, stepsLeft}
 use Rattle.spec.specs.declared.Refusal.{Refusal}
 use Rattle.spec.specs.declared.Report.{Report}
 use Rattle.spec.specs.declared.Report.the-variants as R
-
--- a value of the type `Session`: antt's list has no length, the array has so many words
-abbrev pub bufferWords : ℕ
-bufferWords = 1152
-
-abbrev pub Proper : Session → Type 0
-Proper s = length (s .buffer) ≡ bufferWords
 
 abbrev pub MemRefusal : Refusal → List Refusal → Type 0
 MemRefusal x [] = ⊥
 MemRefusal x (y ∷ ys) = (x ≡ y) ⊎ MemRefusal x ys
 
--- The report is the image's whole change.
+-- The report is the image's WHOLE change: of a store, one word; the bytes behind the last whole word, which belong to no word, stay too.
+abbrev pub oddBytes : List ℕ → List ℕ
+oddBytes bytes = drop (8 * (length bytes / 8)) bytes
+
+abbrev pub ChangedBy : Option Action → List ℕ → List ℕ → Type 0
+ChangedBy none bytes bytes′ = bytes′ ≡ bytes
+ChangedBy (some (Store w v)) bytes bytes′ = (wordsOf bytes′ ≡ set (wordsOf bytes) w v) × (length bytes′ ≡ length bytes) × (oddBytes bytes′ ≡ oddBytes bytes)
+ChangedBy (some (Flush l)) bytes bytes′ = bytes′ ≡ bytes
+ChangedBy (some Fence) bytes bytes′ = bytes′ ≡ bytes
+
 abbrev pub Changed : Report → List ℕ → List ℕ → Type 0
-Changed (R.Refused n) bytes bytes′ = bytes′ ≡ bytes
-Changed (R.Begun a) bytes bytes′ = bytes′ ≡ bytes
-Changed (R.Store w v) bytes bytes′ = (wordsOf bytes′ ≡ set (wordsOf bytes) w v) × (length bytes′ ≡ length bytes)
-Changed (R.Flush l) bytes bytes′ = bytes′ ≡ bytes
-Changed R.Fence bytes bytes′ = bytes′ ≡ bytes
-Changed (R.End n) bytes bytes′ = bytes′ ≡ bytes
-Changed R.Idle bytes bytes′ = bytes′ ≡ bytes
-Changed R.Opened bytes bytes′ = bytes′ ≡ bytes
-Changed R.Abandoned bytes bytes′ = bytes′ ≡ bytes
-Changed (R.Chosen c) bytes bytes′ = bytes′ ≡ bytes
-Changed (R.Part a n) bytes bytes′ = bytes′ ≡ bytes
+Changed r bytes bytes′ = ChangedBy (actionOf r) bytes bytes′
 
 -- the bytes that a look-up hands out
+abbrev pub orEmpty : Option (List ℕ) → List ℕ
+orEmpty none = []
+orEmpty (some part) = part
+
 abbrev pub partBytes : Report → List ℕ → List ℕ
-partBytes (R.Refused n) bytes = []
-partBytes (R.Begun a) bytes = []
-partBytes (R.Store w v) bytes = []
-partBytes (R.Flush l) bytes = []
-partBytes R.Fence bytes = []
-partBytes (R.End n) bytes = []
-partBytes R.Idle bytes = []
-partBytes R.Opened bytes = []
-partBytes R.Abandoned bytes = []
-partBytes (R.Chosen c) bytes = []
-partBytes (R.Part a n) bytes = slice a (a + n) bytes
+partBytes r bytes = orEmpty (partIn r bytes)
 
 -- Memory fits again. A refused formatting, which may be lent any record, leaves memory as it was.
+abbrev pub AgainBy : Kind → Report → Type 0 → Type 0
+AgainBy ToFormat r Fit = isRefused r ≡ false → Fit
+AgainBy ToOpen r Fit = Fit
+AgainBy ToWork r Fit = Fit
+AgainBy ToStep r Fit = Fit
+
 abbrev pub Again : Call → Report → Type 0 → Type 0
-Again (Format a b) r Fit = isRefused r ≡ false → Fit
-Again Open r Fit = Fit
-Again (Put k v) r Fit = Fit
-Again (Delete k) r Fit = Fit
-Again Commit r Fit = Fit
-Again Abandon r Fit = Fit
-Again (LookUp k) r Fit = Fit
-Again Choose r Fit = Fit
-Again (Clean c) r Fit = Fit
-Again Step r Fit = Fit
+Again k r Fit = AgainBy (kindOf k) r Fit
 
 -- ANY MEMORY AT ALL, by call: which answers the call has, and the state that it leaves. A step is exact, whatever image and table hold.
 abbrev pub Refuses : Report → Type 0
@@ -99,39 +82,34 @@ Anyway p limit Choose σ σ′ ws bytes table r = Refuses r ⊎ ((c : ℕ) × ((
 Anyway p limit (Clean c) σ σ′ ws bytes table r = Refuses r ⊎ Begins (CleansIn bytes table) σ′ r
 Anyway p limit Step σ σ′ ws bytes table r = (r ≡ answer p limit Step σ ws bytes table) × (σ′ ≡ next p limit Step σ ws bytes table)
 
--- An implementation reads its record as a state, and keeps record and table fitting the image's words: "memory as our calls
--- left it". Nothing is to be believed of either: an opening and a formatting need no more of the record than its type.
-module _ (stateOf : Session → State) (Fits : Session → List ℕ → List ℕ → Type 0) (p limit : ℕ) where
-  abbrev pub Ready : Call → Session → List ℕ → List ℕ → Type 0
-  Ready (Format a b) s ws table = Proper s
-  Ready Open s ws table = Proper s
-  Ready (Put k v) s ws table = Fits s ws table
-  Ready (Delete k) s ws table = Fits s ws table
-  Ready Commit s ws table = Fits s ws table
-  Ready Abandon s ws table = Fits s ws table
-  Ready (LookUp k) s ws table = Fits s ws table
-  Ready Choose s ws table = Fits s ws table
-  Ready (Clean c) s ws table = Fits s ws table
-  Ready Step s ws table = Fits s ws table
+-- An implementation has records of a type S. It tells which of them are proper values of that type, reads one as a state, and keeps record
+-- and table fitting the image's words: "memory as our calls left it". Nothing is to be believed of any of these: an opening and a formatting
+-- ask no more of the record than that it is proper.
+module _ {S : Type 0} (Proper : S → Type 0) (stateOf : S → State) (Fits : S → List ℕ → List ℕ → Type 0) (p limit : ℕ) where
+  abbrev pub ReadyBy : Kind → S → List ℕ → List ℕ → Type 0
+  ReadyBy ToFormat s ws table = Proper s
+  ReadyBy ToOpen s ws table = Proper s
+  ReadyBy ToWork s ws table = Fits s ws table
+  ReadyBy ToStep s ws table = Fits s ws table
+
+  abbrev pub Ready : Call → S → List ℕ → List ℕ → Type 0
+  Ready k s ws table = ReadyBy (kindOf k) s ws table
 
   -- on memory as our calls left it: the definition's answer, the definition's state, and memory fits again
-  pub record Exact (k : Call) (s s′ : Session) (bytes bytes′ table table′ : List ℕ) (r : Report) : Type 0 where
+  pub record Exact (k : Call) (s s′ : S) (bytes bytes′ table table′ : List ℕ) (r : Report) : Type 0 where
     pub answered : r ≡ answer p limit k (stateOf s) (wordsOf bytes) (length bytes) (length table)
     pub became : stateOf s′ ≡ next p limit k (stateOf s) (wordsOf bytes) (length bytes) (length table)
     pub fits : Again k r (Fits s′ (wordsOf bytes′) table′)
 
   -- a refusal leaves record and table as they were; a refused opening leaves a record with nothing open and a table of zeros
-  abbrev pub Kept : Call → Session → Session → List ℕ → List ℕ → Type 0
-  Kept (Format a b) s s′ table table′ = (s′ ≡ s) × (table′ ≡ table)
-  Kept Open s s′ table table′ = (stateOf s′ ≡ Closed) × (table′ ≡ replicate (length table) 0)
-  Kept (Put k v) s s′ table table′ = (s′ ≡ s) × (table′ ≡ table)
-  Kept (Delete k) s s′ table table′ = (s′ ≡ s) × (table′ ≡ table)
-  Kept Commit s s′ table table′ = (s′ ≡ s) × (table′ ≡ table)
-  Kept Abandon s s′ table table′ = (s′ ≡ s) × (table′ ≡ table)
-  Kept (LookUp k) s s′ table table′ = (s′ ≡ s) × (table′ ≡ table)
-  Kept Choose s s′ table table′ = (s′ ≡ s) × (table′ ≡ table)
-  Kept (Clean c) s s′ table table′ = (s′ ≡ s) × (table′ ≡ table)
-  Kept Step s s′ table table′ = (s′ ≡ s) × (table′ ≡ table)
+  abbrev pub KeptBy : Kind → S → S → List ℕ → List ℕ → Type 0
+  KeptBy ToFormat s s′ table table′ = (s′ ≡ s) × (table′ ≡ table)
+  KeptBy ToOpen s s′ table table′ = (stateOf s′ ≡ Closed) × (table′ ≡ replicate (length table) 0)
+  KeptBy ToWork s s′ table table′ = (s′ ≡ s) × (table′ ≡ table)
+  KeptBy ToStep s s′ table table′ = (s′ ≡ s) × (table′ ≡ table)
+
+  abbrev pub Kept : Call → S → S → List ℕ → List ℕ → Type 0
+  Kept k s s′ table table′ = KeptBy (kindOf k) s s′ table table′
 
   -- an action's step: one step fewer is left; while a formatting is unfinished the table is as it was
   abbrev pub TableKept : State → List ℕ → List ℕ → Type 0
@@ -140,11 +118,11 @@ module _ (stateOf : Session → State) (Fits : Session → List ℕ → List ℕ
   TableKept (Busy b t items task rest) table table′ = Unit {0}
   TableKept (Formatting o b t rest) table table′ = table′ ≡ table
 
-  abbrev pub Counted : Session → Session → List ℕ → List ℕ → Type 0
+  abbrev pub Counted : S → S → List ℕ → List ℕ → Type 0
   Counted s s′ table table′ = (stepsLeft (stateOf s) ≡ suc (stepsLeft (stateOf s′))) × TableKept (stateOf s) table table′
 
   -- what holds of an answer for any memory at all
-  abbrev pub Outcome : Call → Session → Session → List ℕ → List ℕ → Report → Type 0
+  abbrev pub Outcome : Call → S → S → List ℕ → List ℕ → Report → Type 0
   Outcome k s s′ table table′ (R.Refused n) = MemRefusal n (refusals k) × Kept k s s′ table table′
   Outcome k s s′ table table′ (R.Begun a) = (stepsLeft (stateOf s′) ≡ suc a) × (table′ ≡ table)
   Outcome k s s′ table table′ (R.Store w v) = Counted s s′ table table′
@@ -158,11 +136,11 @@ module _ (stateOf : Session → State) (Fits : Session → List ℕ → List ℕ
   Outcome k s s′ table table′ (R.Part a n) = (s′ ≡ s) × (table′ ≡ table)
 
   -- what the record and the lengths alone decide, whatever the image and the table hold
-  abbrev pub Barred : Call → Session → List ℕ → List ℕ → Report → Type 0
+  abbrev pub Barred : Call → S → List ℕ → List ℕ → Report → Type 0
   Barred k s bytes table r = (r′ : Report) → barred k (stateOf s) (length bytes) (length table) ≡ some r′ → r ≡ r′
 
   -- what a call did: the record, the image's bytes and the table before and after, and the report
-  pub record Called (k : Call) (s s′ : Session) (bytes bytes′ table table′ : List ℕ) (r : Report) : Type 0 where
+  pub record Called (k : Call) (s s′ : S) (bytes bytes′ table table′ : List ℕ) (r : Report) : Type 0 where
     pub exact : Ready k s (wordsOf bytes) table → Exact k s s′ bytes bytes′ table table′ r
     pub first : Barred k s bytes table r
     pub image : Changed r bytes bytes′
@@ -172,13 +150,13 @@ module _ (stateOf : Session → State) (Fits : Session → List ℕ → List ℕ
 
   -- EVERY BEGUN CALL ENDS AFTER ITS COUNT. Steps with these reports, each lent any image and any table of the lengths b and t: nothing is
   -- asked of what these hold, and they may be altered between the steps.
-  abbrev pub SteppedOn : (b t : ℕ) → Session → List Report → Type 0
+  abbrev pub SteppedOn : (b t : ℕ) → S → List Report → Type 0
   SteppedOn b t s [] = Unit {0}
   SteppedOn b t s (r ∷ rs) =
-      (s′ : Session) × ((bytes : List ℕ) × ((bytes′ : List ℕ) × ((table : List ℕ) × ((table′ : List ℕ)
+      (s′ : S) × ((bytes : List ℕ) × ((bytes′ : List ℕ) × ((table : List ℕ) × ((table′ : List ℕ)
       × ((length bytes ≡ b) × ((length table ≡ t) × (Called Step s s′ bytes bytes′ table table′ r × SteppedOn b t s′ rs)))))))
 
   -- the next a + 1 steps report the a actions that were to come, in order, and then the end with the call's count
   abbrev pub Ends : Type 0
-  Ends = (s : Session) (b t : ℕ) (items : List Entry) (task : Task) (acts : List Action) (rs : List Report)
+  Ends = (s : S) (b t : ℕ) (items : List Entry) (task : Task) (acts : List Action) (rs : List Report)
       → stateOf s ≡ Busy b t items task acts → SteppedOn b t s rs → length rs ≡ suc (length acts) → rs ≡ map asReport acts ++ (R.End (countOf task) ∷ [])

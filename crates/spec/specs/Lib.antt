@@ -9,7 +9,9 @@ pub mod Blocks
 pub mod Contents
 pub mod Opening
 pub mod Actions
-pub mod Calls
+pub mod Reports
+pub mod Plans
+pub mod Machine
 pub mod Book
 pub mod Contract
 pub mod History

@@ -14,18 +14,16 @@ use Rattle.spec.specs.Medium.{Action}
 use Rattle.spec.specs.Log.{Entry, Parsed}
 use Rattle.spec.specs.Contents.{keysOf, listed}
 use Rattle.spec.specs.Opening.{Accepted, opening}
-use Rattle.spec.specs.Calls.{Staging, Committing, Cleaning, State, Closed, Rest, Busy, Formatting, runWords}
-use Rattle.spec.specs.declared.Control.{Control}
-use Rattle.spec.specs.declared.Setup.{Setup}
-use Rattle.spec.specs.declared.Session.{Session}
+use Rattle.spec.specs.Reports.{runWords}
+use Rattle.spec.specs.Plans.{Staging, Committing, Cleaning}
+use Rattle.spec.specs.Machine.{State, Closed, Rest, Busy, Formatting}
+use Rattle.session.specs.declared.Control.{Control}
+use Rattle.session.specs.declared.Setup.{Setup}
+use Rattle.session.specs.declared.Session.{Session}
 use Rattle.theory_cuts.proofs.Opening.{opens-ok}
 use Rattle.session.specs.State.{stateAt}
 use Rattle.session.specs.Fits.{RestFits, CommitFits, CleanFits, FitsAt, Fits}
-use Rattle.stat.specs.Counts.{keyCount, Before, KnownAt, KnownBy}
-
--- by the phase
-abbrev counts : Control → Bool
-counts c = either (eqb (c .phase) 1) (either (eqb (c .phase) 2) (either (eqb (c .phase) 3) (eqb (c .phase) 6)))
+use Rattle.stat.specs.Counts.{isCounted, keysIn, keyCount, Before, KnownAt, KnownBy}
 
 -- the entries of an accepted image are those that its words say
 accepted-count : (bytes table : ℕ) (ws : List ℕ) (es : List Entry) → length ws ≡ bytes / 8 → opening basePower bytes ws table ≡ Accepted es → length (keysOf es) ≡ keyCount bytes ws
@@ -50,9 +48,10 @@ apart c = (
   (λ h. let e = eqb-true (c .phase) 5 h in ne-eqb (c .phase) 6 (λ q. omega arith)),
 )
 
-known-keys-are : (c : Control) → KnownBy c (pick (counts c) (c .keys) 0)
+known-at : (c : Control) (k : Setup) (b ws table : List ℕ) → Fits (record { control = c; setup = k; buffer = b }) ws table
+    → KnownAt (stateAt c k b) (record { control = c; setup = k; buffer = b }) ws (keysIn c)
 unfolding stateAt
-known-keys-are c k b ws table f = go (eqb (c .phase) 1) (eqb (c .phase) 2) (eqb (c .phase) 3) (eqb (c .phase) 4) (eqb (c .phase) 5) (eqb (c .phase) 6) (apart c .0) (apart c .1) _ _ _ _ _ _ _ (f .1)
+known-at c k b ws table f = go (eqb (c .phase) 1) (eqb (c .phase) 2) (eqb (c .phase) 3) (eqb (c .phase) 4) (eqb (c .phase) 5) (eqb (c .phase) 6) (apart c .0) (apart c .1) _ _ _ _ _ _ _ (f .1)
   where
     s : Session
     s = record { control = c; setup = k; buffer = b }
@@ -73,8 +72,11 @@ known-keys-are c k b ws table f = go (eqb (c .phase) 1) (eqb (c .phase) 2) (eqb 
     go false false false false false false x y items m a2 a3 a4 a5 a6 g = refl
 
 -- what the code shows at its two ends
-pub counted-keys : (c : Control) → counts c ≡ true → KnownBy c (c .keys)
-counted-keys c h = subst (λ (t : Bool). KnownBy c (pick t (c .keys) 0)) h (known-keys-are c)
+known-keys-are : (c : Control) → KnownBy c (keysIn c)
+known-keys-are c k b = (refl, known-at c k b)
 
-pub no-keys : (c : Control) → counts c ≡ false → KnownBy c 0
-no-keys c h = subst (λ (t : Bool). KnownBy c (pick t (c .keys) 0)) h (known-keys-are c)
+pub counted-keys : (c : Control) → isCounted c ≡ true → KnownBy c (c .keys)
+counted-keys c h = subst (λ (n : ℕ). KnownBy c n) (ap (λ (t : Bool). pick t (c .keys) 0) h) (known-keys-are c)
+
+pub no-keys : (c : Control) → isCounted c ≡ false → KnownBy c 0
+no-keys c h = subst (λ (n : ℕ). KnownBy c n) (ap (λ (t : Bool). pick t (c .keys) 0) h) (known-keys-are c)

@@ -1,20 +1,24 @@
 -- What a station's display asks: the committed lines of an image, and the known keys of an open register.
 -- Assumes nothing.
 use mathlib.Core.Path.{_≡_}
+use mathlib.Core.Bool.{Bool}
 use mathlib.Core.List.{List, [], _∷_, _++_}
 use Prim.Native.Nat.{ℕ, _+_, _-_}
+use lib.Dec.{eqb}
 use lib.ListN.{length}
-use Rattle.spec.specs.Basics.{upFrom}
+use Rattle.spec.specs.Basics.{pick, either, upFrom}
 use Rattle.spec.specs.Places.{basePower, chunksIn}
 use Rattle.spec.specs.Medium.{Action}
 use Rattle.spec.specs.Directory.{linesOf}
 use Rattle.spec.specs.Log.{Entry, placed}
 use Rattle.spec.specs.Contents.{keysOf, entriesIn}
 use Rattle.spec.specs.Opening.{Accepted, opening}
-use Rattle.spec.specs.Calls.{Staging, Committing, Cleaning, State, Closed, Rest, Busy, Formatting, runWords}
-use Rattle.spec.specs.declared.Control.{Control}
-use Rattle.spec.specs.declared.Setup.{Setup}
-use Rattle.spec.specs.declared.Session.{Session}
+use Rattle.spec.specs.Reports.{runWords}
+use Rattle.spec.specs.Plans.{Staging, Committing, Cleaning}
+use Rattle.spec.specs.Machine.{State, Closed, Rest, Busy, Formatting}
+use Rattle.session.specs.declared.Control.{Control}
+use Rattle.session.specs.declared.Setup.{Setup}
+use Rattle.session.specs.declared.Session.{Session}
 use Rattle.session.specs.Cleaned.{before, after}
 use Rattle.session.specs.State.{stateOf}
 use Rattle.session.specs.Fits.{Fits, batchPlace}
@@ -61,9 +65,16 @@ KnownAt (Busy b t items (Cleaning m) []) s ws n = n ≡ keyCount b ws
 KnownAt (Busy b t items (Cleaning m) (a ∷ rest)) s ws n = Uncleaned s ws (a ∷ rest) n
 KnownAt (Formatting o b t rest) s ws n = n ≡ 0
 
--- on memory as our calls left it
+-- the record's count, in the phases in which a register is open and not being formatted
+abbrev pub isCounted : Control → Bool
+isCounted c = either (eqb (c .phase) 1) (either (eqb (c .phase) 2) (either (eqb (c .phase) 3) (eqb (c .phase) 6)))
+
+abbrev pub keysIn : Control → ℕ
+keysIn c = pick (isCounted c) (c .keys) 0
+
+-- for any memory the record's count; on memory as our calls left it that of the known keys
 abbrev pub Known : Session → ℕ → Type 0
-Known s n = (ws table : List ℕ) → Fits s ws table → KnownAt (stateOf s) s ws n
+Known s n = (n ≡ keysIn (s .control)) × ((ws table : List ℕ) → Fits s ws table → KnownAt (stateOf s) s ws n)
 
 -- the same, by the record's control alone
 abbrev pub KnownBy : Control → ℕ → Type 0

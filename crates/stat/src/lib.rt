@@ -9,8 +9,8 @@ ghost use Rattle.spec.specs.Words.{wordsOf};
 ghost use Rattle.spec.specs.Places.{chunksIn};
 ghost use Rattle.spec.specs.Directory.{roleAt, isFree, freeChunks};
 ghost use Rattle.stat.specs.Counts.{linesUsed, Known, KnownBy};
-use spec::Control;
-use spec::Session;
+use session::Control;
+use session::Session;
 
 // KEYS
 // A register open and at rest, in a staging, in a commit, or in a cleaning.

@@ -17,11 +17,13 @@ use Rattle.spec.specs.Directory.{linesOf}
 use Rattle.spec.specs.Log.{Entry, encodeAll}
 use Rattle.spec.specs.Actions.{linesFor, appendOf}
 use Rattle.spec.specs.Opening.{opening}
-use Rattle.spec.specs.Calls.{Commit, Committing, Rest, Busy, gate, refusedBy, Begin, Refuse, planned, appendTo, runWords, freeNeeded, logPlace, planCommit, next, itemsOf}
-use Rattle.spec.specs.Contract.{Exact, Called}
-use Rattle.spec.specs.declared.Control.{Control}
-use Rattle.spec.specs.declared.Setup.{Setup}
-use Rattle.spec.specs.declared.Session.{Session}
+use Rattle.spec.specs.Reports.{runWords}
+use Rattle.spec.specs.Plans.{Committing, Begin, Refuse, planned, appendTo, freeNeeded, logPlace, planCommit}
+use Rattle.spec.specs.Machine.{Commit, Rest, Busy, gate, refusedBy, next, itemsOf}
+use Rattle.spec.specs.Contract.{Exact}
+use Rattle.session.specs.declared.Control.{Control}
+use Rattle.session.specs.declared.Setup.{Setup}
+use Rattle.session.specs.declared.Session.{Session}
 use Rattle.spec.specs.declared.Refusal.{Refusal}
 use Rattle.spec.specs.declared.Refusal.the-variants as N
 use Rattle.spec.specs.declared.Report.{Report}
@@ -47,6 +49,8 @@ use Rattle.stepping.specs.declared.CommitPlan.the-variants as P
 use Rattle.stepping.specs.Planned.{PlaceFor, CommitPlanned, committing, writingTo}
 use Rattle.ahead.proofs.Commits.{Forward, forward}
 use Rattle.stepping.proofs.States.{at-3}
+use Rattle.session.specs.Promise.{Does}
+use Rattle.session.specs.Fits.{Proper}
 
 -- a commit's begin leaves the staged items
 same-items : (c : Control) (b : List ℕ) → batchItems (committing c) b ≡ batchItems c b
@@ -167,16 +171,16 @@ module _ (c : Control) (k : Setup) (b bytes table : List ℕ) where
 
   -- by the plan
   module _ (plan : CommitPlan) (right : CommitPlanned c k b bytes table plan) where
-    pub plan-refused : (n : Refusal) → plan ≡ P.Refused n → Called stateOf Fits 12 limit Commit s s bytes bytes table table (R.Refused n)
+    pub plan-refused : (n : Refusal) → plan ≡ P.Refused n → Does Commit s s bytes bytes table table (R.Refused n)
     plan-refused n e = rw e at right
 
     pub plan-begun : (chunk old lines first least actions : ℕ) → plan ≡ P.At chunk old lines first least actions
-        → Called stateOf Fits 12 limit Commit s (record { control = committing c; setup = writingTo k chunk old lines first least; buffer = b }) bytes bytes table table (R.Begun actions)
+        → Does Commit s (record { control = committing c; setup = writingTo k chunk old lines first least; buffer = b }) bytes bytes table table (R.Begun actions)
     plan-begun chunk old lines first least actions e = rw e at right
 
   -- by the gate
   module _ (g : Gated) (asks : Asking c k (length bytes) (length table) g) where
-    pub gate-refuses : (n : Refusal) → g ≡ G.Refused n → Called stateOf Fits 12 limit Commit s s bytes bytes table table (R.Refused n)
+    pub gate-refuses : (n : Refusal) → g ≡ G.Refused n → Does Commit s s bytes bytes table table (R.Refused n)
     gate-refuses n e = Gates.turned-down 12 limit s bytes table n (asks .asked b ∙ ap gateOf e) Commit tt
 
     module _ (e : g ≡ G.Open) where
@@ -190,7 +194,7 @@ module _ (c : Control) (k : Setup) (b bytes table : List ℕ) where
       rests q = Gates.at-rest s (length bytes) (length table) (wordsOf bytes) table opened q
 
       -- 14
-      pub nothing-staged : c .items ≡ 0 → Called stateOf Fits 12 limit Commit s s bytes bytes table table (R.Refused N.NothingStaged)
+      pub nothing-staged : c .items ≡ 0 → Does Commit s s bytes bytes table table (R.Refused N.NothingStaged)
       nothing-staged h =
           Gates.refused 12 limit s bytes table N.NothingStaged Commit refl (λ q. q) (λ q. let a = rests q in rw (opened, a .state) (by (a .items) (a .fits))) (passed (R.Refused N.NothingStaged))
           (inr (inr (inr (inl refl)))) (refl, refl) (inl (N.NothingStaged, refl))
@@ -211,7 +215,7 @@ module _ (c : Control) (k : Setup) (b bytes table : List ℕ) where
         place-is items r same = searched items (record { written = r .batch .written; right = r .batch .right }) (rw same at (r .hint))
 
         -- 13
-        pub no-space : place .found ≡ false → Called stateOf Fits 12 limit Commit s s bytes bytes table table (R.Refused N.NoSpace)
+        pub no-space : place .found ≡ false → Does Commit s s bytes bytes table table (R.Refused N.NoSpace)
         no-space h =
             Gates.refused 12 limit s bytes table N.NoSpace Commit refl (λ q. q) (λ q. let a = rests q in rw (opened, a .state) (by (a .items) (a .fits) (a .same-bytes))) (passed (R.Refused N.NoSpace))
             (inr (inr (inr (inr (inl refl))))) (refl, refl) (inl (N.NoSpace, refl))
@@ -252,7 +256,7 @@ module _ (c : Control) (k : Setup) (b bytes table : List ℕ) where
           plan-is : planCommit 12 (chunksIn 12 (length bytes)) (wordsOf bytes) (f ∷ fs) ≡ Begin (f ∷ fs) Committing acts
           plan-is = plan-at (chunksIn 12 (length bytes)) (wordsOf bytes) f fs d found
 
-          exact-at : Exact stateOf Fits 12 limit Commit s s′ bytes bytes table table (R.Begun (commitCount (c .words)))
+          exact-at : Exact Proper stateOf Fits 12 limit Commit s s′ bytes bytes table table (R.Begun (commitCount (c .words)))
           unfolding next
           exact-at = record {
             answered = rw (opened, σ, plan-is) (ap R.Begun (sym (length-commit (s′ .control) (s′ .setup) b) ∙ ap length acts-are));
@@ -260,7 +264,7 @@ module _ (c : Control) (k : Setup) (b bytes table : List ℕ) where
             fits = (q .0, rw (at-3 (s′ .control) (s′ .setup) b refl, items-are, begun-first c k b (wordsOf bytes) table f fs r d found′ (placed .first) (placed .least) below low) (begun-fits c k b (wordsOf bytes) table f fs r d found′ (placed .first) (placed .least) below low));
           }
 
-        pub begins : place .found ≡ true → (a : ℕ) → a ≡ commitCount (c .words) → Called stateOf Fits 12 limit Commit s (began place) bytes bytes table table (R.Begun a)
+        pub begins : place .found ≡ true → (a : ℕ) → a ≡ commitCount (c .words) → Does Commit s (began place) bytes bytes table table (R.Begun a)
         begins h a e = rw e (record {
           exact = λ q. let t = rests q in by (t .items) q (t .state) (t .fits) (t .same-bytes);
           first = passed (R.Begun (commitCount (c .words)));
@@ -279,11 +283,11 @@ module _ (c : Control) (k : Setup) (b bytes table : List ℕ) where
                 ∙ ap (λ (x : List Entry). Busy (length bytes) (length table) x Committing (commitActions (committing c) (began place .setup) b)) (same-items c b ∙ sym (ap itemsOf (l .state)))
 
             by : (items : List Entry) → Fits s (wordsOf bytes) table → stateOf s ≡ Rest (k .image) (k .table) items → RestFits s (wordsOf bytes) table items → k .image ≡ length bytes
-                → Exact stateOf Fits 12 limit Commit s (began place) bytes bytes table table (R.Begun (commitCount (c .words)))
+                → Exact Proper stateOf Fits 12 limit Commit s (began place) bytes bytes table table (R.Begun (commitCount (c .words)))
             by [] q σ r same = absurd (some-staged (r .batch .count))
             by (f ∷ fs) q σ r same =
                 let p = place-is (f ∷ fs) r same in
                 let t = found-some (wordsOf bytes) (at-place (f ∷ fs)) place (p .place) h in
                 let e : place .chunk ≡ t .0 = ap (λ (x : Place). x .chunk) (t .2) in
                 let l : placed .first ≤ place .chunk = p .low h in
-                subst (λ (x : Place). Exact stateOf Fits 12 limit Commit s (began x) bytes bytes table table (R.Begun (commitCount (c .words)))) (sym (t .2)) (exact-at f fs q σ r same (t .0) (t .1) (omega arith))
+                subst (λ (x : Place). Exact Proper stateOf Fits 12 limit Commit s (began x) bytes bytes table table (R.Begun (commitCount (c .words)))) (sym (t .2)) (exact-at f fs q σ r same (t .0) (t .1) (omega arith))

@@ -9,26 +9,27 @@ use native.Mathlib.Decide.{decLt, ℕ-discrete}
 use lib.ListN.{length, getD}
 use Rattle.spec.specs.Medium.{Action}
 use Rattle.spec.specs.Actions.{linesFor, padded}
-use Rattle.spec.specs.Calls.{Step, asReport}
-use Rattle.spec.specs.Contract.{Changed, Called}
-use Rattle.spec.specs.declared.Control.{Control}
-use Rattle.spec.specs.declared.Setup.{Setup}
-use Rattle.spec.specs.declared.Session.{Session}
+use Rattle.spec.specs.Reports.{asReport}
+use Rattle.spec.specs.Machine.{Step}
+use Rattle.spec.specs.Contract.{Changed}
+use Rattle.session.specs.declared.Control.{Control}
+use Rattle.session.specs.declared.Setup.{Setup}
+use Rattle.session.specs.declared.Session.{Session}
 use Rattle.spec.specs.declared.Report.{Report}
 use Rattle.spec.specs.declared.Report.the-variants as R
 use Rattle.words.specs.Image.{Saved}
-use Rattle.session.specs.State.{bufferPart, batchRoom, batchWords, chunkIn, linesIn, commitActions, stateOf, limit}
-use Rattle.session.specs.Fits.{Fits}
+use Rattle.session.specs.State.{bufferPart, batchRoom, batchWords, chunkIn, linesIn, commitActions}
 use Rattle.acts.specs.Nth.{nthReport, commitCount}
 use Rattle.acts.proofs.Committing.{commit-flush, commit-fence, commit-seal, commit-seal-flush}
 use Rattle.acts.proofs.Performed.{changed-length}
 use Rattle.stepping.specs.Inner.{Inner, toNext, Runs, isStore, RunsOn, StoresTo}
 use Rattle.stepping.proofs.Keeping.{acted}
 use Rattle.stepping.proofs.Shows.{commit-acts, commit-stores}
+use Rattle.session.specs.Promise.{Does}
 
 -- one step that stored a word, before a run
 pub stored-first : {s s₁ s′ : Session} {bytes bytes₁ bytes′ table table₁ table′ : List ℕ} {w v : ℕ} {r : Report}
-    → Called stateOf Fits 12 limit Step s s₁ bytes bytes₁ table table₁ (R.Store w v) → Runs s₁ s′ bytes₁ bytes′ table₁ table′ r → Runs s s′ bytes bytes′ table table′ r
+    → Does Step s s₁ bytes bytes₁ table table₁ (R.Store w v) → Runs s₁ s′ bytes₁ bytes′ table₁ table′ r → Runs s s′ bytes bytes′ table table′ r
 stored-first q (n, ran) = (suc n, (_, (_, (_, (_, (_, (q, ran)))))))
 
 -- the record after an action
@@ -38,7 +39,7 @@ counted c e = ap (λ (p : ℕ). record { phase = p; next = c .next + 1; items = 
 -- ONE ACTION
 module _ (c : Control) (k : Setup) (b bytes bytes′ table : List ℕ) (h : Inner c k (length bytes) (length table)) where
   abbrev Stepping : Report → Control → Type 0
-  Stepping r x = Called stateOf Fits 12 limit Step (record { control = c; setup = k; buffer = b }) (record { control = x; setup = k; buffer = b }) bytes bytes′ table table r
+  Stepping r x = Does Step (record { control = c; setup = k; buffer = b }) (record { control = x; setup = k; buffer = b }) bytes bytes′ table table r
 
   pub inner-acts : (r : Report) → r ≡ nthReport (commitActions c k b) (c .next) → Changed r bytes bytes′ → Stepping r (toNext (c .next + 1) c)
   inner-acts r e changed = subst (Stepping r) (counted c (h .0)) (commit-acts c k b bytes table (h .1 .0) (h .1 .1 .0) (h .0) bytes′ r e changed (h .1 .1 .1))

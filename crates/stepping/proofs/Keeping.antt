@@ -11,10 +11,10 @@ use Rattle.spec.specs.Places.{basePower, chunkBytes, chunksIn}
 use Rattle.spec.specs.Medium.{Action, Mem as Among}
 use Rattle.spec.specs.Log.{Entry, placed}
 use Rattle.spec.specs.Contents.{keysOf}
-use Rattle.spec.specs.Calls.{asReport, wordsAfter}
-use Rattle.spec.specs.declared.Control.{Control}
-use Rattle.spec.specs.declared.Setup.{Setup}
-use Rattle.spec.specs.declared.Session.{Session}
+use Rattle.spec.specs.Reports.{asReport, wordsAfter}
+use Rattle.session.specs.declared.Control.{Control}
+use Rattle.session.specs.declared.Setup.{Setup}
+use Rattle.session.specs.declared.Session.{Session}
 use Rattle.theory_medium.proofs.Lists.{number-l, number-r, number-cases, distinct-equal}
 use Rattle.theory_cuts.specs.Accepted.{Ok}
 use Rattle.theory_cuts.proofs.Opening.{keys-fit, opens-ok}

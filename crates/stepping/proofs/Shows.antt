@@ -13,16 +13,18 @@ use Rattle.spec.specs.Basics.{both}
 use Rattle.spec.specs.Words.{wordsOf}
 use Rattle.spec.specs.Medium.{Action}
 use Rattle.spec.specs.Actions.{linesFor, padded}
-use Rattle.spec.specs.Calls.{Step, Staging, Committing, State, Closed, Rest, Busy, Formatting, asReport, wordsAfter, runWords}
-use Rattle.spec.specs.Contract.{Changed, Called}
-use Rattle.spec.specs.declared.Control.{Control}
-use Rattle.spec.specs.declared.Setup.{Setup}
-use Rattle.spec.specs.declared.Session.{Session}
+use Rattle.spec.specs.Reports.{asReport, wordsAfter, runWords}
+use Rattle.spec.specs.Plans.{Staging, Committing}
+use Rattle.spec.specs.Machine.{Step, State, Closed, Rest, Busy, Formatting}
+use Rattle.spec.specs.Contract.{Changed}
+use Rattle.session.specs.declared.Control.{Control}
+use Rattle.session.specs.declared.Setup.{Setup}
+use Rattle.session.specs.declared.Session.{Session}
 use Rattle.spec.specs.declared.Refusal.the-variants as N
 use Rattle.spec.specs.declared.Report.{Report}
 use Rattle.spec.specs.declared.Report.the-variants as R
 use Rattle.words.specs.Image.{Saved}
-use Rattle.session.specs.State.{bufferPart, batchRoom, batchWords, batchItems, chunkIn, linesIn, commitActions, formatActions, blockActions, stateAt, stateOf, limit}
+use Rattle.session.specs.State.{bufferPart, batchRoom, batchWords, batchItems, chunkIn, linesIn, commitActions, formatActions, blockActions, stateAt}
 use Rattle.session.specs.Fits.{Fits}
 use Rattle.session.proofs.Kept.{words-kept, same-items, same-acts, emptied, staged, end-kept, staging-kept}
 use Rattle.acts.specs.Nth.{nth, nthReport, commitCount, formatCount}
@@ -34,16 +36,17 @@ use Rattle.ahead.proofs.Steps.{rest-same}
 use Rattle.joining.specs.Joining.{Joining}
 use Rattle.stepping.proofs.States.{busy, formatting, at-2, at-3, at-4, at-5, nothing-begun, in-call, table-kept, step-idle, step-refused, step-acts, step-ends}
 use Rattle.stepping.proofs.Keeping.{acted, action-kept, last-kept}
+use Rattle.session.specs.Promise.{Does}
 
 -- NOTHING BEGUN, and lengths unlike those at the begin
 module _ (c : Control) (k : Setup) (b bytes table : List ℕ) where
   abbrev same : Session
   same = record { control = c; setup = k; buffer = b }
 
-  pub idles : (2 ≤ c .phase → c .phase ≤ 6 → ⊥) → Called stateOf Fits 12 limit Step same same bytes bytes table table R.Idle
+  pub idles : (2 ≤ c .phase → c .phase ≤ 6 → ⊥) → Does Step same same bytes bytes table table R.Idle
   idles h = step-idle same bytes table (nothing-begun c k b h)
 
-  pub turned-down : 2 ≤ c .phase → c .phase ≤ 6 → (k .image ≡ length bytes → k .table ≡ length table → ⊥) → Called stateOf Fits 12 limit Step same same bytes bytes table table (R.Refused N.ImageLength)
+  pub turned-down : 2 ≤ c .phase → c .phase ≤ 6 → (k .image ≡ length bytes → k .table ≡ length table → ⊥) → Does Step same same bytes bytes table table (R.Refused N.ImageLength)
   turned-down l h unlike = step-refused same bytes table (in-call c k b l h) (go (ℕ-discrete (k .image) (length bytes)) (ℕ-discrete (k .table) (length table)))
     where
       go : Dec (k .image ≡ length bytes) → Dec (k .table ≡ length table) → both (eqb (k .image) (length bytes)) (eqb (k .table) (length table)) ≡ false
@@ -67,7 +70,7 @@ module _ (c : Control) (k : Setup) (b bytes table : List ℕ) (same-bytes : k .i
     abbrev S : List Action → State
     S = Busy (k .image) (k .table) (batchItems c b) Staging
 
-    pub staging-ends : length (blockActions k b) ≤ c .next → Called stateOf Fits 12 limit Step s (with′ (staged c) b) bytes bytes table table (R.End 0)
+    pub staging-ends : length (blockActions k b) ≤ c .next → Does Step s (with′ (staged c) b) bytes bytes table table (R.End 0)
     unfolding stateAt batchItems batchWords
     staging-ends h =
         step-ends s (with′ (staged c) b) bytes bytes table table (k .image) (k .table) 0 (Rest (k .image) (k .table) (batchItems c b)) S (busy (k .image) (k .table) (batchItems c b) Staging)
@@ -77,7 +80,7 @@ module _ (c : Control) (k : Setup) (b bytes table : List ℕ) (same-bytes : k .i
         last = at-2 c k b e ∙ ap S (drop-past (blockActions k b) (c .next) h)
 
     pub staging-acts : (bytes′ : List ℕ) (r : Report) → c .next < length (blockActions k b) → r ≡ nthReport (blockActions k b) (c .next) → Changed r bytes bytes′
-        → Called stateOf Fits 12 limit Step s (with′ stored b) bytes bytes′ table table r
+        → Does Step s (with′ stored b) bytes bytes′ table table r
     unfolding batchItems batchWords
     staging-acts bytes′ r h er changed =
         rw er
@@ -131,7 +134,7 @@ module _ (c : Control) (k : Setup) (b bytes table : List ℕ) (same-bytes : k .i
       words = changed-words (asReport act) bytes bytes′ done
 
       -- an action that is not the last
-      pub commit-acts : c .next + 1 < commitCount (c .words) → Called stateOf Fits 12 limit Step s (with′ (acted c (c .keys) (c .fresh)) b) bytes bytes′ table table r
+      pub commit-acts : c .next + 1 < commitCount (c .words) → Does Step s (with′ (acted c (c .keys) (c .fresh)) b) bytes bytes′ table table r
       commit-acts h =
           rw er
           (step-acts s s′ bytes bytes′ table table (k .image) (k .table) 0 (Rest (k .image) (k .table) []) F (busy (k .image) (k .table) (batchItems c b) Committing) same-bytes same-words
@@ -151,7 +154,7 @@ module _ (c : Control) (k : Setup) (b bytes table : List ℕ) (same-bytes : k .i
 
       -- the last, with its batch joined
       pub commit-joins : (b′ table′ : List ℕ) (keys : ℕ) → c .next + 1 ≡ commitCount (c .words) → Joining c k b b′ (wordsOf bytes′) table table′ keys
-          → Called stateOf Fits 12 limit Step s (with′ (acted c keys 0) b′) bytes bytes′ table table′ r
+          → Does Step s (with′ (acted c keys 0) b′) bytes bytes′ table table′ r
       commit-joins b′ table′ keys h j =
           rw er
           (step-acts s s′ bytes bytes′ table table′ (k .image) (k .table) 0 (Rest (k .image) (k .table) []) F (busy (k .image) (k .table) (batchItems c b) Committing) same-bytes same-words
@@ -172,12 +175,12 @@ module _ (c : Control) (k : Setup) (b bytes table : List ℕ) (same-bytes : k .i
     -- a store of one of the batch's words
     pub commit-stores : (bytes′ : List ℕ) (w v : ℕ) → c .next < 8 * linesFor (min (c .words) batchRoom) → w ≡ 512 * chunkIn k + 8 * linesIn k + c .next
         → v ≡ getD (padded (bufferPart b 0 (min (c .words) batchRoom))) (c .next) 0 → Saved bytes bytes′ w v
-        → Called stateOf Fits 12 limit Step s (with′ (acted c (c .keys) (c .fresh)) b) bytes bytes′ table table (R.Store w v)
+        → Does Step s (with′ (acted c (c .keys) (c .fresh)) b) bytes bytes′ table table (R.Store w v)
     commit-stores bytes′ w v h ew ev saved =
         commit-acts bytes′ (R.Store w v) (shows-store c k b (c .next) (min (c .words) batchRoom) refl w v h ew ev)
         (changed-store (R.Store w v) bytes bytes′ w v refl saved) (omega arith)
 
-    pub commit-ends : commitCount (c .words) ≤ c .next → Called stateOf Fits 12 limit Step s (with′ (emptied c) b) bytes bytes table table (R.End 0)
+    pub commit-ends : commitCount (c .words) ≤ c .next → Does Step s (with′ (emptied c) b) bytes bytes table table (R.End 0)
     unfolding stateAt batchItems batchWords
     commit-ends h =
         step-ends s (with′ (emptied c) b) bytes bytes table table (k .image) (k .table) 0 (Rest (k .image) (k .table) []) F (busy (k .image) (k .table) (batchItems c b) Committing)
@@ -210,14 +213,14 @@ module _ (c : Control) (k : Setup) (b bytes table : List ℕ) (same-bytes : k .i
         go (no q) = at-4 c′ k b (omega arith)
 
     pub format-acts : (bytes′ : List ℕ) (r : Report) → c .next < formatCount → r ≡ nthReport (formatActions k) (c .next) → Changed r bytes bytes′
-        → Called stateOf Fits 12 limit Step s (with′ counted b) bytes bytes′ table table r
+        → Does Step s (with′ counted b) bytes bytes′ table table r
     format-acts bytes′ r h er changed =
         rw er
         (step-acts s (with′ counted b) bytes bytes′ table table (k .image) (k .table) 0 Closed (Formatting o (k .image) (k .table)) (formatting o (k .image) (k .table)) same-bytes same-words
         (nth (formatActions k) (c .next)) (drop (c .next + 1) (formatActions k)) (by-phase c refl ∙ ap (Formatting o (k .image) (k .table)) (format-next k (c .next) h)) (by-phase counted refl)
         (rw er at changed) refl (table-kept (stateAt c k b) table) (λ f. (f .0, rw (by-phase counted refl) tt)))
 
-    pub format-ends : formatCount ≤ c .next → Called stateOf Fits 12 limit Step s (with′ closed b) bytes bytes table table (R.End 0)
+    pub format-ends : formatCount ≤ c .next → Does Step s (with′ closed b) bytes bytes table table (R.End 0)
     unfolding stateAt
     format-ends h =
         step-ends s (with′ closed b) bytes bytes table table (k .image) (k .table) 0 Closed (Formatting o (k .image) (k .table)) (formatting o (k .image) (k .table)) same-bytes same-words

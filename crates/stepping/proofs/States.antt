@@ -15,17 +15,21 @@ use Rattle.spec.specs.Basics.{pick, both}
 use Rattle.spec.specs.Words.{wordsOf}
 use Rattle.spec.specs.Medium.{Action, Store, Flush, Fence}
 use Rattle.spec.specs.Log.{Entry}
-use Rattle.spec.specs.Calls.{Step, Task, Staging, Committing, Cleaning, State, Closed, Rest, Busy, Formatting, itemsThen, countOf, asReport, nextReport, stepAnswer, stepBarred, stepped, isRefused, next, stepsLeft}
-use Rattle.spec.specs.Contract.{Changed, TableKept, Counted, Outcome, Called}
-use Rattle.spec.specs.declared.Control.{Control}
-use Rattle.spec.specs.declared.Setup.{Setup}
-use Rattle.spec.specs.declared.Session.{Session}
+use Rattle.spec.specs.Reports.{asReport, isRefused}
+use Rattle.spec.specs.Plans.{Task, Staging, Committing, Cleaning}
+use Rattle.spec.specs.Machine.{Step, State, Closed, Rest, Busy, Formatting, itemsThen, countOf, nextReport, stepAnswer, stepBarred, stepped, next, stepsLeft}
+use Rattle.spec.specs.Contract.{Changed, TableKept, Counted, Outcome}
+use Rattle.session.specs.declared.Control.{Control}
+use Rattle.session.specs.declared.Setup.{Setup}
+use Rattle.session.specs.declared.Session.{Session}
 use Rattle.spec.specs.declared.Refusal.the-variants as N
 use Rattle.spec.specs.declared.Report.{Report}
 use Rattle.spec.specs.declared.Report.the-variants as R
 use Rattle.session.specs.State.{batchItems, commitActions, formatActions, cleanActions, blockActions, stateBy, stateAt, stateOf, limit}
 use Rattle.session.specs.Fits.{Fits}
 use Rattle.acts.proofs.Nth.{report-by}
+use Rattle.session.specs.Promise.{Does}
+use Rattle.session.specs.Fits.{Proper}
 
 -- NOTHING BEGUN
 pub record Idling (σ : State) : Type 0 where
@@ -120,14 +124,14 @@ module _ (c : Control) (k : Setup) (b : List ℕ) where
 never : {A : Type 0} (r : Report) → none ≡ some r → A
 never r h = absurd (let z : _≡_ {A = ℕ} 0 1 = cc in omega arith)
 
-pub table-kept : (σ : State) (table : List ℕ) → TableKept stateOf Fits 12 limit σ table table
+pub table-kept : (σ : State) (table : List ℕ) → TableKept Proper stateOf Fits 12 limit σ table table
 table-kept Closed table = refl
 table-kept (Rest b t items) table = refl
 table-kept (Busy b t items task rest) table = tt
 table-kept (Formatting o b t rest) table = refl
 
 module _ (s : Session) (bytes table : List ℕ) where
-  pub step-idle : Idling (stateOf s) → Called stateOf Fits 12 limit Step s s bytes bytes table table R.Idle
+  pub step-idle : Idling (stateOf s) → Does Step s s bytes bytes table table R.Idle
   unfolding next
   step-idle q = record {
     exact = λ f. record { answered = sym (q .answers (length bytes) (length table)); became = sym (rw (q .answers (length bytes) (length table)) (q .stays)); fits = f };
@@ -140,7 +144,7 @@ module _ (s : Session) (bytes table : List ℕ) where
 
   -- the lent lengths are unlike those at the begin
   pub step-refused : InCall (s .setup) (stateOf s) → both (eqb (s .setup .image) (length bytes)) (eqb (s .setup .table) (length table)) ≡ false
-      → Called stateOf Fits 12 limit Step s s bytes bytes table table (R.Refused N.ImageLength)
+      → Does Step s s bytes bytes table table (R.Refused N.ImageLength)
   unfolding next
   step-refused q unlike = record {
     exact = λ f. record { answered = sym answered; became = sym (rw answered); fits = f };
@@ -175,14 +179,14 @@ module _ (s s′ : Session) (bytes bytes′ table table′ : List ℕ) (i t n : 
   accepted Fence = refl
 
   pub step-acts : (a : Action) (l : List Action) → stateOf s ≡ F (a ∷ l) → stateOf s′ ≡ F l → Changed (asReport a) bytes bytes′
-      → length table′ ≡ length table → TableKept stateOf Fits 12 limit (stateOf s) table table′
-      → (Fits s (wordsOf bytes) table → Fits s′ (wordsOf bytes′) table′) → Called stateOf Fits 12 limit Step s s′ bytes bytes′ table table′ (asReport a)
+      → length table′ ≡ length table → TableKept Proper stateOf Fits 12 limit (stateOf s) table table′
+      → (Fits s (wordsOf bytes) table → Fits s′ (wordsOf bytes′) table′) → Does Step s s′ bytes bytes′ table table′ (asReport a)
   step-acts a l e e′ changed sized kept fits = record {
     exact = λ f. record { answered = answered; became = became; fits = fits f };
     first = passed (a ∷ l) e (asReport a);
     image = changed;
     sized = sized;
-    outcome = report-by (Outcome stateOf Fits 12 limit Step s s′ table table′) (λ w v. counted) (λ x. counted) counted a;
+    outcome = report-by (Outcome Proper stateOf Fits 12 limit Step s s′ table table′) (λ w v. counted) (λ x. counted) counted a;
     anyway = (answered, became);
   }
     where
@@ -192,11 +196,11 @@ module _ (s s′ : Session) (bytes bytes′ table table′ : List ℕ) (i t n : 
       became : stateOf s′ ≡ next 12 limit Step (stateOf s) (wordsOf bytes) (length bytes) (length table)
       became = e′ ∙ sym (rw e (becomes (a ∷ l) (accepted a) ∙ q .moves a l))
 
-      counted : Counted stateOf Fits 12 limit s s′ table table′
+      counted : Counted Proper stateOf Fits 12 limit s s′ table table′
       counted = (rw (e, e′) (q .left (a ∷ l) ∙ ap suc (sym (q .left l))), kept)
 
   pub step-ends : stateOf s ≡ F [] → stateOf s′ ≡ E → (Fits s (wordsOf bytes) table → Fits s′ (wordsOf bytes) table)
-      → Called stateOf Fits 12 limit Step s s′ bytes bytes table table (R.End n)
+      → Does Step s s′ bytes bytes table table (R.End n)
   step-ends e e′ fits = record {
     exact = λ f. record { answered = sym (rw e (reports [])); became = e′ ∙ sym (rw e (becomes [] refl ∙ q .ends)); fits = fits f };
     first = passed [] e (R.End n);

@@ -6,16 +6,15 @@ use mathlib.Core.List.{List}
 use Prim.Native.Nat.{ℕ, zero, suc, _+_, _*_, _≤_, _<_, min}
 use lib.ListN.{length}
 use Rattle.spec.specs.Actions.{linesFor}
-use Rattle.spec.specs.Calls.{Step}
-use Rattle.spec.specs.Contract.{Called}
-use Rattle.spec.specs.declared.Control.{Control}
-use Rattle.spec.specs.declared.Setup.{Setup}
-use Rattle.spec.specs.declared.Session.{Session}
+use Rattle.spec.specs.Machine.{Step}
+use Rattle.session.specs.declared.Control.{Control}
+use Rattle.session.specs.declared.Setup.{Setup}
+use Rattle.session.specs.declared.Session.{Session}
 use Rattle.spec.specs.declared.Report.{Report}
 use Rattle.spec.specs.declared.Report.the-variants as R
-use Rattle.session.specs.State.{batchRoom, stateOf, limit}
-use Rattle.session.specs.Fits.{Fits}
+use Rattle.session.specs.State.{batchRoom}
 use Rattle.acts.specs.Nth.{commitCount}
+use Rattle.session.specs.Promise.{Does}
 
 -- The next action is one of a commit's but not its last, and the lent lengths are those at its begin.
 abbrev pub Inner : Control → Setup → (bytes words : ℕ) → Type 0
@@ -27,10 +26,10 @@ toNext n c = record { phase = c .phase; next = n; items = c .items; words = c .w
 
 -- n steps that each store a word, and then one with this report
 abbrev pub Ran : ℕ → (s s′ : Session) (bytes bytes′ table table′ : List ℕ) → Report → Type 0
-Ran zero s s′ bytes bytes′ table table′ r = Called stateOf Fits 12 limit Step s s′ bytes bytes′ table table′ r
+Ran zero s s′ bytes bytes′ table table′ r = Does Step s s′ bytes bytes′ table table′ r
 Ran (suc n) s s′ bytes bytes′ table table′ r =
     (s₁ : Session) × ((bytes₁ : List ℕ) × ((table₁ : List ℕ) × ((w : ℕ) × ((v : ℕ)
-    × (Called stateOf Fits 12 limit Step s s₁ bytes bytes₁ table table₁ (R.Store w v) × Ran n s₁ s′ bytes₁ bytes′ table₁ table′ r)))))
+    × (Does Step s s₁ bytes bytes₁ table table₁ (R.Store w v) × Ran n s₁ s′ bytes₁ bytes′ table₁ table′ r)))))
 
 -- some steps that each store a word, and then one with this report
 abbrev pub Runs : (s s′ : Session) (bytes bytes′ table table′ : List ℕ) → Report → Type 0

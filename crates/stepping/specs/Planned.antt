@@ -7,18 +7,18 @@ use Rattle.spec.specs.Words.{wordsOf}
 use Rattle.spec.specs.Places.{chunksIn}
 use Rattle.spec.specs.Log.{Entry, encodeAll}
 use Rattle.spec.specs.Actions.{linesFor}
-use Rattle.spec.specs.Calls.{Commit, freeNeeded}
-use Rattle.spec.specs.Contract.{Called}
-use Rattle.spec.specs.declared.Control.{Control}
-use Rattle.spec.specs.declared.Setup.{Setup}
+use Rattle.spec.specs.Plans.{freeNeeded}
+use Rattle.spec.specs.Machine.{Commit}
+use Rattle.session.specs.declared.Control.{Control}
+use Rattle.session.specs.declared.Setup.{Setup}
 use Rattle.spec.specs.declared.Report.the-variants as R
-use Rattle.session.specs.State.{stateOf, limit}
-use Rattle.session.specs.Fits.{NoneBelow, Fits}
+use Rattle.session.specs.Fits.{NoneBelow}
 use Rattle.batch.specs.Items.{StagedIn}
 use Rattle.placing.specs.declared.Placed.{Placed}
 use Rattle.placing.specs.Found.{Searched}
 use Rattle.stepping.specs.declared.CommitPlan.{CommitPlan}
 use Rattle.stepping.specs.declared.CommitPlan.the-variants as P
+use Rattle.session.specs.Promise.{Does}
 
 -- the place that the definition finds for the staged items, where the hint holds
 abbrev pub PlaceFor : (buffer : List ℕ) (words : ℕ) (image : List ℕ) (first least : ℕ) → Placed → Type 0
@@ -37,6 +37,6 @@ writingTo k chunk old lines first least =
 -- a plan is right if the call that follows it does what it promises
 abbrev pub CommitPlanned : Control → Setup → (buffer image table : List ℕ) → CommitPlan → Type 0
 CommitPlanned c k b image table (P.Refused n) =
-    Called stateOf Fits 12 limit Commit (record { control = c; setup = k; buffer = b }) (record { control = c; setup = k; buffer = b }) image image table table (R.Refused n)
+    Does Commit (record { control = c; setup = k; buffer = b }) (record { control = c; setup = k; buffer = b }) image image table table (R.Refused n)
 CommitPlanned c k b image table (P.At chunk old lines first least actions) =
-    Called stateOf Fits 12 limit Commit (record { control = c; setup = k; buffer = b }) (record { control = committing c; setup = writingTo k chunk old lines first least; buffer = b }) image image table table (R.Begun actions)
+    Does Commit (record { control = c; setup = k; buffer = b }) (record { control = committing c; setup = writingTo k chunk old lines first least; buffer = b }) image image table table (R.Begun actions)

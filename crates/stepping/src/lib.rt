@@ -7,18 +7,17 @@ ghost use lib.Dec.{leb};
 ghost use lib.ListN.{length};
 ghost use Rattle.spec.specs.Basics.{pick};
 ghost use Rattle.spec.specs.Actions.{linesFor};
-ghost use Rattle.spec.specs.Calls.{Commit, Step};
-ghost use Rattle.spec.specs.Contract.{Called};
-ghost use Rattle.session.specs.State.{batchRoom, blockActions, stateOf, limit};
-ghost use Rattle.session.specs.Fits.{Fits};
+ghost use Rattle.spec.specs.Machine.{Commit, Step};
+ghost use Rattle.session.specs.State.{batchRoom, blockActions};
 ghost use Rattle.stepping.specs.Planned.{PlaceFor, CommitPlanned};
 ghost use Rattle.stepping.specs.Inner.{Inner, RunsOn, ShortWay, Stores};
+ghost use Rattle.session.specs.Promise.{Does};
 use placing::Placed;
 use recovery::Gated;
-use spec::Control;
+use session::Control;
 use spec::Refusal;
 use spec::Report;
-use spec::Setup;
+use session::Setup;
 
 // The record's small parts after a call, and its report.
 pub struct Moved {
@@ -119,7 +118,7 @@ pub fn commit_core(
     image: &[u8],
     table: &[u64],
 ) -> Moved
-    ensures { λ r. ⌜ Called stateOf Fits 12 limit Commit (record { control = control; setup = setup; buffer = now (buffer .entry) }) (record { control = r .control; setup = r .setup; buffer = now (buffer .entry) }) (now (image .entry)) (now (image .entry)) (now (table .entry)) (now (table .entry)) (r .report) ⌝ }
+    ensures { λ r. ⌜ Does Commit (record { control = control; setup = setup; buffer = now (buffer .entry) }) (record { control = r .control; setup = r .setup; buffer = now (buffer .entry) }) (now (image .entry)) (now (image .entry)) (now (table .entry)) (now (table .entry)) (r .report) ⌝ }
 {
     let plan = plan_commit(control, setup, buffer, image, table);
     match plan {
@@ -183,7 +182,7 @@ fn commit_step(
     table: &mut [u64],
 ) -> Stepped
     requires { ⌜ (control .phase ≡ 3) × (setup .image ≡ length (now image)) × (setup .table ≡ length (now table)) ⌝ }
-    ensures { λ r. ⌜ Called stateOf Fits 12 limit Step (record { control = control; setup = setup; buffer = now (buffer .entry) }) (record { control = r .control; setup = setup; buffer = now (buffer .exit) }) (now (image .entry)) (now (image .exit)) (now (table .entry)) (now (table .exit)) (r .report) ⌝ }
+    ensures { λ r. ⌜ Does Step (record { control = control; setup = setup; buffer = now (buffer .entry) }) (record { control = r .control; setup = setup; buffer = now (buffer .exit) }) (now (image .entry)) (now (image .exit)) (now (table .entry)) (now (table .exit)) (r .report) ⌝ }
 {
     let at = control.next;
     let count = acts::commit_count(control.words);
@@ -253,7 +252,7 @@ fn stage_step(
     table: &[u64],
 ) -> Stepped
     requires { ⌜ (control .phase ≡ 2) × (setup .image ≡ length (now image)) × (setup .table ≡ length (now table)) ⌝ }
-    ensures { λ r. ⌜ Called stateOf Fits 12 limit Step (record { control = control; setup = setup; buffer = now (buffer .entry) }) (record { control = r .control; setup = setup; buffer = now (buffer .entry) }) (now (image .entry)) (now (image .exit)) (now (table .entry)) (now (table .entry)) (r .report) ⌝ }
+    ensures { λ r. ⌜ Does Step (record { control = control; setup = setup; buffer = now (buffer .entry) }) (record { control = r .control; setup = setup; buffer = now (buffer .entry) }) (now (image .entry)) (now (image .exit)) (now (table .entry)) (now (table .entry)) (r .report) ⌝ }
 {
     let at = control.next;
     if is_stored(setup, buffer, at) {
@@ -296,7 +295,7 @@ fn format_step(
     table: &[u64],
 ) -> Stepped
     requires { ⌜ (4 ≤ control .phase) × (control .phase ≤ 5) × (setup .image ≡ length (now image)) × (setup .table ≡ length (now table)) ⌝ }
-    ensures { λ r. ⌜ Called stateOf Fits 12 limit Step (record { control = control; setup = setup; buffer = now (buffer .entry) }) (record { control = r .control; setup = setup; buffer = now (buffer .entry) }) (now (image .entry)) (now (image .exit)) (now (table .entry)) (now (table .entry)) (r .report) ⌝ }
+    ensures { λ r. ⌜ Does Step (record { control = control; setup = setup; buffer = now (buffer .entry) }) (record { control = r .control; setup = setup; buffer = now (buffer .entry) }) (now (image .entry)) (now (image .exit)) (now (table .entry)) (now (table .entry)) (r .report) ⌝ }
 {
     let at = control.next;
     if acts::format_count() <= at {
@@ -339,7 +338,7 @@ fn clean_step(
     table: &mut [u64],
 ) -> Stepped
     requires { ⌜ (control .phase ≡ 6) × (setup .image ≡ length (now image)) × (setup .table ≡ length (now table)) ⌝ }
-    ensures { λ r. ⌜ Called stateOf Fits 12 limit Step (record { control = control; setup = setup; buffer = now (buffer .entry) }) (record { control = r .control; setup = setup; buffer = now (buffer .exit) }) (now (image .entry)) (now (image .exit)) (now (table .entry)) (now (table .exit)) (r .report) ⌝ }
+    ensures { λ r. ⌜ Does Step (record { control = control; setup = setup; buffer = now (buffer .entry) }) (record { control = r .control; setup = setup; buffer = now (buffer .exit) }) (now (image .entry)) (now (image .exit)) (now (table .entry)) (now (table .exit)) (r .report) ⌝ }
 {
     let source = setup.source;
     let moved = cleaning_step::clean_step(control, setup, source, buffer, image, table);
@@ -359,7 +358,7 @@ pub fn step_core(
     image: &mut [u8],
     table: &mut [u64],
 ) -> Stepped
-    ensures { λ r. ⌜ Called stateOf Fits 12 limit Step (record { control = control; setup = setup; buffer = now (buffer .entry) }) (record { control = r .control; setup = setup; buffer = now (buffer .exit) }) (now (image .entry)) (now (image .exit)) (now (table .entry)) (now (table .exit)) (r .report) ⌝ }
+    ensures { λ r. ⌜ Does Step (record { control = control; setup = setup; buffer = now (buffer .entry) }) (record { control = r .control; setup = setup; buffer = now (buffer .exit) }) (now (image .entry)) (now (image .exit)) (now (table .entry)) (now (table .exit)) (r .report) ⌝ }
 {
     let phase = control.phase;
     if phase < 2 {
@@ -429,7 +428,7 @@ pub fn inner_step(
     image: &mut [u8],
     table: &mut [u64],
 ) -> Advanced
-    ensures { λ r. ⌜ ShortWay (Called stateOf Fits 12 limit Step) control setup (now (buffer .entry)) (now (image .entry)) (now (image .exit)) (now (table .entry)) (now (table .exit)) (r .next) (r .report) ⌝ }
+    ensures { λ r. ⌜ ShortWay (Does Step) control setup (now (buffer .entry)) (now (image .entry)) (now (image .exit)) (now (table .entry)) (now (table .exit)) (r .next) (r .report) ⌝ }
 {
     let at = control.next;
     if is_inner(control, setup, image.len(), table.len()) {

@@ -29,15 +29,15 @@ use denote.Array.{Array, arrayVal, array-vals, array-tells, array-makes}
 use denote.Steps.{owned, peeks}
 use denote.Struct.Steps.{spelt}
 use denote.Struct.Laws as LL
-use Rattle.spec.specs.declared.Session.{Session}
-use Rattle.spec.proofs.Session as T
-use Rattle.spec.proofs.Session.Laws as T′
-use Rattle.spec.specs.declared.Control.{Control}
-use Rattle.spec.proofs.Control as T-Control
-use Rattle.spec.proofs.Control.Laws as T-Control′
-use Rattle.spec.specs.declared.Setup.{Setup}
-use Rattle.spec.proofs.Setup as T-Setup
-use Rattle.spec.proofs.Setup.Laws as T-Setup′
+use Rattle.session.specs.declared.Session.{Session}
+use Rattle.session.proofs.Session as T
+use Rattle.session.proofs.Session.Laws as T′
+use Rattle.session.specs.declared.Control.{Control}
+use Rattle.session.proofs.Control as T-Control
+use Rattle.session.proofs.Control.Laws as T-Control′
+use Rattle.session.specs.declared.Setup.{Setup}
+use Rattle.session.proofs.Setup as T-Setup
+use Rattle.session.proofs.Setup.Laws as T-Setup′
 
 -- the offset of a field
 abbrev offset : Option (Ty × ℕ) → ℕ

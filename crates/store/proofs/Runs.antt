@@ -5,14 +5,15 @@ use mathlib.Core.Path.{_≡_, refl}
 use mathlib.Core.List.{List, [], _∷_, _++_}
 use Prim.Native.Nat.{ℕ, zero, suc}
 use Rattle.spec.specs.Medium.{Medium}
-use Rattle.spec.specs.Calls.{mediumAfter}
+use Rattle.spec.specs.Reports.{mediumAfter}
 use Rattle.spec.specs.History.{Stepped}
-use Rattle.spec.specs.declared.Session.{Session}
+use Rattle.session.specs.declared.Session.{Session}
 use Rattle.spec.specs.declared.Report.{Report}
 use Rattle.spec.specs.declared.Report.the-variants as R
 use Rattle.session.specs.State.{stateOf, limit}
 use Rattle.session.specs.Fits.{Fits}
 use Rattle.stepping.specs.Inner.{Ran, Runs}
+use Rattle.session.specs.Fits.{Proper}
 
 -- reports that each tell of a store
 pub data AllStores : List Report → Type 0 where
@@ -21,7 +22,7 @@ pub data AllStores : List Report → Type 0 where
 
 abbrev pub Steps : (s s′ : Session) (bytes bytes′ table table′ : List ℕ) → Report → Medium → Type 0
 Steps s s′ bytes bytes′ table table′ r m =
-    (rs : List Report) × (AllStores rs × ((m′ : Medium) × Stepped stateOf Fits 12 limit (rs ++ (r ∷ [])) m s bytes table m′ s′ bytes′ table′))
+    (rs : List Report) × (AllStores rs × ((m′ : Medium) × Stepped Proper stateOf Fits 12 limit (rs ++ (r ∷ [])) m s bytes table m′ s′ bytes′ table′))
 
 ran-steps : (n : ℕ) (s s′ : Session) (bytes bytes′ table table′ : List ℕ) (r : Report) (m : Medium) → Ran n s s′ bytes bytes′ table table′ r → Steps s s′ bytes bytes′ table table′ r m
 ran-steps zero s s′ bytes bytes′ table table′ r m q = ([], (none, (mediumAfter r m, (s′, (bytes′, (table′, (q, (refl, (refl, (refl, refl))))))))))

@@ -4,15 +4,13 @@ use mathlib.Core.List.{List}
 use Prim.Native.Nat.{ℕ}
 use lib.ListN.{length}
 use Rattle.spec.specs.Places.{chunksIn}
-use Rattle.spec.specs.Calls.{Choose}
-use Rattle.spec.specs.Contract.{Called}
-use Rattle.spec.specs.declared.Session.{Session}
+use Rattle.spec.specs.Machine.{Choose}
+use Rattle.session.specs.declared.Session.{Session}
 use Rattle.spec.specs.declared.Report.{Report}
-use Rattle.session.specs.State.{stateOf, limit}
-use Rattle.session.specs.Fits.{Fits}
 use Rattle.choosing.specs.Choices.{ChosenIn}
+use Rattle.session.specs.Promise.{Does}
 
 -- the call's report, for any memory a refusal or a chunk of the lent image
 pub record Chosen (s : Session) (bytes table : List ℕ) (r : Report) : Type 0 where
-  pub called : Called stateOf Fits 12 limit Choose s s bytes bytes table table r
+  pub called : Does Choose s s bytes bytes table table r
   pub inside : ChosenIn (chunksIn 12 (length bytes)) r

@@ -4,7 +4,7 @@
 use mathlib.Core.Path.{_≡_}
 use mathlib.Core.List.{List}
 use Prim.Native.Nat.{ℕ}
-use Rattle.spec.specs.declared.Session.{Session}
+use Rattle.session.specs.declared.Session.{Session}
 use Rattle.listing.specs.declared.Counted.{Counted}
 use Rattle.listing.specs.declared.Listed.{Listed}
 use Rattle.listing.specs.Contract.{ListingKeys, ListingKey}

@@ -4,19 +4,18 @@ use mathlib.Core.Path.{_≡_}
 use mathlib.Core.List.{List}
 use Prim.Native.Nat.{ℕ, _+_, _≤_}
 use lib.ListN.{length}
-use Rattle.spec.specs.Calls.{LookUp}
-use Rattle.spec.specs.Contract.{Called, partBytes}
-use Rattle.spec.specs.declared.Session.{Session}
+use Rattle.spec.specs.Machine.{LookUp}
+use Rattle.spec.specs.Contract.{partBytes}
+use Rattle.session.specs.declared.Session.{Session}
 use Rattle.spec.specs.declared.Report.{Report}
 use Rattle.spec.specs.declared.Report.the-variants as R
-use Rattle.session.specs.State.{stateOf, limit}
-use Rattle.session.specs.Fits.{Fits}
 use Rattle.recovery.specs.declared.Located.{Located}
 use Rattle.recovery.specs.Look.{reportOf, InImage, numberOf}
+use Rattle.session.specs.Promise.{Does}
 
 -- the call's report, for any memory a refusal or a part of the image
 pub record Reported (s : Session) (key : ℕ) (bytes table : List ℕ) (r : Report) : Type 0 where
-  pub called : Called stateOf Fits 12 limit (LookUp key) s s bytes bytes table table r
+  pub called : Does (LookUp key) s s bytes bytes table table r
   pub located : Located
   pub is-report : r ≡ reportOf located
   pub inside : InImage (length bytes) located
@@ -24,7 +23,7 @@ pub record Reported (s : Session) (key : ℕ) (bytes table : List ℕ) (r : Repo
 -- the part itself, and 0 or the refusal's number: `located` is what the call answers
 pub record Shown (s : Session) (key : ℕ) (bytes table part : List ℕ) (answer : ℕ) : Type 0 where
   pub located : Located
-  pub called : Called stateOf Fits 12 limit (LookUp key) s s bytes bytes table table (reportOf located)
+  pub called : Does (LookUp key) s s bytes bytes table table (reportOf located)
   pub inside : InImage (length bytes) located
   pub is-part : part ≡ partBytes (reportOf located) bytes
   pub is-number : answer ≡ numberOf located

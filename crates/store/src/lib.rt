@@ -3,19 +3,18 @@
 // small parts back. Every call is lent record, image and key table. None has a `requires`: what each answers and leaves
 // is said by `Called`.
 ghost use mathlib.Core.Path.{_≡_};
-ghost use Rattle.spec.specs.Calls.{Open, Put, Delete, Commit, Abandon, Clean, Step, Format};
+ghost use Rattle.spec.specs.Machine.{Open, Put, Delete, Commit, Abandon, Clean, Step, Format};
 ghost use Rattle.spec.specs.Contract.{Called};
-ghost use Rattle.session.specs.State.{stateOf, limit};
-ghost use Rattle.session.specs.Fits.{Fits};
 ghost use Rattle.calls.specs.Begun.{given};
 ghost use Rattle.stepping.specs.Inner.{RunsOn, OnShortWay};
 ghost use Rattle.store.specs.Look.{Reported, Shown};
 ghost use Rattle.store.specs.Choice.{Chosen};
 ghost use Rattle.store.specs.List.{KeysListed, KeyListed};
+ghost use Rattle.session.specs.Promise.{Does};
 use listing::Counted;
 use listing::Listed;
 use spec::Report;
-use spec::Session;
+use session::Session;
 
 // Begins a formatting; the register's numbers are told each with a mark whether it is given.
 pub fn format(
@@ -27,7 +26,7 @@ pub fn format(
     centre_given: bool,
     centre: u64,
 ) -> Report
-    ensures { λ r. ⌜ Called stateOf Fits 12 limit (Format (given «station_given» station) (given «centre_given» centre)) (now (s .entry)) (now (s .exit)) (now (image .entry)) (now (image .entry)) (now (table .entry)) (now (table .entry)) r ⌝ }
+    ensures { λ r. ⌜ Does (Format (given «station_given» station) (given «centre_given» centre)) (now (s .entry)) (now (s .exit)) (now (image .entry)) (now (image .entry)) (now (table .entry)) (now (table .entry)) r ⌝ }
 {
     let c = s.control;
     let k = s.setup;
@@ -49,7 +48,7 @@ pub fn format(
 
 // Opens the register of the lent image, whatever record and table hold: the refusal 1 to 7, or opened.
 pub fn open_register(s: &mut Session, image: &[u8], table: &mut [u64]) -> Report
-    ensures { λ r. ⌜ Called stateOf Fits 12 limit Open (now (s .entry)) (now (s .exit)) (now (image .entry)) (now (image .entry)) (now (table .entry)) (now (table .exit)) r ⌝ }
+    ensures { λ r. ⌜ Does Open (now (s .entry)) (now (s .exit)) (now (image .entry)) (now (image .entry)) (now (table .entry)) (now (table .exit)) r ⌝ }
 {
     let c = s.control;
     let k = s.setup;
@@ -61,7 +60,7 @@ pub fn open_register(s: &mut Session, image: &[u8], table: &mut [u64]) -> Report
 
 // Begins staging a put of up to 4,088 bytes.
 pub fn stage_put(s: &mut Session, image: &[u8], table: &[u64], key: u64, value: &[u8]) -> Report
-    ensures { λ r. ⌜ Called stateOf Fits 12 limit (Put key (now (value .entry))) (now (s .entry)) (now (s .exit)) (now (image .entry)) (now (image .entry)) (now (table .entry)) (now (table .entry)) r ⌝ }
+    ensures { λ r. ⌜ Does (Put key (now (value .entry))) (now (s .entry)) (now (s .exit)) (now (image .entry)) (now (image .entry)) (now (table .entry)) (now (table .entry)) r ⌝ }
 {
     let c = s.control;
     let k = s.setup;
@@ -73,7 +72,7 @@ pub fn stage_put(s: &mut Session, image: &[u8], table: &[u64], key: u64, value: 
 
 // Begins staging a delete.
 pub fn stage_delete(s: &mut Session, image: &[u8], table: &[u64], key: u64) -> Report
-    ensures { λ r. ⌜ Called stateOf Fits 12 limit (Delete key) (now (s .entry)) (now (s .exit)) (now (image .entry)) (now (image .entry)) (now (table .entry)) (now (table .entry)) r ⌝ }
+    ensures { λ r. ⌜ Does (Delete key) (now (s .entry)) (now (s .exit)) (now (image .entry)) (now (image .entry)) (now (table .entry)) (now (table .entry)) r ⌝ }
 {
     let c = s.control;
     let k = s.setup;
@@ -84,7 +83,7 @@ pub fn stage_delete(s: &mut Session, image: &[u8], table: &[u64], key: u64) -> R
 
 // Begins the commit of the staged items.
 pub fn commit(s: &mut Session, image: &[u8], table: &[u64]) -> Report
-    ensures { λ r. ⌜ Called stateOf Fits 12 limit Commit (now (s .entry)) (now (s .exit)) (now (image .entry)) (now (image .entry)) (now (table .entry)) (now (table .entry)) r ⌝ }
+    ensures { λ r. ⌜ Does Commit (now (s .entry)) (now (s .exit)) (now (image .entry)) (now (image .entry)) (now (table .entry)) (now (table .entry)) r ⌝ }
 {
     let c = s.control;
     let k = s.setup;
@@ -96,7 +95,7 @@ pub fn commit(s: &mut Session, image: &[u8], table: &[u64]) -> Report
 
 // Forgets the staged items.
 pub fn abandon(s: &mut Session, image: &[u8], table: &[u64]) -> Report
-    ensures { λ r. ⌜ Called stateOf Fits 12 limit Abandon (now (s .entry)) (now (s .exit)) (now (image .entry)) (now (image .entry)) (now (table .entry)) (now (table .entry)) r ⌝ }
+    ensures { λ r. ⌜ Does Abandon (now (s .entry)) (now (s .exit)) (now (image .entry)) (now (image .entry)) (now (table .entry)) (now (table .entry)) r ⌝ }
 {
     let c = s.control;
     let k = s.setup;
@@ -117,7 +116,7 @@ pub fn choose(s: &Session, image: &[u8], table: &[u64]) -> Report
 
 // Begins the cleaning of a chunk: what it keeps is to be copied, and the chunk to be freed.
 pub fn clean(s: &mut Session, image: &[u8], table: &[u64], chunk: usize) -> Report
-    ensures { λ r. ⌜ Called stateOf Fits 12 limit (Clean chunk) (now (s .entry)) (now (s .exit)) (now (image .entry)) (now (image .entry)) (now (table .entry)) (now (table .entry)) r ⌝ }
+    ensures { λ r. ⌜ Does (Clean chunk) (now (s .entry)) (now (s .exit)) (now (image .entry)) (now (image .entry)) (now (table .entry)) (now (table .entry)) r ⌝ }
 {
     let c = s.control;
     let k = s.setup;
@@ -129,7 +128,7 @@ pub fn clean(s: &mut Session, image: &[u8], table: &[u64], chunk: usize) -> Repo
 
 // One step of the call that is begun: one store, flush or fence, done on the image and reported; or the end; or idle.
 pub fn step(s: &mut Session, image: &mut [u8], table: &mut [u64]) -> Report
-    ensures { λ r. ⌜ Called stateOf Fits 12 limit Step (now (s .entry)) (now (s .exit)) (now (image .entry)) (now (image .exit)) (now (table .entry)) (now (table .exit)) r ⌝ }
+    ensures { λ r. ⌜ Does Step (now (s .entry)) (now (s .exit)) (now (image .entry)) (now (image .exit)) (now (table .entry)) (now (table .exit)) r ⌝ }
 {
     let c = s.control;
     let k = s.setup;
@@ -141,7 +140,7 @@ pub fn step(s: &mut Session, image: &mut [u8], table: &mut [u64]) -> Report
 // THE SHORT WAY: the same step where `stepping::is_inner` says that it may be gone; elsewhere nothing is done, and the
 // report is idle. Of the record it alters the number of the next action alone.
 pub fn step_inner(s: &mut Session, image: &mut [u8], table: &mut [u64]) -> Report
-    ensures { λ r. ⌜ OnShortWay (Called stateOf Fits 12 limit Step) (now (s .entry)) (now (s .exit)) (now (image .entry)) (now (image .exit)) (now (table .entry)) (now (table .exit)) r ⌝ }
+    ensures { λ r. ⌜ OnShortWay (Does Step) (now (s .entry)) (now (s .exit)) (now (image .entry)) (now (image .exit)) (now (table .entry)) (now (table .exit)) r ⌝ }
 {
     let c = s.control;
     let k = s.setup;

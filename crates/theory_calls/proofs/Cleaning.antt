@@ -23,7 +23,7 @@ use Rattle.spec.specs.Log.{Entry, Wrong, Entries, stepOf, after, parse, encode,
 use Rattle.spec.specs.Blocks.{pointed}
 use Rattle.spec.specs.Contents.{Held, isTop, capacity, keysOf, entriesIn, liveBlocks, isKept, keptIn}
 use Rattle.spec.specs.Actions.{linesFor}
-use Rattle.spec.specs.Calls.{Task, Cleaning, Plan, Begin, need, logPlace, appendTo, inUse, hasLive, free, cleanTo, cleanLog, cleanData, planClean}
+use Rattle.spec.specs.Plans.{Task, Cleaning, Plan, Begin, need, logPlace, appendTo, inUse, hasLive, free, cleanTo, cleanLog, cleanData, planClean}
 use Rattle.spec.specs.Book.{Item}
 use Rattle.theory_medium.proofs.Lists.{both-l, both-r, either-no, not-both}
 use Rattle.theory_medium.proofs.Through.{Through}

@@ -17,7 +17,7 @@ use Rattle.spec.specs.Blocks.{pointed}
 use Rattle.spec.specs.Contents.{Held, highest, meaning, capacity, keysOf}
 use Rattle.spec.specs.Opening.{fine}
 use Rattle.spec.specs.Actions.{linesFor, appendOf}
-use Rattle.spec.specs.Calls.{Task, Committing, Begin, appendTo, freeNeeded, logPlace, commitAt, planCommit}
+use Rattle.spec.specs.Plans.{Task, Committing, Begin, appendTo, freeNeeded, logPlace, commitAt, planCommit}
 use Rattle.spec.specs.Book.{Item, doneItems}
 use Rattle.theory_medium.proofs.Places.{lines-least}
 use Rattle.theory_medium.proofs.Through.{Through, through-map}

@@ -14,7 +14,7 @@ use Rattle.spec.specs.Medium.{Medium, cellAt, Mem as Among}
 use Rattle.spec.specs.Log.{Entry, encode, encodeAll}
 use Rattle.spec.specs.Blocks.{pointed}
 use Rattle.spec.specs.Contents.{Held, highest, capacity, meaning}
-use Rattle.spec.specs.Calls.{nextVersion, fitsBatch, fitsKeys, maxItems, maxBatchBytes}
+use Rattle.spec.specs.Plans.{nextVersion, fitsBatch, fitsKeys, maxItems, maxBatchBytes}
 use Rattle.spec.specs.Book.{Item}
 use Rattle.theory_medium.proofs.Lists.{both-l, both-r, not-both, distinct-fewer}
 use Rattle.theory_log.specs.Batch.{Right}

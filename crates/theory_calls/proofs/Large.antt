@@ -18,7 +18,7 @@ use Rattle.spec.specs.Log.{Entry}
 use Rattle.spec.specs.Blocks.{pointed}
 use Rattle.spec.specs.Contents.{Held, Value, keysOf, capacity, meaning}
 use Rattle.spec.specs.Actions.{takeOf, blockOf}
-use Rattle.spec.specs.Calls.{entry, InData, InFree, slotFor}
+use Rattle.spec.specs.Plans.{entry, InData, InFree, slotFor}
 use Rattle.spec.specs.Book.{Item}
 use Rattle.words.specs.Values.{length-packed, packed-filled, bytes-packed}
 use Rattle.theory_medium.proofs.Through.{Through, through-map}

@@ -14,7 +14,7 @@ use Rattle.spec.specs.Basics.{pick, both, negate, upFrom, filter, first}
 use Rattle.spec.specs.Places.{chunkLines}
 use Rattle.spec.specs.Medium.{Mem as Among}
 use Rattle.spec.specs.Directory.{isFree, isLog, roleAt, linesOf, freeChunks}
-use Rattle.spec.specs.Calls.{freeChunk, hasSpace, orElse, logPlace}
+use Rattle.spec.specs.Plans.{freeChunk, hasSpace, orElse, logPlace}
 use Rattle.theory_medium.proofs.Lists.{both-l, both-r, not-both}
 use Rattle.theory_log.proofs.Directory.{lines-is, size-is}
 use Rattle.theory_cuts.specs.Batch.{Place}

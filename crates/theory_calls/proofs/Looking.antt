@@ -18,7 +18,7 @@ use Rattle.spec.specs.Directory.{sizeOf}
 use Rattle.spec.specs.Log.{Entry, encode}
 use Rattle.spec.specs.Blocks.{pointed, blockBytes}
 use Rattle.spec.specs.Contents.{Held, Absent, Value, chosen, held, contentsBy, meaning, entriesIn}
-use Rattle.spec.specs.Calls.{partOr, lookUp}
+use Rattle.spec.specs.Plans.{partOr, lookUp}
 use Rattle.spec.specs.Book.{Item}
 use Rattle.spec.specs.History.{shows}
 use Rattle.spec.specs.declared.Refusal.the-variants as N

@@ -17,7 +17,7 @@ use Rattle.spec.specs.Directory.{sizeOf, isFree, roleAt}
 use Rattle.spec.specs.Log.{Entry}
 use Rattle.spec.specs.Blocks.{pointed}
 use Rattle.spec.specs.Contents.{isTop, pointers, liveBlocks}
-use Rattle.spec.specs.Calls.{blocksOf, blocksFrom, InData, InFree, freeChunk, orFree, slotFor}
+use Rattle.spec.specs.Plans.{blocksOf, blocksFrom, InData, InFree, freeChunk, orFree, slotFor}
 use Rattle.theory_medium.proofs.Lists.{not-both, mem-isIn, number-l, number-r, number-cases}
 use Rattle.theory_medium.proofs.Sizes.{block-at, block-starts}
 use Rattle.theory_log.specs.Contents.{Mem, Top}

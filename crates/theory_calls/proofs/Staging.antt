@@ -17,7 +17,7 @@ use Rattle.spec.specs.Log.{Entry, filled, maxInLog}
 use Rattle.spec.specs.Blocks.{blockLimit, blockSize}
 use Rattle.spec.specs.Contents.{Held, Absent, Value, highest, entriesIn}
 use Rattle.spec.specs.Actions.{takeOf, blockOf}
-use Rattle.spec.specs.Calls.{Task, Staging, Plan, Begin, need, nextVersion, present, fitsBatch, fitsKeys, maxPutVersion, maxVersion, entry, Slot as Found, InData, InFree, Nowhere, slotFor, putWords, stageLarge, stagePut, planPut, planDelete}
+use Rattle.spec.specs.Plans.{Task, Staging, Plan, Begin, need, nextVersion, present, fitsBatch, fitsKeys, maxPutVersion, maxVersion, entry, Slot as Found, InData, InFree, Nowhere, slotFor, putWords, stageLarge, stagePut, planPut, planDelete}
 use Rattle.spec.specs.Book.{Item}
 use Rattle.spec.specs.declared.Refusal.{Refusal}
 use Rattle.spec.specs.declared.Refusal.the-variants as N

@@ -15,7 +15,7 @@ use Rattle.spec.specs.Log.{Entry}
 use Rattle.spec.specs.Contents.{Held, Absent, Value, capacity, contents, entriesIn}
 use Rattle.spec.specs.Opening.{Accepted, opening}
 use Rattle.spec.specs.Actions.{formatOf}
-use Rattle.spec.specs.Calls.{Task, Staging, Committing, Cleaning, Begin, planPut, planDelete, planCommit, planClean, lookUp}
+use Rattle.spec.specs.Plans.{Task, Staging, Committing, Cleaning, Begin, planPut, planDelete, planCommit, planClean, lookUp}
 use Rattle.spec.specs.Book.{Item, nothing, doneItems}
 use Rattle.spec.specs.History.{shows}
 use Rattle.spec.specs.declared.Given.{Given}

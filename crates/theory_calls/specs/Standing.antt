@@ -11,7 +11,7 @@ use Rattle.spec.specs.Log.{Entry, encodeAll}
 use Rattle.spec.specs.Blocks.{pointed}
 use Rattle.spec.specs.Contents.{Held, contentsBy, meaning, capacity}
 use Rattle.spec.specs.Opening.{fine}
-use Rattle.spec.specs.Calls.{Task, Staging, Committing, Cleaning, maxItems, maxBatchBytes}
+use Rattle.spec.specs.Plans.{Task, Staging, Committing, Cleaning, maxItems, maxBatchBytes}
 use Rattle.spec.specs.Book.{Item, doneItems}
 use Rattle.theory_log.specs.Batch.{AllRight}
 use Rattle.theory_log.specs.Contents.{Mem, Top, CountsOn}

@@ -1,4 +1,4 @@
--- The other calls' refusals: an example for each number of document 01's table, what is nearest to it and accepted, and
+-- The other calls' refusals: an example for each number of the rules' table, what is nearest to it and accepted, and
 -- their order.
 -- Assumes nothing.
 use mathlib.Core.Bool.{true, false}
@@ -15,7 +15,8 @@ use Rattle.spec.specs.Blocks.{blockLimit, unitsFor, blockSize, blockTest}
 use Rattle.spec.specs.Contents.{chosen, tops, capacity, keptIn}
 use Rattle.spec.specs.Opening.{opening}
 use Rattle.spec.specs.Actions.{appendOf, commitOf, bodyOf, padded, blockOf, formatOf, blankOf, fillOf}
-use Rattle.spec.specs.Calls.{Call, Format, Open, Put, Delete, Commit, Abandon, LookUp, Choose, Clean, Step, State, Closed, Rest, Busy, Formatting, Committing, entry, answer, planPut, planDelete, planCommit, planClean, slotFor, logPlace, chosenChunk, lookUp}
+use Rattle.spec.specs.Plans.{Committing, entry, planPut, planDelete, planCommit, planClean, slotFor, logPlace, chosenChunk, lookUp}
+use Rattle.spec.specs.Machine.{Call, Format, Open, Put, Delete, Commit, Abandon, LookUp, Choose, Clean, Step, State, Closed, Rest, Busy, Formatting, answer}
 use Rattle.spec.specs.declared.Given.the-variants as G
 use Rattle.worked.specs.Shown.{Shown, Words, Number, Refused, Accepted, Begun, Fenced, Idle, shownReport, Row, _is_, allHold}
 use Rattle.worked.specs.Images.{Change, _becomes_, changed, image, first, log, blocks}

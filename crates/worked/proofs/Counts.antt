@@ -1,4 +1,4 @@
--- The counts of document 01's text: the actions of each call that writes, the sizes of blocks, the keys of a table.
+-- The counts of the rules: the actions of each call that writes, the sizes of blocks, the keys of a table.
 -- Assumes nothing.
 use mathlib.Core.Bool.{Bool}
 use mathlib.Core.List.{List, [], _∷_, _++_, map}
@@ -14,7 +14,7 @@ use Rattle.spec.specs.Directory.{isSize, sizeFor, sizeOf, roleOf}
 use Rattle.spec.specs.Blocks.{blockLimit, blockSize, unitsFor}
 use Rattle.spec.specs.Contents.{capacity, tops, chosen}
 use Rattle.spec.specs.Actions.{formatOf, blankOf, fillOf, appendOf, commitOf, bodyOf, padded, freeOf, blockOf}
-use Rattle.spec.specs.Calls.{Plan, Refuse, Begin, planPut, slotFor}
+use Rattle.spec.specs.Plans.{Plan, Refuse, Begin, planPut, slotFor}
 use Rattle.spec.specs.declared.Given.the-variants as G
 use Rattle.worked.specs.Shown.{Shown, Words, Number, Row, _is_, allHold}
 

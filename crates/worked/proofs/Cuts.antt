@@ -1,4 +1,4 @@
--- Power cuts, computed: what a right program leaves at each step, and what wrong ones leave, document 01's slips among
+-- Power cuts, computed: what a right program leaves at each step, and what wrong ones leave, the rules' slips among
 -- them.
 -- Assumes nothing.
 use mathlib.Core.List.{List, [], _∷_, _++_, map}
@@ -16,7 +16,9 @@ use Rattle.spec.specs.Blocks.{blockTest}
 use Rattle.spec.specs.Contents.{Absent, Value, chosen, tops, capacity, contents, entriesIn, keptIn}
 use Rattle.spec.specs.Opening.{opening}
 use Rattle.spec.specs.Actions.{appendOf, commitOf, bodyOf, padded, blockOf, freeOf, formatOf, blankOf, fillOf}
-use Rattle.spec.specs.Calls.{Put, Delete, Commit, Step, Plan, Refuse, Begin, entry, planClean, logPlace, runWords}
+use Rattle.spec.specs.Reports.{runWords}
+use Rattle.spec.specs.Plans.{Plan, Refuse, Begin, entry, planClean, logPlace}
+use Rattle.spec.specs.Machine.{Put, Delete, Commit, Step}
 use Rattle.spec.specs.Book.{Book, newBook, note}
 use Rattle.spec.specs.declared.Given.the-variants as G
 use Rattle.spec.specs.declared.Report.the-variants as R

@@ -1,4 +1,4 @@
--- Document 01's last worked case, from formatting to cleaning, computed call by call and step by step.
+-- The rules' last worked case, from formatting to cleaning, computed call by call and step by step.
 -- Assumes nothing.
 use mathlib.Core.List.{List, [], _∷_}
 use Prim.Native.Nat.{ℕ}
@@ -12,7 +12,8 @@ use Rattle.spec.specs.Blocks.{blockLimit}
 use Rattle.spec.specs.Contents.{Absent, Value, chosen, tops, contents, capacity, keptIn}
 use Rattle.spec.specs.Opening.{opening}
 use Rattle.spec.specs.Actions.{formatOf, blankOf, fillOf, appendOf, commitOf, bodyOf, padded}
-use Rattle.spec.specs.Calls.{Format, Open, Put, Delete, Commit, LookUp, Choose, Clean, Closed, next, planPut, planDelete, planCommit, planClean, logPlace, chosenChunk, lookUp}
+use Rattle.spec.specs.Plans.{planPut, planDelete, planCommit, planClean, logPlace, chosenChunk, lookUp}
+use Rattle.spec.specs.Machine.{Format, Open, Put, Delete, Commit, LookUp, Choose, Clean, Closed, next}
 use Rattle.spec.specs.declared.Given.the-variants as G
 use Rattle.worked.specs.Shown.{Accepted, Refused, Number, Words}
 use Rattle.worked.specs.Script.{Line, Answers, Runs, Has, Lists, Memory, holds}

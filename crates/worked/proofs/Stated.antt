@@ -1,4 +1,4 @@
--- The cases that document 01 marks P, together: each computed value beside the value in the paper, one proof for all.
+-- The worked cases that are to be proved, together: each computed value beside the value in the rules, one proof for all.
 -- Assumes nothing.
 use mathlib.Core.List.{List, [], _∷_}
 use Prim.Native.Nat.{ℕ, zero, suc, _*_}
@@ -13,7 +13,8 @@ use Rattle.spec.specs.Log.{Entry, headOf, encodeAll, firstOf}
 use Rattle.spec.specs.Blocks.{blockLimit, unitsFor, blockSize}
 use Rattle.spec.specs.Contents.{capacity, tops, chosen}
 use Rattle.spec.specs.Actions.{blankOf, blockOf}
-use Rattle.spec.specs.Calls.{entry, number, Plan, Refuse, Begin, planPut, planDelete, slotFor}
+use Rattle.spec.specs.Reports.{number}
+use Rattle.spec.specs.Plans.{entry, Plan, Refuse, Begin, planPut, planDelete, slotFor}
 use Rattle.spec.specs.declared.Given.the-variants as G
 use Rattle.spec.specs.declared.Role.{Role}
 use Rattle.spec.specs.declared.Role.the-variants as D

@@ -9,7 +9,7 @@ use Rattle.spec.specs.Places.{basePower}
 use Rattle.spec.specs.Medium.{Action, Medium, apply, run, cut, settledAt}
 use Rattle.spec.specs.Contents.{Held, sameHeld, contents}
 use Rattle.spec.specs.Opening.{Opening, Refused, Accepted, opening}
-use Rattle.spec.specs.Calls.{number}
+use Rattle.spec.specs.Reports.{number}
 
 -- an opening's refusal, or what the keys have
 pub data Seen : Type 0 where

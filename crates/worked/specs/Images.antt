@@ -8,7 +8,7 @@ use lib.ListN.{set, replicate}
 use Rattle.spec.specs.Basics.{both, every}
 use Rattle.spec.specs.Places.{basePower}
 use Rattle.spec.specs.Opening.{Opening, Refused, Accepted, opening}
-use Rattle.spec.specs.Calls.{number}
+use Rattle.spec.specs.Reports.{number}
 
 -- a word that is changed, and its value
 pub record Change : Type 0 where

@@ -11,7 +11,8 @@ use Rattle.spec.specs.Places.{basePower}
 use Rattle.spec.specs.Log.{Entry}
 use Rattle.spec.specs.Blocks.{blockLimit}
 use Rattle.spec.specs.Contents.{Held, chosen, contents, sameHeld, entriesIn}
-use Rattle.spec.specs.Calls.{Call, Step, State, answer, next, wordsAfter}
+use Rattle.spec.specs.Reports.{wordsAfter}
+use Rattle.spec.specs.Machine.{Call, Step, State, answer, next}
 use Rattle.spec.specs.declared.Report.{Report}
 use Rattle.worked.specs.Shown.{Shown, Begun, End, sameShown, shownReport}
 

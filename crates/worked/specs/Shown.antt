@@ -5,7 +5,7 @@ use mathlib.Core.List.{List, [], _∷_, map}
 use Prim.Native.Nat.{ℕ}
 use lib.Dec.{eqb}
 use Rattle.spec.specs.Basics.{both, every, sameList}
-use Rattle.spec.specs.Calls.{number}
+use Rattle.spec.specs.Reports.{number}
 use Rattle.spec.specs.declared.Report.{Report}
 use Rattle.spec.specs.declared.Report.the-variants as R
 
@@ -26,7 +26,7 @@ Words ws = shown 0 ws
 abbrev pub Number : ℕ → Shown
 Number n = shown 0 (n ∷ [])
 
--- turned down, by document 01's number; not turned down
+-- turned down, by its number; not turned down
 abbrev pub Refused : ℕ → Shown
 Refused n = shown 1 (n ∷ [])
 

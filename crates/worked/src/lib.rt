@@ -1,1 +1,1 @@
-// Document 01's worked cases, refused images and power cuts, computed: the crate is its proofs/.
+// The rules' worked cases, refused images and power cuts, computed: the crate is its proofs/.

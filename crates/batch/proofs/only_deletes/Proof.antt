@@ -6,7 +6,7 @@ use mathlib.Core.Bool.{false}
 use native.Mathlib.Omega.{arith}
 use borrow.Author.Tests.{eq-eqb, ne-eqb}
 use Rattle.spec.specs.Basics.{all}
-use Rattle.spec.specs.Calls.{isDelete}
+use Rattle.spec.specs.Plans.{isDelete}
 use Rattle.batch.proofs.Pass.{Passing, pass-start, pass-next, pass-stop, pass-end}
 use borrow.Author.Needs.{needs}
 use Rattle.batch.proofs.only_deletes.Statement.{statement}

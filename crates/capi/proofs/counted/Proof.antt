@@ -3,7 +3,7 @@
 use mathlib.Core.Path.{_≡_, refl}
 use Prim.Native.Nat.{ℕ}
 use borrow.Author.Needs.{needs}
-use Rattle.spec.specs.Calls.{number}
+use Rattle.spec.specs.Reports.{number}
 use Rattle.spec.specs.declared.Refusal.{Refusal}
 use Rattle.listing.specs.declared.Counted.{Counted}
 use Rattle.listing.specs.declared.Counted.the-variants as C

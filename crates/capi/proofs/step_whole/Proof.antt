@@ -3,10 +3,7 @@
 -- calls (`step`, `told`) is that it meets its contract.
 -- Assumes nothing.
 use mathlib.Core.Path.{_≡_}
-use Rattle.spec.specs.Calls.{Step}
-use Rattle.spec.specs.Contract.{Called}
-use Rattle.session.specs.State.{stateOf, limit}
-use Rattle.session.specs.Fits.{Fits}
+use Rattle.spec.specs.Machine.{Step}
 use Rattle.capi.specs.Answers.{answerOf}
 use mathlib.Core.Path.{refl}
 use mathlib.Core.Bool.{Bool}
@@ -53,9 +50,9 @@ use Rattle.capi.proofs.Answer.Laws as T-Answer′
 use Rattle.spec.specs.declared.Report.{Report}
 use Rattle.spec.proofs.Report as T-Report
 use Rattle.spec.proofs.Report.Laws as T-Report′
-use Rattle.spec.specs.declared.Session.{Session}
-use Rattle.spec.proofs.Session as T-Session
-use Rattle.spec.proofs.Session.Laws as T-Session′
+use Rattle.session.specs.declared.Session.{Session}
+use Rattle.session.proofs.Session as T-Session
+use Rattle.session.proofs.Session.Laws as T-Session′
 use Rattle.store.proofs.step as step′
 use Rattle.store.proofs.step.Symbol as step′-def
 use Rattle.store.proofs.step.Symbol.{name as #step′}
@@ -68,6 +65,7 @@ use Rattle.capi.proofs.step_whole.Key.{name as #self}
 use Rattle.capi.proofs.step_whole as self
 use Rattle.capi.proofs.step_whole.Statement as stated
 use Rattle.capi.proofs.step_whole.Code as code
+use Rattle.session.specs.Promise.{Does}
 
 abbrev stayed : Stays (self.ended .signature .params) (self.ended .kept)
 stayed = (gave-ref (0 ∷ []) tt (plain (λ _. T-Session.the-row)), (gave-slice (1 ∷ []) tt (plain (λ _. u8)), (gave-slice (2 ∷ []) tt (plain (λ _. u64)), tt)))
@@ -77,7 +75,7 @@ abbrev Of-step′ : {M : Type 1} (𝓤 : URA M) (H : Heap 𝓤) (A : Atoms 𝓤)
 Of-step′ 𝓤 H A mem run = tripleOf 𝓤 H A step′.signature (step′.spec 𝓤 H A mem run)
 
 abbrev Said-step′ : Report → Session → Session → List ℕ → List ℕ → List ℕ → List ℕ → Type 0
-Said-step′ r x-s z-s x-image z-image x-table z-table = Called stateOf Fits 12 limit Step (x-s) (z-s) (x-image) (z-image) (x-table) (z-table) r
+Said-step′ r x-s z-s x-image z-image x-table z-table = Does Step (x-s) (z-s) (x-image) (z-image) (x-table) (z-table) r
 
 -- the contract of `told`, and what it ensures
 abbrev Of-told′ : {M : Type 1} (𝓤 : URA M) (H : Heap 𝓤) (A : Atoms 𝓤) (mem : Memory → SProp 𝓤) (run : Routine → Fun 𝓤) → Contract 𝓤

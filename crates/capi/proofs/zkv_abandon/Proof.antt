@@ -3,10 +3,7 @@
 -- it calls (`abandon`, `told`) is that it meets its contract.
 -- Assumes nothing.
 use mathlib.Core.Path.{_≡_}
-use Rattle.spec.specs.Calls.{Abandon}
-use Rattle.spec.specs.Contract.{Called}
-use Rattle.session.specs.State.{stateOf, limit}
-use Rattle.session.specs.Fits.{Fits}
+use Rattle.spec.specs.Machine.{Abandon}
 use Rattle.capi.specs.Answers.{answerOf}
 use mathlib.Core.Path.{refl}
 use mathlib.Core.Bool.{Bool}
@@ -53,9 +50,9 @@ use Rattle.capi.proofs.Answer.Laws as T-Answer′
 use Rattle.spec.specs.declared.Report.{Report}
 use Rattle.spec.proofs.Report as T-Report
 use Rattle.spec.proofs.Report.Laws as T-Report′
-use Rattle.spec.specs.declared.Session.{Session}
-use Rattle.spec.proofs.Session as T-Session
-use Rattle.spec.proofs.Session.Laws as T-Session′
+use Rattle.session.specs.declared.Session.{Session}
+use Rattle.session.proofs.Session as T-Session
+use Rattle.session.proofs.Session.Laws as T-Session′
 use Rattle.store.proofs.abandon as abandon′
 use Rattle.store.proofs.abandon.Symbol as abandon′-def
 use Rattle.store.proofs.abandon.Symbol.{name as #abandon′}
@@ -68,6 +65,7 @@ use Rattle.capi.proofs.zkv_abandon.Key.{name as #self}
 use Rattle.capi.proofs.zkv_abandon as self
 use Rattle.capi.proofs.zkv_abandon.Statement as stated
 use Rattle.capi.proofs.zkv_abandon.Code as code
+use Rattle.session.specs.Promise.{Does}
 
 abbrev stayed : Stays (self.ended .signature .params) (self.ended .kept)
 stayed = (gave-ref (0 ∷ []) tt (plain (λ _. T-Session.the-row)), (stay-dropped (shrSliceOf {n = 3} (1 ∷ []) tt (plain (λ _. u8))) yes, (stay-dropped (shrSliceOf {n = 3} (2 ∷ []) tt (plain (λ _. u64))) yes, tt)))
@@ -77,7 +75,7 @@ abbrev Of-abandon′ : {M : Type 1} (𝓤 : URA M) (H : Heap 𝓤) (A : Atoms �
 Of-abandon′ 𝓤 H A mem run = tripleOf 𝓤 H A abandon′.signature (abandon′.spec 𝓤 H A mem run)
 
 abbrev Said-abandon′ : Report → Session → Session → List ℕ → List ℕ → Type 0
-Said-abandon′ r x-s z-s x-image x-table = Called stateOf Fits 12 limit Abandon (x-s) (z-s) (x-image) (x-image) (x-table) (x-table) r
+Said-abandon′ r x-s z-s x-image x-table = Does Abandon (x-s) (z-s) (x-image) (x-image) (x-table) (x-table) r
 
 -- the contract of `told`, and what it ensures
 abbrev Of-told′ : {M : Type 1} (𝓤 : URA M) (H : Heap 𝓤) (A : Atoms 𝓤) (mem : Memory → SProp 𝓤) (run : Routine → Fun 𝓤) → Contract 𝓤

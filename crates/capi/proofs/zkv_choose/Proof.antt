@@ -50,9 +50,9 @@ use Rattle.capi.proofs.Answer.Laws as T-Answer′
 use Rattle.spec.specs.declared.Report.{Report}
 use Rattle.spec.proofs.Report as T-Report
 use Rattle.spec.proofs.Report.Laws as T-Report′
-use Rattle.spec.specs.declared.Session.{Session}
-use Rattle.spec.proofs.Session as T-Session
-use Rattle.spec.proofs.Session.Laws as T-Session′
+use Rattle.session.specs.declared.Session.{Session}
+use Rattle.session.proofs.Session as T-Session
+use Rattle.session.proofs.Session.Laws as T-Session′
 use Rattle.store.proofs.choose as choose′
 use Rattle.store.proofs.choose.Symbol as choose′-def
 use Rattle.store.proofs.choose.Symbol.{name as #choose′}

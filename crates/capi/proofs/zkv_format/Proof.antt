@@ -3,10 +3,7 @@
 -- calls (`is_given`, `format`, `told`) is that it meets its contract.
 -- Assumes nothing.
 use mathlib.Core.Path.{_≡_}
-use Rattle.spec.specs.Calls.{Format}
-use Rattle.spec.specs.Contract.{Called}
-use Rattle.session.specs.State.{stateOf, limit}
-use Rattle.session.specs.Fits.{Fits}
+use Rattle.spec.specs.Machine.{Format}
 use Rattle.calls.specs.Begun.{given}
 use Rattle.capi.specs.Answers.{answerOf, isGiven}
 use mathlib.Core.Path.{refl}
@@ -54,9 +51,9 @@ use Rattle.capi.proofs.Answer.Laws as T-Answer′
 use Rattle.spec.specs.declared.Report.{Report}
 use Rattle.spec.proofs.Report as T-Report
 use Rattle.spec.proofs.Report.Laws as T-Report′
-use Rattle.spec.specs.declared.Session.{Session}
-use Rattle.spec.proofs.Session as T-Session
-use Rattle.spec.proofs.Session.Laws as T-Session′
+use Rattle.session.specs.declared.Session.{Session}
+use Rattle.session.proofs.Session as T-Session
+use Rattle.session.proofs.Session.Laws as T-Session′
 use Rattle.capi.proofs.is_given as is-given′
 use Rattle.capi.proofs.is_given.Symbol as is-given′-def
 use Rattle.capi.proofs.is_given.Symbol.{name as #is-given′}
@@ -73,6 +70,7 @@ use Rattle.capi.proofs.zkv_format.Key.{name as #self}
 use Rattle.capi.proofs.zkv_format as self
 use Rattle.capi.proofs.zkv_format.Statement as stated
 use Rattle.capi.proofs.zkv_format.Code as code
+use Rattle.session.specs.Promise.{Does}
 
 abbrev stayed : Stays (self.ended .signature .params) (self.ended .kept)
 stayed = (gave-ref (0 ∷ []) tt (plain (λ _. T-Session.the-row)), (stay-dropped (shrSliceOf {n = 3} (1 ∷ []) tt (plain (λ _. u8))) yes, (stay-dropped (shrSliceOf {n = 3} (2 ∷ []) tt (plain (λ _. u64))) yes, (stay-dropped (plain {n = 3} (λ _. u64)) yes, (stay-dropped (plain {n = 3} (λ _. u64)) yes, (stay-dropped (plain {n = 3} (λ _. u64)) yes, (stay-dropped (plain {n = 3} (λ _. u64)) yes, tt)))))))
@@ -89,7 +87,7 @@ abbrev Of-format′ : {M : Type 1} (𝓤 : URA M) (H : Heap 𝓤) (A : Atoms �
 Of-format′ 𝓤 H A mem run = tripleOf 𝓤 H A format′.signature (format′.spec 𝓤 H A mem run)
 
 abbrev Said-format′ : Report → Session → Session → List ℕ → List ℕ → Bool → ℕ → Bool → ℕ → Type 0
-Said-format′ r x-s z-s x-image x-table station-given station centre-given centre = Called stateOf Fits 12 limit (Format (given station-given station) (given centre-given centre)) (x-s) (z-s) (x-image) (x-image) (x-table) (x-table) r
+Said-format′ r x-s z-s x-image x-table station-given station centre-given centre = Does (Format (given station-given station) (given centre-given centre)) (x-s) (z-s) (x-image) (x-image) (x-table) (x-table) r
 
 -- the contract of `told`, and what it ensures
 abbrev Of-told′ : {M : Type 1} (𝓤 : URA M) (H : Heap 𝓤) (A : Atoms 𝓤) (mem : Memory → SProp 𝓤) (run : Routine → Fun 𝓤) → Contract 𝓤

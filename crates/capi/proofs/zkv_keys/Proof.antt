@@ -42,9 +42,9 @@ use denote.Triple.Call.{calls-at}
 use denote.Triple.Clauses.{ensured, lasts}
 use denote.Triple.Table.{entered, cited}
 use denote.Triple.Walked.{says, Stays, stay-dropped, gave-ref, gave-slice, walkOf, goes-dropped, goes-gave-ref, goes-gave-slice, Walks, ends-at, walked, walk-meets}
-use Rattle.spec.specs.declared.Session.{Session}
-use Rattle.spec.proofs.Session as T-Session
-use Rattle.spec.proofs.Session.Laws as T-Session′
+use Rattle.session.specs.declared.Session.{Session}
+use Rattle.session.proofs.Session as T-Session
+use Rattle.session.proofs.Session.Laws as T-Session′
 use Rattle.stat.proofs.keys as keys′
 use Rattle.stat.proofs.keys.Symbol as keys′-def
 use Rattle.stat.proofs.keys.Symbol.{name as #keys′}

@@ -46,9 +46,9 @@ use denote.Triple.Walked.{says, Stays, stay-dropped, gave-ref, gave-slice, walkO
 use Rattle.listing.specs.declared.Listed.{Listed}
 use Rattle.listing.proofs.Listed as T-Listed
 use Rattle.listing.proofs.Listed.Laws as T-Listed′
-use Rattle.spec.specs.declared.Session.{Session}
-use Rattle.spec.proofs.Session as T-Session
-use Rattle.spec.proofs.Session.Laws as T-Session′
+use Rattle.session.specs.declared.Session.{Session}
+use Rattle.session.proofs.Session as T-Session
+use Rattle.session.proofs.Session.Laws as T-Session′
 use Rattle.store.proofs.list_key as list-key′
 use Rattle.store.proofs.list_key.Symbol as list-key′-def
 use Rattle.store.proofs.list_key.Symbol.{name as #list-key′}

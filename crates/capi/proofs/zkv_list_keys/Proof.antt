@@ -46,9 +46,9 @@ use denote.Triple.Walked.{says, Stays, stay-dropped, gave-ref, gave-slice, walkO
 use Rattle.listing.specs.declared.Counted.{Counted}
 use Rattle.listing.proofs.Counted as T-Counted
 use Rattle.listing.proofs.Counted.Laws as T-Counted′
-use Rattle.spec.specs.declared.Session.{Session}
-use Rattle.spec.proofs.Session as T-Session
-use Rattle.spec.proofs.Session.Laws as T-Session′
+use Rattle.session.specs.declared.Session.{Session}
+use Rattle.session.proofs.Session as T-Session
+use Rattle.session.proofs.Session.Laws as T-Session′
 use Rattle.store.proofs.list_keys as list-keys′
 use Rattle.store.proofs.list_keys.Symbol as list-keys′-def
 use Rattle.store.proofs.list_keys.Symbol.{name as #list-keys′}

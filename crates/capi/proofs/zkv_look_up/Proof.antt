@@ -46,9 +46,9 @@ use denote.Triple.Walked.{says, Stays, stay-dropped, gave-ref, gave-slice, walkO
 use Rattle.spec.specs.declared.Report.{Report}
 use Rattle.spec.proofs.Report as T-Report
 use Rattle.spec.proofs.Report.Laws as T-Report′
-use Rattle.spec.specs.declared.Session.{Session}
-use Rattle.spec.proofs.Session as T-Session
-use Rattle.spec.proofs.Session.Laws as T-Session′
+use Rattle.session.specs.declared.Session.{Session}
+use Rattle.session.proofs.Session as T-Session
+use Rattle.session.proofs.Session.Laws as T-Session′
 use Rattle.store.proofs.find as find′
 use Rattle.store.proofs.find.Symbol as find′-def
 use Rattle.store.proofs.find.Symbol.{name as #find′}

@@ -3,10 +3,7 @@
 -- calls (`open_register`, `told`) is that it meets its contract.
 -- Assumes nothing.
 use mathlib.Core.Path.{_≡_}
-use Rattle.spec.specs.Calls.{Open}
-use Rattle.spec.specs.Contract.{Called}
-use Rattle.session.specs.State.{stateOf, limit}
-use Rattle.session.specs.Fits.{Fits}
+use Rattle.spec.specs.Machine.{Open}
 use Rattle.capi.specs.Answers.{answerOf}
 use mathlib.Core.Path.{refl}
 use mathlib.Core.Bool.{Bool}
@@ -53,9 +50,9 @@ use Rattle.capi.proofs.Answer.Laws as T-Answer′
 use Rattle.spec.specs.declared.Report.{Report}
 use Rattle.spec.proofs.Report as T-Report
 use Rattle.spec.proofs.Report.Laws as T-Report′
-use Rattle.spec.specs.declared.Session.{Session}
-use Rattle.spec.proofs.Session as T-Session
-use Rattle.spec.proofs.Session.Laws as T-Session′
+use Rattle.session.specs.declared.Session.{Session}
+use Rattle.session.proofs.Session as T-Session
+use Rattle.session.proofs.Session.Laws as T-Session′
 use Rattle.store.proofs.open_register as open-register′
 use Rattle.store.proofs.open_register.Symbol as open-register′-def
 use Rattle.store.proofs.open_register.Symbol.{name as #open-register′}
@@ -68,6 +65,7 @@ use Rattle.capi.proofs.zkv_open.Key.{name as #self}
 use Rattle.capi.proofs.zkv_open as self
 use Rattle.capi.proofs.zkv_open.Statement as stated
 use Rattle.capi.proofs.zkv_open.Code as code
+use Rattle.session.specs.Promise.{Does}
 
 abbrev stayed : Stays (self.ended .signature .params) (self.ended .kept)
 stayed = (gave-ref (0 ∷ []) tt (plain (λ _. T-Session.the-row)), (stay-dropped (shrSliceOf {n = 3} (1 ∷ []) tt (plain (λ _. u8))) yes, (gave-slice (2 ∷ []) tt (plain (λ _. u64)), tt)))
@@ -77,7 +75,7 @@ abbrev Of-open-register′ : {M : Type 1} (𝓤 : URA M) (H : Heap 𝓤) (A : At
 Of-open-register′ 𝓤 H A mem run = tripleOf 𝓤 H A open-register′.signature (open-register′.spec 𝓤 H A mem run)
 
 abbrev Said-open-register′ : Report → Session → Session → List ℕ → List ℕ → List ℕ → Type 0
-Said-open-register′ r x-s z-s x-image x-table z-table = Called stateOf Fits 12 limit Open (x-s) (z-s) (x-image) (x-image) (x-table) (z-table) r
+Said-open-register′ r x-s z-s x-image x-table z-table = Does Open (x-s) (z-s) (x-image) (x-image) (x-table) (z-table) r
 
 -- the contract of `told`, and what it ensures
 abbrev Of-told′ : {M : Type 1} (𝓤 : URA M) (H : Heap 𝓤) (A : Atoms 𝓤) (mem : Memory → SProp 𝓤) (run : Routine → Fun 𝓤) → Contract 𝓤

@@ -54,18 +54,18 @@ use Rattle.store.proofs.Lent as Lent
 use Rattle.capi.specs.declared.Answer.{Answer}
 use Rattle.capi.proofs.Answer as T-Answer
 use Rattle.capi.proofs.Answer.Laws as T-Answer′
-use Rattle.spec.specs.declared.Control.{Control}
-use Rattle.spec.proofs.Control as T-Control
-use Rattle.spec.proofs.Control.Laws as T-Control′
+use Rattle.session.specs.declared.Control.{Control}
+use Rattle.session.proofs.Control as T-Control
+use Rattle.session.proofs.Control.Laws as T-Control′
 use Rattle.spec.specs.declared.Report.{Report}
 use Rattle.spec.proofs.Report as T-Report
 use Rattle.spec.proofs.Report.Laws as T-Report′
-use Rattle.spec.specs.declared.Session.{Session}
-use Rattle.spec.proofs.Session as T-Session
-use Rattle.spec.proofs.Session.Laws as T-Session′
-use Rattle.spec.specs.declared.Setup.{Setup}
-use Rattle.spec.proofs.Setup as T-Setup
-use Rattle.spec.proofs.Setup.Laws as T-Setup′
+use Rattle.session.specs.declared.Session.{Session}
+use Rattle.session.proofs.Session as T-Session
+use Rattle.session.proofs.Session.Laws as T-Session′
+use Rattle.session.specs.declared.Setup.{Setup}
+use Rattle.session.proofs.Setup as T-Setup
+use Rattle.session.proofs.Setup.Laws as T-Setup′
 use Rattle.stepping.proofs.is_inner as is-inner′
 use Rattle.stepping.proofs.is_inner.Symbol as is-inner′-def
 use Rattle.stepping.proofs.is_inner.Symbol.{name as #is-inner′}

@@ -3,10 +3,7 @@
 -- calls (`is_inner`, `step_inner`, `told`, `step_whole`, `same`) is that it meets its contract.
 -- Assumes nothing.
 use mathlib.Core.Path.{_≡_}
-use Rattle.spec.specs.Calls.{Step}
-use Rattle.spec.specs.Contract.{Called}
-use Rattle.session.specs.State.{stateOf, limit}
-use Rattle.session.specs.Fits.{Fits}
+use Rattle.spec.specs.Machine.{Step}
 use Rattle.stepping.specs.Inner.{OnShortWay, Inner}
 use Rattle.capi.specs.Answers.{answerOf, Told}
 use mathlib.Core.Bool.{true, false}
@@ -58,18 +55,18 @@ use Rattle.store.proofs.Lent as Lent
 use Rattle.capi.specs.declared.Answer.{Answer}
 use Rattle.capi.proofs.Answer as T-Answer
 use Rattle.capi.proofs.Answer.Laws as T-Answer′
-use Rattle.spec.specs.declared.Control.{Control}
-use Rattle.spec.proofs.Control as T-Control
-use Rattle.spec.proofs.Control.Laws as T-Control′
+use Rattle.session.specs.declared.Control.{Control}
+use Rattle.session.proofs.Control as T-Control
+use Rattle.session.proofs.Control.Laws as T-Control′
 use Rattle.spec.specs.declared.Report.{Report}
 use Rattle.spec.proofs.Report as T-Report
 use Rattle.spec.proofs.Report.Laws as T-Report′
-use Rattle.spec.specs.declared.Session.{Session}
-use Rattle.spec.proofs.Session as T-Session
-use Rattle.spec.proofs.Session.Laws as T-Session′
-use Rattle.spec.specs.declared.Setup.{Setup}
-use Rattle.spec.proofs.Setup as T-Setup
-use Rattle.spec.proofs.Setup.Laws as T-Setup′
+use Rattle.session.specs.declared.Session.{Session}
+use Rattle.session.proofs.Session as T-Session
+use Rattle.session.proofs.Session.Laws as T-Session′
+use Rattle.session.specs.declared.Setup.{Setup}
+use Rattle.session.proofs.Setup as T-Setup
+use Rattle.session.proofs.Setup.Laws as T-Setup′
 use Rattle.stepping.proofs.is_inner as is-inner′
 use Rattle.stepping.proofs.is_inner.Symbol as is-inner′-def
 use Rattle.stepping.proofs.is_inner.Symbol.{name as #is-inner′}
@@ -94,6 +91,7 @@ use Rattle.capi.proofs.zkv_step.Key.{name as #self}
 use Rattle.capi.proofs.zkv_step as self
 use Rattle.capi.proofs.zkv_step.Statement as stated
 use Rattle.capi.proofs.zkv_step.Code as code
+use Rattle.session.specs.Promise.{Does}
 
 abbrev stayed : Stays (self.ended .signature .params) (self.ended .kept)
 stayed = (gave-ref (0 ∷ []) tt (plain (λ _. T-Session.the-row)), (gave-slice (1 ∷ []) tt (plain (λ _. u8)), (gave-slice (2 ∷ []) tt (plain (λ _. u64)), tt)))
@@ -118,7 +116,7 @@ abbrev Of-step-inner′ : {M : Type 1} (𝓤 : URA M) (H : Heap 𝓤) (A : Atoms
 Of-step-inner′ 𝓤 H A mem run = tripleOf 𝓤 H A step-inner′.signature (step-inner′.spec 𝓤 H A mem run)
 
 abbrev Said-step-inner′ : Report → Session → Session → List ℕ → List ℕ → List ℕ → List ℕ → Type 0
-Said-step-inner′ r x-s z-s x-image z-image x-table z-table = OnShortWay (Called stateOf Fits 12 limit Step) (x-s) (z-s) (x-image) (z-image) (x-table) (z-table) r
+Said-step-inner′ r x-s z-s x-image z-image x-table z-table = OnShortWay (Does Step) (x-s) (z-s) (x-image) (z-image) (x-table) (z-table) r
 
 -- the contract of `told`, and what it ensures
 abbrev Of-told′ : {M : Type 1} (𝓤 : URA M) (H : Heap 𝓤) (A : Atoms 𝓤) (mem : Memory → SProp 𝓤) (run : Routine → Fun 𝓤) → Contract 𝓤
@@ -132,7 +130,7 @@ abbrev Of-step-whole′ : {M : Type 1} (𝓤 : URA M) (H : Heap 𝓤) (A : Atoms
 Of-step-whole′ 𝓤 H A mem run = tripleOf 𝓤 H A step-whole′.signature (step-whole′.spec 𝓤 H A mem run)
 
 abbrev Said-step-whole′ : Answer → Session → Session → List ℕ → List ℕ → List ℕ → List ℕ → Type 0
-Said-step-whole′ r x-s z-s x-image z-image x-table z-table = Told (Called stateOf Fits 12 limit Step (x-s) (z-s) (x-image) (z-image) (x-table) (z-table)) r
+Said-step-whole′ r x-s z-s x-image z-image x-table z-table = Told (Does Step (x-s) (z-s) (x-image) (z-image) (x-table) (z-table)) r
 
 -- the contract of `same`, and what it ensures
 abbrev Of-same′ : {M : Type 1} (𝓤 : URA M) (H : Heap 𝓤) (A : Atoms 𝓤) (mem : Memory → SProp 𝓤) (run : Routine → Fun 𝓤) → Contract 𝓤
@@ -210,7 +208,7 @@ module _ {M : Type 1} (𝓤 : URA M) (H : Heap 𝓤) (A : Atoms 𝓤) (W : Given
       → ent 𝓤 (⋆ 𝓤 H A (‵ (flft κ-s q-s) ∷ ‵ (flft κ-image q-image) ∷ ‵ (flft κ-table q-table) ∷ ‵ (fres γ-s (T-Session.the-row .coded .code z-s)) ∷ ‵ (finally u8 γ-image z-image) ∷ ‵ (finally u64 γ-table z-table) ∷ ‵ (T-Answer.the-row .own r (w ∷ [])) ∷ [])) (Post w)
   exits-2 r-short r-answer r w z-s z-image z-table e-short failed e-answer e l-image l-table =
       qed W (‵ (flft κ-s q-s) ∷ ‵ (flft κ-image q-image) ∷ ‵ (flft κ-table q-table) ∷ ‵ (fres γ-s (T-Session.the-row .coded .code z-s)) ∷ ‵ (finally u8 γ-image z-image) ∷ ‵ (finally u64 γ-table z-table) ∷ ‵ (T-Answer.the-row .own r (w ∷ [])) ∷ []) ∵
-      suffices ! _ (ends-at 𝓤 H A self.ended stayed (self.clauses 𝓤 H A at-mem run) W (((κ-s, (κ-image, (κ-table, tt))), (q-s, (q-image, (q-table, tt))), bounds, a, vals), tt) w r (z-s, (z-image, (z-table, tt))) (tt, (l-image, (l-table, tt)))) $ says ! (subst (Told (Called stateOf Fits 12 limit Step x-s z-s x-image z-image x-table z-table)) (sym e) e-answer) $
+      suffices ! _ (ends-at 𝓤 H A self.ended stayed (self.clauses 𝓤 H A at-mem run) W (((κ-s, (κ-image, (κ-table, tt))), (q-s, (q-image, (q-table, tt))), bounds, a, vals), tt) w r (z-s, (z-image, (z-table, tt))) (tt, (l-image, (l-table, tt)))) $ says ! (subst (Told (Does Step x-s z-s x-image z-image x-table z-table)) (sym e) e-answer) $
       nothing ! $ move ! (3 ∷ 0 ∷ []) $ join ! $ move ! (2 ∷ 0 ∷ []) $ join ! $ move ! (1 ∷ 0 ∷ []) $ join ! $ frame ! $
       nothing ! $ move ! (3 ∷ 0 ∷ []) $ fjoin ! $ move ! (2 ∷ 0 ∷ []) $ fjoin ! $ move ! (1 ∷ 0 ∷ []) $ fjoin ! $ done !
 

@@ -3,7 +3,7 @@ use borrow.Author.Needs.{needs}
 use mathlib.Core.List.{[], _∷_}
 use Rattle.text.specs.Text.{decimal, Writes}
 use Rattle.text.proofs.Texts.{put-writes}
-use Rattle.spec.specs.Calls.{number}
+use Rattle.spec.specs.Reports.{number}
 use Rattle.list_lines.proofs.Pieces.{writes-three}
 use Rattle.list_lines.proofs.put_refusal.Statement.{statement}
 use Rattle.list_lines.proofs.put_refusal.Tie as tie

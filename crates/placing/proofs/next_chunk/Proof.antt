@@ -6,7 +6,7 @@ use mathlib.Core.Bool.{false}
 use native.Mathlib.Omega.{arith}
 use native.Mathlib.Decide.{ℕ-discrete}
 use Rattle.spec.specs.Words.{wordsOf}
-use Rattle.spec.specs.Calls.{hasSpace}
+use Rattle.spec.specs.Plans.{hasSpace}
 use borrow.Author.Needs.{needs}
 use Rattle.placing.proofs.Hint.{before-more}
 use Rattle.placing.proofs.next_chunk.Statement.{statement}

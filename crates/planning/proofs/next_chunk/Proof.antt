@@ -5,7 +5,7 @@ use mathlib.Core.Path.{_≡_, sym, _∙_}
 use mathlib.Core.Bool.{false}
 use native.Mathlib.Omega.{arith}
 use Rattle.spec.specs.Words.{wordsOf}
-use Rattle.spec.specs.Calls.{hasSpace}
+use Rattle.spec.specs.Plans.{hasSpace}
 use Rattle.placing.proofs.Hint.{before-more}
 use borrow.Author.Needs.{needs}
 use Rattle.planning.proofs.next_chunk.Statement.{statement}

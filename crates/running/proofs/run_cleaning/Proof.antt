@@ -4,7 +4,7 @@ use mathlib.Core.Path.{_≡_, refl, sym, _∙_, ap}
 use Prim.Native.Nat.{_+_, _-_}
 use native.Mathlib.Omega.{arith}
 use borrow.Author.Needs.{needs}
-use Rattle.spec.specs.declared.Control.{Control}
+use Rattle.session.specs.declared.Control.{Control}
 use Rattle.cleaning.specs.Record.{cleanCount}
 use Rattle.running.proofs.Runs.{StoredTo, none-stored, one-stored, run-ends, never-all}
 use Rattle.running.proofs.run_cleaning.Statement.{statement}

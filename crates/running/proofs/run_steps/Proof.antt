@@ -3,7 +3,7 @@
 use mathlib.Core.Path.{sym, _∙_}
 use native.Mathlib.Omega.{arith}
 use borrow.Author.Needs.{needs}
-use Rattle.spec.specs.Calls.{stepsLeft}
+use Rattle.spec.specs.Machine.{stepsLeft}
 use Rattle.session.specs.State.{stateOf}
 use Rattle.running.proofs.Runs.{Stored, none-made, long, wide, one-made, fewer, made}
 use Rattle.running.proofs.run_steps.Statement.{statement}

@@ -44,12 +44,12 @@ use denote.Triple.Call.{calls-at}
 use denote.Triple.Clauses.{ensured, lasts}
 use denote.Triple.Table.{entered, cited}
 use denote.Triple.Walked.{says, Stays, stay-dropped, gave-ref, walkOf, goes-dropped, goes-gave-ref, Walks, ends-at, walked, walk-meets}
-use Rattle.spec.specs.declared.Session.{Session}
-use Rattle.spec.specs.declared.Control.{Control}
-use Rattle.spec.proofs.Control as K-Control
-use Rattle.spec.proofs.Control.Laws as K-Control′
-use Rattle.spec.proofs.Session as T
-use Rattle.spec.proofs.Session.Laws as T′
+use Rattle.session.specs.declared.Session.{Session}
+use Rattle.session.specs.declared.Control.{Control}
+use Rattle.session.proofs.Control as K-Control
+use Rattle.session.proofs.Control.Laws as K-Control′
+use Rattle.session.proofs.Session as T
+use Rattle.session.proofs.Session.Laws as T′
 use Rattle.stat.proofs.known_keys as core
 use Rattle.stat.proofs.known_keys.Symbol as core-def
 use Rattle.stat.proofs.known_keys.Symbol.{name as #core}

@@ -4,7 +4,7 @@ use mathlib.Core.Path.{_≡_}
 use Prim.Native.Nat.{_+_, _-_, _*_}
 use native.Mathlib.Omega.{arith}
 use borrow.Author.Needs.{needs}
-use Rattle.spec.specs.declared.Setup.{Setup}
+use Rattle.session.specs.declared.Setup.{Setup}
 use Rattle.session.specs.State.{chunkIn, linesIn}
 use Rattle.stepping.specs.Inner.{StoresTo}
 use Rattle.stepping.proofs.Inner.{no-stores, one-more}

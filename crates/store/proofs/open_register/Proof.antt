@@ -4,10 +4,8 @@
 -- closed. All that the proof knows of `open_core` is that it meets its contract.
 -- Assumes nothing.
 use mathlib.Core.Path.{_≡_}
-use Rattle.spec.specs.Calls.{Open, Put, Delete, Commit, Abandon, Step, Format, number}
-use Rattle.spec.specs.Contract.{Called}
-use Rattle.session.specs.State.{stateOf, limit}
-use Rattle.session.specs.Fits.{Fits}
+use Rattle.spec.specs.Reports.{number}
+use Rattle.spec.specs.Machine.{Open, Put, Delete, Commit, Abandon, Step, Format}
 use Prim.Native.Nat.{_+_, _^_, _<_}
 use lib.ListN.{length, getD}
 use mathlib.Core.Path.{refl, ap}
@@ -56,22 +54,22 @@ use denote.Triple.Call.{calls-at}
 use denote.Triple.Clauses.{ensured, lasts}
 use denote.Triple.Table.{entered, cited}
 use denote.Triple.Walked.{says, Stays, stay-ref, stay-dropped, gave-ref, gave-slice, walkOf, goes-ref, goes-dropped, goes-gave-ref, goes-gave-slice, Walks, ends-at, walked, walk-meets}
-use Rattle.spec.specs.declared.Session.{Session}
-use Rattle.spec.specs.declared.Control.{Control}
+use Rattle.session.specs.declared.Session.{Session}
+use Rattle.session.specs.declared.Control.{Control}
 use Rattle.recovery.specs.declared.Opened.{Opened}
 use Rattle.spec.specs.declared.Report.{Report}
 use Rattle.spec.proofs.Report as P
 use Rattle.spec.proofs.Report.Laws as P′
-use Rattle.spec.proofs.Session as T
-use Rattle.spec.proofs.Session.Laws as T′
-use Rattle.spec.proofs.Control as Ctl
-use Rattle.spec.proofs.Control.Laws as Ctl′
+use Rattle.session.proofs.Session as T
+use Rattle.session.proofs.Session.Laws as T′
+use Rattle.session.proofs.Control as Ctl
+use Rattle.session.proofs.Control.Laws as Ctl′
 use Rattle.recovery.proofs.Opened as S
 use Rattle.recovery.proofs.Opened.Laws as S′
 use Rattle.store.proofs.Lent as Lent
-use Rattle.spec.specs.declared.Setup.{Setup}
-use Rattle.spec.proofs.Setup as K-Setup
-use Rattle.spec.proofs.Setup.Laws as K-Setup′
+use Rattle.session.specs.declared.Setup.{Setup}
+use Rattle.session.proofs.Setup as K-Setup
+use Rattle.session.proofs.Setup.Laws as K-Setup′
 use Rattle.recovery.proofs.open_core as core
 use Rattle.recovery.proofs.open_core.Symbol as core-def
 use Rattle.recovery.proofs.open_core.Symbol.{name as #core}
@@ -80,6 +78,7 @@ use Rattle.store.proofs.open_register.Key.{name as #step}
 use Rattle.store.proofs.open_register as step
 use Rattle.store.proofs.open_register.Statement as stated
 use Rattle.store.proofs.open_register.Code as code
+use Rattle.session.specs.Promise.{Does}
 
 abbrev stayed : Stays (step.ended .signature .params) (step.ended .kept)
 stayed = (stay-ref (0 ∷ []) tt (plain (λ _. T.the-row)), (stay-dropped (shrSliceOf {n = 3} (1 ∷ []) tt (plain (λ _. u8))) yes, (gave-slice (2 ∷ []) tt (plain (λ _. u64)), tt)))
@@ -90,7 +89,7 @@ Core 𝓤 H A mem run = tripleOf 𝓤 H A core.signature (core.spec 𝓤 H A mem
 
 -- what it ensures
 abbrev Said : Opened → Control → Setup → List ℕ → List ℕ → List ℕ → List ℕ → List ℕ → Type 0
-Said r control setup x-buffer z-buffer x-image x-table z-table = Called stateOf Fits 12 limit Open (record { control = control; setup = setup; buffer = x-buffer }) (record { control = r .control; setup = r .setup; buffer = z-buffer }) (x-image) (x-image) (x-table) (z-table) (r .report)
+Said r control setup x-buffer z-buffer x-image x-table z-table = Does Open (record { control = control; setup = setup; buffer = x-buffer }) (record { control = r .control; setup = r .setup; buffer = z-buffer }) (x-image) (x-image) (x-table) (z-table) (r .report)
 
 -- machine values
 abbrev mach : Session → Val

@@ -4,7 +4,7 @@
 -- All that the proof knows of `inner_run` is that it meets its contract.
 -- Assumes nothing.
 use mathlib.Core.Path.{_≡_}
-use Rattle.spec.specs.Calls.{Step}
+use Rattle.spec.specs.Machine.{Step}
 use Rattle.spec.specs.Contract.{Called}
 use Rattle.session.specs.State.{stateOf}
 use Rattle.session.specs.Fits.{Fits}
@@ -56,22 +56,22 @@ use denote.Triple.Call.{calls-at}
 use denote.Triple.Clauses.{ensured, lasts}
 use denote.Triple.Table.{entered, cited}
 use denote.Triple.Walked.{says, Stays, stay-ref, stay-dropped, gave-ref, gave-slice, walkOf, goes-ref, goes-dropped, goes-gave-ref, goes-gave-slice, Walks, ends-at, walked, walk-meets}
-use Rattle.spec.specs.declared.Session.{Session}
-use Rattle.spec.specs.declared.Control.{Control}
+use Rattle.session.specs.declared.Session.{Session}
+use Rattle.session.specs.declared.Control.{Control}
 use Rattle.stepping.specs.declared.Advanced.{Advanced}
 use Rattle.spec.specs.declared.Report.{Report}
 use Rattle.spec.proofs.Report as P
 use Rattle.spec.proofs.Report.Laws as P′
-use Rattle.spec.proofs.Session as T
-use Rattle.spec.proofs.Session.Laws as T′
-use Rattle.spec.proofs.Control as Ctl
-use Rattle.spec.proofs.Control.Laws as Ctl′
+use Rattle.session.proofs.Session as T
+use Rattle.session.proofs.Session.Laws as T′
+use Rattle.session.proofs.Control as Ctl
+use Rattle.session.proofs.Control.Laws as Ctl′
 use Rattle.stepping.proofs.Advanced as S
 use Rattle.stepping.proofs.Advanced.Laws as S′
 use Rattle.store.proofs.Lent as Lent
-use Rattle.spec.specs.declared.Setup.{Setup}
-use Rattle.spec.proofs.Setup as K-Setup
-use Rattle.spec.proofs.Setup.Laws as K-Setup′
+use Rattle.session.specs.declared.Setup.{Setup}
+use Rattle.session.proofs.Setup as K-Setup
+use Rattle.session.proofs.Setup.Laws as K-Setup′
 use Rattle.stepping.proofs.inner_run as core
 use Rattle.stepping.proofs.inner_run.Symbol as core-def
 use Rattle.stepping.proofs.inner_run.Symbol.{name as #core}

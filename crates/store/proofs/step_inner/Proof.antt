@@ -4,10 +4,7 @@
 -- All that the proof knows of `inner_step` is that it meets its contract.
 -- Assumes nothing.
 use mathlib.Core.Path.{_≡_}
-use Rattle.spec.specs.Calls.{Step}
-use Rattle.spec.specs.Contract.{Called}
-use Rattle.session.specs.State.{stateOf, limit}
-use Rattle.session.specs.Fits.{Fits}
+use Rattle.spec.specs.Machine.{Step}
 use Rattle.stepping.specs.Inner.{Runs, OnShortWay, ShortWay}
 use lib.ListN.{length}
 use mathlib.Core.Path.{refl, ap}
@@ -56,22 +53,22 @@ use denote.Triple.Call.{calls-at}
 use denote.Triple.Clauses.{ensured, lasts}
 use denote.Triple.Table.{entered, cited}
 use denote.Triple.Walked.{says, Stays, stay-ref, stay-dropped, gave-ref, gave-slice, walkOf, goes-ref, goes-dropped, goes-gave-ref, goes-gave-slice, Walks, ends-at, walked, walk-meets}
-use Rattle.spec.specs.declared.Session.{Session}
-use Rattle.spec.specs.declared.Control.{Control}
+use Rattle.session.specs.declared.Session.{Session}
+use Rattle.session.specs.declared.Control.{Control}
 use Rattle.stepping.specs.declared.Advanced.{Advanced}
 use Rattle.spec.specs.declared.Report.{Report}
 use Rattle.spec.proofs.Report as P
 use Rattle.spec.proofs.Report.Laws as P′
-use Rattle.spec.proofs.Session as T
-use Rattle.spec.proofs.Session.Laws as T′
-use Rattle.spec.proofs.Control as Ctl
-use Rattle.spec.proofs.Control.Laws as Ctl′
+use Rattle.session.proofs.Session as T
+use Rattle.session.proofs.Session.Laws as T′
+use Rattle.session.proofs.Control as Ctl
+use Rattle.session.proofs.Control.Laws as Ctl′
 use Rattle.stepping.proofs.Advanced as S
 use Rattle.stepping.proofs.Advanced.Laws as S′
 use Rattle.store.proofs.Lent as Lent
-use Rattle.spec.specs.declared.Setup.{Setup}
-use Rattle.spec.proofs.Setup as K-Setup
-use Rattle.spec.proofs.Setup.Laws as K-Setup′
+use Rattle.session.specs.declared.Setup.{Setup}
+use Rattle.session.proofs.Setup as K-Setup
+use Rattle.session.proofs.Setup.Laws as K-Setup′
 use Rattle.stepping.proofs.inner_step as core
 use Rattle.stepping.proofs.inner_step.Symbol as core-def
 use Rattle.stepping.proofs.inner_step.Symbol.{name as #core}
@@ -80,6 +77,7 @@ use Rattle.store.proofs.step_inner.Key.{name as #step}
 use Rattle.store.proofs.step_inner as step
 use Rattle.store.proofs.step_inner.Statement as stated
 use Rattle.store.proofs.step_inner.Code as code
+use Rattle.session.specs.Promise.{Does}
 
 abbrev stayed : Stays (step.ended .signature .params) (step.ended .kept)
 stayed = (stay-ref (0 ∷ []) tt (plain (λ _. T.the-row)), (gave-slice (1 ∷ []) tt (plain (λ _. u8)), (gave-slice (2 ∷ []) tt (plain (λ _. u64)), tt)))
@@ -90,7 +88,7 @@ Core 𝓤 H A mem run = tripleOf 𝓤 H A core.signature (core.spec 𝓤 H A mem
 
 -- what it ensures
 abbrev Said : Advanced → Control → Setup → List ℕ → List ℕ → List ℕ → List ℕ → List ℕ → Type 0
-Said r control setup x-buffer x-image z-image x-table z-table = ShortWay (Called stateOf Fits 12 limit Step) control setup (x-buffer) (x-image) (z-image) (x-table) (z-table) (r .next) (r .report)
+Said r control setup x-buffer x-image z-image x-table z-table = ShortWay (Does Step) control setup (x-buffer) (x-image) (z-image) (x-table) (z-table) (r .next) (r .report)
 
 -- machine values
 abbrev mach : Session → Val

@@ -1,0 +1,250 @@
+-- The calls as a machine without record or bytes: what each answers, by the words of the image and the state, and the state that it leaves.
+-- Assumes nothing.
+use mathlib.Core.Bool.{Bool, true, false}
+use mathlib.Core.Option.{Option, none, some}
+use mathlib.Core.List.{List, [], _∷_}
+use Prim.Native.Nat.{ℕ, suc, _-_}
+use lib.Dec.{eqb}
+use lib.ListN.{length}
+use Rattle.spec.specs.Basics.{pick, both, negate, first, isEmpty}
+use Rattle.spec.specs.Places.{chunksIn, lengthAllowed}
+use Rattle.spec.specs.Medium.{Action}
+use Rattle.spec.specs.Log.{Entry}
+use Rattle.spec.specs.Contents.{entriesIn}
+use Rattle.spec.specs.Opening.{Opening, Refused, Accepted, opening}
+use Rattle.spec.specs.Actions.{formatOf}
+use Rattle.spec.specs.declared.Given.{Given}
+use Rattle.spec.specs.declared.Refusal.{Refusal}
+use Rattle.spec.specs.declared.Refusal.the-variants as N
+use Rattle.spec.specs.declared.Report.{Report}
+use Rattle.spec.specs.declared.Report.the-variants as R
+use Rattle.spec.specs.Reports.{isRefused, asReport}
+use Rattle.spec.specs.Plans.{Task, Staging, Committing, Cleaning, Plan, Refuse, Begin, planPut, planDelete, planCommit, planClean, chosenChunk, lookUp, planned, chosenOr}
+
+pub data Call : Type 0 where
+  Format : Given → Given → Call
+  Open : Call
+  Put : ℕ → List ℕ → Call
+  Delete : ℕ → Call
+  Commit : Call
+  Abandon : Call
+  LookUp : ℕ → Call
+  Choose : Call
+  Clean : ℕ → Call
+  Step : Call
+
+-- what a call asks for: nothing of the record (a formatting, an opening), an open register, or something begun (a step)
+pub data Kind : Type 0 where
+  ToFormat : Kind
+  ToOpen : Kind
+  ToWork : Kind
+  ToStep : Kind
+
+abbrev pub kindOf : Call → Kind
+kindOf (Format s c) = ToFormat
+kindOf Open = ToOpen
+kindOf (Put k v) = ToWork
+kindOf (Delete k) = ToWork
+kindOf Commit = ToWork
+kindOf Abandon = ToWork
+kindOf (LookUp k) = ToWork
+kindOf Choose = ToWork
+kindOf (Clean c) = ToWork
+kindOf Step = ToStep
+
+-- No register open; a register open with the staged items; a call unfinished with the actions still to come; a formatting
+-- unfinished, begun on an open register or not. The numbers are the image's bytes and the table's words at the opening,
+-- or at the formatting's begin.
+pub data State : Type 0 where
+  Closed : State
+  Rest : ℕ → ℕ → List Entry → State
+  Busy : ℕ → ℕ → List Entry → Task → List Action → State
+  Formatting : Bool → ℕ → ℕ → List Action → State
+
+-- 2, 1, 8: what every call on an open register asks first, lent so many bytes and a table of so many words
+abbrev pub gate : State → ℕ → ℕ → Option Refusal
+gate Closed bytes table = some N.NotOpen
+gate (Rest b t items) bytes table = pick (both (eqb b bytes) (eqb t table)) none (some N.ImageLength)
+gate (Busy b t items task rest) bytes table = pick (both (eqb b bytes) (eqb t table)) (some N.Unfinished) (some N.ImageLength)
+gate (Formatting false b t rest) bytes table = some N.NotOpen
+gate (Formatting true b t rest) bytes table = pick (both (eqb b bytes) (eqb t table)) (some N.Unfinished) (some N.ImageLength)
+
+abbrev pub itemsOf : State → List Entry
+itemsOf Closed = []
+itemsOf (Rest b t items) = items
+itemsOf (Busy b t items task rest) = items
+itemsOf (Formatting o b t rest) = []
+
+abbrev pub isUnfinished : State → Bool
+isUnfinished Closed = false
+isUnfinished (Rest b t items) = false
+isUnfinished (Busy b t items task rest) = true
+isUnfinished (Formatting o b t rest) = true
+
+abbrev pub isOpen : State → Bool
+isOpen Closed = false
+isOpen (Rest b t items) = true
+isOpen (Busy b t items task rest) = true
+isOpen (Formatting o b t rest) = o
+
+-- The plan of a call on an open register, in an image of so many bytes whose words are ws, with a table of so many words.
+abbrev pub planOf : ℕ → ℕ → Call → List Entry → List ℕ → ℕ → ℕ → Option Plan
+planOf p limit (Format s c) items ws bytes table = none
+planOf p limit Open items ws bytes table = none
+planOf p limit (Put k v) items ws bytes table = some (planPut p limit (chunksIn p bytes) ws table (entriesIn p (chunksIn p bytes) ws) items k v)
+planOf p limit (Delete k) items ws bytes table = some (planDelete table (entriesIn p (chunksIn p bytes) ws) items k)
+planOf p limit Commit items ws bytes table = some (planCommit p (chunksIn p bytes) ws items)
+planOf p limit Abandon items ws bytes table = none
+planOf p limit (LookUp k) items ws bytes table = none
+planOf p limit Choose items ws bytes table = none
+planOf p limit (Clean c) items ws bytes table = some (planClean p (chunksIn p bytes) ws (entriesIn p (chunksIn p bytes) ws) items c)
+planOf p limit Step items ws bytes table = none
+
+abbrev pub begun : Plan → State → State
+begun (Refuse n) σ = σ
+begun (Begin items task acts) Closed = Closed
+begun (Begin items task acts) (Rest b t before) = Busy b t items task acts
+begun (Begin items task acts) (Busy b t before task′ rest) = Busy b t before task′ rest
+begun (Begin items task acts) (Formatting o b t rest) = Formatting o b t rest
+
+-- the answer behind the gate
+abbrev pub gated : Option Refusal → Report → Report
+gated none r = r
+gated (some n) r = R.Refused n
+
+abbrev pub opened : Opening → Report
+opened (Refused n) = R.Refused n
+opened (Accepted es) = R.Opened
+
+abbrev pub openedState : Opening → ℕ → ℕ → State
+openedState (Refused n) bytes table = Closed
+openedState (Accepted es) bytes table = Rest bytes table []
+
+-- format: 1 (length not allowed), 8
+abbrev pub formatAnswer : ℕ → Given → Given → State → ℕ → Report
+formatAnswer p s c σ bytes =
+    pick (lengthAllowed p bytes) (pick (isUnfinished σ) (R.Refused N.Unfinished) (R.Begun (length (formatOf (chunksIn p bytes) s c)))) (R.Refused N.ImageLength)
+
+abbrev pub formatState : ℕ → Given → Given → State → ℕ → ℕ → State
+formatState p s c σ bytes table =
+    pick (lengthAllowed p bytes) (pick (isUnfinished σ) σ (Formatting (isOpen σ) bytes table (formatOf (chunksIn p bytes) s c))) σ
+
+-- stepping: idle, else 1 alone; the next action, or the end with its count
+abbrev pub countOf : Task → ℕ
+countOf Staging = 0
+countOf Committing = 0
+countOf (Cleaning n) = n
+
+abbrev pub nextReport : ℕ → List Action → Report
+nextReport n [] = R.End n
+nextReport n (a ∷ rest) = asReport a
+
+abbrev pub stepAnswer : State → ℕ → ℕ → Report
+stepAnswer Closed bytes table = R.Idle
+stepAnswer (Rest b t items) bytes table = R.Idle
+stepAnswer (Busy b t items task rest) bytes table = pick (both (eqb b bytes) (eqb t table)) (nextReport (countOf task) rest) (R.Refused N.ImageLength)
+stepAnswer (Formatting o b t rest) bytes table = pick (both (eqb b bytes) (eqb t table)) (nextReport 0 rest) (R.Refused N.ImageLength)
+
+-- the staged items when a call has ended: a commit's have joined the register
+abbrev pub itemsThen : Task → List Entry → List Entry
+itemsThen Staging items = items
+itemsThen Committing items = []
+itemsThen (Cleaning n) items = items
+
+abbrev pub stepped : State → State
+stepped Closed = Closed
+stepped (Rest b t items) = Rest b t items
+stepped (Busy b t items task []) = Rest b t (itemsThen task items)
+stepped (Busy b t items task (a ∷ rest)) = Busy b t items task rest
+stepped (Formatting o b t []) = Closed
+stepped (Formatting o b t (a ∷ rest)) = Formatting o b t rest
+
+-- THE ANSWER of a call, by the state, the image's words and bytes, and the table's words
+abbrev pub planAnswer : Option Plan → Report
+planAnswer none = R.Idle
+planAnswer (some q) = planned q
+
+abbrev pub answer : ℕ → ℕ → Call → State → List ℕ → ℕ → ℕ → Report
+answer p limit (Format s c) σ ws bytes table = formatAnswer p s c σ bytes
+answer p limit Open σ ws bytes table = opened (opening p bytes ws table)
+answer p limit (Put k v) σ ws bytes table = gated (gate σ bytes table) (planAnswer (planOf p limit (Put k v) (itemsOf σ) ws bytes table))
+answer p limit (Delete k) σ ws bytes table = gated (gate σ bytes table) (planAnswer (planOf p limit (Delete k) (itemsOf σ) ws bytes table))
+answer p limit Commit σ ws bytes table = gated (gate σ bytes table) (planAnswer (planOf p limit Commit (itemsOf σ) ws bytes table))
+answer p limit Abandon σ ws bytes table = gated (gate σ bytes table) (pick (isEmpty (itemsOf σ)) (R.Refused N.NothingStaged) R.Abandoned)
+answer p limit (LookUp k) σ ws bytes table = gated (gate σ bytes table) (lookUp ws (entriesIn p (chunksIn p bytes) ws) k)
+answer p limit Choose σ ws bytes table = gated (gate σ bytes table) (chosenOr (chosenChunk p (chunksIn p bytes) ws (entriesIn p (chunksIn p bytes) ws)))
+answer p limit (Clean c) σ ws bytes table = gated (gate σ bytes table) (planAnswer (planOf p limit (Clean c) (itemsOf σ) ws bytes table))
+answer p limit Step σ ws bytes table = stepAnswer σ bytes table
+
+-- the part of the answer that the state and the lengths alone decide: 2, 1 and 8; of a step, idle and 1
+abbrev pub refusedBy : Option Refusal → Option Report
+refusedBy none = none
+refusedBy (some n) = some (R.Refused n)
+
+abbrev pub stepBarred : State → ℕ → ℕ → Option Report
+stepBarred Closed bytes table = some R.Idle
+stepBarred (Rest b t items) bytes table = some R.Idle
+stepBarred (Busy b t items task rest) bytes table = pick (both (eqb b bytes) (eqb t table)) none (some (R.Refused N.ImageLength))
+stepBarred (Formatting o b t rest) bytes table = pick (both (eqb b bytes) (eqb t table)) none (some (R.Refused N.ImageLength))
+
+abbrev pub barredBy : Kind → State → ℕ → ℕ → Option Report
+barredBy ToFormat σ bytes table = none
+barredBy ToOpen σ bytes table = none
+barredBy ToWork σ bytes table = refusedBy (gate σ bytes table)
+barredBy ToStep σ bytes table = stepBarred σ bytes table
+
+abbrev pub barred : Call → State → ℕ → ℕ → Option Report
+barred k σ bytes table = barredBy (kindOf k) σ bytes table
+
+-- THE STATE that a call leaves: a refused call, but for an opening, leaves the state as it was
+abbrev pub emptied : State → State
+emptied Closed = Closed
+emptied (Rest b t items) = Rest b t []
+emptied (Busy b t items task rest) = Busy b t items task rest
+emptied (Formatting o b t rest) = Formatting o b t rest
+
+abbrev pub planState : Option Plan → State → State
+planState none σ = σ
+planState (some q) σ = begun q σ
+
+abbrev pub change : ℕ → ℕ → Call → State → List ℕ → ℕ → ℕ → State
+change p limit (Format s c) σ ws bytes table = formatState p s c σ bytes table
+change p limit Open σ ws bytes table = openedState (opening p bytes ws table) bytes table
+change p limit (Put k v) σ ws bytes table = planState (planOf p limit (Put k v) (itemsOf σ) ws bytes table) σ
+change p limit (Delete k) σ ws bytes table = planState (planOf p limit (Delete k) (itemsOf σ) ws bytes table) σ
+change p limit Commit σ ws bytes table = planState (planOf p limit Commit (itemsOf σ) ws bytes table) σ
+change p limit Abandon σ ws bytes table = emptied σ
+change p limit (LookUp k) σ ws bytes table = σ
+change p limit Choose σ ws bytes table = σ
+change p limit (Clean c) σ ws bytes table = planState (planOf p limit (Clean c) (itemsOf σ) ws bytes table) σ
+change p limit Step σ ws bytes table = stepped σ
+
+abbrev pub isOpening : Kind → Bool
+isOpening ToFormat = false
+isOpening ToOpen = true
+isOpening ToWork = false
+isOpening ToStep = false
+
+unfoldable pub next : ℕ → ℕ → Call → State → List ℕ → ℕ → ℕ → State
+next p limit k σ ws bytes table =
+    pick (both (isRefused (answer p limit k σ ws bytes table)) (negate (isOpening (kindOf k)))) σ (change p limit k σ ws bytes table)
+
+-- the numbers that a call may refuse with, whatever memory holds, in the order in which they are asked
+abbrev pub refusals : Call → List Refusal
+refusals (Format s c) = N.ImageLength ∷ N.Unfinished ∷ []
+refusals Open = N.ImageLength ∷ N.NotOpen ∷ N.DirectoryWrong ∷ N.EntryWrong ∷ N.BlockWrong ∷ N.TopsDisagree ∷ N.TableFull ∷ []
+refusals (Put k v) = N.NotOpen ∷ N.ImageLength ∷ N.Unfinished ∷ N.TooLong ∷ N.VersionSpent ∷ N.BatchFull ∷ N.TableFull ∷ N.NoSpace ∷ []
+refusals (Delete k) = N.NotOpen ∷ N.ImageLength ∷ N.Unfinished ∷ N.KeyAbsent ∷ N.VersionSpent ∷ N.BatchFull ∷ N.TableFull ∷ []
+refusals Commit = N.NotOpen ∷ N.ImageLength ∷ N.Unfinished ∷ N.NothingStaged ∷ N.NoSpace ∷ []
+refusals Abandon = N.NotOpen ∷ N.ImageLength ∷ N.Unfinished ∷ N.NothingStaged ∷ []
+refusals (LookUp k) = N.NotOpen ∷ N.ImageLength ∷ N.Unfinished ∷ N.KeyAbsent ∷ []
+refusals Choose = N.NotOpen ∷ N.ImageLength ∷ N.Unfinished ∷ N.NotCleanable ∷ []
+refusals (Clean c) = N.NotOpen ∷ N.ImageLength ∷ N.Unfinished ∷ N.BatchStaged ∷ N.NotCleanable ∷ N.NoSpace ∷ []
+refusals Step = N.ImageLength ∷ []
+
+-- the steps that an unfinished call still takes: one for each action, and one that reports the end
+abbrev pub stepsLeft : State → ℕ
+stepsLeft Closed = 0
+stepsLeft (Rest b t items) = 0
+stepsLeft (Busy b t items task rest) = suc (length rest)
+stepsLeft (Formatting o b t rest) = suc (length rest)
