@@ -2,7 +2,7 @@
 # Shows that reading and storing a word is one machine move each, behind the test of the bounds. Run from the repository
 # root.
 set -e
-rt staticlib bench_words
+rt staticlib bench
 for f in bench_load bench_save; do
     objdump -d --no-show-raw-insn target/staticlib/libbench_words.a |
         awk -v f="<$f>:" '$2 == f { p = 1 } p { print } p && /ret/ { exit }' > "target/$f.txt"

@@ -3,7 +3,8 @@
  * The library keeps, under each 64-bit key, the exact bytes of a value (0 to 4,088 of them), and survives a power cut
  * at any moment. It has no heap, no thread, no file and no state of its own: the host lends it everything, and carries
  * out on the device what each step reports. This file is the manual of the calls. The rules that they are proved
- * against are R1.. in docs/RULES.md; what module, processor and host are taken to do is F1.. in docs/ARCHITECTURE.md.
+ * against are R1.. in docs/RULES.md; what module, processor and host are taken to do is F1.. in
+ * crates/spec/specs/Medium.antt.
  *
  * WHAT THE HOST LENDS
  *

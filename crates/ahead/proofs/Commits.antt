@@ -21,22 +21,22 @@ use Rattle.spec.specs.Opening.{Accepted, opening, fine}
 use Rattle.spec.specs.Actions.{linesFor, commitOf, appendOf}
 use Rattle.spec.specs.Reports.{asReport, wordsAfter, runWords}
 use Rattle.spec.specs.Plans.{logPlace}
-use Rattle.theory_medium.proofs.Words as W
-use Rattle.theory_medium.proofs.Places.{lines-least}
-use Rattle.theory_medium.proofs.Through.{through-end}
+use Rattle.theory_base.proofs.Words as W
+use Rattle.theory_base.proofs.Places.{lines-least}
+use Rattle.theory_base.proofs.Through.{through-end}
 use Rattle.theory_log.specs.Batch.{AllRight}
 use Rattle.theory_log.specs.Contents.{CountsOn, Mem, Top, done}
 use Rattle.theory_log.proofs.Directory.{lines-most}
 use Rattle.theory_log.proofs.Clean.{mem-placed, placed-mem}
-use Rattle.theory_cuts.specs.Accepted.{Ok}
-use Rattle.theory_cuts.specs.Rest.{AtRest, Flushed, Cuts}
-use Rattle.theory_cuts.specs.Batch.{entryWords, Place, Batch}
-use Rattle.theory_cuts.proofs.Opening.{fits-keys, opens-ok, ok-opens}
-use Rattle.theory_cuts.proofs.Rest.{settled-rest}
-use Rattle.theory_cuts.proofs.Append.{padding, entries-length, append-is, some-lines}
-use Rattle.theory_cuts.proofs.Effects as E
-use Rattle.theory_cuts.proofs.Commit as C
-use Rattle.theory_calls.proofs.LogPlace.{log-place}
+use Rattle.theory_crash.specs.Accepted.{Ok}
+use Rattle.theory_crash.specs.Rest.{AtRest, Flushed, Cuts}
+use Rattle.theory_crash.specs.Batch.{entryWords, Place, Batch}
+use Rattle.theory_crash.proofs.Opening.{fits-keys, opens-ok, ok-opens}
+use Rattle.theory_crash.proofs.Rest.{settled-rest}
+use Rattle.theory_crash.proofs.Append.{padding, entries-length, append-is, some-lines}
+use Rattle.theory_crash.proofs.Effects as E
+use Rattle.theory_crash.proofs.Commit as C
+use Rattle.theory_plans.proofs.LogPlace.{log-place}
 use Rattle.session.specs.State.{batchRoom}
 use Rattle.session.specs.Fits.{keyList, ItemsFit, BlocksApart}
 use Rattle.ahead.proofs.Staged.{run-settled, lo, hi}

@@ -15,9 +15,9 @@ use Rattle.spec.specs.Directory.{isSize}
 use Rattle.spec.specs.Actions.{takeOf, blockOf}
 use Rattle.spec.specs.Opening.{Accepted, opening}
 use Rattle.spec.specs.Plans.{Slot, InData, InFree, Nowhere, Staging, Begin, entry, slotFor, stageLarge}
-use Rattle.theory_medium.proofs.Sizes.{block-size}
-use Rattle.theory_cuts.specs.Stage.{BlockWords}
-use Rattle.theory_calls.proofs.Large.{block-words}
+use Rattle.theory_base.proofs.Sizes.{block-size}
+use Rattle.theory_crash.specs.Stage.{BlockWords}
+use Rattle.theory_plans.proofs.Large.{block-words}
 use Rattle.session.specs.Fits.{ItemsFit}
 use Rattle.ahead.specs.Ahead.{Ahead}
 use Rattle.ahead.proofs.Staged.{lo, hi, data-ahead, free-ahead}

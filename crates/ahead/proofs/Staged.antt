@@ -23,24 +23,24 @@ use Rattle.spec.specs.Opening.{Accepted, opening, fine}
 use Rattle.spec.specs.Actions.{takeOf, blockOf}
 use Rattle.spec.specs.Reports.{asReport, wordsAfter, runWords}
 use Rattle.spec.specs.Plans.{entry, InData, InFree, slotFor, hasSpace}
-use Rattle.theory_medium.proofs.Words as W
-use Rattle.theory_medium.proofs.Through.{through-end}
-use Rattle.theory_medium.proofs.Places.{units-least, unit-at}
-use Rattle.theory_medium.proofs.Sizes as Z
+use Rattle.theory_base.proofs.Words as W
+use Rattle.theory_base.proofs.Through.{through-end}
+use Rattle.theory_base.proofs.Places.{units-least, unit-at}
+use Rattle.theory_base.proofs.Sizes as Z
 use Rattle.theory_log.specs.Contents.{Mem, Top}
 use Rattle.theory_log.proofs.Contents.{mem-cases}
 use Rattle.theory_log.proofs.Directory.{size-is}
-use Rattle.theory_cuts.specs.Accepted.{Ok}
-use Rattle.theory_cuts.specs.Rest.{AtRest, Flushed, Cuts}
-use Rattle.theory_cuts.specs.Stage.{Slot, BlockWords, Stored, Prepared}
-use Rattle.theory_cuts.proofs.Directory.{free-says, data-word}
-use Rattle.theory_cuts.proofs.Blocks.{block-fits}
-use Rattle.theory_cuts.proofs.Opening.{fits-keys, keys-fit, opens-ok, ok-opens}
-use Rattle.theory_cuts.proofs.Rest.{latest-quiet, settled-rest}
-use Rattle.theory_cuts.proofs.Stage.{slot-moves, stage-through, take-stage-through, first-slot}
-use Rattle.theory_cuts.proofs.Staged.{staged-prepared, prepared-stays}
-use Rattle.theory_calls.proofs.Slots.{slot-data, slot-free}
-use Rattle.placing.proofs.Hint.{same-space}
+use Rattle.theory_crash.specs.Accepted.{Ok}
+use Rattle.theory_crash.specs.Rest.{AtRest, Flushed, Cuts}
+use Rattle.theory_crash.specs.Stage.{Slot, BlockWords, Stored, Prepared}
+use Rattle.theory_crash.proofs.Directory.{free-says, data-word}
+use Rattle.theory_crash.proofs.Blocks.{block-fits}
+use Rattle.theory_crash.proofs.Opening.{fits-keys, keys-fit, opens-ok, ok-opens}
+use Rattle.theory_crash.proofs.Rest.{latest-quiet, settled-rest}
+use Rattle.theory_crash.proofs.Stage.{slot-moves, stage-through, take-stage-through, first-slot}
+use Rattle.theory_crash.proofs.Staged.{staged-prepared, prepared-stays}
+use Rattle.theory_plans.proofs.Slots.{slot-data, slot-free}
+use Rattle.space.proofs.Hint.{same-space}
 use Rattle.session.specs.Fits.{ItemsFit, NoneBelow}
 use Rattle.ahead.specs.Ahead.{Ahead}
 

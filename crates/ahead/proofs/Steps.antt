@@ -17,9 +17,9 @@ use Rattle.session.specs.declared.Setup.{Setup}
 use Rattle.session.specs.declared.Session.{Session}
 use Rattle.theory_log.specs.Batch.{AllRight}
 use Rattle.theory_log.specs.Contents.{CountsOn}
-use Rattle.bits.specs.Bits.{hasBit}
-use Rattle.acts.specs.Nth.{nthReport}
-use Rattle.acts.proofs.Nth.{run-nth, drop-past}
+use Rattle.blocks.specs.Bits.{hasBit}
+use Rattle.actions.specs.Nth.{nthReport}
+use Rattle.actions.proofs.Nth.{run-nth, drop-past}
 use Rattle.session.specs.State.{batchRoom, batchWords}
 use Rattle.session.specs.Fits.{keyList, RestFits, StageFits}
 use Rattle.ahead.specs.Ahead.{Ahead}

@@ -13,7 +13,7 @@ use Rattle.spec.specs.Plans.{entry}
 use Rattle.theory_log.specs.Batch.{Kind, put, block, delete}
 use Rattle.codec.specs.Firsts.{headWord}
 use Rattle.words.specs.Overlay.{overlay, length-overlay, getD-overlay-outside}
-use Rattle.bits.specs.Bits.{wordOf, hasBit}
+use Rattle.blocks.specs.Bits.{wordOf, hasBit}
 use Rattle.session.specs.State.{bufferPart}
 use Rattle.batch.specs.Added.{Added}
 use Rattle.batch.proofs.Part.{part-overlay}

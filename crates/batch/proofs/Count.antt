@@ -13,7 +13,7 @@ use Rattle.spec.specs.Medium.{Mem}
 use Rattle.spec.specs.Log.{Entry}
 use Rattle.spec.specs.Contents.{known, capacity}
 use Rattle.spec.specs.Plans.{fitsKeys}
-use Rattle.theory_medium.proofs.Lists.{number-l, number-r, number-cases, distinct-is, distinct-old, distinct-new, distinct-equal}
+use Rattle.theory_base.proofs.Lists.{number-l, number-r, number-cases, distinct-is, distinct-old, distinct-new, distinct-equal}
 use Rattle.theory_log.proofs.Keys.{keys-known}
 use Rattle.session.specs.Fits.{keyList}
 

@@ -16,7 +16,7 @@ use Rattle.spec.specs.Blocks.{pointed}
 use Rattle.spec.specs.Contents.{highest}
 use Rattle.spec.specs.Plans.{maxItems, fitsBatch}
 use Rattle.session.specs.declared.Control.{Control}
-use Rattle.theory_medium.proofs.Lists.{not-both}
+use Rattle.theory_base.proofs.Lists.{not-both}
 use Rattle.theory_log.specs.Batch.{Kind, put, block, delete, Right}
 use Rattle.theory_log.specs.Contents.{Mem, CountsOn}
 use Rattle.theory_log.proofs.Contents.{mem-cases, highest-insert}

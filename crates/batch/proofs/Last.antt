@@ -13,7 +13,7 @@ use Rattle.spec.specs.Basics.{pick, either, isSome, isIn}
 use Rattle.spec.specs.Log.{Entry}
 use Rattle.spec.specs.Contents.{highest, chosen}
 use Rattle.spec.specs.Plans.{isPut, present}
-use Rattle.theory_medium.proofs.Lists.{not-both}
+use Rattle.theory_base.proofs.Lists.{not-both}
 use Rattle.theory_log.specs.Contents.{CountsOn}
 use Rattle.theory_log.specs.Fold.{foldE}
 use Rattle.theory_log.proofs.Contents.{better, best, versionOf, chosen-best, highest-best, better-none, best-append, best-above, counts-same, highest-insert}

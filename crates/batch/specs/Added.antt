@@ -6,7 +6,7 @@ use Prim.Native.Nat.{ℕ, _+_, _^_, _≤_, _<_}
 use lib.ListN.{length, getD}
 use Rattle.spec.specs.Log.{Entry, encodeAll}
 use Rattle.theory_log.specs.Batch.{Right}
-use Rattle.bits.specs.Bits.{hasBit}
+use Rattle.blocks.specs.Bits.{hasBit}
 use Rattle.session.specs.State.{batchRoom, bufferPart}
 
 -- from `words` words to `next`: the item is behind the others if there is room for it, and nothing is changed if there is not.

@@ -8,7 +8,7 @@ ghost use Rattle.spec.specs.Plans.{entry};
 ghost use Rattle.session.specs.State.{batchRoom};
 ghost use Rattle.batch.specs.Items.{itemBy, laterOf, LastStaged, OnlyDeletes};
 ghost use Rattle.batch.specs.Added.{Added};
-use bits::buffer_length;
+use blocks::buffer_length;
 use codec::first_of;
 use codec::first_word;
 use log::words_for;

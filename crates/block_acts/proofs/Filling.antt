@@ -21,9 +21,9 @@ use Rattle.spec.specs.declared.Report.the-variants as R
 use Rattle.session.specs.declared.Setup.{Setup}
 use Rattle.session.specs.State.{bufferPart, chunkIn}
 use Rattle.session.proofs.Part.{length-part, part-word}
-use Rattle.theory_cuts.proofs.Cells.{length-writes, length-flushes}
-use Rattle.acts.specs.Nth.{nth, nthReport}
-use Rattle.acts.proofs.Nth.{nth-writes, nth-flushes, nth-front, nth-back}
+use Rattle.theory_crash.proofs.Cells.{length-writes, length-flushes}
+use Rattle.actions.specs.Nth.{nth, nthReport}
+use Rattle.actions.proofs.Nth.{nth-writes, nth-flushes, nth-front, nth-back}
 use Rattle.session.specs.State.{areaStart, heldCount, heldWords, unitOf, takenBy, blockActions, behindAll}
 
 -- THE BLOCK, by number

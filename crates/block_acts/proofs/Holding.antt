@@ -11,7 +11,7 @@ use Rattle.spec.specs.Basics.{both}
 use Rattle.spec.specs.Words.{packed}
 use Rattle.words.specs.Overlay.{overlay, length-overlay, getD-overlay-outside, getD-overlay-inside}
 use Rattle.words.specs.Values.{length-packed}
-use Rattle.bits.specs.Bits.{wordOf, hasBit}
+use Rattle.blocks.specs.Bits.{wordOf, hasBit}
 use Rattle.session.specs.State.{bufferPart}
 use Rattle.session.specs.State.{heldCount, heldWords}
 use Rattle.block_acts.specs.Staging.{Kept}

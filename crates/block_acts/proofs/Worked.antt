@@ -8,7 +8,7 @@ use Rattle.spec.specs.Places.{chunkUnits, firstUnit}
 use Rattle.spec.specs.Medium.{Store, Flush, Fence}
 use Rattle.spec.specs.Actions.{blockOf}
 use Rattle.session.specs.declared.Setup.{Setup}
-use Rattle.acts.specs.Nth.{nth}
+use Rattle.actions.specs.Nth.{nth}
 use Rattle.session.specs.State.{heldWords, unitOf, blockActions, noSource}
 
 abbrev setup : ℕ → ℕ → ℕ → Setup

@@ -7,7 +7,7 @@ ghost use Rattle.spec.specs.Words.{wordsOf};
 ghost use Rattle.spec.specs.Places.{chunksIn};
 ghost use Rattle.spec.specs.Directory.{freeChunks};
 ghost use Rattle.spec.specs.Machine.{Format, Open, Put, Delete, Commit, Abandon, Clean, Step};
-ghost use Rattle.calls.specs.Begun.{given};
+ghost use Rattle.formatting.specs.Begun.{given};
 ghost use Rattle.stepping.specs.Inner.{RunsOn};
 ghost use Rattle.store.specs.Look.{Reported};
 ghost use Rattle.store.specs.Choice.{Chosen};
@@ -37,7 +37,7 @@ fn told(report: Report) -> Answer
     match report {
         Report::Refused(n) => Answer {
             kind: 0,
-            first: recovery::number(n),
+            first: session::number(n),
             second: 0,
         },
         Report::Begun(actions) => Answer {
@@ -267,7 +267,7 @@ fn shown(report: Report, start: &mut u64, length: &mut u64) -> u64
             _ => {
                 *start = 0;
                 *length = 0;
-                recovery::number(n)
+                session::number(n)
             }
         },
         Report::Part {
@@ -311,7 +311,7 @@ fn counted(listed: Counted, count: &mut u64) -> u64
     match listed {
         Counted::Refused(n) => {
             *count = 0;
-            recovery::number(n)
+            session::number(n)
         }
         Counted::Keys(k) => {
             *count = k as u64;
@@ -351,7 +351,7 @@ fn spelt(listed: Listed, version: &mut u64, length: &mut u64, block: &mut u64) -
             *version = 0;
             *length = 0;
             *block = 0;
-            recovery::number(n)
+            session::number(n)
         }
         Listed::Present {
             version: v,

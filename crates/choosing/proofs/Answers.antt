@@ -22,15 +22,15 @@ use Rattle.session.specs.declared.Session.{Session}
 use Rattle.spec.specs.declared.Refusal.{Refusal}
 use Rattle.spec.specs.declared.Refusal.the-variants as N
 use Rattle.spec.specs.declared.Report.the-variants as R
-use Rattle.theory_medium.proofs.Lists.{pick-same}
-use Rattle.theory_cuts.proofs.Opening.{opens-ok}
+use Rattle.theory_base.proofs.Lists.{pick-same}
+use Rattle.theory_crash.proofs.Opening.{opens-ok}
 use Rattle.session.specs.State.{stateOf, limit}
 use Rattle.session.specs.Fits.{Fits}
-use Rattle.recovery.specs.declared.Gated.{Gated}
-use Rattle.recovery.specs.declared.Gated.the-variants as G
-use Rattle.recovery.specs.Asks.{gateOf, Asking}
-use Rattle.recovery.specs.Look.{sessionOf}
-use Rattle.recovery.proofs.Gates.{turned-down, at-rest}
+use Rattle.session.specs.declared.Gated.{Gated}
+use Rattle.session.specs.declared.Gated.the-variants as G
+use Rattle.session.specs.Asks.{gateOf, Asking}
+use Rattle.lookup.specs.Look.{sessionOf}
+use Rattle.session.proofs.Gates.{turned-down, at-rest}
 use Rattle.choosing.specs.declared.Choice.{Choice}
 use Rattle.choosing.specs.declared.Choice.the-variants as C
 use Rattle.choosing.specs.Choices.{choiceOf, InCount, Chooses, reportOf, ChosenIn, Choosing}

@@ -15,7 +15,7 @@ use Rattle.spec.specs.Directory.{linesOf}
 use Rattle.spec.specs.Log.{Entry}
 use Rattle.spec.specs.Actions.{linesFor}
 use Rattle.spec.specs.Plans.{copyWords, worthCleaning, isBetter}
-use Rattle.placing.proofs.Space.{log-lines}
+use Rattle.space.proofs.Space.{log-lines}
 use Rattle.gathering.specs.declared.Tally.{Tally}
 use Rattle.gathering.specs.Gathering.{Measured}
 use Rattle.gathering.proofs.Chunks.{chunk-measured}

@@ -11,9 +11,9 @@ use borrow.Author.Tests.{eq-eqb}
 use Rattle.spec.specs.Basics.{pick}
 use Rattle.spec.specs.Log.{Entry}
 use Rattle.spec.specs.Plans.{worthCleaning, better, best, chosenChunk}
-use Rattle.theory_cuts.specs.Accepted.{Ok}
+use Rattle.theory_crash.specs.Accepted.{Ok}
 use Rattle.volatile.specs.Known.{Indexed}
-use Rattle.placing.proofs.Search.{taken, taken-start, taken-more}
+use Rattle.space.proofs.Search.{taken, taken-start, taken-more}
 use Rattle.choosing.specs.declared.Candidate.{Candidate}
 use Rattle.choosing.specs.declared.Choice.the-variants as C
 use Rattle.choosing.specs.Choices.{Describes, Weighed, bestSoFar, Known, Bettered, Chooses}

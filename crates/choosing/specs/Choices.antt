@@ -19,9 +19,9 @@ use Rattle.session.specs.declared.Setup.{Setup}
 use Rattle.spec.specs.declared.Refusal.the-variants as N
 use Rattle.spec.specs.declared.Report.{Report}
 use Rattle.spec.specs.declared.Report.the-variants as R
-use Rattle.theory_cuts.specs.Accepted.{Ok}
+use Rattle.theory_crash.specs.Accepted.{Ok}
 use Rattle.volatile.specs.Known.{Indexed}
-use Rattle.recovery.specs.Look.{sessionOf}
+use Rattle.lookup.specs.Look.{sessionOf}
 use Rattle.choosing.specs.declared.Candidate.{Candidate}
 use Rattle.choosing.specs.declared.Choice.{Choice}
 use Rattle.choosing.specs.declared.Choice.the-variants as C

@@ -5,7 +5,7 @@ ghost use Rattle.spec.specs.Words.{wordsOf};
 ghost use Rattle.spec.specs.Actions.{linesFor};
 ghost use Rattle.choosing.specs.Choices.{Weighed, Worth, Compared, Bettered, Chooses, Choosing};
 use log::lines_of;
-use recovery::Gated;
+use session::Gated;
 use session::Control;
 use spec::Refusal;
 use spec::Report;
@@ -103,7 +103,7 @@ pub fn choose(image: &[u8], table: &[u64], count: usize) -> Choice
 pub fn choose_core(control: Control, setup: Setup, image: &[u8], table: &[u64]) -> Report
     ensures { λ r. ⌜ Choosing control setup (now (image .entry)) (now (table .entry)) r ⌝ }
 {
-    let gated = recovery::gate(control, setup, image.len(), table.len());
+    let gated = session::gate(control, setup, image.len(), table.len());
     match gated {
         Gated::Open => {
             let count = image.len() / 4096;

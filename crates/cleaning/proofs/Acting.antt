@@ -21,10 +21,10 @@ use Rattle.spec.specs.declared.Report.{Report}
 use Rattle.spec.specs.declared.Report.the-variants as R
 use Rattle.session.specs.State.{bufferPart, batchRoom, chunkIn, linesIn, sourceIn, keptWords, appendActions, copyActions, cleanActions}
 use Rattle.session.proofs.Part.{length-part, part-word}
-use Rattle.theory_cuts.proofs.Append.{append-count}
-use Rattle.acts.specs.Nth.{nth, nthReport, commitCount}
-use Rattle.acts.proofs.Nth.{drop-nth, drop-past, nth-front, nth-back}
-use Rattle.acts.proofs.Append.{padded-word, nth-store, nth-flush, nth-fence, nth-seal, nth-seal-flush, nth-last}
+use Rattle.theory_crash.proofs.Append.{append-count}
+use Rattle.actions.specs.Nth.{nth, nthReport, commitCount}
+use Rattle.actions.proofs.Nth.{drop-nth, drop-past, nth-front, nth-back}
+use Rattle.actions.proofs.Append.{padded-word, nth-store, nth-flush, nth-fence, nth-seal, nth-seal-flush, nth-last}
 use Rattle.session.specs.declared.Source.{Source}
 use Rattle.cleaning.specs.Record.{copyCount, cleanCount}
 

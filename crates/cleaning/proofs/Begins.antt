@@ -17,14 +17,14 @@ use Rattle.spec.specs.Reports.{runWords}
 use Rattle.spec.specs.Plans.{logPlace, appendTo, hasLive, free}
 use Rattle.session.specs.declared.Control.{Control}
 use Rattle.session.specs.declared.Setup.{Setup}
-use Rattle.theory_cuts.specs.Accepted.{Ok}
-use Rattle.theory_cuts.proofs.Opening.{opens-ok}
-use Rattle.theory_cuts.proofs.Append.{padding}
-use Rattle.bits.specs.Bits.{hasBit}
+use Rattle.theory_crash.specs.Accepted.{Ok}
+use Rattle.theory_crash.proofs.Opening.{opens-ok}
+use Rattle.theory_crash.proofs.Append.{padding}
+use Rattle.blocks.specs.Bits.{hasBit}
 use Rattle.session.specs.State.{batchRoom, sourceIn, keptWords, appendActions, cleanActions}
 use Rattle.session.specs.Fits.{NoneBelow, RestFits, batchPlace, CleanFits}
 use Rattle.session.proofs.Part.{chunk-in, lines-in}
-use Rattle.acts.specs.Nth.{nth}
+use Rattle.actions.specs.Nth.{nth}
 use Rattle.leaving.proofs.Fence.{lines-few, cleaned, stands-here, stands-copied}
 use Rattle.gathering.specs.Gathering.{AreaWritten}
 use Rattle.session.specs.declared.Source.{Source}

@@ -22,24 +22,24 @@ use Rattle.spec.specs.declared.Role.{Role}
 use Rattle.spec.specs.declared.Role.the-variants as R
 use Rattle.spec.specs.Reports.{asReport, wordsAfter, runWords}
 use Rattle.spec.specs.Plans.{logPlace, hasSpace, hasLive}
-use Rattle.theory_medium.proofs.Words as W
+use Rattle.theory_base.proofs.Words as W
 use Rattle.theory_log.proofs.Directory.{lines-is, size-is}
 use Rattle.theory_log.proofs.Walk.{slice-long}
 use Rattle.theory_log.proofs.Kept.{Parts, parts, kept-is}
-use Rattle.theory_cuts.specs.Accepted.{Ok}
-use Rattle.theory_cuts.specs.Rest.{AtRest}
-use Rattle.theory_cuts.specs.Batch.{entryWords, Place}
-use Rattle.theory_cuts.proofs.Opening.{fits-keys, keys-fit, opens-ok, ok-opens}
-use Rattle.theory_cuts.proofs.Rest.{latest-quiet, settled-rest}
-use Rattle.theory_cuts.proofs.Append.{padding, padded-is, padded-length, entries-length, append-is, some-lines}
-use Rattle.theory_cuts.proofs.Directory.{log-says, not-log-says, role-zero}
-use Rattle.theory_cuts.proofs.Frame.{directory-in}
-use Rattle.theory_cuts.proofs.Free.{lines-this, data-rest}
-use Rattle.theory_cuts.proofs.Clean.{Copied, Left, clean-left, clean-copied}
-use Rattle.theory_calls.proofs.LogPlace.{log-place}
-use Rattle.theory_calls.proofs.Cleaning.{parse-words, filter-words, no-live}
+use Rattle.theory_crash.specs.Accepted.{Ok}
+use Rattle.theory_crash.specs.Rest.{AtRest}
+use Rattle.theory_crash.specs.Batch.{entryWords, Place}
+use Rattle.theory_crash.proofs.Opening.{fits-keys, keys-fit, opens-ok, ok-opens}
+use Rattle.theory_crash.proofs.Rest.{latest-quiet, settled-rest}
+use Rattle.theory_crash.proofs.Append.{padding, padded-is, padded-length, entries-length, append-is, some-lines}
+use Rattle.theory_crash.proofs.Directory.{log-says, not-log-says, role-zero}
+use Rattle.theory_crash.proofs.Frame.{directory-in}
+use Rattle.theory_crash.proofs.Free.{lines-this, data-rest}
+use Rattle.theory_crash.proofs.Clean.{Copied, Left, clean-left, clean-copied}
+use Rattle.theory_plans.proofs.LogPlace.{log-place}
+use Rattle.theory_plans.proofs.Cleaning.{parse-words, filter-words, no-live}
 use Rattle.session.specs.Fits.{NoneBelow}
-use Rattle.placing.proofs.Hint.{same-space}
+use Rattle.space.proofs.Hint.{same-space}
 use Rattle.session.specs.Cleaned.{before, keptOf, after}
 use Rattle.leaving.proofs.Fence.{chunk-few, lines-few, lines-in}
 use Rattle.leaving.proofs.Forward.{left-of, right-of, others-are, freed-entries}

@@ -13,8 +13,8 @@ use Rattle.spec.specs.Actions.{linesFor}
 use Rattle.spec.specs.Reports.{asReport, wordsAfter}
 use Rattle.session.specs.declared.Control.{Control}
 use Rattle.session.specs.declared.Setup.{Setup}
-use Rattle.theory_cuts.specs.Accepted.{Ok}
-use Rattle.theory_cuts.proofs.Opening.{opens-ok}
+use Rattle.theory_crash.specs.Accepted.{Ok}
+use Rattle.theory_crash.proofs.Opening.{opens-ok}
 use Rattle.session.specs.State.{batchWords}
 use Rattle.session.specs.Fits.{RestFits, batchPlace, CleanFits}
 use Rattle.session.proofs.Kept.{none-fit, emptied}

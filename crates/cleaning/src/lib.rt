@@ -3,7 +3,7 @@ ghost use mathlib.Core.Path.{_≡_};
 ghost use Prim.Native.Nat.{min};
 ghost use lib.ListN.{getD};
 ghost use Rattle.spec.specs.Actions.{padded, freeOf};
-ghost use Rattle.acts.specs.Nth.{nthReport};
+ghost use Rattle.actions.specs.Nth.{nthReport};
 ghost use Rattle.session.specs.State.{sourceIn, keptWords, appendActions, cleanActions};
 ghost use Rattle.cleaning.specs.Record.{copyCount, cleanCount};
 use spec::Report;
@@ -17,7 +17,7 @@ pub fn copy_count(words: usize) -> usize
     if words == 0 {
         return 0;
     }
-    acts::commit_count(words)
+    actions::commit_count(words)
 }
 
 // How many actions a cleaning has that keeps so many words.
@@ -27,14 +27,14 @@ pub fn clean_count(words: usize) -> usize
     if words == 0 {
         return 3;
     }
-    acts::commit_count(words) + 3
+    actions::commit_count(words) + 3
 }
 
 // Word i of the kept words padded to whole lines: 0 behind them.
 fn kept_word(buffer: &[u64; 1152], words: usize, i: usize) -> u64
     ensures { λ r. ⌜ r ≡ getD (padded (keptWords words (now (buffer .entry)))) i 0 ⌝ }
 {
-    let kept = acts::at_most(words, 512);
+    let kept = actions::at_most(words, 512);
     if i < kept {
         return buffer[512 + i];
     }
@@ -45,7 +45,7 @@ fn kept_word(buffer: &[u64; 1152], words: usize, i: usize) -> u64
 fn copy_action(setup: Setup, buffer: &[u64; 1152], words: usize, at: usize) -> Report
     ensures { λ r. ⌜ r ≡ nthReport (appendActions setup words (now (buffer .entry))) at ⌝ }
 {
-    let lines = (acts::at_most(words, 512) + 7) / 8;
+    let lines = (actions::at_most(words, 512) + 7) / 8;
     let chunk = setup.chunk % 512;
     let committed = setup.lines % 128;
     let stores = 8 * lines;

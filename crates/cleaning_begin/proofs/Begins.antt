@@ -21,14 +21,14 @@ use Rattle.session.specs.declared.Session.{Session}
 use Rattle.spec.specs.declared.Refusal.{Refusal}
 use Rattle.spec.specs.declared.Report.{Report}
 use Rattle.spec.specs.declared.Report.the-variants as R
-use Rattle.theory_cuts.specs.Accepted.{Ok}
-use Rattle.theory_cuts.proofs.Opening.{opens-ok}
+use Rattle.theory_crash.specs.Accepted.{Ok}
+use Rattle.theory_crash.proofs.Opening.{opens-ok}
 use Rattle.session.specs.State.{cleanActions, stateAt, stateOf, limit}
 use Rattle.session.specs.Fits.{CleanFits, Fits}
-use Rattle.recovery.specs.declared.Gated.{Gated}
-use Rattle.recovery.specs.declared.Gated.the-variants as G
-use Rattle.recovery.specs.Asks.{gateOf, Asking}
-use Rattle.recovery.proofs.Gates as Gates
+use Rattle.session.specs.declared.Gated.{Gated}
+use Rattle.session.specs.declared.Gated.the-variants as G
+use Rattle.session.specs.Asks.{gateOf, Asking}
+use Rattle.session.proofs.Gates as Gates
 use Rattle.cleaning.specs.Record.{cleaning}
 use Rattle.cleaning.proofs.Forward.{lo, hi}
 use Rattle.planning.proofs.Begun.{Begun}

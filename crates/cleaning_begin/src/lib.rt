@@ -4,18 +4,12 @@ ghost use Rattle.spec.specs.Machine.{Clean};
 ghost use Rattle.cleaning_begin.specs.Outsets.{KeptGathered, Outsets};
 ghost use Rattle.session.specs.Promise.{Does};
 use planning::CleanPlan;
-use recovery::Gated;
 use session::Control;
-use spec::Report;
+use session::Gated;
+use session::Outcome;
 use session::Setup;
 use session::Source;
-
-// The record's small parts after the begin, and what it reports.
-pub struct Outset {
-    pub control: Control,
-    pub setup: Setup,
-    pub report: Report,
-}
+use spec::Report;
 
 // The kept words go to the buffer's second area, if there are any.
 fn gather_kept(source: Source, buffer: &mut [u64; 1152], image: &[u8], table: &[u64])
@@ -37,12 +31,12 @@ fn begin_clean(
     image: &[u8],
     table: &[u64],
     number: usize,
-) -> Outset
+) -> Outcome
     ensures { λ r. ⌜ Outsets control (r .control) setup (r .setup) (now (buffer .entry)) (now (buffer .exit)) (now (image .entry)) (now (table .entry)) number (r .report) ⌝ }
 {
     let plan = planning::plan_clean(control, setup, buffer, image, table, number);
     match plan {
-        CleanPlan::Refused(n) => Outset {
+        CleanPlan::Refused(n) => Outcome {
             control,
             setup,
             report: Report::Refused(n),
@@ -77,7 +71,7 @@ fn begin_clean(
                 centre: setup.centre,
                 source,
             };
-            Outset {
+            Outcome {
                 control: begun,
                 setup: target,
                 report: Report::Begun(actions),
@@ -94,12 +88,12 @@ pub fn clean_core(
     image: &[u8],
     table: &[u64],
     number: usize,
-) -> Outset
+) -> Outcome
     ensures { λ r. ⌜ Does (Clean number) (record { control = control; setup = setup; buffer = now (buffer .entry) }) (record { control = r .control; setup = r .setup; buffer = now (buffer .exit) }) (now (image .entry)) (now (image .entry)) (now (table .entry)) (now (table .entry)) (r .report) ⌝ }
 {
-    let gated = recovery::gate(control, setup, image.len(), table.len());
+    let gated = session::gate(control, setup, image.len(), table.len());
     match gated {
-        Gated::Refused(n) => Outset {
+        Gated::Refused(n) => Outcome {
             control,
             setup,
             report: Report::Refused(n),

@@ -17,8 +17,8 @@ use Rattle.spec.specs.declared.Report.{Report}
 use Rattle.spec.specs.declared.Report.the-variants as R
 use Rattle.session.specs.State.{batchRoom, chunkIn, linesIn, sourceIn, sourceLines, cleanActions}
 use Rattle.session.proofs.Kept.{emptied}
-use Rattle.acts.specs.Nth.{nth, nthReport}
-use Rattle.acts.proofs.Performed.{changed-words}
+use Rattle.actions.specs.Nth.{nth, nthReport}
+use Rattle.actions.proofs.Performed.{changed-words}
 use Rattle.leaving.specs.Passes.{Emptying}
 use Rattle.session.specs.declared.Source.{Source}
 use Rattle.cleaning.specs.Record.{cleanCount}

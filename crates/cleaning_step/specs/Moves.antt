@@ -13,7 +13,7 @@ use Rattle.spec.specs.declared.Report.{Report}
 use Rattle.spec.specs.declared.Report.the-variants as R
 use Rattle.session.specs.Fits.{RestFits, CleanFits}
 use Rattle.session.proofs.Kept.{emptied}
-use Rattle.acts.specs.Nth.{nthReport}
+use Rattle.actions.specs.Nth.{nthReport}
 use Rattle.leaving.specs.Passes.{Emptying}
 use Rattle.session.specs.declared.Source.{Source}
 use Rattle.session.specs.State.{cleanActions}

@@ -3,15 +3,10 @@ ghost use Prim.Native.Nat.{_/_};
 ghost use Rattle.spec.specs.Words.{wordsOf};
 ghost use Rattle.cleaning_step.specs.Moves.{ChunkLeft, CleanStepped};
 use session::Control;
-use spec::Report;
 use session::Setup;
 use session::Source;
-
-// What a step leaves of the record, and what it reports.
-pub struct Moved {
-    pub control: Control,
-    pub report: Report,
-}
+use session::Stepped;
+use spec::Report;
 
 // The chunk's entries leave, and the copies take their places: answers the number of known keys.
 fn leave_chunk(
@@ -24,8 +19,8 @@ fn leave_chunk(
 ) -> usize
     ensures { λ r. ⌜ ChunkLeft setup source (wordsOf (now (image .entry))) (now (buffer .entry)) (now (buffer .exit)) (now (table .entry)) (now (table .exit)) keys r ⌝ }
 {
-    let from = acts::batch_start(setup);
-    let kept = acts::at_most(source.words, 512);
+    let from = actions::batch_start(setup);
+    let kept = actions::at_most(source.words, 512);
     let until = from + 8 * ((kept + 7) / 8);
     let at = 512 * (source.chunk % 512);
     let end = at + 8 * (source.lines % 128);
@@ -40,7 +35,7 @@ pub fn clean_step(
     buffer: &mut [u64; 1152],
     image: &mut [u8],
     table: &mut [u64],
-) -> Moved
+) -> Stepped
     ensures { λ r. ⌜ CleanStepped control (r .control) setup source (now (buffer .entry)) (now (buffer .exit)) (now (image .entry)) (now (image .exit)) (now (table .entry)) (now (table .exit)) (r .report) ⌝ }
 {
     let at = control.next;
@@ -55,13 +50,13 @@ pub fn clean_step(
             keys: control.keys,
             fresh: 0,
         };
-        return Moved {
+        return Stepped {
             control: ended,
             report: Report::End(source.entries),
         };
     }
     let act = cleaning::clean_action(setup, source, buffer, at);
-    acts::perform(image, act);
+    actions::perform(image, act);
     let next = at + 1;
     if next < count {
         let moved = Control {
@@ -72,7 +67,7 @@ pub fn clean_step(
             keys: control.keys,
             fresh: control.fresh,
         };
-        return Moved {
+        return Stepped {
             control: moved,
             report: act,
         };
@@ -86,7 +81,7 @@ pub fn clean_step(
         keys,
         fresh: control.fresh,
     };
-    Moved {
+    Stepped {
         control: moved,
         report: act,
     }

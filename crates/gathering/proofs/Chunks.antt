@@ -10,7 +10,7 @@ use Rattle.spec.specs.Directory.{linesOf}
 use Rattle.spec.specs.Log.{Entry, encodeAll}
 use Rattle.spec.specs.Contents.{keptIn}
 use Rattle.theory_log.proofs.Kept.{Parts, parts}
-use Rattle.theory_cuts.specs.Accepted.{Ok}
+use Rattle.theory_crash.specs.Accepted.{Ok}
 use Rattle.volatile.specs.Known.{Indexed}
 use Rattle.volatile.proofs.Image.{image-bounded}
 use Rattle.session.specs.State.{bufferPart}

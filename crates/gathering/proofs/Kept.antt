@@ -14,12 +14,12 @@ use lib.Seq.{slice}
 use borrow.Author.Tests.{eqb-true, eqb-false, eq-eqb, ne-eqb, lt-ltb, le-ltb}
 use Rattle.spec.specs.Log.{Entry}
 use Rattle.spec.specs.Contents.{chosen, known}
-use Rattle.theory_medium.proofs.Lists.{not-both}
+use Rattle.theory_base.proofs.Lists.{not-both}
 use Rattle.theory_log.specs.Contents.{Mem}
 use Rattle.theory_log.proofs.Contents.{mem-l, mem-r, none-of}
 use Rattle.theory_log.proofs.Keys.{mem-known, known-mem}
 use Rattle.theory_log.proofs.Walk.{slice-long}
-use Rattle.theory_calls.proofs.Cleaning.{parse-words}
+use Rattle.theory_plans.proofs.Cleaning.{parse-words}
 use Rattle.log.specs.declared.Cursor.{Cursor}
 use Rattle.log.specs.declared.Next.{Next}
 use Rattle.log.specs.declared.Next.the-variants as N

@@ -6,7 +6,7 @@ use Prim.Native.Nat.{ℕ, _+_, _≤_, _<_}
 use native.Mathlib.Omega.{arith}
 use lib.Dec.{ltb}
 use borrow.Author.Tests.{ltb-true, ltb-false}
-use Rattle.theory_medium.proofs.Lists.{not-both}
+use Rattle.theory_base.proofs.Lists.{not-both}
 use Rattle.gathering.specs.Gathering.{Room}
 
 pub room-not : (words entries place size : ℕ) → (words + (2 + size) ≤ 512 → entries < 512 → ⊥) → Room words entries place size false

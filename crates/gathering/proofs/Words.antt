@@ -14,7 +14,7 @@ use Rattle.spec.specs.Basics.{filter}
 use Rattle.spec.specs.Log.{Entry, wordsFor, encode, encodeAll}
 use Rattle.theory_log.proofs.Contents.{mem-l, mem-r}
 use Rattle.theory_log.proofs.Walk.{slice-long}
-use Rattle.theory_calls.proofs.Cleaning.{parse-words, filter-words}
+use Rattle.theory_plans.proofs.Cleaning.{parse-words, filter-words}
 use Rattle.log.specs.Stands.{StandsIn}
 use Rattle.session.specs.State.{bufferPart}
 use Rattle.session.proofs.Part.{length-part, part-agree}

@@ -97,7 +97,7 @@ fn copy_words(image: &[u8], buffer: &mut [u64; 1152], from: usize, to: usize, n:
     requires { ⌜ (to + n ≤ 1024) × (from < 2 ^ 62) ⌝ }
     ensures { λ _. ⌜ Copied (wordsOf (now (image .entry))) (now (buffer .entry)) (now (buffer .exit)) from to n ⌝ }
 {
-    bits::buffer_length(buffer);
+    blocks::buffer_length(buffer);
     let mut i = 0;
     while i < n {
         let v = words::load(image, from + i);
@@ -131,7 +131,7 @@ fn take(
 ) -> Tally
     ensures { λ r. ⌜ OneGathered (wordsOf (now (image .entry))) (now (buffer .entry)) (now (buffer .exit)) so kept place size r ⌝ }
 {
-    bits::buffer_length(buffer);
+    blocks::buffer_length(buffer);
     if kept {
         let words = so.words;
         let entries = so.entries;
@@ -150,7 +150,7 @@ fn take(
 pub fn gather(image: &[u8], table: &[u64], buffer: &mut [u64; 1152], at: usize, end: usize) -> Tally
     ensures { λ r. ⌜ Gathered (wordsOf (now (image .entry))) (now (table .entry)) (now (buffer .entry)) (now (buffer .exit)) at end r ⌝ }
 {
-    bits::buffer_length(buffer);
+    blocks::buffer_length(buffer);
     let mut counts: [u64; 1024] = [0; 1024];
     let mut counted = false;
     let mut tally = Tally {

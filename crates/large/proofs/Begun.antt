@@ -19,7 +19,7 @@ use Rattle.spec.specs.Actions.{takeOf, blockOf}
 use Rattle.spec.specs.Medium.{Action}
 use Rattle.session.specs.declared.Setup.{Setup}
 use Rattle.theory_log.specs.Batch.{block, Right}
-use Rattle.theory_medium.proofs.Sizes as Z
+use Rattle.theory_base.proofs.Sizes as Z
 use Rattle.codec.specs.declared.Unit.{Unit as UnitNumber}
 use Rattle.session.specs.State.{bufferPart}
 use Rattle.session.proofs.Part.{part-agree}

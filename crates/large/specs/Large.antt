@@ -13,7 +13,7 @@ use Rattle.spec.specs.Plans.{Staging, Plan, Refuse, Begin, entry, slotFor, stag
 use Rattle.session.specs.declared.Setup.{Setup}
 use Rattle.spec.specs.declared.Refusal.the-variants as N
 use Rattle.theory_log.specs.Batch.{Right}
-use Rattle.bits.specs.Bits.{hasBit}
+use Rattle.blocks.specs.Bits.{hasBit}
 use Rattle.session.specs.State.{batchRoom, bufferPart, mostBytes, heldWords, blockActions}
 use Rattle.slots.specs.Blocks.{Says}
 use Rattle.large.specs.declared.Large.{Large}

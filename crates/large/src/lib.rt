@@ -6,7 +6,7 @@ use block_acts::block_count;
 use block_acts::hold_value;
 use codec::Unit;
 use codec::block_size;
-use placing::directory_word;
+use space::directory_word;
 use slots::Slot;
 use slots::slot_for;
 use session::Setup;

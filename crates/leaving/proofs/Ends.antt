@@ -16,9 +16,9 @@ use Rattle.index.specs.declared.Info.{Info}
 use Rattle.index.specs.Packed.{unpackOf}
 use Rattle.volatile.specs.Known.{several}
 use Rattle.volatile.proofs.Info.{info-says}
-use Rattle.recovery.specs.declared.Verdict.{Verdict}
-use Rattle.recovery.specs.declared.Verdict.the-variants as J
-use Rattle.recovery.specs.Judged.{JudgingLog}
+use Rattle.opening.specs.declared.Verdict.{Verdict}
+use Rattle.opening.specs.declared.Verdict.the-variants as J
+use Rattle.opening.specs.Judged.{JudgingLog}
 use Rattle.session.specs.Cleaned.{before, after}
 use Rattle.leaving.specs.Leaving.{Singles}
 use Rattle.leaving.specs.Passes.{OnlySingles, AllPointed, AllLeft, Holds, Rebuilt, Emptied, Emptying}

@@ -23,9 +23,9 @@ use Rattle.theory_log.proofs.Directory.{lines-most}
 use Rattle.theory_log.proofs.Image.{Joined, join-inv}
 use Rattle.theory_log.proofs.Kept.{Parts, parts}
 use Rattle.theory_log.proofs.Places.{chunk-sound, all-sound, right-filter}
-use Rattle.theory_calls.proofs.Cleaning.{parse-words}
+use Rattle.theory_plans.proofs.Cleaning.{parse-words}
 use Rattle.volatile.proofs.Image.{image-bounded}
-use Rattle.joining.proofs.Live.{mem-between}
+use Rattle.apply.proofs.Live.{mem-between}
 use Rattle.session.specs.Cleaned.{before, keptOf, copiesOf, after, Cleaned, Stand}
 use Rattle.leaving.specs.Passes.{Holds, Emptied}
 use Rattle.leaving.specs.Fence.{Freed}

@@ -9,7 +9,7 @@ use Rattle.spec.specs.Basics.{negate, filter}
 use Rattle.spec.specs.Places.{base, chunkWords}
 use Rattle.spec.specs.Log.{Entry}
 use Rattle.spec.specs.Contents.{elsewhere}
-use Rattle.theory_medium.proofs.Lists.{filter-append, filter-all}
+use Rattle.theory_base.proofs.Lists.{filter-append, filter-all}
 use Rattle.theory_log.specs.Contents.{Mem}
 use Rattle.theory_log.proofs.Tops.{in-all}
 use Rattle.theory_log.proofs.Kept.{Parts, out-chunk, filter-others}

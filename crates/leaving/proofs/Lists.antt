@@ -14,7 +14,7 @@ use Rattle.spec.specs.Basics.{both, either, isIn}
 use Rattle.spec.specs.Log.{Entry, moved}
 use Rattle.spec.specs.Blocks.{pointed}
 use Rattle.spec.specs.Contents.{chosen, known, isKept, liveBlocks}
-use Rattle.theory_medium.proofs.Lists.{not-both, both-l, either-no, either-l, either-r}
+use Rattle.theory_base.proofs.Lists.{not-both, both-l, either-no, either-l, either-r}
 use Rattle.theory_log.specs.Contents.{Mem, Top, Apart}
 use Rattle.theory_log.proofs.Contents.{mem-l, mem-r, mem-filter, filter-mem, chosen-is, none-of, chosen-none}
 use Rattle.theory_log.proofs.Keys.{mem-known, known-mem}
@@ -25,7 +25,7 @@ use Rattle.index.specs.declared.Info.{Info}
 use Rattle.index.specs.Packed.{pack-fits}
 use Rattle.volatile.specs.Known.{entryCount, several, extentOf, infoOf, Indexed}
 use Rattle.volatile.proofs.Info.{said, info-chosen, info-none, info-says, info-nonzero}
-use Rattle.joining.proofs.Live.{mem-between, mem-around, Holder, live-holder, holder-live}
+use Rattle.apply.proofs.Live.{mem-between, mem-around, Holder, live-holder, holder-live}
 use Rattle.session.specs.Cleaned.{before, keptOf, copiesOf, after, Cleaned}
 use Rattle.leaving.specs.Leaving.{Singles, owed, Told, Awaits, OneEach, Pointing}
 use Rattle.leaving.proofs.Sole.{single-sole, sole-chosen, sole-single, once-filter, once-placed, once-same, count-append, count-no, count-one, count-placed, info-without}

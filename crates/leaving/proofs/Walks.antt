@@ -9,7 +9,7 @@ use native.Mathlib.Omega.{arith}
 use lib.ListN.{length}
 use lib.Seq.{slice}
 use Rattle.spec.specs.Log.{Entry, Parsed, Wrong, Entries, join, parse}
-use Rattle.theory_medium.proofs.Lists.{not-both}
+use Rattle.theory_base.proofs.Lists.{not-both}
 use Rattle.theory_log.specs.Contents.{Mem}
 use Rattle.theory_log.proofs.Parse.{cons-inv, prepend-entries}
 use Rattle.log.specs.declared.Cursor.{Cursor}

@@ -9,7 +9,7 @@ use Rattle.spec.specs.Places.{base}
 use Rattle.spec.specs.Directory.{linesOf}
 use Rattle.spec.specs.Log.{Entry, encodeAll}
 use Rattle.theory_log.proofs.Kept.{Parts}
-use Rattle.theory_cuts.specs.Accepted.{Ok}
+use Rattle.theory_crash.specs.Accepted.{Ok}
 use Rattle.session.specs.Cleaned.{keptOf, after}
 
 -- chunk s of n is cleaned; what it keeps stands from word `at` on in b lines; `old` are the words at the begin

@@ -14,7 +14,7 @@ use Rattle.spec.specs.Opening.{Accepted, openLog}
 use Rattle.theory_log.specs.Contents.{Mem}
 use Rattle.index.specs.Index.{get}
 use Rattle.index.specs.Packed.{unpackOf}
-use Rattle.bits.specs.Bits.{hasBit}
+use Rattle.blocks.specs.Bits.{hasBit}
 use Rattle.volatile.specs.Known.{Indexed}
 use Rattle.session.specs.Cleaned.{before, copiesOf, after, Cleaned, Stand}
 use Rattle.leaving.specs.Leaving.{Leaving, Pointing}

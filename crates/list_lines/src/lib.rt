@@ -7,7 +7,7 @@ pub fn put_refusal(out: &mut [u8], refusal: Refusal) -> usize
     ensures { λ r. ⌜ Writes (now (out .entry)) (now (out .exit)) 0 r (refusedText refusal) ⌝ }
 {
     let a = text::put_bytes(out, 0, b"refused ");
-    let b = text::put_decimal(out, a, recovery::number(refusal));
+    let b = text::put_decimal(out, a, session::number(refusal));
     text::put_bytes(out, b, b"\n")
 }
 

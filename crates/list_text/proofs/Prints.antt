@@ -25,10 +25,10 @@ use Rattle.spec.specs.declared.Report.{Report}
 use Rattle.spec.specs.declared.Report.the-variants as R
 use Rattle.spec.proofs.Report as type
 use Rattle.words.specs.Image.{length-wordsOf}
-use Rattle.theory_cuts.proofs.Opening.{opens-ok}
+use Rattle.theory_crash.proofs.Opening.{opens-ok}
 use Rattle.session.specs.State.{stateAt, stateOf, limit}
 use Rattle.session.specs.Fits.{Fits}
-use Rattle.recovery.specs.Look.{sessionOf}
+use Rattle.lookup.specs.Look.{sessionOf}
 use Rattle.text.specs.Text.{Writes}
 use Rattle.text.proofs.Texts.{writes-none, writes-on}
 use Rattle.listing.specs.declared.Listed.{Listed}

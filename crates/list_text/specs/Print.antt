@@ -16,7 +16,7 @@ use Rattle.session.specs.declared.Control.{Control}
 use Rattle.session.specs.declared.Setup.{Setup}
 use Rattle.session.specs.State.{stateAt}
 use Rattle.session.specs.Fits.{Fits}
-use Rattle.recovery.specs.Look.{sessionOf}
+use Rattle.lookup.specs.Look.{sessionOf}
 use Rattle.listing.specs.declared.Listed.{Listed}
 use Rattle.listing.specs.declared.Listed.the-variants as L
 use Rattle.listing.specs.Listing.{presentKeys, listedOf}

@@ -113,7 +113,7 @@ pub fn list_image(
 ) -> usize
     ensures { λ r. ⌜ Image (now (image .entry)) (now (table .entry)) (now (buffer .entry)) (now (keys .entry)) (now (out .entry)) (now (out .exit)) r ⌝ }
 {
-    let opened = recovery::open_core(no_control(), no_setup(), buffer, image, table);
+    let opened = opening::open_core(no_control(), no_setup(), buffer, image, table);
     let control = opened.control;
     let setup = opened.setup;
     let report = opened.report;

@@ -13,25 +13,25 @@ use Rattle.spec.specs.Words.{wordsOf}
 use Rattle.spec.specs.Places.{unitWord, chunksIn}
 use Rattle.spec.specs.Log.{Entry, Entries, imageEntries}
 use Rattle.spec.specs.Contents.{listed, keysOf, capacity}
-use Rattle.theory_medium.proofs.Lists.{filter-length}
+use Rattle.theory_base.proofs.Lists.{filter-length}
 use Rattle.spec.specs.Machine.{gate}
 use Rattle.session.specs.declared.Control.{Control}
 use Rattle.session.specs.declared.Setup.{Setup}
 use Rattle.spec.specs.declared.Refusal.{Refusal}
 use Rattle.spec.specs.declared.Refusal.the-variants as N
-use Rattle.theory_cuts.specs.Accepted.{Ok}
-use Rattle.theory_cuts.proofs.Opening.{opens-ok}
+use Rattle.theory_crash.specs.Accepted.{Ok}
+use Rattle.theory_crash.proofs.Opening.{opens-ok}
 use Rattle.index.specs.Index.{get}
 use Rattle.volatile.specs.Known.{Indexed}
 use Rattle.order.specs.Order.{Taking}
 use Rattle.order.proofs.Rising.{order-length}
 use Rattle.session.specs.State.{stateAt}
 use Rattle.session.specs.Fits.{Fits}
-use Rattle.recovery.specs.declared.Gated.{Gated}
-use Rattle.recovery.specs.declared.Gated.the-variants as G
-use Rattle.recovery.specs.Asks.{gateOf, Asking}
-use Rattle.recovery.specs.Look.{sessionOf}
-use Rattle.recovery.proofs.Gates.{at-rest}
+use Rattle.session.specs.declared.Gated.{Gated}
+use Rattle.session.specs.declared.Gated.the-variants as G
+use Rattle.session.specs.Asks.{gateOf, Asking}
+use Rattle.lookup.specs.Look.{sessionOf}
+use Rattle.session.proofs.Gates.{at-rest}
 use Rattle.listing.specs.declared.Listed.{Listed}
 use Rattle.listing.specs.declared.Listed.the-variants as L
 use Rattle.listing.specs.declared.Counted.the-variants as C

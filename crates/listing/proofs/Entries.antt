@@ -23,7 +23,7 @@ use Rattle.spec.specs.declared.Refusal.the-variants as N
 use Rattle.theory_log.specs.Batch.{Kind, put, block, delete}
 use Rattle.theory_log.proofs.Contents.{chosen-is}
 use Rattle.theory_log.proofs.Stands.{head-first}
-use Rattle.theory_cuts.specs.Accepted.{Ok}
+use Rattle.theory_crash.specs.Accepted.{Ok}
 use Rattle.log.specs.Stands.{StandsIn}
 use Rattle.log.proofs.Stands.{image-stands}
 use Rattle.index.specs.declared.Info.{Info}

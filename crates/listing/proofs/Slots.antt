@@ -16,9 +16,9 @@ use Rattle.spec.specs.Basics.{pick, filter, isSome}
 use Rattle.spec.specs.Medium.{Mem}
 use Rattle.spec.specs.Log.{Entry}
 use Rattle.spec.specs.Contents.{keysOf, known, chosen, held, meaning}
-use Rattle.theory_medium.proofs.Lists.{Once, not-both, isIn-mem, distinct-once}
+use Rattle.theory_base.proofs.Lists.{Once, not-both, isIn-mem, distinct-once}
 use Rattle.theory_log.proofs.Keys.{keyList, keys-known}
-use Rattle.theory_cuts.specs.Accepted.{Ok}
+use Rattle.theory_crash.specs.Accepted.{Ok}
 use Rattle.index.specs.Index.{slots, keyAt, infoAt, stopOf, get, Probed}
 use Rattle.index.specs.Slots.{get-stored, get-at}
 use Rattle.volatile.specs.Known.{Indexed}

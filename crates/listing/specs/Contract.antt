@@ -21,7 +21,7 @@ use Rattle.index.specs.Index.{slots, Probed}
 use Rattle.order.specs.Order.{inOrder, Least}
 use Rattle.session.specs.State.{stateAt}
 use Rattle.session.specs.Fits.{Fits}
-use Rattle.recovery.specs.Look.{sessionOf}
+use Rattle.lookup.specs.Look.{sessionOf}
 use Rattle.listing.specs.declared.Listed.{Listed}
 use Rattle.listing.specs.declared.Listed.the-variants as L
 use Rattle.listing.specs.declared.Counted.{Counted}

@@ -4,7 +4,7 @@ ghost use mathlib.Core.Path.{_≡_};
 ghost use Rattle.spec.specs.Words.{wordsOf};
 ghost use Rattle.listing.specs.Listing.{byEntry, byWord};
 ghost use Rattle.listing.specs.Contract.{Taken, Gathering, ListingKeys, ListingKey};
-use recovery::Gated;
+use session::Gated;
 use session::Control;
 use spec::Refusal;
 use session::Setup;
@@ -122,7 +122,7 @@ pub fn list_keys(
 ) -> Counted
     ensures { λ r. ⌜ ListingKeys control setup (now (image .entry)) (now (table .entry)) (now (out .entry)) (now (out .exit)) r ⌝ }
 {
-    let g = recovery::gate(control, setup, image.len(), table.len());
+    let g = session::gate(control, setup, image.len(), table.len());
     match g {
         Gated::Refused(n) => Counted::Refused(n),
         Gated::Open => {
@@ -155,7 +155,7 @@ pub fn list_core(
 pub fn list_key(control: Control, setup: Setup, image: &[u8], table: &[u64], key: u64) -> Listed
     ensures { λ r. ⌜ ListingKey control setup key (now (image .entry)) (now (table .entry)) r ⌝ }
 {
-    let g = recovery::gate(control, setup, image.len(), table.len());
+    let g = session::gate(control, setup, image.len(), table.len());
     match g {
         Gated::Refused(n) => Listed::Refused(n),
         Gated::Open => {

@@ -19,7 +19,7 @@ use Rattle.theory_log.proofs.Walk.{slice-head, slice-at, fill-at, room-entry}
 use Rattle.theory_log.proofs.Batch.{first-right}
 use Rattle.theory_log.proofs.Stands.{head-first, all-stands}
 use Rattle.theory_log.proofs.Places.{Sound, all-sound, first-inv, right-in, rising-in, rising-apart}
-use Rattle.theory_medium.proofs.Places.{past-directory}
+use Rattle.theory_base.proofs.Places.{past-directory}
 use Rattle.log.specs.Stands.{entryIn, StandsIn}
 
 pub take-drop : (m n : ℕ) (l : List ℕ) → take n (drop m l) ≡ slice m (m + n) l

@@ -15,12 +15,12 @@ use Rattle.spec.specs.Contents.{keptIn}
 use Rattle.spec.specs.Plans.{Cleaning, Begin, appendTo, hasLive, free, planClean}
 use Rattle.session.specs.declared.Control.{Control}
 use Rattle.session.specs.declared.Setup.{Setup}
-use Rattle.theory_cuts.specs.Accepted.{Ok}
-use Rattle.theory_cuts.proofs.Opening.{opens-ok}
+use Rattle.theory_crash.specs.Accepted.{Ok}
+use Rattle.theory_crash.proofs.Opening.{opens-ok}
 use Rattle.session.specs.State.{bufferPart, batchRoom, sourceIn, sourceLines, keptWords, cleanActions}
 use Rattle.session.specs.Fits.{NoneBelow, RestFits, CleanFits}
 use Rattle.session.proofs.Part.{length-part}
-use Rattle.acts.specs.Nth.{nth}
+use Rattle.actions.specs.Nth.{nth}
 use Rattle.leaving.proofs.Fence.{lines-few}
 use Rattle.gathering.specs.declared.Tally.{Tally}
 use Rattle.gathering.specs.Gathering.{Gathered}

@@ -17,15 +17,15 @@ use Rattle.spec.specs.Directory.{isLog, roleAt, linesOf}
 use Rattle.spec.specs.Log.{Entry}
 use Rattle.spec.specs.Contents.{liveBlocks}
 use Rattle.spec.specs.Plans.{hasSpace, freeChunk, logPlace, hasLive}
-use Rattle.theory_medium.proofs.Lists.{isIn-mem, mem-isIn, not-both}
-use Rattle.bits.specs.Bits.{hasBit}
-use Rattle.placing.specs.declared.Found.{Found}
-use Rattle.placing.specs.declared.Found.the-variants as F
-use Rattle.placing.specs.declared.Place.{Place}
-use Rattle.placing.specs.Found.{foundOf, placeOf, Stops}
-use Rattle.placing.proofs.Search.{taken-before, taken-end, first-here}
-use Rattle.placing.proofs.Space.{log-lines}
-use Rattle.placing.proofs.Answer.{found-at, found-nothing}
+use Rattle.theory_base.proofs.Lists.{isIn-mem, mem-isIn, not-both}
+use Rattle.blocks.specs.Bits.{hasBit}
+use Rattle.space.specs.declared.Found.{Found}
+use Rattle.space.specs.declared.Found.the-variants as F
+use Rattle.space.specs.declared.Place.{Place}
+use Rattle.space.specs.Found.{foundOf, placeOf, Stops}
+use Rattle.space.proofs.Search.{taken-before, taken-end, first-here}
+use Rattle.space.proofs.Space.{log-lines}
+use Rattle.space.proofs.Answer.{found-at, found-nothing}
 use Rattle.planning.specs.Plans.{anyBit}
 
 -- SPACE, in a chunk other than x

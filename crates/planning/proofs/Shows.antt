@@ -24,14 +24,14 @@ use Rattle.session.specs.declared.Control.{Control}
 use Rattle.session.specs.declared.Setup.{Setup}
 use Rattle.spec.specs.declared.Refusal.{Refusal}
 use Rattle.spec.specs.declared.Refusal.the-variants as N
-use Rattle.theory_cuts.specs.Accepted.{Ok}
-use Rattle.theory_cuts.proofs.Opening.{opens-ok}
+use Rattle.theory_crash.specs.Accepted.{Ok}
+use Rattle.theory_crash.proofs.Opening.{opens-ok}
 use Rattle.volatile.specs.Known.{Indexed}
 use Rattle.session.specs.Fits.{RestFits, Built}
-use Rattle.placing.specs.declared.Place.{Place}
-use Rattle.placing.specs.Found.{placeOf}
-use Rattle.placing.proofs.Answer.{placed-at, placed-nowhere}
-use Rattle.placing.proofs.Space.{log-lines}
+use Rattle.space.specs.declared.Place.{Place}
+use Rattle.space.specs.Found.{placeOf}
+use Rattle.space.proofs.Answer.{placed-at, placed-nowhere}
+use Rattle.space.proofs.Space.{log-lines}
 use Rattle.gathering.specs.declared.Tally.{Tally}
 use Rattle.gathering.specs.Gathering.{Measured}
 use Rattle.gathering.proofs.Chunks.{chunk-measured}

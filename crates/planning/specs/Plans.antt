@@ -19,8 +19,8 @@ use Rattle.spec.specs.Machine.{Clean, refusals}
 use Rattle.spec.specs.Contract.{MemRefusal}
 use Rattle.session.specs.declared.Control.{Control}
 use Rattle.session.specs.declared.Setup.{Setup}
-use Rattle.theory_cuts.specs.Accepted.{Ok}
-use Rattle.bits.specs.Bits.{hasBit}
+use Rattle.theory_crash.specs.Accepted.{Ok}
+use Rattle.blocks.specs.Bits.{hasBit}
 use Rattle.volatile.specs.Known.{Indexed}
 use Rattle.session.specs.State.{batchRoom}
 use Rattle.session.specs.Fits.{RestFits, Built}

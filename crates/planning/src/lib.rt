@@ -3,11 +3,11 @@ ghost use mathlib.Core.Path.{_≡_};
 ghost use Prim.Native.Nat.{_*_, _%_};
 ghost use Rattle.spec.specs.Words.{wordsOf};
 ghost use Rattle.spec.specs.Plans.{hasSpace, logPlace};
-ghost use Rattle.placing.specs.Found.{placeOf, Stops};
+ghost use Rattle.space.specs.Found.{placeOf, Stops};
 ghost use Rattle.planning.specs.Plans.{anyBit, LogPlanned, DataPlanned, CleanPlanned};
 use log::lines_of;
-use placing::Found;
-use placing::Place;
+use space::Found;
+use space::Place;
 use session::Control;
 use spec::Refusal;
 use spec::Role;
@@ -66,11 +66,11 @@ fn copy_place(image: &[u8], count: usize, lines: usize, x: usize) -> Place
 {
     let next = next_chunk(image, count, lines, x);
     if next < count {
-        return placing::place_at(image, next);
+        return space::place_at(image, next);
     }
-    let free = placing::free_chunk(image, count, 1);
+    let free = space::free_chunk(image, count, 1);
     match free {
-        Found::At(c) => placing::place_at(image, c),
+        Found::At(c) => space::place_at(image, c),
         Found::Nothing => Place {
             found: false,
             chunk: 0,
@@ -87,7 +87,7 @@ fn has_live(buffer: &[u64; 1152], chunk: usize) -> bool
     let unit = 16 * (chunk % 512);
     let mut i = 0;
     while i < 16 {
-        if bits::has_bit(buffer, unit + i) {
+        if blocks::has_bit(buffer, unit + i) {
             return true;
         }
         i += 1;
@@ -100,7 +100,7 @@ fn has_live(buffer: &[u64; 1152], chunk: usize) -> bool
 fn plan_log(image: &[u8], table: &[u64], count: usize, chunk: usize, first: usize) -> CleanPlan
     ensures { λ r. ⌜ LogPlanned (wordsOf (now (image .entry))) (now (table .entry)) count chunk first r ⌝ }
 {
-    let old = placing::directory_word(image, chunk);
+    let old = space::directory_word(image, chunk);
     let lines = lines_of(image, chunk);
     let at = 512 * (chunk % 512);
     let end = at + 8 * lines;
@@ -126,7 +126,7 @@ fn plan_log(image: &[u8], table: &[u64], count: usize, chunk: usize, first: usiz
     let place = copy_place(image, count, (words + 7) / 8, chunk);
     if place.found {
         let actions = cleaning::clean_count(words);
-        let low = acts::at_most(first, place.chunk);
+        let low = actions::at_most(first, place.chunk);
         return CleanPlan::At {
             chunk: place.chunk,
             old: place.old,
@@ -146,7 +146,7 @@ fn plan_data(buffer: &[u64; 1152], image: &[u8], chunk: usize, first: usize) -> 
     if has_live(buffer, chunk) {
         return CleanPlan::Refused(Refusal::NotCleanable);
     }
-    let old = placing::directory_word(image, chunk);
+    let old = space::directory_word(image, chunk);
     let lines = lines_of(image, chunk);
     let source = Source {
         chunk,
@@ -184,7 +184,7 @@ pub fn plan_clean(
         if count <= chunk {
             return CleanPlan::Refused(Refusal::NotCleanable);
         }
-        if placing::is_free(image, chunk) {
+        if space::is_free(image, chunk) {
             return CleanPlan::Refused(Refusal::NotCleanable);
         }
         if lines_of(image, chunk) == 0 {

@@ -136,7 +136,7 @@ fn opening(
     image: &[u8],
     table: &mut [u64],
 ) -> Answer {
-    let o = recovery::open_core(c, s, buffer, image, table);
+    let o = opening::open_core(c, s, buffer, image, table);
     let control = o.control;
     let setup = o.setup;
     let report = o.report;
@@ -147,7 +147,7 @@ fn opening(
     }
 }
 
-fn begun(m: calls::Moved) -> Answer {
+fn begun(m: session::Outcome) -> Answer {
     let control = m.control;
     let setup = m.setup;
     let report = m.report;
@@ -158,7 +158,7 @@ fn begun(m: calls::Moved) -> Answer {
     }
 }
 
-fn committed(m: stepping::Moved) -> Answer {
+fn committed(m: session::Outcome) -> Answer {
     let control = m.control;
     let setup = m.setup;
     let report = m.report;
@@ -170,7 +170,7 @@ fn committed(m: stepping::Moved) -> Answer {
 }
 
 // A staged delete and a step leave the setup as it was.
-fn staged(setup: Setup, m: calls::Staged) -> Answer {
+fn staged(setup: Setup, m: session::Stepped) -> Answer {
     let control = m.control;
     let report = m.report;
     Answer {
@@ -180,7 +180,7 @@ fn staged(setup: Setup, m: calls::Staged) -> Answer {
     }
 }
 
-fn stepped(setup: Setup, m: stepping::Stepped) -> Answer {
+fn stepped(setup: Setup, m: session::Stepped) -> Answer {
     let control = m.control;
     let report = m.report;
     Answer {
@@ -209,9 +209,9 @@ fn put_part(
 ) -> Answer {
     if n <= value.len() {
         let part = &value[0..n];
-        return begun(calls::put_core(c, s, buffer, image, table, key, part));
+        return begun(staging::put_core(c, s, buffer, image, table, key, part));
     }
-    begun(calls::put_core(c, s, buffer, image, table, key, value))
+    begun(staging::put_core(c, s, buffer, image, table, key, value))
 }
 
 // A put of so many bytes, counted up from one; at most 4,096.
@@ -249,7 +249,7 @@ fn delete(
     l: Line,
 ) -> Answer {
     let key = l.first;
-    staged(s, calls::delete_core(c, s, buffer, image, table, key.value))
+    staged(s, staging::delete_core(c, s, buffer, image, table, key.value))
 }
 
 fn format(
@@ -262,7 +262,7 @@ fn format(
 ) -> Answer {
     let station = l.first;
     let centre = l.second;
-    begun(calls::format_core(c, s, buffer, image, table, given(station), given(centre)))
+    begun(formatting::format_core(c, s, buffer, image, table, given(station), given(centre)))
 }
 
 // Choosing leaves the record as it was.
@@ -275,7 +275,7 @@ fn choose(c: Control, s: Setup, image: &[u8], table: &[u64]) -> Answer {
     }
 }
 
-fn cleaned(m: cleaning_begin::Outset) -> Answer {
+fn cleaned(m: session::Outcome) -> Answer {
     let control = m.control;
     let setup = m.setup;
     let report = m.report;
@@ -362,8 +362,8 @@ fn asked(
         Command::Format => format(c, s, buffer, image, table, l),
         Command::Put => put(c, s, buffer, image, table, l),
         Command::Delete => delete(c, s, buffer, image, table, l),
-        Command::Commit => committed(stepping::commit_core(c, s, buffer, image, table)),
-        Command::Abandon => begun(calls::abandon_core(c, s, buffer, image, table)),
+        Command::Commit => committed(committing::commit_core(c, s, buffer, image, table)),
+        Command::Abandon => begun(staging::abandon_core(c, s, buffer, image, table)),
         Command::Choose => choose(c, s, image, table),
         Command::Clean => clean(c, s, buffer, image, table, l),
         Command::Run => run(c, s, buffer, image, table),
@@ -631,19 +631,19 @@ fn start_of(report: Report) -> u64 {
 // Where the value's part starts, its length and its sum.
 fn look(c: Control, s: Setup, image: &[u8], table: &[u64], key: u64) {
     let mut answer: u64 = 0;
-    let value = recovery::look_up_core(c, s, image, table, key, &mut answer);
+    let value = lookup::look_up_core(c, s, image, table, key, &mut answer);
     if answer != 0 {
         show::one(b"refused", answer);
         return;
     }
-    let start = start_of(recovery::find(c, s, image, table, key));
+    let start = start_of(lookup::find(c, s, image, table, key));
     show::three(b"value", start, value.len() as u64, sums::value_sum(value));
 }
 
 // The value's length, its sum and its first bytes.
 fn show_value(c: Control, s: Setup, image: &[u8], table: &[u64], key: u64) {
     let mut answer: u64 = 0;
-    let value = recovery::look_up_core(c, s, image, table, key, &mut answer);
+    let value = lookup::look_up_core(c, s, image, table, key, &mut answer);
     if answer == 11 {
         show::one(b"absent", key);
         return;

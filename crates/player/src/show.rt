@@ -83,7 +83,7 @@ fn end(count: u64, cleaning: bool) {
 
 pub fn report(report: Report, cleaning: bool) {
     match report {
-        Report::Refused(n) => one(b"refused", recovery::number(n)),
+        Report::Refused(n) => one(b"refused", session::number(n)),
         Report::Begun(actions) => one(b"begun", actions as u64),
         Report::Store { word, value } => two(b"store", word as u64, value),
         Report::Flush(line) => one(b"flush", line as u64),

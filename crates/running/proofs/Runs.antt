@@ -17,10 +17,10 @@ use Rattle.session.specs.declared.Setup.{Setup}
 use Rattle.session.specs.declared.Session.{Session}
 use Rattle.spec.specs.declared.Report.{Report}
 use Rattle.spec.specs.declared.Report.the-variants as R
-use Rattle.theory_medium.proofs.Lists.{not-both}
+use Rattle.theory_base.proofs.Lists.{not-both}
 use Rattle.session.specs.State.{cleanActions, stateOf}
-use Rattle.acts.specs.Nth.{nthReport}
-use Rattle.acts.proofs.Performed.{changed-length}
+use Rattle.actions.specs.Nth.{nthReport}
+use Rattle.actions.proofs.Performed.{changed-length}
 use Rattle.cleaning.specs.Record.{cleanCount}
 use Rattle.cleaning.proofs.Acting.{clean-flush}
 use Rattle.cleaning.proofs.Keeping.{acted}

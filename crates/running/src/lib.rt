@@ -7,7 +7,7 @@ use session::Control;
 use spec::Report;
 use session::Setup;
 use stepping::Advanced;
-use stepping::Stepped;
+use session::Stepped;
 
 fn is_store(report: Report) -> bool
     ensures { λ r. ⌜ r ≡ isStore report ⌝ }
@@ -56,7 +56,7 @@ fn run_cleaning(control: Control, setup: Setup, buffer: &[u64; 1152], image: &mu
     let mut at = control.next;
     while at < last {
         let action = cleaning::clean_action(setup, source, buffer, at);
-        acts::perform(image, action);
+        actions::perform(image, action);
         at += 1;
         if is_store(action) {} else {
             return Advanced {

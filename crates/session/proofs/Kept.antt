@@ -11,7 +11,7 @@ use Rattle.spec.specs.Actions.{appendOf}
 use Rattle.session.specs.declared.Control.{Control}
 use Rattle.session.specs.declared.Setup.{Setup}
 use Rattle.session.specs.declared.Session.{Session}
-use Rattle.bits.specs.Bits.{WordsKept}
+use Rattle.blocks.specs.Bits.{WordsKept}
 use Rattle.session.specs.State.{batchRoom, batchWords, batchItems, chunkIn, linesIn, commitActions}
 use Rattle.session.specs.Fits.{ItemsFit, BatchFits, Built, RestFits, batchPlace, CommitFits}
 use Rattle.session.proofs.Part.{part-agree}

@@ -1,3 +1,4 @@
+pub mod Gates
 pub mod Part
 pub mod Kept
 pub mod Phases

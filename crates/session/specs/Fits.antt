@@ -24,7 +24,7 @@ use Rattle.session.specs.declared.Source.{Source}
 use Rattle.session.specs.declared.Session.{Session}
 use Rattle.theory_log.specs.Batch.{AllRight}
 use Rattle.theory_log.specs.Contents.{CountsOn, Mem, Top}
-use Rattle.bits.specs.Bits.{hasBit}
+use Rattle.blocks.specs.Bits.{hasBit}
 use Rattle.volatile.specs.Known.{Indexed}
 use Rattle.session.specs.State.{batchRoom, batchWords, stateOf}
 use Rattle.session.specs.Cleaned.{before, copiesOf, after, Cleaned, Stand}

@@ -1,3 +1,4 @@
+pub mod Asks
 pub mod Cleaned
 pub mod State
 pub mod Fits

@@ -2,6 +2,10 @@
 // image, and the promise that every call makes of them.
 ghost use mathlib.Core.Path.{_≡_};
 ghost use Rattle.session.specs.State.{noSource};
+ghost use Rattle.spec.specs.Reports.{number};
+ghost use Rattle.session.specs.Asks.{closedOr, Asking};
+use spec::Refusal;
+use spec::Report;
 
 // The numbers that change from call to call: what is begun (0 nothing open, 1 open and at rest, 2 a staging, 3 a commit,
 // 4 a formatting begun with nothing open, 5 one begun on an open register, 6 a cleaning), the number of its next action, the
@@ -67,5 +71,83 @@ pub fn no_source() -> Source
         lines: 0,
         words: 0,
         entries: 0,
+    }
+}
+
+// The record's small parts after a call, and its report.
+pub struct Outcome {
+    pub control: Control,
+    pub setup: Setup,
+    pub report: Report,
+}
+
+// The record's control after a staging, and its report: the rest of its small parts stays.
+pub struct Stepped {
+    pub control: Control,
+    pub report: Report,
+}
+
+// LOOK-UP
+// What a call on an open register finds at first: a refusal, or none.
+pub enum Gated {
+    Open,
+    Refused(Refusal),
+}
+
+// 2 for a phase with nothing open, and else another refusal. 1, 2, 3, 5 and 6 are at rest, a staging, a commit, a formatting begun
+// on an open register, and a cleaning.
+fn closed_or(phase: u64, refusal: Refusal) -> Refusal
+    ensures { λ r. ⌜ r ≡ closedOr phase refusal ⌝ }
+{
+    if 6 < phase {
+        return Refusal::NotOpen;
+    }
+    if phase == 0 {
+        return Refusal::NotOpen;
+    }
+    if phase == 4 {
+        return Refusal::NotOpen;
+    }
+    refusal
+}
+
+// 2, 1, 8: nothing open, lengths unlike those at the opening, a call unfinished. An open register at rest is found by three comparisons.
+pub fn gate(control: Control, setup: Setup, bytes: usize, words: usize) -> Gated
+    ensures { λ r. ⌜ Asking control setup bytes words r ⌝ }
+{
+    let phase = control.phase;
+    if setup.image == bytes {
+        if setup.table == words {
+            if phase == 1 {
+                return Gated::Open;
+            }
+            return Gated::Refused(closed_or(phase, Refusal::Unfinished));
+        }
+        return Gated::Refused(closed_or(phase, Refusal::ImageLength));
+    }
+    Gated::Refused(closed_or(phase, Refusal::ImageLength))
+}
+
+// A refusal's number in the rules' table.
+pub fn number(refusal: Refusal) -> u64
+    ensures { λ r. ⌜ r ≡ number refusal ⌝ }
+{
+    match refusal {
+        Refusal::ImageLength => 1,
+        Refusal::NotOpen => 2,
+        Refusal::DirectoryWrong => 3,
+        Refusal::EntryWrong => 4,
+        Refusal::BlockWrong => 5,
+        Refusal::TopsDisagree => 6,
+        Refusal::TableFull => 7,
+        Refusal::Unfinished => 8,
+        Refusal::TooLong => 9,
+        Refusal::BatchFull => 10,
+        Refusal::KeyAbsent => 11,
+        Refusal::VersionSpent => 12,
+        Refusal::NoSpace => 13,
+        Refusal::NothingStaged => 14,
+        Refusal::BatchStaged => 15,
+        Refusal::NotCleanable => 16,
     }
 }

@@ -16,7 +16,7 @@ use Rattle.spec.specs.Places.{chunkUnits, firstUnit, unitChunk}
 use Rattle.spec.specs.Directory.{sizeOf}
 use Rattle.spec.specs.Log.{Entry}
 use Rattle.spec.specs.Plans.{blocksOf, blocksFrom}
-use Rattle.theory_medium.proofs.Lists.{pick-same}
+use Rattle.theory_base.proofs.Lists.{pick-same}
 use Rattle.slots.specs.Blocks.{Says, spare, Spare, firstSpare, InImage}
 
 -- how many blocks of s units chunk c has

@@ -17,7 +17,7 @@ use Rattle.theory_log.specs.Batch.{AllRight}
 use Rattle.theory_log.proofs.Batch.{first-right}
 use Rattle.session.specs.State.{batchRoom, bufferPart}
 use Rattle.session.proofs.Part.{length-part}
-use Rattle.bits.specs.Bits.{hasBit}
+use Rattle.blocks.specs.Bits.{hasBit}
 use Rattle.batch.specs.declared.Item.{Item}
 use Rattle.batch.specs.Items.{StagedIn, itemBy}
 use Rattle.batch.proofs.Pass.{Reached, reached-start, reached-end, reached-next}

@@ -19,7 +19,7 @@ use Rattle.spec.specs.Plans as K
 use Rattle.spec.specs.declared.FirstWord.{FirstWord}
 use Rattle.spec.specs.declared.FirstWord.the-variants as F
 use Rattle.codec.specs.declared.Unit.{Unit as UnitNumber}
-use Rattle.bits.specs.Bits.{hasBit}
+use Rattle.blocks.specs.Bits.{hasBit}
 use Rattle.batch.specs.Items.{StagedIn}
 use Rattle.slots.specs.declared.Met.{Met}
 use Rattle.slots.specs.declared.Block.{Block}

@@ -8,13 +8,13 @@ ghost use Rattle.spec.specs.Words.{wordsOf};
 ghost use Rattle.spec.specs.Directory.{sizeOf};
 ghost use Rattle.spec.specs.Log.{firstOf};
 ghost use Rattle.slots.specs.Blocks.{metBy, StagedBlock, Spare, BlockFound, SlotFound};
-use bits::has_bit;
+use blocks::has_bit;
 use codec::Unit;
 use codec::first_of;
 use log::size_of;
 use log::words_for;
-use placing::Found;
-use placing::free_chunk;
+use space::Found;
+use space::free_chunk;
 use spec::FirstWord;
 
 // A block that was looked for, by its first unit.

@@ -20,7 +20,7 @@ use Rattle.spec.specs.Machine.{State, Closed, Rest, Busy, Formatting}
 use Rattle.session.specs.declared.Control.{Control}
 use Rattle.session.specs.declared.Setup.{Setup}
 use Rattle.session.specs.declared.Session.{Session}
-use Rattle.theory_cuts.proofs.Opening.{opens-ok}
+use Rattle.theory_crash.proofs.Opening.{opens-ok}
 use Rattle.session.specs.State.{stateAt}
 use Rattle.session.specs.Fits.{RestFits, CommitFits, CleanFits, FitsAt, Fits}
 use Rattle.stat.specs.Counts.{isCounted, keysIn, keyCount, Before, KnownAt, KnownBy}

@@ -9,7 +9,7 @@ use lib.ListN.{length}
 use Rattle.spec.specs.Basics.{pick, upFrom, filter}
 use Rattle.spec.specs.Places.{chunkBytes, chunksIn}
 use Rattle.spec.specs.Directory.{roleAt, isFree, linesOf, freeChunks}
-use Rattle.placing.proofs.Search.{upFrom-split}
+use Rattle.space.proofs.Search.{upFrom-split}
 use Rattle.stat.specs.Counts.{sumOver, linesUsed}
 
 chunks-are : (bytes : ℕ) → chunksIn 12 bytes ≡ bytes / 4096

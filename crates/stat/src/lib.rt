@@ -49,7 +49,7 @@ pub fn keys(s: &Session) -> u64
 fn free_at(image: &[u8], c: usize) -> u64
     ensures { λ r. ⌜ (r ≡ pick (isFree (roleAt 12 (wordsOf (now (image .entry))) c)) 1 0) × (r ≤ 1) ⌝ }
 {
-    if placing::is_free(image, c) { 1 } else { 0 }
+    if space::is_free(image, c) { 1 } else { 0 }
 }
 
 // How many chunks the directory says are free: those that a commit counts.

@@ -17,11 +17,11 @@ use Rattle.spec.specs.declared.Report.{Report}
 use Rattle.session.specs.State.{batchWords, batchItems, cleanActions, stateAt}
 use Rattle.session.specs.Fits.{CleanFits, RestFits, Fits}
 use Rattle.session.proofs.Kept.{emptied}
-use Rattle.acts.specs.Nth.{nth}
+use Rattle.actions.specs.Nth.{nth}
 use Rattle.cleaning.specs.Record.{cleanCount}
 use Rattle.cleaning.proofs.Acting.{clean-next, clean-done}
 use Rattle.cleaning_step.specs.Moves.{Acts, Over, CleanStepped}
-use Rattle.stepping.proofs.States.{busy, at-6, step-acts, step-ends}
+use Rattle.actions.proofs.States.{busy, at-6, step-acts, step-ends}
 use Rattle.session.specs.Promise.{Does}
 
 module _ (c : Control) (k : Setup) (b bytes table : List ℕ) (e : c .phase ≡ 6) (same-bytes : k .image ≡ length bytes) (same-words : k .table ≡ length table) where

@@ -19,9 +19,9 @@ use Rattle.spec.specs.declared.Report.{Report}
 use Rattle.spec.specs.declared.Report.the-variants as R
 use Rattle.words.specs.Image.{Saved}
 use Rattle.session.specs.State.{bufferPart, batchRoom, batchWords, chunkIn, linesIn, commitActions}
-use Rattle.acts.specs.Nth.{nthReport, commitCount}
-use Rattle.acts.proofs.Committing.{commit-flush, commit-fence, commit-seal, commit-seal-flush}
-use Rattle.acts.proofs.Performed.{changed-length}
+use Rattle.actions.specs.Nth.{nthReport, commitCount}
+use Rattle.actions.proofs.Committing.{commit-flush, commit-fence, commit-seal, commit-seal-flush}
+use Rattle.actions.proofs.Performed.{changed-length}
 use Rattle.stepping.specs.Inner.{Inner, toNext, Runs, isStore, RunsOn, StoresTo}
 use Rattle.stepping.proofs.Keeping.{acted}
 use Rattle.stepping.proofs.Shows.{commit-acts, commit-stores}

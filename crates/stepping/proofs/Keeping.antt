@@ -15,13 +15,13 @@ use Rattle.spec.specs.Reports.{asReport, wordsAfter}
 use Rattle.session.specs.declared.Control.{Control}
 use Rattle.session.specs.declared.Setup.{Setup}
 use Rattle.session.specs.declared.Session.{Session}
-use Rattle.theory_medium.proofs.Lists.{number-l, number-r, number-cases, distinct-equal}
-use Rattle.theory_cuts.specs.Accepted.{Ok}
-use Rattle.theory_cuts.proofs.Opening.{keys-fit, opens-ok}
+use Rattle.theory_base.proofs.Lists.{number-l, number-r, number-cases, distinct-equal}
+use Rattle.theory_crash.specs.Accepted.{Ok}
+use Rattle.theory_crash.proofs.Opening.{keys-fit, opens-ok}
 use Rattle.session.specs.State.{batchWords}
 use Rattle.session.specs.Fits.{keyList, batchPlace, CommitFits}
 use Rattle.session.proofs.Kept.{words-kept, batch-kept, built-kept}
-use Rattle.joining.specs.Joining.{Fenced, Joining}
+use Rattle.apply.specs.Joining.{Fenced, Joining}
 use Rattle.ahead.proofs.Staged.{lo, hi, action-length}
 
 -- THE KNOWN KEYS, with a batch placed among the entries.

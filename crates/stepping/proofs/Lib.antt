@@ -1,6 +1,4 @@
-mod States
 mod Keeping
 mod Shows
 pub mod Cleaning
-mod Begins
 pub mod Inner

@@ -27,14 +27,14 @@ use Rattle.words.specs.Image.{Saved}
 use Rattle.session.specs.State.{bufferPart, batchRoom, batchWords, batchItems, chunkIn, linesIn, commitActions, formatActions, blockActions, stateAt}
 use Rattle.session.specs.Fits.{Fits}
 use Rattle.session.proofs.Kept.{words-kept, same-items, same-acts, emptied, staged, end-kept, staging-kept}
-use Rattle.acts.specs.Nth.{nth, nthReport, commitCount, formatCount}
-use Rattle.acts.proofs.Nth.{drop-nth, drop-past}
-use Rattle.acts.proofs.Committing.{commit-next, commit-done, shows-store}
-use Rattle.acts.proofs.Formatting.{format-next, format-done}
-use Rattle.acts.proofs.Performed.{changed-store, changed-words}
+use Rattle.actions.specs.Nth.{nth, nthReport, commitCount, formatCount}
+use Rattle.actions.proofs.Nth.{drop-nth, drop-past}
+use Rattle.actions.proofs.Committing.{commit-next, commit-done, shows-store}
+use Rattle.actions.proofs.Formatting.{format-next, format-done}
+use Rattle.actions.proofs.Performed.{changed-store, changed-words}
 use Rattle.ahead.proofs.Steps.{rest-same}
-use Rattle.joining.specs.Joining.{Joining}
-use Rattle.stepping.proofs.States.{busy, formatting, at-2, at-3, at-4, at-5, nothing-begun, in-call, table-kept, step-idle, step-refused, step-acts, step-ends}
+use Rattle.apply.specs.Joining.{Joining}
+use Rattle.actions.proofs.States.{busy, formatting, at-2, at-3, at-4, at-5, nothing-begun, in-call, table-kept, step-idle, step-refused, step-acts, step-ends}
 use Rattle.stepping.proofs.Keeping.{acted, action-kept, last-kept}
 use Rattle.session.specs.Promise.{Does}
 

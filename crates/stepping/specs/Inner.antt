@@ -13,7 +13,7 @@ use Rattle.session.specs.declared.Session.{Session}
 use Rattle.spec.specs.declared.Report.{Report}
 use Rattle.spec.specs.declared.Report.the-variants as R
 use Rattle.session.specs.State.{batchRoom}
-use Rattle.acts.specs.Nth.{commitCount}
+use Rattle.actions.specs.Nth.{commitCount}
 use Rattle.session.specs.Promise.{Does}
 
 -- The next action is one of a commit's but not its last, and the lent lengths are those at its begin.

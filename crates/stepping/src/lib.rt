@@ -1,177 +1,18 @@
-// The begin of a commit; and the step: the next action of the call that is begun, or its end. A core takes the record's small parts
-// by value and its buffer lent, and answers the next ones with the report.
+// The step: the next action of the call that is begun, or its end.
 ghost use mathlib.Core.Path.{_≡_};
 ghost use mathlib.Core.Bool.{true, false};
-ghost use Prim.Native.Nat.{_≤_, min};
+ghost use Prim.Native.Nat.{_≤_};
 ghost use lib.Dec.{leb};
 ghost use lib.ListN.{length};
-ghost use Rattle.spec.specs.Basics.{pick};
-ghost use Rattle.spec.specs.Actions.{linesFor};
-ghost use Rattle.spec.specs.Machine.{Commit, Step};
-ghost use Rattle.session.specs.State.{batchRoom, blockActions};
-ghost use Rattle.stepping.specs.Planned.{PlaceFor, CommitPlanned};
+ghost use Rattle.spec.specs.Machine.{Step};
+ghost use Rattle.session.specs.State.{blockActions};
 ghost use Rattle.stepping.specs.Inner.{Inner, RunsOn, ShortWay, Stores};
 ghost use Rattle.session.specs.Promise.{Does};
-use placing::Placed;
-use recovery::Gated;
 use session::Control;
+use session::Setup;
+use session::Stepped;
 use spec::Refusal;
 use spec::Report;
-use session::Setup;
-
-// The record's small parts after a call, and its report.
-pub struct Moved {
-    pub control: Control,
-    pub setup: Setup,
-    pub report: Report,
-}
-
-// COMMIT
-// What a commit finds: a refusal, or where it writes (chunk, its directory word, its committed lines), where the next one looks for space,
-// and how many actions it has.
-pub enum CommitPlan {
-    Refused(Refusal),
-    At {
-        chunk: usize,
-        old: u64,
-        lines: usize,
-        first: usize,
-        least: usize,
-        actions: usize,
-    },
-}
-
-// How many lines the staged words take.
-fn batch_lines(words: usize) -> usize
-    ensures { λ r. ⌜ r ≡ linesFor (min words batchRoom) ⌝ }
-{
-    if words < 512 {
-        return (words + 7) / 8;
-    }
-    64
-}
-
-// How many free chunks a commit asks for.
-fn free_needed(deletes: bool) -> usize
-    ensures { λ r. ⌜ r ≡ pick deletes 2 3 ⌝ }
-{
-    if deletes { 2 } else { 3 }
-}
-
-// The place for the staged items, looked for from the hint on.
-fn commit_place(
-    buffer: &[u64; 1152],
-    words: usize,
-    first: usize,
-    least: usize,
-    image: &[u8],
-) -> Placed
-    ensures { λ r. ⌜ PlaceFor (now (buffer .entry)) words (now (image .entry)) first least r ⌝ }
-{
-    let count = image.len() / 4096;
-    let lines = batch_lines(words);
-    let deletes = batch::only_deletes(buffer, words);
-    let needed = free_needed(deletes);
-    placing::log_place(image, count, lines, needed, first, least)
-}
-
-// 2, 1, 8, 14, 13, or the place. Nothing is changed.
-pub fn plan_commit(
-    control: Control,
-    setup: Setup,
-    buffer: &[u64; 1152],
-    image: &[u8],
-    table: &[u64],
-) -> CommitPlan
-    ensures { λ r. ⌜ CommitPlanned control setup (now (buffer .entry)) (now (image .entry)) (now (table .entry)) r ⌝ }
-{
-    let gated = recovery::gate(control, setup, image.len(), table.len());
-    match gated {
-        Gated::Refused(n) => CommitPlan::Refused(n),
-        Gated::Open => {
-            if control.items == 0 {
-                return CommitPlan::Refused(Refusal::NothingStaged);
-            }
-            let placed = commit_place(buffer, control.words, setup.first, setup.least, image);
-            let place = placed.place;
-            if place.found {
-                let actions = acts::commit_count(control.words);
-                return CommitPlan::At {
-                    chunk: place.chunk,
-                    old: place.old,
-                    lines: place.committed,
-                    first: placed.first,
-                    least: placed.least,
-                    actions,
-                };
-            }
-            CommitPlan::Refused(Refusal::NoSpace)
-        }
-    }
-}
-
-// The staged items are to be written where the plan says.
-pub fn commit_core(
-    control: Control,
-    setup: Setup,
-    buffer: &[u64; 1152],
-    image: &[u8],
-    table: &[u64],
-) -> Moved
-    ensures { λ r. ⌜ Does Commit (record { control = control; setup = setup; buffer = now (buffer .entry) }) (record { control = r .control; setup = r .setup; buffer = now (buffer .entry) }) (now (image .entry)) (now (image .entry)) (now (table .entry)) (now (table .entry)) (r .report) ⌝ }
-{
-    let plan = plan_commit(control, setup, buffer, image, table);
-    match plan {
-        CommitPlan::Refused(n) => Moved {
-            control,
-            setup,
-            report: Report::Refused(n),
-        },
-        CommitPlan::At {
-            chunk,
-            old,
-            lines,
-            first,
-            least,
-            actions,
-        } => {
-            let begun = Control {
-                phase: 3,
-                next: 0,
-                items: control.items,
-                words: control.words,
-                keys: control.keys,
-                fresh: control.fresh,
-            };
-            let source = setup.source;
-            let bound = Setup {
-                image: setup.image,
-                table: setup.table,
-                chunk,
-                old,
-                lines,
-                first,
-                least,
-                fields: setup.fields,
-                station: setup.station,
-                centre: setup.centre,
-                source,
-            };
-            Moved {
-                control: begun,
-                setup: bound,
-                report: Report::Begun(actions),
-            }
-        }
-    }
-}
-
-// STEP
-// The record's changed part after a step, and its report: a step leaves the setup as it was.
-pub struct Stepped {
-    pub control: Control,
-    pub report: Report,
-}
 
 // A commit's next action; with the last, a fence, the batch joins the key table. Its end leaves nothing staged.
 fn commit_step(
@@ -185,7 +26,7 @@ fn commit_step(
     ensures { λ r. ⌜ Does Step (record { control = control; setup = setup; buffer = now (buffer .entry) }) (record { control = r .control; setup = setup; buffer = now (buffer .exit) }) (now (image .entry)) (now (image .exit)) (now (table .entry)) (now (table .exit)) (r .report) ⌝ }
 {
     let at = control.next;
-    let count = acts::commit_count(control.words);
+    let count = actions::commit_count(control.words);
     if count <= at {
         let items = 0;
         let ended = Control {
@@ -201,8 +42,8 @@ fn commit_step(
             report: Report::End(0),
         };
     }
-    let act = acts::commit_action(control, setup, buffer, at);
-    acts::perform(image, act);
+    let act = actions::commit_action(control, setup, buffer, at);
+    actions::perform(image, act);
     let next = at + 1;
     if next < count {
         let moved = Control {
@@ -218,7 +59,7 @@ fn commit_step(
             report: act,
         };
     }
-    let keys = joining::join(control, setup, buffer, image, table);
+    let keys = apply::join(control, setup, buffer, image, table);
     let moved = Control {
         phase: 3,
         next,
@@ -270,7 +111,7 @@ fn stage_step(
         };
     }
     let action = block_acts::block_action(setup, buffer, at);
-    acts::perform(image, action);
+    actions::perform(image, action);
     let next = at + 1;
     let moved = Control {
         phase: 2,
@@ -298,7 +139,7 @@ fn format_step(
     ensures { λ r. ⌜ Does Step (record { control = control; setup = setup; buffer = now (buffer .entry) }) (record { control = r .control; setup = setup; buffer = now (buffer .entry) }) (now (image .entry)) (now (image .exit)) (now (table .entry)) (now (table .entry)) (r .report) ⌝ }
 {
     let at = control.next;
-    if acts::format_count() <= at {
+    if actions::format_count() <= at {
         let closed = Control {
             phase: 0,
             next: 0,
@@ -312,8 +153,8 @@ fn format_step(
             report: Report::End(0),
         };
     }
-    let action = acts::format_action(setup, at);
-    acts::perform(image, action);
+    let action = actions::format_action(setup, at);
+    actions::perform(image, action);
     let next = at + 1;
     let moved = Control {
         phase: control.phase,
@@ -411,7 +252,7 @@ pub fn is_inner(control: Control, setup: Setup, bytes: usize, words: usize) -> b
     if control.phase == 3 {
         if setup.image == bytes {
             if setup.table == words {
-                if control.next < acts::commit_count(control.words) - 1 {
+                if control.next < actions::commit_count(control.words) - 1 {
                     return true;
                 }
             }
@@ -432,8 +273,8 @@ pub fn inner_step(
 {
     let at = control.next;
     if is_inner(control, setup, image.len(), table.len()) {
-        let action = acts::commit_action(control, setup, buffer, at);
-        acts::perform(image, action);
+        let action = actions::commit_action(control, setup, buffer, at);
+        actions::perform(image, action);
         let next = at + 1;
         return Advanced {
             next,
@@ -450,11 +291,11 @@ pub fn inner_step(
 fn store_batch(control: Control, setup: Setup, buffer: &[u64; 1152], image: &mut [u8]) -> usize
     ensures { λ r. ⌜ Stores control setup (now (buffer .entry)) (now (image .entry)) (now (image .exit)) r ⌝ }
 {
-    let stores = acts::commit_stores(control.words);
-    let start = acts::batch_start(setup);
+    let stores = actions::commit_stores(control.words);
+    let start = actions::batch_start(setup);
     let mut at = control.next;
     while at < stores {
-        let value = acts::batch_word(buffer, control.words, at);
+        let value = actions::batch_word(buffer, control.words, at);
         words::save(image, start + at, value);
         at += 1;
     }
@@ -472,22 +313,22 @@ pub fn inner_run(
     ensures { λ r. ⌜ ShortWay RunsOn control setup (now (buffer .entry)) (now (image .entry)) (now (image .exit)) (now (table .entry)) (now (table .exit)) (r .next) (r .report) ⌝ }
 {
     if is_inner(control, setup, image.len(), table.len()) {
-        let actions = acts::commit_count(control.words);
+        let actions = actions::commit_count(control.words);
         let at = store_batch(control, setup, buffer, image);
         if at == actions - 3 {
-            let seal = acts::commit_action(control, setup, buffer, at);
-            acts::perform(image, seal);
+            let seal = actions::commit_action(control, setup, buffer, at);
+            actions::perform(image, seal);
             let behind = at + 1;
-            let flush = acts::commit_action(control, setup, buffer, behind);
-            acts::perform(image, flush);
+            let flush = actions::commit_action(control, setup, buffer, behind);
+            actions::perform(image, flush);
             let next = behind + 1;
             return Advanced {
                 next,
                 report: flush,
             };
         }
-        let action = acts::commit_action(control, setup, buffer, at);
-        acts::perform(image, action);
+        let action = actions::commit_action(control, setup, buffer, at);
+        actions::perform(image, action);
         let next = at + 1;
         return Advanced {
             next,

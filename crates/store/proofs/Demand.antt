@@ -4,8 +4,8 @@
 use Rattle.spec.specs.History.{Demand3}
 use Rattle.session.specs.State.{limit, stateOf}
 use Rattle.session.specs.Fits.{Fits}
-use Rattle.histories.proofs.Every.{at-the-archive}
+use Rattle.theory_histories.proofs.Every.{at-the-archive}
 use Rattle.session.specs.Fits.{Proper}
 
 pub faithful : Demand3 Proper stateOf Fits 12 limit
-faithful = at-the-archive stateOf Fits
+faithful = at-the-archive Proper stateOf Fits

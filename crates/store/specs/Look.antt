@@ -9,8 +9,8 @@ use Rattle.spec.specs.Contract.{partBytes}
 use Rattle.session.specs.declared.Session.{Session}
 use Rattle.spec.specs.declared.Report.{Report}
 use Rattle.spec.specs.declared.Report.the-variants as R
-use Rattle.recovery.specs.declared.Located.{Located}
-use Rattle.recovery.specs.Look.{reportOf, InImage, numberOf}
+use Rattle.lookup.specs.declared.Located.{Located}
+use Rattle.lookup.specs.Look.{reportOf, InImage, numberOf}
 use Rattle.session.specs.Promise.{Does}
 
 -- the call's report, for any memory a refusal or a part of the image

@@ -5,7 +5,7 @@
 ghost use mathlib.Core.Path.{_≡_};
 ghost use Rattle.spec.specs.Machine.{Open, Put, Delete, Commit, Abandon, Clean, Step, Format};
 ghost use Rattle.spec.specs.Contract.{Called};
-ghost use Rattle.calls.specs.Begun.{given};
+ghost use Rattle.formatting.specs.Begun.{given};
 ghost use Rattle.stepping.specs.Inner.{RunsOn, OnShortWay};
 ghost use Rattle.store.specs.Look.{Reported, Shown};
 ghost use Rattle.store.specs.Choice.{Chosen};
@@ -30,7 +30,7 @@ pub fn format(
 {
     let c = s.control;
     let k = s.setup;
-    let m = calls::format_told(
+    let m = formatting::format_told(
         c,
         k,
         &s.buffer,
@@ -52,7 +52,7 @@ pub fn open_register(s: &mut Session, image: &[u8], table: &mut [u64]) -> Report
 {
     let c = s.control;
     let k = s.setup;
-    let m = recovery::open_core(c, k, &mut s.buffer, image, table);
+    let m = opening::open_core(c, k, &mut s.buffer, image, table);
     s.control = m.control;
     s.setup = m.setup;
     m.report
@@ -64,7 +64,7 @@ pub fn stage_put(s: &mut Session, image: &[u8], table: &[u64], key: u64, value: 
 {
     let c = s.control;
     let k = s.setup;
-    let m = calls::put_core(c, k, &mut s.buffer, image, table, key, value);
+    let m = staging::put_core(c, k, &mut s.buffer, image, table, key, value);
     s.control = m.control;
     s.setup = m.setup;
     m.report
@@ -76,7 +76,7 @@ pub fn stage_delete(s: &mut Session, image: &[u8], table: &[u64], key: u64) -> R
 {
     let c = s.control;
     let k = s.setup;
-    let m = calls::delete_core(c, k, &mut s.buffer, image, table, key);
+    let m = staging::delete_core(c, k, &mut s.buffer, image, table, key);
     s.control = m.control;
     m.report
 }
@@ -87,7 +87,7 @@ pub fn commit(s: &mut Session, image: &[u8], table: &[u64]) -> Report
 {
     let c = s.control;
     let k = s.setup;
-    let m = stepping::commit_core(c, k, &s.buffer, image, table);
+    let m = committing::commit_core(c, k, &s.buffer, image, table);
     s.control = m.control;
     s.setup = m.setup;
     m.report
@@ -99,7 +99,7 @@ pub fn abandon(s: &mut Session, image: &[u8], table: &[u64]) -> Report
 {
     let c = s.control;
     let k = s.setup;
-    let m = calls::abandon_core(c, k, &s.buffer, image, table);
+    let m = staging::abandon_core(c, k, &s.buffer, image, table);
     s.control = m.control;
     s.setup = m.setup;
     m.report
@@ -179,7 +179,7 @@ pub fn find(s: &Session, image: &[u8], table: &[u64], key: u64) -> Report
 {
     let c = s.control;
     let k = s.setup;
-    recovery::find(c, k, image, table, key)
+    lookup::find(c, k, image, table, key)
 }
 
 // Look-up: the part of the image that holds the value, the empty part on a refusal; `answer` gets 0 or the refusal's
@@ -195,7 +195,7 @@ pub fn look_up<'a>(
 {
     let c = s.control;
     let k = s.setup;
-    recovery::look_up_core(c, k, image, table, key, answer)
+    lookup::look_up_core(c, k, image, table, key, answer)
 }
 
 // LISTING

@@ -14,7 +14,7 @@ use Rattle.spec.specs.Basics.{either, filter, isSome}
 use Rattle.spec.specs.Log.{Entry, moved, placed}
 use Rattle.spec.specs.Contents.{Held, Absent, chosen, known, contentsBy, isAt, isKept}
 use Rattle.theory_log.specs.Contents.{Mem, Agree, Apart}
-use Rattle.theory_medium.proofs.Lists.{both-l, either-no}
+use Rattle.theory_base.proofs.Lists.{both-l, either-no}
 use Rattle.theory_log.proofs.Contents.{mem-l, mem-r, mem-cases, mem-filter, filter-mem, Chosen, chosen-is, none-of, Same, contents-same}
 
 -- what is placed is a copy, and what is copied is placed

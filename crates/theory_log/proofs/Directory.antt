@@ -12,7 +12,7 @@ use Rattle.spec.specs.Basics.{pick, both}
 use Rattle.spec.specs.Places.{chunkLines, directoryWord}
 use Rattle.spec.specs.Directory.{isSize, roleBy, roleOf, linesIn, sizeIn, linesOf, sizeOf, logWord, dataWord, freedWord}
 use Rattle.spec.specs.declared.Role.the-variants as R
-use Rattle.theory_medium.proofs.Lists.{both-r}
+use Rattle.theory_base.proofs.Lists.{both-r}
 
 -- the lines and the block size of a chunk look at its directory word alone
 pub lines-is : (p : ℕ) (ws : List ℕ) (c : ℕ) → linesOf p ws c ≡ linesIn (roleOf p (getD ws (directoryWord c) 0))

@@ -12,8 +12,8 @@ use Rattle.spec.specs.Places.{base, chunkWords, wordChunk}
 use Rattle.spec.specs.Log.{Entry, Entries, chunkEntries, join, allFrom, imageEntries}
 use Rattle.spec.specs.Contents.{inChunk, elsewhere, isKept, keptIn}
 use Rattle.theory_log.specs.Contents.{Mem}
-use Rattle.theory_medium.proofs.Lists.{filter-append, filter-all, filter-none}
-use Rattle.theory_medium.proofs.Places.{base-next, word-place, chunk-of-word}
+use Rattle.theory_base.proofs.Lists.{filter-append, filter-all, filter-none}
+use Rattle.theory_base.proofs.Places.{base-next, word-place, chunk-of-word}
 use Rattle.theory_log.proofs.Contents.{mem-l, mem-r, mem-cases}
 use Rattle.theory_log.proofs.Image.{all-split, Joined, join-inv}
 use Rattle.theory_log.proofs.Places.{rising-in, chunk-sound, all-sound}

@@ -13,7 +13,7 @@ use Rattle.spec.specs.Medium.{Mem as Among}
 use Rattle.spec.specs.Log.{Entry}
 use Rattle.spec.specs.Contents.{chosen, known, keysOf}
 use Rattle.theory_log.specs.Contents.{Mem}
-use Rattle.theory_medium.proofs.Lists.{not-both, isIn-mem, mem-isIn, distinct-is, distinct-fewer, distinct-equal}
+use Rattle.theory_base.proofs.Lists.{not-both, isIn-mem, mem-isIn, distinct-is, distinct-fewer, distinct-equal}
 use Rattle.theory_log.proofs.Contents.{mem-l, mem-r, mem-cases, chosen-is, none-of, chosen-none}
 
 abbrev pub keyList : List Entry → List ℕ

@@ -23,7 +23,7 @@ use Rattle.theory_log.specs.Contents.{Mem, Apart}
 use Rattle.theory_log.proofs.Parse.{found, cons-inv}
 use Rattle.theory_log.proofs.Walk.{slice-long}
 use Rattle.theory_log.proofs.Directory.{lines-most}
-use Rattle.theory_medium.proofs.Places.{base-next, lines-words}
+use Rattle.theory_base.proofs.Places.{base-next, lines-words}
 use Rattle.theory_log.proofs.Image.{Joined, join-inv}
 
 -- Places.

@@ -13,7 +13,7 @@ use Rattle.spec.specs.Basics.{all}
 use Rattle.spec.specs.Log.{Entry, moved}
 use Rattle.spec.specs.Contents.{Held, Absent, isTop, highest, chosen, held, contentsBy, meaning}
 use Rattle.theory_log.specs.Contents.{Mem, Agree, Top}
-use Rattle.theory_medium.proofs.Lists.{both-l, both-r, both-i}
+use Rattle.theory_base.proofs.Lists.{both-l, both-r, both-i}
 use Rattle.theory_log.proofs.Contents.{versionOf, chosen-best, highest-best, below-highest, chosen-is, none-of}
 
 -- A test of each entry.

@@ -14,8 +14,8 @@ use Rattle.spec.specs.Places.{basePower, maxChunks, chunkUnits, firstUnit, unit
 use Rattle.spec.specs.Blocks.{pointed, startTests, lengthTests, blockTest, blockRight}
 use Rattle.spec.specs.Contents.{Held, Absent, Value, isTop, highest, chosen, meaning, sameHeld, agree, liveBlocks}
 use Rattle.spec.specs.Opening.{fine, blocksTest, agreeWith, agreeTest, apartTest}
-use Rattle.theory_medium.proofs.Lists.{not-both, every-true, pick-e}
-use Rattle.theory_medium.proofs.Places.{base-next, base-rises, units-words, units-base, unit-in, unit-split}
+use Rattle.theory_base.proofs.Lists.{not-both, every-true, pick-e}
+use Rattle.theory_base.proofs.Places.{base-next, base-rises, units-words, units-base, unit-in, unit-split}
 use Rattle.theory_log.specs.Contents.{Mem, Apart}
 use Rattle.theory_log.proofs.Contents.{chosen-is}
 use Rattle.theory_log.proofs.Tops.{all-in, top-highest, chosen-top}

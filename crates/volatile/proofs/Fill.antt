@@ -10,7 +10,7 @@ use borrow.Author.Tests.{le-leb, lt-leb}
 use Rattle.spec.specs.Log.{Entry}
 use Rattle.spec.specs.Contents.{keysOf, capacity}
 use Rattle.spec.specs.Opening.{fitsTable}
-use Rattle.theory_medium.proofs.Lists.{not-both}
+use Rattle.theory_base.proofs.Lists.{not-both}
 use Rattle.theory_log.proofs.Contents.{chosen-none}
 use Rattle.theory_log.proofs.Keys.{keys-fewer, known-append}
 use Rattle.index.specs.Index.{get, insert, zeros}

@@ -14,7 +14,7 @@ use borrow.Author.Tests.{eqb-true, eqb-false, eq-eqb, ne-eqb}
 use Rattle.spec.specs.Basics.{pick, either, isIn}
 use Rattle.spec.specs.Log.{Entry}
 use Rattle.spec.specs.Contents.{highest, chosen, known, keysOf, capacity}
-use Rattle.theory_medium.proofs.Lists.{not-both, distinct-is, distinct-old, distinct-new}
+use Rattle.theory_base.proofs.Lists.{not-both, distinct-is, distinct-old, distinct-new}
 use Rattle.theory_log.specs.Contents.{Mem}
 use Rattle.theory_log.proofs.Contents.{mem-l, mem-r, mem-cases}
 use Rattle.theory_log.proofs.Keys.{keyList, mem-known, keys-known, keys-equal, known-append}

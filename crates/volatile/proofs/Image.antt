@@ -11,7 +11,7 @@ use Rattle.spec.specs.declared.LogStep.the-variants as S
 use Rattle.spec.specs.Places.{basePower, chunkWords, base, maxChunks}
 use Rattle.spec.specs.Directory.{linesOf}
 use Rattle.spec.specs.Log.{Entry, Wrong, Entries, stepOf, after, parse, chunkEntries, allFrom, imageEntries}
-use Rattle.theory_medium.proofs.Places.{base-low, base-next, lines-words}
+use Rattle.theory_base.proofs.Places.{base-low, base-next, lines-words}
 use Rattle.theory_log.specs.Batch.{Kind, put, block, delete}
 use Rattle.theory_log.specs.Contents.{Apart}
 use Rattle.theory_log.proofs.Parse.{found, cons-inv}

@@ -14,7 +14,7 @@ use borrow.Author.Tests.{eqb-true, eqb-false, eq-eqb, ne-eqb, le-leb, lt-leb, lt
 use Rattle.spec.specs.Basics.{pick, larger, filter, first, negate, isSome}
 use Rattle.spec.specs.Log.{Entry}
 use Rattle.spec.specs.Contents.{highest, isTopOf, tops, chosen, known}
-use Rattle.theory_medium.proofs.Lists.{not-both, both-l, both-r, filter-append, filter-none, filter-length}
+use Rattle.theory_base.proofs.Lists.{not-both, both-l, both-r, filter-append, filter-none, filter-length}
 use Rattle.theory_log.specs.Contents.{Mem}
 use Rattle.theory_log.proofs.Contents.{versionOf, chosen-best, highest-best, highest-append, highest-insert, below-highest, larger-l, larger-r, chosen-is, none-of, mem-l, mem-r}
 use Rattle.theory_log.proofs.Tops.{in-all}

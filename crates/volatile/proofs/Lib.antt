@@ -1,3 +1,4 @@
+pub mod Shows
 pub mod Info
 pub mod Grow
 pub mod Fill

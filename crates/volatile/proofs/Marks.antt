@@ -15,7 +15,7 @@ use Rattle.spec.specs.Log.{Entry}
 use Rattle.spec.specs.Blocks.{pointed}
 use Rattle.spec.specs.Contents.{isTop, isTopOf, highest, tops, chosen, liveBlocks}
 use Rattle.spec.specs.Opening.{sharing, eachTop, apartTest}
-use Rattle.theory_medium.proofs.Lists.{not-both, both-l, both-r, both-i, either-l, either-r, either-cases, pick-i, pick-e, filter-append, isIn-mem, mem-isIn}
+use Rattle.theory_base.proofs.Lists.{not-both, both-l, both-r, both-i, either-l, either-r, either-cases, pick-i, pick-e, filter-append, isIn-mem, mem-isIn}
 use Rattle.theory_log.specs.Contents.{Mem}
 use Rattle.theory_log.proofs.Contents.{mem-l, mem-r, mem-cases, mem-filter, filter-mem, chosen-is}
 use Rattle.theory_log.proofs.Tops.{all-in, in-all, chosen-top, top-is}

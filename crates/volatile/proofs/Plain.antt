@@ -15,7 +15,7 @@ use Rattle.spec.specs.Log.{Entry}
 use Rattle.spec.specs.Blocks.{pointed}
 use Rattle.spec.specs.Contents.{highest, isTopOf, isTop, tops, chosen, meaning}
 use Rattle.spec.specs.Opening.{fine, agreeWith}
-use Rattle.theory_medium.proofs.Lists.{not-both, both-i, pick-i}
+use Rattle.theory_base.proofs.Lists.{not-both, both-i, pick-i}
 use Rattle.theory_log.specs.Contents.{Mem}
 use Rattle.theory_log.proofs.Contents.{filter-mem, mem-cases, chosen-none}
 use Rattle.theory_log.proofs.Tops.{in-all}

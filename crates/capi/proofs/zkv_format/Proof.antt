@@ -4,7 +4,7 @@
 -- Assumes nothing.
 use mathlib.Core.Path.{_≡_}
 use Rattle.spec.specs.Machine.{Format}
-use Rattle.calls.specs.Begun.{given}
+use Rattle.formatting.specs.Begun.{given}
 use Rattle.capi.specs.Answers.{answerOf, isGiven}
 use mathlib.Core.Path.{refl}
 use mathlib.Core.Bool.{Bool}

@@ -3,7 +3,7 @@
 -- what it returns is the result. All that the proof knows of `recovery::find` is that it meets its contract.
 -- Assumes nothing.
 use Rattle.store.specs.Look.{Reported}
-use Rattle.recovery.specs.Look.{Reporting}
+use Rattle.lookup.specs.Look.{Reporting}
 use mathlib.Core.Path.{_≡_, refl}
 use mathlib.Core.Bool.{Bool}
 use Prim.Native.Nat.{ℕ, _<_, _^_}
@@ -58,10 +58,10 @@ use Rattle.spec.proofs.Report as P
 use Rattle.spec.proofs.Report.Laws as P′
 use Rattle.session.proofs.Session as T
 use Rattle.session.proofs.Session.Laws as T′
-use Rattle.recovery.proofs.find as core
-use Rattle.recovery.proofs.find.Symbol as core-def
-use Rattle.recovery.proofs.find.Symbol.{name as #core}
-use Rattle.recovery.proofs.find.Met as core-thm
+use Rattle.lookup.proofs.find as core
+use Rattle.lookup.proofs.find.Symbol as core-def
+use Rattle.lookup.proofs.find.Symbol.{name as #core}
+use Rattle.lookup.proofs.find.Met as core-thm
 use Rattle.store.proofs.find.Key.{name as #step}
 use Rattle.store.proofs.find as step
 use Rattle.store.proofs.find.Statement as stated
@@ -165,4 +165,4 @@ find-spec 𝓤 H 𝓜 𝓖 𝓡 =
     entered 𝓤 H (tripleOf 𝓤 H (𝓖 .A) step.signature (step.spec 𝓤 H (𝓖 .A) (𝓜 .mem) (𝓡 .run)))
     (tables 𝓤 H 𝓜 𝓡 code.env .C) (tables 𝓤 H 𝓜 𝓡 code.env .Λ) #step code.function (code.unfolded 𝓤 H 𝓜 𝓡)
     (step-meets 𝓤 H (𝓖 .A) (givenOf 𝓤 H 𝓜 𝓖) (𝓜 .mem) (𝓡 .run) (tablesOf 𝓤 H 𝓜 (tables 𝓤 H 𝓜 𝓡 code.env))
-    (cited 𝓤 H (Core 𝓤 H (𝓖 .A) (𝓜 .mem) (𝓡 .run)) 𝓜 𝓡 code.env #core core-def.routine code.calls-recovery·find (core-thm.met 𝓤 H 𝓜 𝓖 𝓡)))
+    (cited 𝓤 H (Core 𝓤 H (𝓖 .A) (𝓜 .mem) (𝓡 .run)) 𝓜 𝓡 code.env #core core-def.routine code.calls-lookup·find (core-thm.met 𝓤 H 𝓜 𝓖 𝓡)))

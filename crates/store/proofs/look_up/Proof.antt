@@ -3,7 +3,7 @@
 -- and what it returns is the result. All that the proof knows of `look_up_core` is that it meets its contract.
 -- Assumes nothing.
 use Rattle.store.specs.Look.{Shown}
-use Rattle.recovery.specs.Look.{Showing}
+use Rattle.lookup.specs.Look.{Showing}
 use mathlib.Core.Path.{_≡_, refl}
 use mathlib.Core.Bool.{Bool}
 use Prim.Native.Nat.{ℕ, _<_, _^_}
@@ -55,10 +55,10 @@ use Rattle.session.proofs.Setup as K-Setup
 use Rattle.session.proofs.Setup.Laws as K-Setup′
 use Rattle.session.proofs.Session as T
 use Rattle.session.proofs.Session.Laws as T′
-use Rattle.recovery.proofs.look_up_core as core
-use Rattle.recovery.proofs.look_up_core.Symbol as core-def
-use Rattle.recovery.proofs.look_up_core.Symbol.{name as #core}
-use Rattle.recovery.proofs.look_up_core.Met as core-thm
+use Rattle.lookup.proofs.look_up_core as core
+use Rattle.lookup.proofs.look_up_core.Symbol as core-def
+use Rattle.lookup.proofs.look_up_core.Symbol.{name as #core}
+use Rattle.lookup.proofs.look_up_core.Met as core-thm
 use Rattle.store.proofs.look_up.Key.{name as #step}
 use Rattle.store.proofs.look_up as step
 use Rattle.store.proofs.look_up.Statement as stated
@@ -166,4 +166,4 @@ look-up-spec 𝓤 H 𝓜 𝓖 𝓡 =
     entered 𝓤 H (tripleOf 𝓤 H (𝓖 .A) step.signature (step.spec 𝓤 H (𝓖 .A) (𝓜 .mem) (𝓡 .run)))
     (tables 𝓤 H 𝓜 𝓡 code.env .C) (tables 𝓤 H 𝓜 𝓡 code.env .Λ) #step code.function (code.unfolded 𝓤 H 𝓜 𝓡)
     (step-meets 𝓤 H (𝓖 .A) (givenOf 𝓤 H 𝓜 𝓖) (𝓜 .mem) (𝓡 .run) (tablesOf 𝓤 H 𝓜 (tables 𝓤 H 𝓜 𝓡 code.env))
-    (cited 𝓤 H (Core 𝓤 H (𝓖 .A) (𝓜 .mem) (𝓡 .run)) 𝓜 𝓡 code.env #core core-def.routine code.calls-recovery·look-up-core (core-thm.met 𝓤 H 𝓜 𝓖 𝓡)))
+    (cited 𝓤 H (Core 𝓤 H (𝓖 .A) (𝓜 .mem) (𝓡 .run)) 𝓜 𝓡 code.env #core core-def.routine code.calls-lookup·look-up-core (core-thm.met 𝓤 H 𝓜 𝓖 𝓡)))

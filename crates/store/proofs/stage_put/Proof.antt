@@ -55,7 +55,7 @@ use denote.Triple.Table.{entered, cited}
 use denote.Triple.Walked.{says, Stays, stay-ref, stay-dropped, gave-ref, gave-slice, walkOf, goes-ref, goes-dropped, goes-gave-ref, goes-gave-slice, Walks, ends-at, walked, walk-meets}
 use Rattle.session.specs.declared.Session.{Session}
 use Rattle.session.specs.declared.Control.{Control}
-use Rattle.calls.specs.declared.Moved.{Moved}
+use Rattle.session.specs.declared.Outcome.{Outcome}
 use Rattle.spec.specs.declared.Report.{Report}
 use Rattle.spec.proofs.Report as P
 use Rattle.spec.proofs.Report.Laws as P′
@@ -63,16 +63,16 @@ use Rattle.session.proofs.Session as T
 use Rattle.session.proofs.Session.Laws as T′
 use Rattle.session.proofs.Control as Ctl
 use Rattle.session.proofs.Control.Laws as Ctl′
-use Rattle.calls.proofs.Moved as S
-use Rattle.calls.proofs.Moved.Laws as S′
+use Rattle.session.proofs.Outcome as S
+use Rattle.session.proofs.Outcome.Laws as S′
 use Rattle.store.proofs.Lent as Lent
 use Rattle.session.specs.declared.Setup.{Setup}
 use Rattle.session.proofs.Setup as K-Setup
 use Rattle.session.proofs.Setup.Laws as K-Setup′
-use Rattle.calls.proofs.put_core as core
-use Rattle.calls.proofs.put_core.Symbol as core-def
-use Rattle.calls.proofs.put_core.Symbol.{name as #core}
-use Rattle.calls.proofs.put_core.Met as core-thm
+use Rattle.staging.proofs.put_core as core
+use Rattle.staging.proofs.put_core.Symbol as core-def
+use Rattle.staging.proofs.put_core.Symbol.{name as #core}
+use Rattle.staging.proofs.put_core.Met as core-thm
 use Rattle.store.proofs.stage_put.Key.{name as #step}
 use Rattle.store.proofs.stage_put as step
 use Rattle.store.proofs.stage_put.Statement as stated
@@ -87,7 +87,7 @@ abbrev Core : {M : Type 1} (𝓤 : URA M) (H : Heap 𝓤) (A : Atoms 𝓤) (mem 
 Core 𝓤 H A mem run = tripleOf 𝓤 H A core.signature (core.spec 𝓤 H A mem run)
 
 -- what it ensures
-abbrev Said : Moved → Control → Setup → List ℕ → List ℕ → List ℕ → List ℕ → ℕ → List ℕ → Type 0
+abbrev Said : Outcome → Control → Setup → List ℕ → List ℕ → List ℕ → List ℕ → ℕ → List ℕ → Type 0
 Said r control setup x-buffer z-buffer x-image x-table key x-value = Does (Put key (x-value)) (record { control = control; setup = setup; buffer = x-buffer }) (record { control = r .control; setup = r .setup; buffer = z-buffer }) (x-image) (x-image) (x-table) (x-table) (r .report)
 
 -- machine values
@@ -101,13 +101,13 @@ abbrev machP : Report → Val
 machP p = EL.val P.the-type P′.the-laws p
 
 -- what whoever holds what the core returned knows of its parts
-is-new : (r : Moved) (w : Val) → Is S.the-row r (w ∷ []) → Is Ctl.the-row (r .control) (machC (r .control) ∷ [])
+is-new : (r : Outcome) (w : Val) → Is S.the-row r (w ∷ []) → Is Ctl.the-row (r .control) (machC (r .control) ∷ [])
 is-new r w g = LL.owed S.the-type S′.the-laws r _ g .0
 
-is-new-setup : (r : Moved) (w : Val) → Is S.the-row r (w ∷ []) → Is K-Setup.the-row (r .setup) (LL.tuple-val K-Setup.the-type K-Setup′.the-laws (K-Setup.the-type .to (r .setup)) ∷ [])
+is-new-setup : (r : Outcome) (w : Val) → Is S.the-row r (w ∷ []) → Is K-Setup.the-row (r .setup) (LL.tuple-val K-Setup.the-type K-Setup′.the-laws (K-Setup.the-type .to (r .setup)) ∷ [])
 is-new-setup r w g = LL.owed S.the-type S′.the-laws r _ g .1 .0
 
-is-result : (r : Moved) (w : Val) → Is S.the-row r (w ∷ []) → Is P.the-row (r .report) (machP (r .report) ∷ [])
+is-result : (r : Outcome) (w : Val) → Is S.the-row r (w ∷ []) → Is P.the-row (r .report) (machP (r .report) ∷ [])
 is-result r w g = LL.owed S.the-type S′.the-laws r _ g .1 .1 .0
 
 module _ {M : Type 1} (𝓤 : URA M) (H : Heap 𝓤) (A : Atoms 𝓤) (W : Given 𝓤 H A) (at-mem : Memory → SProp 𝓤) (run : Routine → Fun 𝓤) (κ κ-image κ-table κ-value : Lft) (bounds : AllOutlive 4 (step.signature .outlives) (κ, (κ-image, (κ-table, (κ-value, tt))))) (q q-image q-table q-value : Share) (b o : ℕ) (γ : GName) (h : Session) (b-image o-image : ℕ) (γ-image : GName) (x-image : List ℕ) (room-image : Room u8 (length x-image)) (b-table o-table : ℕ) (γ-table : GName) (x-table : List ℕ) (room-table : Room u64 (length x-table)) (x-key : ℕ) (fit-key : x-key < 2 ^ 64) (b-value o-value : ℕ) (γ-value : GName) (x-value : List ℕ) (room-value : Room u8 (length x-value)) where
@@ -143,7 +143,7 @@ module _ {M : Type 1} (𝓤 : URA M) (H : Heap 𝓤) (A : Atoms 𝓤) (W : Given
   goes : (α-buffer : ℕ) (γ-buffer : GName) → ent 𝓤 (sep 𝓤 (sep 𝓤 (A .lft (α-buffer ∷ []) fullShare) (sep 𝓤 (A .lft κ-image q-image) (sep 𝓤 (A .lft κ-table q-table) (sep 𝓤 (A .lft κ-value q-value) (sem 𝓤 H A ftrue))))) (sem 𝓤 H A (owns (Ctl.the-row ∷ K-Setup.the-row ∷ MutRef (named 0) (α-buffer ∷ []) Lent.Row-buffer ∷ ShrSlice (named 1) κ-image u8 ∷ ShrSlice (named 2) κ-table u64 ∷ u64 ∷ ShrSlice (named 3) κ-value u8 ∷ []) ((h .control), (h .setup, (lent-buffer γ-buffer, (ref-image, (ref-table, (x-key, (ref-value, tt))))))) (machC (h .control) ∷ [], (Lent.val-setup (h .setup) ∷ [], (vptr b (o + Lent.d-buffer) ∷ [], (sliceVal (b-image, o-image) (length x-image) ∷ [], (sliceVal (b-table, o-table) (length x-table) ∷ [], (vint w64 x-key ∷ [], (sliceVal (b-value, o-value) (length x-value) ∷ [], tt)))))))))) (Core 𝓤 H A at-mem run .pre (to-core α-buffer γ-buffer))
   goes α-buffer γ-buffer = qed W ((‵ (flft (α-buffer ∷ []) fullShare) ⊛ ‵ (flft κ-image q-image) ⊛ ‵ (flft κ-table q-table) ⊛ ‵ (flft κ-value q-value) ⊛ ‵ ftrue) ∷ ‵ (owns (Ctl.the-row ∷ K-Setup.the-row ∷ MutRef (named 0) (α-buffer ∷ []) Lent.Row-buffer ∷ ShrSlice (named 1) κ-image u8 ∷ ShrSlice (named 2) κ-table u64 ∷ u64 ∷ ShrSlice (named 3) κ-value u8 ∷ []) ((h .control), (h .setup, (lent-buffer γ-buffer, (ref-image, (ref-table, (x-key, (ref-value, tt))))))) (machC (h .control) ∷ [], (Lent.val-setup (h .setup) ∷ [], (vptr b (o + Lent.d-buffer) ∷ [], (sliceVal (b-image, o-image) (length x-image) ∷ [], (sliceVal (b-table, o-table) (length x-table) ∷ [], (vint w64 x-key ∷ [], (sliceVal (b-value, o-value) (length x-value) ∷ [], tt)))))))) ∷ []) ∵ join ! $ frame ! $ done !
 
-  exits : (r : Moved) (z-buffer : List ℕ) → Said r (h .control) (h .setup) (h .buffer) z-buffer x-image x-table x-key x-value → Is P.the-row (r .report) (machP (r .report) ∷ [])
+  exits : (r : Outcome) (z-buffer : List ℕ) → Said r (h .control) (h .setup) (h .buffer) z-buffer x-image x-table x-key x-value → Is P.the-row (r .report) (machP (r .report) ∷ [])
       → ent 𝓤 (⋆ 𝓤 H A (‵ (fobs γ (T.the-row .coded .code (record { control = r .control; setup = r .setup; buffer = z-buffer }))) ∷ ‵ (fbor κ (Body (mem T.the-row) b o γ)) ∷ ‵ (flft κ q) ∷ ‵ (flft κ-image q-image) ∷ ‵ (flft κ-table q-table) ∷ ‵ (flft κ-value q-value) ∷ [])) (Post (machP (r .report)))
   exits r z-buffer e g =
       qed W (‵ (fobs γ (T.the-row .coded .code (record { control = r .control; setup = r .setup; buffer = z-buffer }))) ∷ ‵ (fbor κ (Body (mem T.the-row) b o γ)) ∷ ‵ (flft κ q) ∷ ‵ (flft κ-image q-image) ∷ ‵ (flft κ-table q-table) ∷ ‵ (flft κ-value q-value) ∷ []) ∵
@@ -174,7 +174,7 @@ module _ {M : Type 1} (𝓤 : URA M) (H : Heap 𝓤) (A : Atoms 𝓤) (W : Given
         -- the call
         owned ! Ctl.the-row (Is Ctl.the-row) (LL.makes Ctl.the-type Ctl′.the-plain 𝓤 H A) (h .control) _ (Lent.is-control h g) $ owned ! K-Setup.the-row (Is K-Setup.the-row) (LL.makes K-Setup.the-type K-Setup′.the-plain 𝓤 H A) (h .setup) _ (Lent.is-setup h g) $ nothing ! $ move ! (14 ∷ 0 ∷ []) $ fjoin ! $ move ! (15 ∷ 0 ∷ []) $ fjoin ! $ move ! (15 ∷ 0 ∷ []) $ fjoin ! $ move ! (15 ∷ 0 ∷ []) $ fjoin ! $ move ! (3 ∷ 0 ∷ []) $ fjoin ! $ move ! (1 ∷ 0 ∷ []) $ fjoin ! $ move ! (1 ∷ 0 ∷ []) $ fjoin ! $ nothing ! $ move ! (8 ∷ 0 ∷ []) $ join ! $ move ! (9 ∷ 0 ∷ []) $ join ! $ move ! (9 ∷ 0 ∷ []) $ join ! $ move ! (3 ∷ 0 ∷ []) $ join ! $ use2 W (raw (Core 𝓤 H A at-mem run .pre (to-core α-buffer γ-buffer))) (goes α-buffer γ-buffer) $
         calls-at ! fm (Core 𝓤 H A at-mem run) known (to-core α-buffer γ-buffer) (and-then ! (load ! (from ! (stop !)) (look ! 14 refl)) (and-then ! (load ! (from ! (stop !)) (look ! 12 refl)) (and-then ! (load ! (from ! (stop !)) (look ! 8 refl)) (and-then ! (load ! (from ! (stop !)) (look ! 22 refl)) (and-then ! (load ! (from ! (stop !)) (look ! 20 refl)) (and-then ! (load ! (from ! (stop !)) (look ! 18 refl)) (and-then ! (load ! (from ! (stop !)) (look ! 16 refl)) (no-more !)))))))) (λ w.
-        use1 W (later (some (λ (r : Moved). ((‵ (flft (α-buffer ∷ []) fullShare) ⊛ ‵ (flft κ-image q-image) ⊛ ‵ (flft κ-table q-table) ⊛ ‵ (flft κ-value q-value) ⊛ ‵ ftrue) ⊛ ‵ (S.the-row .own r (w ∷ []))) ⊛ raw (ensured 𝓤 H A core.ended (core.clauses 𝓤 H A at-mem run) ((α-buffer ∷ []), (κ-image, (κ-table, (κ-value, tt)))) ((h .control), (h .setup, (lent-buffer γ-buffer, (ref-image, (ref-table, (x-key, (ref-value, tt))))))) tt r)))) (id⊢ 𝓤 _) $ await ! tt $ pick ! (λ r. split ! $
+        use1 W (later (some (λ (r : Outcome). ((‵ (flft (α-buffer ∷ []) fullShare) ⊛ ‵ (flft κ-image q-image) ⊛ ‵ (flft κ-table q-table) ⊛ ‵ (flft κ-value q-value) ⊛ ‵ ftrue) ⊛ ‵ (S.the-row .own r (w ∷ []))) ⊛ raw (ensured 𝓤 H A core.ended (core.clauses 𝓤 H A at-mem run) ((α-buffer ∷ []), (κ-image, (κ-table, (κ-value, tt)))) ((h .control), (h .setup, (lent-buffer γ-buffer, (ref-image, (ref-table, (x-key, (ref-value, tt))))))) tt r)))) (id⊢ 𝓤 _) $ await ! tt $ pick ! (λ r. split ! $
         -- what the core ensures, at some last lists
         move ! (1 ∷ []) $ use1 W (some (λ (zs : (Unit {0} × (Unit {0} × (List ℕ × (Unit {0} × (Unit {0} × (Unit {0} × (Unit {0} × Unit {0})))))))). ‵ (lasts core.ended ((α-buffer ∷ []), (κ-image, (κ-table, (κ-value, tt)))) ((h .control), (h .setup, (lent-buffer γ-buffer, (ref-image, (ref-table, (x-key, (ref-value, tt))))))) zs) ⊛ raw (fact 𝓤 (Said r (h .control) (h .setup) (h .buffer) (zs .1 .1 .0) x-image x-table x-key x-value)))) (id⊢ 𝓤 _) $ pick ! (λ zs. split ! $
         move ! (1 ∷ []) $ heard ! (Said r (h .control) (h .setup) (h .buffer) (zs .1 .1 .0) x-image x-table x-key x-value) (λ e. fsplit ! $ move ! (1 ∷ []) $ fsplit ! $ move ! (1 ∷ []) $ fsplit ! $ move ! (1 ∷ []) $ fsplit ! $ move ! (1 ∷ []) $ fsplit ! $ move ! (1 ∷ []) $ fsplit ! $ move ! (1 ∷ []) $ fsplit ! $
@@ -213,4 +213,4 @@ stage-put-spec 𝓤 H 𝓜 𝓖 𝓡 =
     entered 𝓤 H (tripleOf 𝓤 H (𝓖 .A) step.signature (step.spec 𝓤 H (𝓖 .A) (𝓜 .mem) (𝓡 .run)))
     (tables 𝓤 H 𝓜 𝓡 code.env .C) (tables 𝓤 H 𝓜 𝓡 code.env .Λ) #step code.function (code.unfolded 𝓤 H 𝓜 𝓡)
     (step-meets 𝓤 H (𝓖 .A) (givenOf 𝓤 H 𝓜 𝓖) (𝓜 .mem) (𝓡 .run) (tablesOf 𝓤 H 𝓜 (tables 𝓤 H 𝓜 𝓡 code.env))
-    (cited 𝓤 H (Core 𝓤 H (𝓖 .A) (𝓜 .mem) (𝓡 .run)) 𝓜 𝓡 code.env #core core-def.routine code.calls-calls·put-core (core-thm.met 𝓤 H 𝓜 𝓖 𝓡)))
+    (cited 𝓤 H (Core 𝓤 H (𝓖 .A) (𝓜 .mem) (𝓡 .run)) 𝓜 𝓡 code.env #core core-def.routine code.calls-staging·put-core (core-thm.met 𝓤 H 𝓜 𝓖 𝓡)))

@@ -1,5 +1,0 @@
-pub mod Nth
-pub mod Append
-pub mod Committing
-pub mod Formatting
-pub mod Performed

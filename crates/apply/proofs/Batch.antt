@@ -1,0 +1,216 @@
+-- The laws of a batch that joins: what is left of it at the beginning, after one more item, and at the end.
+-- Assumes nothing.
+use mathlib.Core.Path.{_≡_, refl, sym, _∙_, ap}
+use mathlib.Core.Logic.{_⊎_, inl, inr}
+use mathlib.Core.Bool.{Bool, true, false}
+use mathlib.Core.List.{List, [], _∷_, _++_}
+use Prim.Native.Nat.{ℕ, _+_, _-_, _/_, _≤_, _<_, min}
+use native.Mathlib.Omega.{arith}
+use lib.Dec.{eqb}
+use lib.ListN.{length, getD}
+use lib.Seq.{append-snoc}
+use Rattle.spec.specs.Basics.{pick, larger}
+use Rattle.spec.specs.Places.{basePower, maxChunks, chunkWords, chunkUnits, base, unitChunk, unitWord}
+use Rattle.spec.specs.Directory.{sizeOf}
+use Rattle.spec.specs.Log.{Entry, Entries, imageEntries, encodeAll, moved, placed}
+use Rattle.spec.specs.Blocks.{pointed}
+use Rattle.spec.specs.Contents.{highest, keysOf, capacity}
+use Rattle.spec.specs.Opening.{fine}
+use Rattle.session.specs.declared.Control.{Control}
+use Rattle.session.specs.declared.Setup.{Setup}
+use Rattle.theory_log.specs.Batch.{AllRight}
+use Rattle.theory_log.specs.Contents.{Mem, Top, CountsOn}
+use Rattle.theory_log.proofs.Contents.{larger-r, below-highest, counts-same, highest-insert}
+use Rattle.theory_log.proofs.Clean.{mem-placed}
+use Rattle.theory_crash.proofs.Blocks.{block-fits}
+use Rattle.blocks.specs.Bits.{WordsKept}
+use Rattle.blocks.proofs.Laws.{kept-all, kept-then}
+use Rattle.volatile.specs.Known.{extentOf, alone, ownOf}
+use Rattle.session.specs.State.{bufferPart, batchWords}
+use Rattle.session.specs.Fits.{ItemsFit, batchPlace}
+use Rattle.session.proofs.Part.{part-agree, chunk-in, lines-in}
+use Rattle.apply.specs.declared.Item.{Item}
+use Rattle.apply.specs.declared.Item.the-variants as I
+use Rattle.apply.specs.Blocks.{bitRoom, blockAt, Claimed}
+use Rattle.apply.specs.Joining.{Later, Shown, Awaited, OneJoined, Taken, StagedFrom, Staged, placeOf, Fenced, Joining}
+use Rattle.apply.proofs.Joined.{which}
+use Rattle.apply.proofs.Claiming.{joined-shown}
+use Rattle.apply.proofs.Staging.{told-none, told-fits, told-entry}
+
+-- Items that count on are above the entries of their keys, also where they are placed.
+highest-more : (k : ℕ) (e : Entry) (es : List Entry) → highest k es ≤ highest k (e ∷ es)
+highest-more k e es = go (eqb (e .key) k)
+  where
+    go : (b : Bool) → highest k es ≤ pick b (larger (e .version) (highest k es)) (highest k es)
+    go true = larger-r (e .version) (highest k es)
+    go false = omega arith
+
+counts-later : (es items : List Entry) → CountsOn es items → Later es items
+counts-later es [] c g m = absurd m
+counts-later es (e ∷ items) c g (inl q) = rw q (let v = c .0 in omega arith)
+counts-later es (e ∷ items) c g (inr m) = let h = counts-later (e ∷ es) items (c .1) g m in let l = highest-more (g .key) e es in omega arith
+
+later-placed : (at : ℕ) (es items : List Entry) → Later es items → Later es (placed at items)
+later-placed at es items h f m = let r = mem-placed f at items m in rw (r .3) (h (r .0) (r .1))
+
+-- The blocks of items: with one joined, those of the others are still dead, since its block is its own.
+items-next : (n : ℕ) (ws : List ℕ) (xs ys : List Entry) (x : Entry) (at : ℕ) (es : List Entry) → CountsOn (xs ++ ys) (x ∷ es) → ItemsFit n ws (xs ++ ys) (x ∷ es) → ItemsFit n ws (xs ++ moved at x ∷ ys) es
+items-next n ws xs ys x at es counts fit = record {
+  blocks = λ e m. fit .blocks e (inr m);
+  dead = λ e f m t p q z. go e f m p q z (which xs ys (moved at x) (let v = counts .0 in omega arith) (λ g. fit .dead x g (inl refl)) f t);
+  own = λ e f l m. fit .own e f (inr l) (inr m);
+}
+  where
+    go : (e f : Entry) → Mem e es → pointed e ≡ true → pointed f ≡ true → e .field ≡ f .field → (f ≡ moved at x) ⊎ ((f .key ≡ x .key → ⊥) × Top (xs ++ ys) f) → ⊥
+    go e f m p q z (inl r) =
+        let o : e ≡ x = fit .own e x (inr m) (inl refl) p (sym (ap pointed r) ∙ q) (z ∙ ap (λ (y : Entry). y .field) r) in
+        let l = counts-later (x ∷ (xs ++ ys)) es (counts .1) e m in
+        let h = below-highest (x .key) (x ∷ (xs ++ ys)) x (inl refl) refl in
+        let k : highest (x .key) (x ∷ (xs ++ ys)) < x .version = rw o at l in
+        omega arith
+    go e f m p q z (inr t) = fit .dead e f (inr m) (t .1) p q z
+
+-- A right block has a bit.
+small-block : (n : ℕ) (ws : List ℕ) (e : Entry) → n ≤ maxChunks → fine basePower n ws e ≡ true → pointed e ≡ true → e .field < bitRoom
+unfolding unitChunk chunkUnits
+small-block n ws e most f p =
+    let x = block-fits basePower n (e .field) (sizeOf basePower ws (unitChunk basePower (e .field))) (getD ws (unitWord (e .field)) 0) _ (rw p at f) in
+    let h : e .field / 16 < n = x .high in
+    omega arith
+
+-- Of the batch at `place`, whose words are the buffer's before `end`, the items before word `at` have joined. The image shows `whole`.
+pub record Left (n : ℕ) (ws buffer table : List ℕ) (keys place at end : ℕ) (whole back : List Entry) : Type 0 where
+  pub joined : List Entry
+  pub rest : List Entry
+  pub parts : whole ≡ joined ++ (placed (place + at) rest ++ back)
+  pub words : bufferPart buffer at (end - at) ≡ encodeAll rest
+  pub right : AllRight rest
+  pub counts : CountsOn (joined ++ back) rest
+  pub fit : ItemsFit n ws (joined ++ back) rest
+  pub shown : Shown buffer table keys (joined ++ back)
+  pub most : n ≤ maxChunks
+  pub image : imageEntries basePower n ws ≡ Entries whole
+  pub room : length (keysOf whole) ≤ capacity (length table)
+
+-- ## The beginning
+
+place-is : (k : Setup) → k .chunk ≤ 503 → k .lines ≤ 64 → placeOf k ≡ batchPlace k
+unfolding base chunkWords
+place-is k c l = rw (chunk-in k c, lines-in k l) (omega arith)
+
+left-start : (c : Control) (k : Setup) (buffer ws table : List ℕ) (front back items : List Entry) → Fenced c k buffer ws table front back items
+    → Left (k .image / 4096) ws buffer table (c .keys) (placeOf k) 0 (min (c .words) 512) (front ++ (placed (batchPlace k) items ++ back)) back
+unfolding batchWords
+left-start c k buffer ws table front back items f =
+    let p : placeOf k + 0 ≡ batchPlace k = omega (arith, place-is k (f .chunk) (f .lines)) in
+    let z : min (c .words) 512 - 0 ≡ min (c .words) 512 = omega arith in
+    record {
+      joined = front;
+      rest = items;
+      parts = rw p;
+      words = rw z (f .written);
+      right = f .right;
+      counts = f .counts;
+      fit = f .fit;
+      shown = record { indexed = f .built .indexed; blocks = f .built .blocks; apart = f .apart };
+      most = f .most;
+      image = f .shown;
+      room = f .room;
+    }
+
+-- ## One more item
+
+left-next : (n : ℕ) (ws buffer buffer′ buffer″ table table′ : List ℕ) (keys keys′ place at end op placement version field key words extent own : ℕ) (whole back : List Entry) → end ≤ 512
+    → ((rest : List Entry) → StagedFrom buffer at end rest → Taken buffer at end op placement version field key words rest) → at + (2 + words) ≤ end
+    → extent ≡ extentOf placement field → own ≡ alone extent (place + at) version → OneJoined n ws buffer buffer′ table table′ keys key own keys′ → Claimed buffer′ buffer″ (blockAt op placement field)
+    → Left n ws buffer table keys place at end whole back → Left n ws buffer″ table′ keys′ place (at + (2 + words)) end whole back
+left-next n ws buffer buffer′ buffer″ table table′ keys keys′ place at end op placement version field key words extent own whole back short taken fits is-extent is-own one claimed l = record {
+  joined = l .joined ++ e ∷ [];
+  rest = es;
+  parts = parts ∙ sym (append-snoc (l .joined) e (placed (place + (at + (2 + words))) es ++ back));
+  words = part-agree buffer″ buffer (at + (2 + words)) (end - (at + (2 + words))) (λ j l h. kept-then buffer buffer′ buffer″ (one .kept) (claimed .kept) .below j (omega arith)) ∙ t .behind;
+  right = (rw (t .all) at (l .right)) .1;
+  counts = counts-same (t .entry ∷ (l .joined ++ back)) ((l .joined ++ e ∷ []) ++ back) es (λ k. rw append-snoc (highest-insert k (l .joined) back e)) (counts .1);
+  fit = rw append-snoc (items-next n ws (l .joined) back (t .entry) (place + at) es counts items);
+  shown = rw append-snoc (joined-shown n ws buffer buffer′ buffer″ table table′ keys keys′ (l .joined) more back e awaits (l .shown) (small-block n ws (t .entry) (l .most) (items .blocks (t .entry) (inl refl)))
+      (one .joins (l .joined) more back e (t .of-key) own-here awaits (l .shown)) (rw (t .of-op, t .of-placement, t .of-field) claimed));
+  most = l .most;
+  image = l .image;
+  room = rw (one .sized) (l .room);
+}
+  where
+    t : Taken buffer at end op placement version field key words (l .rest)
+    t = taken (l .rest) (l .right, l .words)
+
+    es : List Entry
+    es = t .others
+
+    e : Entry
+    e = moved (place + at) (t .entry)
+
+    own-here : ownOf e ≡ own
+    own-here = rw (t .of-placement, t .of-field, t .of-version, ← is-extent) (sym is-own)
+
+    more : List Entry
+    more = placed (place + (at + (2 + words))) es
+
+    parts : whole ≡ l .joined ++ (e ∷ (more ++ back))
+    parts =
+        let p : place + at + (2 + length (t .entry .value)) ≡ place + (at + (2 + words)) = omega (arith, t .size) in
+        rw (t .all, p) at (l .parts)
+
+    counts : CountsOn (l .joined ++ back) (t .entry ∷ es)
+    counts = rw (t .all) at (l .counts)
+
+    items : ItemsFit n ws (l .joined ++ back) (t .entry ∷ es)
+    items = rw (t .all) at (l .fit)
+
+    later : Later (l .joined ++ back) (e ∷ more)
+    later =
+        let p : place + at + (2 + length (t .entry .value)) ≡ place + (at + (2 + words)) = omega (arith, t .size) in
+        rw (t .all, p) at (later-placed (place + at) (l .joined ++ back) (l .rest) (counts-later (l .joined ++ back) (l .rest) (l .counts)))
+
+    awaits : Awaited n ws table (l .joined) more back e
+    awaits = record { most = l .most; shown = l .image ∙ ap Entries parts; later = later; dead = λ f o p q z. items .dead (t .entry) f (inl refl) o p q z; room = rw parts at (l .room) }
+
+-- ## The loop: what was left at the beginning says what is left now
+
+pub record Going (n : ℕ) (ws buffer₀ table₀ : List ℕ) (keys₀ place at₀ end : ℕ) (buffer table : List ℕ) (keys at : ℕ) : Type 0 where
+  pub kept : WordsKept buffer₀ buffer
+  pub sized : length table ≡ length table₀
+  pub goes : (whole back : List Entry) → Left n ws buffer₀ table₀ keys₀ place at₀ end whole back → Left n ws buffer table keys place at end whole back
+
+pub going-start : (n : ℕ) (ws buffer table : List ℕ) (keys place at end : ℕ) → length buffer ≡ 1152 → Going n ws buffer table keys place at end buffer table keys at
+going-start n ws buffer table keys place at end long = record { kept = kept-all buffer long; sized = refl; goes = λ whole back l. l }
+
+module _ (n : ℕ) (ws buffer₀ table₀ : List ℕ) (keys₀ place at₀ end : ℕ) (buffer table : List ℕ) (keys at : ℕ) (inv : Going n ws buffer₀ table₀ keys₀ place at₀ end buffer table keys at)
+    (r : Item) (told : Staged buffer at end r) where
+  pub going-next : (op placement version field key words : ℕ) → r ≡ I.Entry op placement version field key words → end ≤ 512 → (extent own : ℕ) → extent ≡ extentOf placement field → own ≡ alone extent (place + at) version
+      → (buffer′ table′ : List ℕ) (keys′ : ℕ) → OneJoined n ws buffer buffer′ table table′ keys key own keys′ → (buffer″ : List ℕ) → Claimed buffer′ buffer″ (blockAt op placement field)
+      → Going n ws buffer₀ table₀ keys₀ place at₀ end buffer″ table′ keys′ (at + (2 + words))
+  going-next op placement version field key words e short extent own is-extent is-own buffer′ table′ keys′ one buffer″ claimed = record {
+    kept = kept-then buffer₀ buffer buffer″ (inv .kept) (kept-then buffer buffer′ buffer″ (one .kept) (claimed .kept));
+    sized = one .sized ∙ inv .sized;
+    goes = λ whole back l.
+        left-next n ws buffer buffer′ buffer″ table table′ keys keys′ place at end op placement version field key words extent own whole back short
+        (told-entry buffer at end r told op placement version field key words e) (told-fits buffer at end r told op placement version field key words e) is-extent is-own one claimed (inv .goes whole back l);
+  }
+
+  -- the end
+  going-end : r ≡ I.Nothing → (whole back : List Entry) → Left n ws buffer₀ table₀ keys₀ place at₀ end whole back → Shown buffer table keys whole
+  going-end e whole back l =
+      let m = inv .goes whole back l in
+      let z = told-none buffer at end r told e (m .rest) (m .right, m .words) in
+      rw (m .parts, z) (m .shown)
+
+pub going-joins : (c : Control) (k : Setup) (ws buffer₀ table₀ : List ℕ) (n keys₀ place at₀ end : ℕ) (buffer table : List ℕ) (keys at : ℕ) (inv : Going n ws buffer₀ table₀ keys₀ place at₀ end buffer table keys at)
+    (r : Item) → Staged buffer at end r → r ≡ I.Nothing → n ≡ k .image / 4096 → keys₀ ≡ c .keys → place ≡ placeOf k → at₀ ≡ 0 → end ≡ min (c .words) 512
+    → Joining c k buffer₀ buffer ws table₀ table keys
+going-joins c k ws buffer₀ table₀ n keys₀ place at₀ end buffer table keys at inv r told e q1 q2 q3 q4 q5 = record {
+  kept = inv .kept;
+  sized = inv .sized;
+  joins = λ front back items f.
+      let whole = front ++ (placed (batchPlace k) items ++ back) in
+      let s = going-end n ws buffer₀ table₀ keys₀ place at₀ end buffer table keys at inv r told e whole back (rw (q1, q2, q3, q4, q5) (left-start c k buffer₀ ws table₀ front back items f)) in
+      (record { indexed = s .indexed; blocks = s .blocks }, s .indexed .count);
+}

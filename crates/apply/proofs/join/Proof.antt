@@ -1,0 +1,96 @@
+-- `joining::join` meets its contract. The loop's invariant: what was left of the batch at the beginning says what is left of it now.
+-- Assumes nothing.
+use Prim.Native.Nat.{_-_}
+use mathlib.Core.Path.{refl}
+use native.Mathlib.Omega.{arith}
+use borrow.Author.Needs.{needs}
+use Rattle.spec.specs.Words.{wordsOf}
+use Rattle.apply.proofs.Staging.{told-fits}
+use Rattle.apply.proofs.Batch.{Going, going-start, going-next, going-joins}
+use Rattle.apply.proofs.join.Statement.{statement}
+use Rattle.apply.proofs.join.Tie as tie
+
+abbrev Inv-loop : tie.InvT-loop
+Inv-loop buffer₀ image table₀ count place end keys₀ at₀ buffer table keys at = Going count (wordsOf image) buffer₀ table₀ keys₀ place at₀ end buffer table keys at
+
+abbrev μ-loop : tie.MeasureT-loop
+μ-loop buffer₀ image table₀ count place end keys₀ at₀ buffer table keys at = end - at
+
+buffer-length-requires : tie.Need-buffer-length-requires Inv-loop μ-loop
+buffer-length-requires c κs = search needs
+
+batch-start-requires : tie.Need-batch-start-requires Inv-loop μ-loop
+batch-start-requires c κs = search needs
+
+at-most-requires : tie.Need-at-most-requires Inv-loop μ-loop
+at-most-requires c κs = search needs
+
+loop-holds : tie.Need-loop-holds Inv-loop μ-loop
+loop-holds c = going-start _ _ _ _ _ _ _ _ (c .before .before .before .buffer-length .ensures .1)
+
+item-at-requires : tie.Need-item-at-requires Inv-loop μ-loop
+item-at-requires c κs = omega arith
+
+enum-told : tie.Need-enum-told Inv-loop μ-loop
+enum-told c = search needs
+
+same-length : tie.Need-same-length Inv-loop μ-loop
+same-length c = c .before .before .before .before .loop .inv .sized
+
+returns : tie.Need-returns Inv-loop μ-loop
+returns c = going-joins _ _ _ _ _ _ _ _ _ _ _ _ _ _ (c .before .before .before .before .loop .inv) _ (c .before .before .item-at .ensures) (c .enum-told .given .1) refl refl (c .before .before .before .before .before .before .batch-start .ensures) refl (c .before .before .before .before .before .at-most .ensures)
+
+enum-known-item : tie.Need-enum-known-item Inv-loop μ-loop
+enum-known-item c = search needs
+
+extent-of-requires : tie.Need-extent-of-requires Inv-loop μ-loop
+extent-of-requires c κs = search needs
+
+add-alone : tie.Need-add-alone Inv-loop μ-loop
+add-alone c = let f = told-fits _ _ _ _ (c .before .before .before .before .item-at .ensures) _ _ _ _ _ _ (c .before .before .item .given .1) in omega arith
+
+alone-requires : tie.Need-alone-requires Inv-loop μ-loop
+alone-requires c κs = search needs
+
+join-one-requires : tie.Need-join-one-requires Inv-loop μ-loop
+join-one-requires c κs = search needs
+
+claim-requires : tie.Need-claim-requires Inv-loop μ-loop
+claim-requires c κs = search needs
+
+add-at : tie.Need-add-at Inv-loop μ-loop
+add-at c = let f = told-fits _ _ _ _ (c .before .before .before .before .before .before .before .before .before .before .before .before .item-at .ensures) _ _ _ _ _ _ (c .before .before .before .before .before .before .before .before .before .before .item .given .1) in omega arith
+
+add-at-2 : tie.Need-add-at-2 Inv-loop μ-loop
+add-at-2 c = let f = told-fits _ _ _ _ (c .before .before .before .before .before .before .before .before .before .before .before .before .item-at .ensures) _ _ _ _ _ _ (c .before .before .before .before .before .before .before .before .before .before .item .given .1) in omega arith
+
+loop-less : tie.Need-loop-less Inv-loop μ-loop
+loop-less c = let f = told-fits _ _ _ _ (c .before .before .before .before .before .before .before .before .before .before .before .before .item-at .ensures) _ _ _ _ _ _ (c .before .before .before .before .before .before .before .before .before .before .item .given .1) in omega arith
+
+loop-again : tie.Need-loop-again Inv-loop μ-loop
+loop-again c = going-next _ _ _ _ _ _ _ _ _ _ _ _ (c .before .before .before .before .before .before .before .before .before .before .before .before .before .before .loop .inv) _ (c .before .before .before .before .before .before .before .before .before .before .before .before .item-at .ensures) _ _ _ _ _ _ (c .before .before .before .before .before .before .before .before .before .before .item .given .1) (omega arith) _ _ (c .before .before .before .before .before .before .before .before .extent-of .ensures) (c .before .before .before .before .before .before .before .alone .ensures) _ _ _ (c .before .before .before .before .join-one .ensures) _ (c .claim .ensures)
+
+pub join-spec : {M : Type 1} → statement M
+join-spec =
+    tie.close
+    (tie.spec
+    Inv-loop
+    μ-loop
+    buffer-length-requires
+    batch-start-requires
+    at-most-requires
+    loop-holds
+    item-at-requires
+    enum-told
+    same-length
+    returns
+    enum-known-item
+    extent-of-requires
+    add-alone
+    alone-requires
+    join-one-requires
+    claim-requires
+    add-at
+    add-at-2
+    loop-less
+    loop-again)

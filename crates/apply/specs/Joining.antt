@@ -1,0 +1,116 @@
+-- What the items of a batch do to the key table and to the bits, one by one and all together.
+-- Assumes nothing.
+use mathlib.Core.Path.{_≡_}
+use mathlib.Core.Bool.{true}
+use mathlib.Core.Option.{some}
+use mathlib.Core.List.{List, [], _∷_, _++_}
+use Prim.Native.Nat.{ℕ, _+_, _-_, _*_, _/_, _≤_, _<_}
+use lib.ListN.{length}
+use Rattle.spec.specs.Basics.{both, negate, any, isIn}
+use Rattle.spec.specs.Places.{basePower, maxChunks}
+use Rattle.spec.specs.Log.{Entry, Entries, imageEntries, encodeAll, placed}
+use Rattle.spec.specs.Blocks.{pointed}
+use Rattle.spec.specs.Contents.{highest, chosen, keysOf, capacity, liveBlocks}
+use Rattle.session.specs.declared.Control.{Control}
+use Rattle.session.specs.declared.Setup.{Setup}
+use Rattle.theory_log.specs.Batch.{AllRight}
+use Rattle.theory_log.specs.Contents.{Mem, Top, CountsOn}
+use Rattle.index.specs.declared.Info.{Info}
+use Rattle.blocks.specs.Bits.{hasBit, WordsKept}
+use Rattle.volatile.specs.Known.{ownOf, Indexed}
+use Rattle.volatile.proofs.Info.{said}
+use Rattle.session.specs.State.{bufferPart, batchWords, chunkIn, linesIn}
+use Rattle.session.specs.Fits.{ItemsFit, Built, batchPlace}
+use Rattle.apply.specs.Blocks.{frees, topBlock, Freed, BlocksApart}
+use Rattle.apply.specs.declared.Item.{Item}
+use Rattle.apply.specs.declared.Item.the-variants as I
+
+-- the bits after a pass over the log of an image of n chunks, for the entries of a key with a version
+pub record Scanned (n : ℕ) (ws before after : List ℕ) (key version : ℕ) : Type 0 where
+  pub kept : WordsKept before after
+  pub freed : (es : List Entry) → imageEntries basePower n ws ≡ Entries es → Freed before after (λ u. any (frees key version u) es)
+
+-- these entries are above all of es of their keys
+abbrev pub Later : (es more : List Entry) → Type 0
+Later es more = (g : Entry) → Mem g more → highest (g .key) es < g .version
+
+-- the bits without the blocks of a key's top entries, of which the table says so much; `more` are entries that the table does not know yet, above the key's others
+pub record Superseded (n : ℕ) (ws before after : List ℕ) (key : ℕ) (info : Info) : Type 0 where
+  pub kept : WordsKept before after
+  pub freed : (xs more ys : List Entry) (f : Entry) → imageEntries basePower n ws ≡ Entries (xs ++ (more ++ ys)) → Later (xs ++ ys) more
+      → chosen key (xs ++ ys) ≡ some f → info ≡ said key (xs ++ ys) f → Freed before after (topBlock key (xs ++ ys))
+
+-- table and bits are those of the entries es, of which no two keys' top puts share a block
+pub record Shown (buffer table : List ℕ) (keys : ℕ) (es : List Entry) : Type 0 where
+  pub indexed : Indexed table keys es
+  pub blocks : (u : ℕ) → hasBit buffer u ≡ isIn u (liveBlocks es)
+  pub apart : BlocksApart es
+
+-- the entry e is to join xs and ys, then `more`: the image shows them all, each is above all others of its key, e is in no block or in one that no top put points to, and the table has room
+pub record Awaited (n : ℕ) (ws table : List ℕ) (xs more ys : List Entry) (e : Entry) : Type 0 where
+  pub most : n ≤ maxChunks
+  pub shown : imageEntries basePower n ws ≡ Entries (xs ++ (e ∷ (more ++ ys)))
+  pub later : Later (xs ++ ys) (e ∷ more)
+  pub dead : (f : Entry) → Top (xs ++ ys) f → pointed e ≡ true → pointed f ≡ true → e .field ≡ f .field → ⊥
+  pub room : length (keysOf (xs ++ (e ∷ (more ++ ys)))) ≤ capacity (length table)
+
+-- table and bits are those of the entries xs, e, ys, but for the bit of e's own block
+abbrev pub Superseding : (buffer buffer′ table′ : List ℕ) (keys′ : ℕ) (xs ys : List Entry) (e : Entry) → Type 0
+Superseding buffer buffer′ table′ keys′ xs ys e = Indexed table′ keys′ (xs ++ e ∷ ys) × ((u : ℕ) → hasBit buffer′ u ≡ both (hasBit buffer u) (negate (topBlock (e .key) (xs ++ ys) u)))
+
+-- before and after an entry of this key joined, `own` being what the table would hold with it alone: of any memory, and where it was awaited
+pub record OneJoined (n : ℕ) (ws buffer buffer′ table table′ : List ℕ) (keys key own keys′ : ℕ) : Type 0 where
+  pub kept : WordsKept buffer buffer′
+  pub sized : length table′ ≡ length table
+  pub joins : (xs more ys : List Entry) (e : Entry) → e .key ≡ key → ownOf e ≡ own
+      → Awaited n ws table xs more ys e → Shown buffer table keys (xs ++ ys) → Superseding buffer buffer′ table′ keys′ xs ys e
+
+-- what stands in the buffer's words from `at` to `end`, if they are those of entries: none, or one with so many words of value, and the others behind it
+pub record Taken (buffer : List ℕ) (at end op placement version field key words : ℕ) (rest : List Entry) : Type 0 where
+  pub entry : Entry
+  pub others : List Entry
+  pub all : rest ≡ entry ∷ others
+  pub of-op : entry .op ≡ op
+  pub of-placement : entry .placement ≡ placement
+  pub of-version : entry .version ≡ version
+  pub of-field : entry .field ≡ field
+  pub of-key : entry .key ≡ key
+  pub size : length (entry .value) ≡ words
+  pub behind : bufferPart buffer (at + (2 + words)) (end - (at + (2 + words))) ≡ encodeAll others
+
+abbrev pub StagedFrom : List ℕ → (at end : ℕ) → List Entry → Type 0
+StagedFrom buffer at end rest = AllRight rest × (bufferPart buffer at (end - at) ≡ encodeAll rest)
+
+abbrev pub Staged : List ℕ → (at end : ℕ) → Item → Type 0
+Staged buffer at end I.Nothing = (rest : List Entry) → StagedFrom buffer at end rest → rest ≡ []
+Staged buffer at end (I.Entry op placement version field key words) =
+    (at + (2 + words) ≤ end) × ((rest : List Entry) → StagedFrom buffer at end rest → Taken buffer at end op placement version field key words rest)
+
+-- where the batch begins, for any record
+abbrev pub placeOf : Setup → ℕ
+placeOf k = 512 * chunkIn k + 8 * linesIn k
+
+-- THE BATCH: what holds at a commit's last fence. The image shows the batch between front and back; table and bits know front and back alone.
+pub record Fenced (c : Control) (k : Setup) (buffer ws table : List ℕ) (front back items : List Entry) : Type 0 where
+  pub chunk : k .chunk ≤ 503
+  pub lines : k .lines ≤ 64
+  pub most : k .image / 4096 ≤ maxChunks
+  pub written : batchWords c buffer ≡ encodeAll items
+  pub right : AllRight items
+  pub counts : CountsOn (front ++ back) items
+  pub fit : ItemsFit (k .image / 4096) ws (front ++ back) items
+  pub shown : imageEntries basePower (k .image / 4096) ws ≡ Entries (front ++ (placed (batchPlace k) items ++ back))
+  pub built : Built c buffer table (front ++ back)
+  pub apart : BlocksApart (front ++ back)
+  pub room : length (keysOf (front ++ (placed (batchPlace k) items ++ back))) ≤ capacity (length table)
+
+-- the record's numbers with so many known keys
+abbrev pub withKeys : Control → ℕ → Control
+withKeys c keys = record { phase = c .phase; next = c .next; items = c .items; words = c .words; keys = keys; fresh = c .fresh }
+
+-- before and after the batch joined: of any memory, and at a commit's last fence
+pub record Joining (c : Control) (k : Setup) (buffer buffer′ ws table table′ : List ℕ) (keys : ℕ) : Type 0 where
+  pub kept : WordsKept buffer buffer′
+  pub sized : length table′ ≡ length table
+  pub joins : (front back items : List Entry) → Fenced c k buffer ws table front back items
+      → Built (withKeys c keys) buffer′ table′ (front ++ (placed (batchPlace k) items ++ back)) × (keys ≡ length (keysOf (front ++ (placed (batchPlace k) items ++ back))))

@@ -1,0 +1,241 @@
+// A commit's items join the key table, their blocks the bits; and the blocks of the entries that they supersede leave the bits.
+ghost use Prim.Native.Nat.{_≤_};
+ghost use Rattle.spec.specs.Words.{wordsOf};
+ghost use Rattle.spec.specs.Log.{firstOf};
+ghost use lib.ListN.{getD};
+ghost use Rattle.apply.specs.Blocks.{blockAt, namedBy, twinBlock, Freed, Claimed};
+ghost use Rattle.apply.specs.Joining.{Scanned, Superseded, OneJoined, Staged, Joining};
+use index::Info;
+use log::Next;
+use session::Control;
+use spec::FirstWord;
+use session::Setup;
+
+// THE BLOCKS OF SUPERSEDED ENTRIES
+// The block of an entry with these parts, if it is a put in one, leaves the bits.
+fn release(buffer: &mut [u64; 1152], op: u64, placement: u64, field: u64)
+    ensures { λ _. ⌜ Freed (now (buffer .entry)) (now (buffer .exit)) (blockAt op placement field) ⌝ }
+{
+    blocks::buffer_length(buffer);
+    if op == 1 {
+        if placement == 1 {
+            blocks::unset_bit(buffer, field as usize);
+        }
+    }
+}
+
+// The block of the entry that stands at word `place`.
+fn release_at(buffer: &mut [u64; 1152], image: &[u8], place: usize)
+    ensures { λ _. ⌜ Freed (now (buffer .entry)) (now (buffer .exit)) (namedBy (firstOf (getD (wordsOf (now (image .entry))) place 0))) ⌝ }
+{
+    blocks::buffer_length(buffer);
+    let first = codec::first_of(words::load(image, place));
+    match first {
+        FirstWord::Padding => {}
+        FirstWord::Wrong => {}
+        FirstWord::Entry {
+            op,
+            placement,
+            version: _,
+            field,
+        } => {
+            release(buffer, op, placement, field);
+        }
+    }
+}
+
+// An entry of the log, if it is of this key and version.
+fn release_twin(
+    buffer: &mut [u64; 1152],
+    key: u64,
+    version: u64,
+    k: u64,
+    v: u64,
+    op: u64,
+    placement: u64,
+    field: u64,
+)
+    ensures { λ _. ⌜ Freed (now (buffer .entry)) (now (buffer .exit)) (twinBlock key version k v op placement field) ⌝ }
+{
+    blocks::buffer_length(buffer);
+    if k == key {
+        if v == version {
+            release(buffer, op, placement, field);
+        }
+    }
+}
+
+// All entries of this key and version, by a scan of the log of an image of `count` chunks.
+fn release_twins(buffer: &mut [u64; 1152], image: &[u8], count: usize, key: u64, version: u64)
+    ensures { λ _. ⌜ Scanned count (wordsOf (now (image .entry))) (now (buffer .entry)) (now (buffer .exit)) key version ⌝ }
+{
+    blocks::buffer_length(buffer);
+    let mut cursor = log::first_cursor();
+    loop {
+        let n = log::next_in_log(image, count, cursor);
+        match n {
+            Next::Done => {
+                return;
+            }
+            Next::Wrong => {
+                return;
+            }
+            Next::Entry {
+                op,
+                placement,
+                version: v,
+                field,
+                key: k,
+                words: _,
+                place: _,
+                cursor: behind,
+            } => {
+                release_twin(buffer, key, version, k, v, op, placement, field);
+                cursor = behind;
+            }
+        }
+    }
+}
+
+// The top entries of a key, of which the table says so much: one, or several.
+fn release_tops(buffer: &mut [u64; 1152], image: &[u8], count: usize, key: u64, info: Info)
+    ensures { λ _. ⌜ Superseded count (wordsOf (now (image .entry))) (now (buffer .entry)) (now (buffer .exit)) key info ⌝ }
+{
+    blocks::buffer_length(buffer);
+    if info.several == 0 {
+        if 0 < info.extent {
+            return;
+        }
+        release_at(buffer, image, info.place as usize);
+        return;
+    }
+    release_twins(buffer, image, count, key, info.version);
+}
+
+// ONE ITEM
+// The block of an entry with these parts, if it is a put in one, joins the bits.
+fn claim(buffer: &mut [u64; 1152], op: u64, placement: u64, field: u64)
+    ensures { λ _. ⌜ Claimed (now (buffer .entry)) (now (buffer .exit)) (blockAt op placement field) ⌝ }
+{
+    blocks::buffer_length(buffer);
+    if placement == 1 {
+        if op == 1 {
+            blocks::set_bit(buffer, field as usize);
+        }
+    }
+}
+
+// An entry joins the table, which has so many keys: how many it has then. `own` is what it would hold of the key with this entry alone.
+// The blocks that it supersedes leave the bits; its own is not yet there.
+fn join_one(
+    image: &[u8],
+    count: usize,
+    buffer: &mut [u64; 1152],
+    table: &mut [u64],
+    keys: usize,
+    key: u64,
+    own: u64,
+) -> usize
+    ensures { λ r. ⌜ OneJoined count (wordsOf (now (image .entry))) (now (buffer .entry)) (now (buffer .exit)) (now (table .entry)) (now (table .exit)) keys key own r ⌝ }
+{
+    blocks::buffer_length(buffer);
+    let slot = index::stop(table, key);
+    let old = index::word_at(table, slot);
+    if old == 0 {
+        if keys < index::capacity(table.len()) {
+            index::put_at(table, slot, key, own);
+            return keys + 1;
+        }
+        return keys;
+    }
+    index::put_at(table, slot, key, volatile::noted(old, own));
+    release_tops(buffer, image, count, key, index::unpack(old));
+    keys
+}
+
+// THE BATCH
+// What stands at a place of the staged words.
+enum Item {
+    Nothing,
+    Entry {
+        op: u64,
+        placement: u64,
+        version: u64,
+        field: u64,
+        key: u64,
+        words: usize,
+    },
+}
+
+fn item_at(buffer: &[u64; 1152], at: usize, end: usize) -> Item
+    requires { ⌜ end ≤ 512 ⌝ }
+    ensures { λ r. ⌜ Staged (now (buffer .entry)) at end r ⌝ }
+{
+    if end <= at {
+        return Item::Nothing;
+    }
+    let first = codec::first_of(buffer[at]);
+    match first {
+        FirstWord::Padding => Item::Nothing,
+        FirstWord::Wrong => Item::Nothing,
+        FirstWord::Entry {
+            op,
+            placement,
+            version,
+            field,
+        } => {
+            let words = log::words_for(placement, field);
+            if end - at < 2 + words {
+                return Item::Nothing;
+            }
+            Item::Entry {
+                op,
+                placement,
+                version,
+                field,
+                key: buffer[at + 1],
+                words,
+            }
+        }
+    }
+}
+
+// At a commit's last fence the staged items join: how many keys the table has then.
+pub fn join(
+    control: Control,
+    setup: Setup,
+    buffer: &mut [u64; 1152],
+    image: &[u8],
+    table: &mut [u64],
+) -> usize
+    ensures { λ r. ⌜ Joining control setup (now (buffer .entry)) (now (buffer .exit)) (wordsOf (now (image .entry))) (now (table .entry)) (now (table .exit)) r ⌝ }
+{
+    blocks::buffer_length(buffer);
+    let count = setup.image / 4096;
+    let place = actions::batch_start(setup);
+    let end = actions::at_most(control.words, 512);
+    let mut keys = control.keys;
+    let mut at: usize = 0;
+    loop {
+        let item = item_at(buffer, at, end);
+        match item {
+            Item::Nothing => {
+                return keys;
+            }
+            Item::Entry {
+                op,
+                placement,
+                version,
+                field,
+                key,
+                words,
+            } => {
+                let extent = volatile::extent_of(placement, field);
+                let own = volatile::alone(extent, place + at, version);
+                keys = join_one(image, count, buffer, table, keys, key, own);
+                claim(buffer, op, placement, field);
+                at += 2 + words;
+            }
+        }
+    }
+}

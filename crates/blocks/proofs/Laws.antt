@@ -1,0 +1,135 @@
+-- The laws of the set of units: what a store to a word of it does, and what clearing its words does.
+-- Assumes nothing.
+use mathlib.Core.Path.{_≡_, refl, _∙_, ap, sym}
+use mathlib.Core.Logic.{by-cases}
+use mathlib.Core.Bool.{Bool, true, false}
+use mathlib.Core.List.{List}
+use Prim.Native.Nat.{ℕ, _+_, _*_, _/_, _%_, _^_, _≤_, _<_}
+use native.Mathlib.Nat.{zero-div, div-add-mod'}
+use native.Mathlib.Omega.{arith}
+use native.Mathlib.Decide.{decLt, ℕ-discrete}
+use borrow.Author.Tests.{lt-ltb, le-ltb, eq-eqb}
+use lib.Bits.{bitAnd, bitOr, bitXor}
+use lib.Dec.{eqb}
+use lib.ListN.{length, getD, set, take, length-set}
+use lib.Seq.{getD-set-same, getD-set-other, ext-getD, getD-take, length-take-le}
+use Rattle.blocks.proofs.Word.{shifted, set-same, set-other, unset-same, unset-other}
+use Rattle.blocks.specs.Bits.{wordOf, hasBit, WordsKept, BitWritten, BitsCleared}
+
+-- the bit of a unit, and none past the last
+pub bit-in : (b : List ℕ) (u : ℕ) → u < 8064 → hasBit b u ≡ eqb (getD b (wordOf u) 0 / 2 ^ (u % 64) % 2) 1
+unfolding hasBit
+bit-in b u l = rw (lt-ltb u 8064 l)
+
+pub bit-beyond : (b : List ℕ) (u : ℕ) → 8064 ≤ u → hasBit b u ≡ false
+unfolding hasBit
+bit-beyond b u l = rw (le-ltb u 8064 l)
+
+-- two buffers whose words at a unit agree in its bit
+bit-agrees : (b d : List ℕ) (u : ℕ)
+    → (u < 8064 → getD b (wordOf u) 0 / 2 ^ (u % 64) % 2 ≡ getD d (wordOf u) 0 / 2 ^ (u % 64) % 2) → hasBit b u ≡ hasBit d u
+bit-agrees b d u h =
+    by-cases (decLt u 8064)
+    (λ l. bit-in b u l ∙ ap (λ x. eqb x 1) (h l) ∙ sym (bit-in d u l))
+    (λ l. let g : 8064 ≤ u = omega arith in bit-beyond b u g ∙ sym (bit-beyond d u g))
+
+-- a buffer that is as it was
+pub kept-all : (b : List ℕ) → length b ≡ 1152 → WordsKept b b
+kept-all b n = record { size = n; long = refl; below = λ i l. refl; above = λ i l. refl }
+
+pub beyond-kept : (b : List ℕ) (u : ℕ) (value : Bool) → length b ≡ 1152 → 8064 ≤ u → BitWritten b b u value
+beyond-kept b u value n g =
+    record { at = λ l. absurd (omega arith); other = λ v d. refl; beyond = λ l. refl; kept = kept-all b n }
+
+-- a store of a word that differs in the unit's bit alone
+module _ (b : List ℕ) (u w : ℕ) (value : Bool) (n : length b ≡ 1152) (l : u < 8064) where
+  in-range : wordOf u < length b
+  in-range = omega arith
+
+  pub written : eqb (w / 2 ^ (u % 64) % 2) 1 ≡ value
+      → ((k : ℕ) → (k ≡ u % 64 → ⊥) → w / 2 ^ k % 2 ≡ getD b (wordOf u) 0 / 2 ^ k % 2) → BitWritten b (set b (wordOf u) w) u value
+  written same others =
+      record {
+        at = λ h. bit-in (set b (wordOf u) w) u h ∙ rw (getD-set-same b (wordOf u) w 0 in-range) same;
+        other = λ v d. bit-agrees (set b (wordOf u) w) b v (λ h. by-cases (ℕ-discrete (v / 64) (u / 64))
+            (λ q.
+            let e : v % 64 ≡ u % 64 → ⊥ = λ r. d (omega (arith, div-add-mod' v 64, div-add-mod' u 64)) in
+            rw (q, getD-set-same b (wordOf u) w 0 in-range) (others (v % 64) e))
+            (λ q. rw (getD-set-other b (wordOf u) (wordOf v) w 0 (λ r. q (omega arith)))));
+        beyond = λ h. absurd (omega arith);
+        kept = record {
+          size = n;
+          long = length-set b (wordOf u) w;
+          below = λ i h. getD-set-other b (wordOf u) i w 0 (λ r. omega arith);
+          above = λ i h. getD-set-other b (wordOf u) i w 0 (λ r. omega arith);
+        };
+      }
+
+-- what the code stores
+module _ (b : List ℕ) (u : ℕ) (n : length b ≡ 1152) (l : u < 8064) where
+  pub set-shows : BitWritten b (set b (wordOf u) (bitOr (getD b (wordOf u) 0) (1 * 2 ^ (u % 64) % 2 ^ 64))) u true
+  set-shows =
+      let w = getD b (wordOf u) 0 in
+      let k = u % 64 in
+      rw (shifted k (omega arith)) (written b u (bitOr w (2 ^ k)) true n l (eq-eqb _ 1 (set-same w k)) (set-other w k))
+
+  pub unset-shows : BitWritten b (set b (wordOf u) (bitXor (getD b (wordOf u) 0) (bitAnd (getD b (wordOf u) 0) (1 * 2 ^ (u % 64) % 2 ^ 64)))) u false
+  unset-shows =
+      let w = getD b (wordOf u) 0 in
+      let k = u % 64 in
+      rw (shifted k (omega arith)) (written b u (bitXor w (bitAnd w (2 ^ k))) false n l (ap (λ x. eqb x 1) (unset-same w k)) (unset-other w k))
+
+-- the words before i that hold bits are 0, and every other is as it was
+pub record Clearing (before after : List ℕ) (i : ℕ) : Type 0 where
+  pub done : (j : ℕ) → 1024 ≤ j → j < i → getD after j 0 ≡ 0
+  pub left : (j : ℕ) → i ≤ j → getD after j 0 ≡ getD before j 0
+  pub low : (j : ℕ) → j < 1024 → getD after j 0 ≡ getD before j 0
+  pub size : length before ≡ 1152
+  pub long : length after ≡ 1152
+
+pub clear-none : (b : List ℕ) → length b ≡ 1152 → Clearing b b 1024
+clear-none b n =
+    record { done = λ j g l. absurd (omega arith); left = λ j l. refl; low = λ j l. refl; size = n; long = n }
+
+pub clear-more : (b d : List ℕ) (i : ℕ) → Clearing b d i → 1024 ≤ i → i < 1150 → Clearing b (set d i 0) (i + 1)
+clear-more b d i c g l =
+    record {
+      done = λ j h k. by-cases (ℕ-discrete j i)
+          (λ q. rw q (getD-set-same d i 0 0 (omega arith)))
+          (λ q. getD-set-other d i j 0 0 q ∙ c .done j h (omega arith));
+      left = λ j h. getD-set-other d i j 0 0 (λ q. omega arith) ∙ c .left j (omega arith);
+      low = λ j h. getD-set-other d i j 0 0 (λ q. omega arith) ∙ c .low j h;
+      size = c .size;
+      long = length-set d i 0 ∙ c .long;
+    }
+
+zero-bit : (k : ℕ) → 0 / 2 ^ k % 2 ≡ 0
+zero-bit k = rw (zero-div (2 ^ k))
+
+pub clear-all : (b d : List ℕ) → Clearing b d 1150 → BitsCleared b d
+clear-all b d c =
+    record {
+      none = λ v. by-cases (decLt v 8064)
+          (λ l. bit-in d v l ∙ rw (c .done (wordOf v) (omega arith) (omega arith), zero-bit (v % 64)))
+          (λ l. bit-beyond d v (omega arith));
+      kept = record { size = c .size; long = c .long ∙ sym (c .size); below = c .low; above = c .left };
+    }
+
+-- one change after another
+pub kept-then : (a b d : List ℕ) → WordsKept a b → WordsKept b d → WordsKept a d
+kept-then a b d k m =
+    record {
+      size = k .size;
+      long = m .long ∙ k .long;
+      below = λ i l. m .below i l ∙ k .below i l;
+      above = λ i l. m .above i l ∙ k .above i l;
+    }
+
+-- what stands before the bits is the same list
+pub kept-take : (b d : List ℕ) (n : ℕ) → WordsKept b d → n ≤ 1024 → take n d ≡ take n b
+kept-take b d n k l =
+    let e : length (take n d) ≡ n = length-take-le n d (omega (arith, k .size, k .long)) in
+    let f : length (take n b) ≡ n = length-take-le n b (omega (arith, k .size)) in
+    ext-getD 0 (take n d) (take n b) (e ∙ sym f) (λ i h.
+    let m : i < n = omega arith in
+    rw (getD-take n d i 0 m, getD-take n b i 0 m) (k .below i (omega arith)))

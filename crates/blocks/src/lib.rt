@@ -1,0 +1,63 @@
+// The set of units that start a block in use, as bits in words 1024 to 1149 of the station record's buffer.
+ghost use mathlib.Core.Path.{_≡_};
+ghost use mathlib.Core.Bool.{true, false};
+ghost use lib.ListN.{length};
+ghost use Rattle.blocks.specs.Bits.{hasBit, BitWritten, BitsCleared};
+
+fn count(words: &[u64]) -> usize
+    ensures { λ r. ⌜ r ≡ length (now (words .entry)) ⌝ }
+{
+    words.len()
+}
+
+// The number of words of the buffer: a call tells its caller that the list behind the reference has that length.
+pub fn buffer_length(buffer: &[u64; 1152]) -> usize
+    ensures { λ r. ⌜ (r ≡ 1152) × (length (now (buffer .entry)) ≡ 1152) ⌝ }
+{
+    count(buffer)
+}
+
+pub fn has_bit(buffer: &[u64; 1152], u: usize) -> bool
+    ensures { λ r. ⌜ r ≡ hasBit (now (buffer .entry)) u ⌝ }
+{
+    if u < 8064 {
+        let word = buffer[1024 + u / 64];
+        (word >> (u % 64)) % 2 == 1
+    } else {
+        false
+    }
+}
+
+// Past the last unit a change does nothing.
+pub fn set_bit(buffer: &mut [u64; 1152], u: usize)
+    ensures { λ _. ⌜ BitWritten (now (buffer .entry)) (now (buffer .exit)) u true ⌝ }
+{
+    buffer_length(buffer);
+    if u < 8064 {
+        let at = 1024 + u / 64;
+        let word = buffer[at];
+        buffer[at] = word | 1 << (u % 64);
+    }
+}
+
+pub fn unset_bit(buffer: &mut [u64; 1152], u: usize)
+    ensures { λ _. ⌜ BitWritten (now (buffer .entry)) (now (buffer .exit)) u false ⌝ }
+{
+    buffer_length(buffer);
+    if u < 8064 {
+        let at = 1024 + u / 64;
+        let word = buffer[at];
+        buffer[at] = word ^ (word & 1 << (u % 64));
+    }
+}
+
+pub fn clear_bits(buffer: &mut [u64; 1152])
+    ensures { λ _. ⌜ BitsCleared (now (buffer .entry)) (now (buffer .exit)) ⌝ }
+{
+    buffer_length(buffer);
+    let mut i = 1024;
+    while i < 1150 {
+        buffer[i] = 0;
+        i += 1;
+    }
+}

@@ -1,0 +1,49 @@
+-- `stepping::plan_commit` meets its contract.
+-- Assumes nothing.
+use borrow.Author.Needs.{needs}
+use Rattle.committing.proofs.Begins as B
+use Rattle.committing.proofs.plan_commit.Statement.{statement}
+use Rattle.committing.proofs.plan_commit.Tie as tie
+
+gate-requires : tie.Need-gate-requires
+gate-requires c κs = search needs
+
+enum-known-gated : tie.Need-enum-known-gated
+enum-known-gated c = search needs
+
+enum-told : tie.Need-enum-told
+enum-told c = search needs
+
+returns : tie.Need-returns
+returns c = B.nothing-staged _ _ _ _ _ _ (c .before .before .before .before .gate .ensures) (c .before .before .enum-told .given .1) (c .if1 .taken)
+
+commit-place-requires : tie.Need-commit-place-requires
+commit-place-requires c κs = search needs
+
+commit-count-requires : tie.Need-commit-count-requires
+commit-count-requires c κs = search needs
+
+returns-2 : tie.Need-returns-2
+returns-2 c =
+    B.begins _ _ _ _ _ _ (c .before .before .before .before .before .before .before .before .gate .ensures) (c .before .before .before .before .before .before .enum-told .given .1) (c .before .before .before .before .if1 .left) _ (c .before .before .before .commit-place .ensures) (c .before .if2 .taken) _ (c .commit-count .ensures)
+
+returns-3 : tie.Need-returns-3
+returns-3 c = B.gate-refuses _ _ _ _ _ _ (c .before .before .before .gate .ensures) _ (c .before .gated .given .1)
+
+returns-4 : tie.Need-returns-4
+returns-4 c =
+    B.no-space _ _ _ _ _ _ (c .before .before .before .before .before .before .before .gate .ensures) (c .before .before .before .before .before .enum-told .given .1) (c .before .before .before .if1 .left) _ (c .before .before .commit-place .ensures) (c .if2 .left)
+
+pub plan-commit-spec : {M : Type 1} → statement M
+plan-commit-spec =
+    tie.close
+    (tie.spec
+    gate-requires
+    enum-known-gated
+    enum-told
+    returns
+    commit-place-requires
+    commit-count-requires
+    returns-2
+    returns-3
+    returns-4)

@@ -1,0 +1,156 @@
+// Plan and begin of a commit.
+ghost use mathlib.Core.Path.{_≡_};
+ghost use Prim.Native.Nat.{min};
+ghost use Rattle.spec.specs.Basics.{pick};
+ghost use Rattle.spec.specs.Actions.{linesFor};
+ghost use Rattle.spec.specs.Machine.{Commit};
+ghost use Rattle.session.specs.State.{batchRoom};
+ghost use Rattle.committing.specs.Planned.{PlaceFor, CommitPlanned};
+ghost use Rattle.session.specs.Promise.{Does};
+use session::Control;
+use session::Gated;
+use session::Outcome;
+use session::Setup;
+use space::Placed;
+use spec::Refusal;
+use spec::Report;
+
+// COMMIT
+// What a commit finds: a refusal, or where it writes (chunk, its directory word, its committed lines), where the next one looks for space,
+// and how many actions it has.
+pub enum CommitPlan {
+    Refused(Refusal),
+    At {
+        chunk: usize,
+        old: u64,
+        lines: usize,
+        first: usize,
+        least: usize,
+        actions: usize,
+    },
+}
+
+// How many lines the staged words take.
+fn batch_lines(words: usize) -> usize
+    ensures { λ r. ⌜ r ≡ linesFor (min words batchRoom) ⌝ }
+{
+    if words < 512 {
+        return (words + 7) / 8;
+    }
+    64
+}
+
+// How many free chunks a commit asks for.
+fn free_needed(deletes: bool) -> usize
+    ensures { λ r. ⌜ r ≡ pick deletes 2 3 ⌝ }
+{
+    if deletes { 2 } else { 3 }
+}
+
+// The place for the staged items, looked for from the hint on.
+fn commit_place(
+    buffer: &[u64; 1152],
+    words: usize,
+    first: usize,
+    least: usize,
+    image: &[u8],
+) -> Placed
+    ensures { λ r. ⌜ PlaceFor (now (buffer .entry)) words (now (image .entry)) first least r ⌝ }
+{
+    let count = image.len() / 4096;
+    let lines = batch_lines(words);
+    let deletes = batch::only_deletes(buffer, words);
+    let needed = free_needed(deletes);
+    space::log_place(image, count, lines, needed, first, least)
+}
+
+// 2, 1, 8, 14, 13, or the place. Nothing is changed.
+pub fn plan_commit(
+    control: Control,
+    setup: Setup,
+    buffer: &[u64; 1152],
+    image: &[u8],
+    table: &[u64],
+) -> CommitPlan
+    ensures { λ r. ⌜ CommitPlanned control setup (now (buffer .entry)) (now (image .entry)) (now (table .entry)) r ⌝ }
+{
+    let gated = session::gate(control, setup, image.len(), table.len());
+    match gated {
+        Gated::Refused(n) => CommitPlan::Refused(n),
+        Gated::Open => {
+            if control.items == 0 {
+                return CommitPlan::Refused(Refusal::NothingStaged);
+            }
+            let placed = commit_place(buffer, control.words, setup.first, setup.least, image);
+            let place = placed.place;
+            if place.found {
+                let actions = actions::commit_count(control.words);
+                return CommitPlan::At {
+                    chunk: place.chunk,
+                    old: place.old,
+                    lines: place.committed,
+                    first: placed.first,
+                    least: placed.least,
+                    actions,
+                };
+            }
+            CommitPlan::Refused(Refusal::NoSpace)
+        }
+    }
+}
+
+// The staged items are to be written where the plan says.
+pub fn commit_core(
+    control: Control,
+    setup: Setup,
+    buffer: &[u64; 1152],
+    image: &[u8],
+    table: &[u64],
+) -> Outcome
+    ensures { λ r. ⌜ Does Commit (record { control = control; setup = setup; buffer = now (buffer .entry) }) (record { control = r .control; setup = r .setup; buffer = now (buffer .entry) }) (now (image .entry)) (now (image .entry)) (now (table .entry)) (now (table .entry)) (r .report) ⌝ }
+{
+    let plan = plan_commit(control, setup, buffer, image, table);
+    match plan {
+        CommitPlan::Refused(n) => Outcome {
+            control,
+            setup,
+            report: Report::Refused(n),
+        },
+        CommitPlan::At {
+            chunk,
+            old,
+            lines,
+            first,
+            least,
+            actions,
+        } => {
+            let begun = Control {
+                phase: 3,
+                next: 0,
+                items: control.items,
+                words: control.words,
+                keys: control.keys,
+                fresh: control.fresh,
+            };
+            let source = setup.source;
+            let bound = Setup {
+                image: setup.image,
+                table: setup.table,
+                chunk,
+                old,
+                lines,
+                first,
+                least,
+                fields: setup.fields,
+                station: setup.station,
+                centre: setup.centre,
+                source,
+            };
+            Outcome {
+                control: begun,
+                setup: bound,
+                report: Report::Begun(actions),
+            }
+        }
+    }
+}

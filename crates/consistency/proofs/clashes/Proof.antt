@@ -1,0 +1,98 @@
+-- `tops::clashes` meets its contract. The loop's invariant: none of the entries passed clashes.
+-- Assumes nothing.
+use Rattle.spec.specs.Words.{wordsOf}
+use Rattle.log.specs.Cursor.{left}
+use Rattle.log.proofs.Walk.{handed}
+use Rattle.consistency.proofs.Clash.{Clear, clear-start, clear-next, clear-clash, clear-done, clear-wrong}
+use borrow.Author.Needs.{needs}
+use Rattle.consistency.proofs.clashes.Statement.{statement}
+use Rattle.consistency.proofs.clashes.Tie as tie
+
+abbrev Inv-loop : tie.InvT-loop
+Inv-loop image count table fits key unit cursor₀ cursor = Clear count (wordsOf image) table fits key unit cursor
+
+abbrev μ-loop : tie.MeasureT-loop
+μ-loop image count table fits key unit cursor₀ cursor = left count (wordsOf image) cursor
+
+first-cursor-requires : tie.Need-first-cursor-requires Inv-loop μ-loop
+first-cursor-requires c κs = search needs
+
+loop-holds : tie.Need-loop-holds Inv-loop μ-loop
+loop-holds c =
+    let a = c .before .before .before .args in
+    let ws = wordsOf (a .image .now) in
+    clear-start (a .count) ws (a .table .now) (a .fits) (a .key) (a .unit) (c .first-cursor .result) (c .first-cursor .ensures)
+
+next-in-log-requires : tie.Need-next-in-log-requires Inv-loop μ-loop
+next-in-log-requires c κs = search needs
+
+enum-told : tie.Need-enum-told Inv-loop μ-loop
+enum-told c = search needs
+
+returns : tie.Need-returns Inv-loop μ-loop
+returns c =
+    let a = c .before .before .before .before .before .before .before .args in
+    let ws = wordsOf (a .image .now) in
+    let at = c .before .before .before .loop in
+    let step = c .before .before .next-in-log in
+    clear-done (a .count) ws (a .table .now) (a .fits) (a .key) (a .unit) (at .cursor) (at .inv) (step .result) (step .ensures) (c .enum-told .given .1)
+
+enum-told-2 : tie.Need-enum-told-2 Inv-loop μ-loop
+enum-told-2 c = search needs
+
+returns-2 : tie.Need-returns-2 Inv-loop μ-loop
+returns-2 c =
+    let a = c .before .before .before .before .before .before .before .args in
+    let ws = wordsOf (a .image .now) in
+    let at = c .before .before .before .loop in
+    let step = c .before .before .next-in-log in
+    clear-wrong (a .count) ws (a .table .now) (a .fits) (a .key) (a .unit) (at .cursor) (at .inv) (step .result) (step .ensures) (c .enum-told2 .given .1)
+
+enum-known-n : tie.Need-enum-known-n Inv-loop μ-loop
+enum-known-n c = search needs
+
+clashing-requires : tie.Need-clashing-requires Inv-loop μ-loop
+clashing-requires c κs = search needs
+
+returns-3 : tie.Need-returns-3 Inv-loop μ-loop
+returns-3 c =
+    let a = c .before .before .before .before .before .before .before .before .before .before .args in
+    let ws = wordsOf (a .image .now) in
+    let at = c .before .before .before .before .before .before .loop in
+    let step = c .before .before .before .before .before .next-in-log in
+    clear-clash (a .count) ws (a .table .now) (a .fits) (a .key) (a .unit) (at .cursor) (at .inv) (step .result) (step .ensures) _ _ _ _ _ _ _ _ (c .before .before .before .n .given .1) (c .before .clashing .result) (c .before .clashing .ensures) (c .if1 .taken)
+
+loop-less : tie.Need-loop-less Inv-loop μ-loop
+loop-less c =
+    let a = c .before .before .before .before .before .before .before .before .before .before .args in
+    let ws = wordsOf (a .image .now) in
+    let at = c .before .before .before .before .before .before .loop in
+    let step = c .before .before .before .before .before .next-in-log in
+    handed (a .count) ws (at .cursor) (step .result) (step .ensures) _ _ _ _ _ _ _ _ (c .before .before .before .n .given .1) .falls
+
+loop-again : tie.Need-loop-again Inv-loop μ-loop
+loop-again c =
+    let a = c .before .before .before .before .before .before .before .before .before .before .args in
+    let ws = wordsOf (a .image .now) in
+    let at = c .before .before .before .before .before .before .loop in
+    let step = c .before .before .before .before .before .next-in-log in
+    clear-next (a .count) ws (a .table .now) (a .fits) (a .key) (a .unit) (at .cursor) (at .inv) (step .result) (step .ensures) _ _ _ _ _ _ _ _ (c .before .before .before .n .given .1) (c .before .clashing .result) (c .before .clashing .ensures) (c .if1 .left)
+
+pub clashes-spec : {M : Type 1} → statement M
+clashes-spec =
+    tie.close
+    (tie.spec
+    Inv-loop
+    μ-loop
+    first-cursor-requires
+    loop-holds
+    next-in-log-requires
+    enum-told
+    returns
+    enum-told-2
+    returns-2
+    enum-known-n
+    clashing-requires
+    returns-3
+    loop-less
+    loop-again)

@@ -1,0 +1,499 @@
+// The second pass of an opening: whether the top entries' blocks are right, whether top entries agree and share no block with another key,
+// and the blocks in use as bits.
+ghost use mathlib.Core.Path.{_≡_};
+ghost use Prim.Native.Nat.{_+_, _-_, _*_, _^_, _≤_, _<_, min};
+ghost use mathlib.Core.Bool.{true};
+ghost use Rattle.spec.specs.Basics.{pick, every};
+ghost use Rattle.spec.specs.Words.{wordsOf};
+ghost use Rattle.spec.specs.Blocks.{startTests, lengthTests, blockRight};
+ghost use Rattle.consistency.specs.Spans.{spanIn, sameSpan, sameFrom, points, pointsTo};
+ghost use Rattle.consistency.specs.Pass.{AgreesWith, TopIs, ClashingIs, ClashIs, PointsAt, AgreedIs, SkippedIs, StillIs, MarkedIs, VisitedIs, CheckedAs, Examined};
+use blocks::clear_bits;
+use blocks::has_bit;
+use blocks::set_bit;
+use codec::Unit;
+use codec::first_of;
+use index::look;
+use index::unpack;
+use log::Best;
+use log::Next;
+use log::best_of;
+use log::first_cursor;
+use log::next_in_log;
+use log::size_of;
+use log::words_for;
+use spec::FirstWord;
+use words::load;
+
+// An entry of the log but for its value: `place` is its first word.
+pub struct Head {
+    pub op: u64,
+    pub placement: u64,
+    pub version: u64,
+    pub field: u64,
+    pub key: u64,
+    pub place: usize,
+}
+
+// Where a put's value lies: its bytes and its first word. A delete has none.
+pub struct Span {
+    pub put: bool,
+    pub length: u64,
+    pub start: usize,
+}
+
+// What the pass finds: no wrong block, no top entries that disagree, no block of two keys.
+pub struct Checked {
+    pub blocks: bool,
+    pub agreeing: bool,
+    pub apart: bool,
+}
+
+fn lesser(a: usize, b: usize) -> usize
+    ensures { λ r. ⌜ r ≡ min a b ⌝ }
+{
+    if a < b { a } else { b }
+}
+
+// BLOCKS
+// Whether a unit of an image of `count` chunks starts a block of so many units.
+fn starts(count: usize, unit: u64, size: usize) -> bool
+    requires { ⌜ size ≤ 16 ⌝ }
+    ensures { λ r. ⌜ r ≡ every (startTests 12 count unit size) ⌝ }
+{
+    let chunk = (unit / 16) as usize;
+    let place = (unit % 16) as usize;
+    if chunk < 1 {
+        return false;
+    }
+    if count <= chunk {
+        return false;
+    }
+    if size < 1 {
+        return false;
+    }
+    if place % size == 0 {
+        return place + size <= 16;
+    }
+    false
+}
+
+// Whether a block of so many units may have this length and its value ends in this word.
+fn length_right(size: usize, length: u64, last: u64) -> bool
+    requires { ⌜ (1 ≤ size) × (size ≤ 16) ⌝ }
+    ensures { λ r. ⌜ r ≡ every (lengthTests size length last) ⌝ }
+{
+    let room = 256 * (size as u64) - 8;
+    if length < 257 {
+        return false;
+    }
+    if room < length {
+        return false;
+    }
+    let odd = length % 8;
+    if odd == 0 {
+        return true;
+    }
+    last < 1 << (8 * odd)
+}
+
+// Whether a unit of an image of `count` chunks starts a block, its length is right and its value zero-filled.
+pub fn block_right(image: &[u8], count: usize, unit: u64) -> bool
+    ensures { λ r. ⌜ r ≡ blockRight 12 count (wordsOf (now (image .entry))) unit ⌝ }
+{
+    let size = size_of(image, (unit / 16) as usize);
+    if starts(count, unit, size) {
+        let at = Unit(unit).word_offset();
+        let length = load(image, at);
+        let last = load(image, at + words_for(0, length));
+        return length_right(size, length, last);
+    }
+    false
+}
+
+// VALUES
+// Where the value of an entry with these parts lies; a start past the image is cut.
+fn span_of(image: &[u8], op: u64, placement: u64, field: u64, at: usize) -> Span
+    ensures { λ r. ⌜ (r ≡ spanIn (wordsOf (now (image .entry))) op placement field at) × (r .start < 2 ^ 62) ⌝ }
+{
+    if op != 1 {
+        return Span {
+            put: false,
+            length: 0,
+            start: 0,
+        };
+    }
+    if placement == 1 {
+        let at = Unit(field).word_offset();
+        let length = load(image, at);
+        return Span {
+            put: true,
+            length,
+            start: at + 1,
+        };
+    }
+    Span {
+        put: true,
+        length: field,
+        start: lesser(at, image.len() / 8) + 2,
+    }
+}
+
+// Whether n words from word a are those from word b.
+fn same_words(image: &[u8], a: usize, b: usize, n: usize) -> bool
+    requires { ⌜ (a < 2 ^ 62) × (b < 2 ^ 62) × (n < 2 ^ 62) ⌝ }
+    ensures { λ r. ⌜ r ≡ sameFrom (wordsOf (now (image .entry))) a b n ⌝ }
+{
+    let mut i = 0;
+    while i < n {
+        let x = load(image, a + i);
+        let y = load(image, b + i);
+        if x != y {
+            return false;
+        }
+        i += 1;
+    }
+    true
+}
+
+fn same_spans(image: &[u8], a: Span, b: Span) -> bool
+    requires { ⌜ (a .start < 2 ^ 62) × (b .start < 2 ^ 62) ⌝ }
+    ensures { λ r. ⌜ r ≡ sameSpan (wordsOf (now (image .entry))) a b ⌝ }
+{
+    if a.put {
+        if b.put {
+            if a.length == b.length {
+                return same_words(image, a.start, b.start, words_for(0, a.length));
+            }
+        }
+        return false;
+    }
+    if b.put { false } else { true }
+}
+
+// Whether an entry agrees with the one that stands at word `place`.
+fn agrees(image: &[u8], e: Head, place: usize) -> bool
+    ensures { λ r. ⌜ AgreesWith (wordsOf (now (image .entry))) e place r ⌝ }
+{
+    let own = span_of(image, e.op, e.placement, e.field, e.place);
+    let first = first_of(load(image, place));
+    match first {
+        FirstWord::Padding => false,
+        FirstWord::Wrong => false,
+        FirstWord::Entry {
+            op,
+            placement,
+            version: _,
+            field,
+        } => {
+            let other = span_of(image, op, placement, field, place);
+            same_spans(image, own, other)
+        }
+    }
+}
+
+// TOP ENTRIES
+// The chosen top entry of a key: by the key table where it holds the keys, else by a scan.
+pub fn top_of(image: &[u8], count: usize, table: &[u64], fits: bool, key: u64) -> Best
+    ensures { λ r. ⌜ TopIs count (wordsOf (now (image .entry))) (now (table .entry)) fits key r ⌝ }
+{
+    if fits {
+        let info = unpack(look(table, key));
+        return Best {
+            version: info.version,
+            place: info.place as usize,
+        };
+    }
+    best_of(image, count, key)
+}
+
+// Whether an entry with these parts is a put of a block, and of this block.
+fn points(op: u64, placement: u64) -> bool
+    ensures { λ r. ⌜ r ≡ points op placement ⌝ }
+{
+    if op == 1 {
+        return placement == 1;
+    }
+    false
+}
+
+fn points_to(op: u64, placement: u64, field: u64, unit: u64) -> bool
+    ensures { λ r. ⌜ r ≡ pointsTo op placement field unit ⌝ }
+{
+    if points(op, placement) {
+        return field == unit;
+    }
+    false
+}
+
+// Whether an entry is another key's top put of this block.
+fn clashing(
+    image: &[u8],
+    count: usize,
+    table: &[u64],
+    fits: bool,
+    key: u64,
+    unit: u64,
+    e: Head,
+) -> bool
+    ensures { λ r. ⌜ ClashingIs count (wordsOf (now (image .entry))) (now (table .entry)) fits key unit e r ⌝ }
+{
+    if e.key == key {
+        return false;
+    }
+    if points_to(e.op, e.placement, e.field, unit) {
+        let top = top_of(image, count, table, fits, e.key);
+        return e.version == top.version;
+    }
+    false
+}
+
+// Whether another key's top put points to this block, by a scan of the log.
+fn clashes(image: &[u8], count: usize, table: &[u64], fits: bool, key: u64, unit: u64) -> bool
+    ensures { λ r. ⌜ ClashIs count (wordsOf (now (image .entry))) (now (table .entry)) fits key unit r ⌝ }
+{
+    let mut cursor = first_cursor();
+    loop {
+        let n = next_in_log(image, count, cursor);
+        match n {
+            Next::Done => {
+                return false;
+            }
+            Next::Wrong => {
+                return false;
+            }
+            Next::Entry {
+                op,
+                placement,
+                version,
+                field,
+                key: k,
+                words: _,
+                place,
+                cursor: after,
+            } => {
+                let e = Head {
+                    op,
+                    placement,
+                    version,
+                    field,
+                    key: k,
+                    place,
+                };
+                if clashing(image, count, table, fits, key, unit, e) {
+                    return true;
+                }
+                cursor = after;
+            }
+        }
+    }
+}
+
+// MARKS
+// Whether the entry that stands at word `place` is a put of this block.
+fn points_at(image: &[u8], place: usize, unit: u64) -> bool
+    ensures { λ r. ⌜ PointsAt (wordsOf (now (image .entry))) place unit r ⌝ }
+{
+    let first = first_of(load(image, place));
+    match first {
+        FirstWord::Padding => false,
+        FirstWord::Wrong => false,
+        FirstWord::Entry {
+            op,
+            placement,
+            version: _,
+            field,
+        } => points_to(op, placement, field, unit),
+    }
+}
+
+// Whether a top entry has no block to mark; the chosen one of its key stands at word `place`.
+fn skipped(image: &[u8], e: Head, place: usize) -> bool
+    ensures { λ r. ⌜ SkippedIs (wordsOf (now (image .entry))) e place r ⌝ }
+{
+    if points(e.op, e.placement) {
+        if e.place == place {
+            return false;
+        }
+        return points_at(image, place, e.field);
+    }
+    true
+}
+
+// Whether no two keys share a block, with one more entry whose block is marked already: scanned for only while it is so.
+fn still_apart(
+    image: &[u8],
+    count: usize,
+    table: &[u64],
+    fits: bool,
+    apart: bool,
+    key: u64,
+    unit: u64,
+) -> bool
+    ensures { λ r. ⌜ StillIs count (wordsOf (now (image .entry))) (now (table .entry)) fits key unit apart r ⌝ }
+{
+    if apart {
+        if clashes(image, count, table, fits, key, unit) {
+            return false;
+        }
+        return true;
+    }
+    false
+}
+
+// A top entry's block is marked, if it has one to mark; the answer is whether no two keys share a block.
+fn marked(
+    image: &[u8],
+    count: usize,
+    table: &[u64],
+    fits: bool,
+    buffer: &mut [u64; 1152],
+    apart: bool,
+    e: Head,
+    place: usize,
+) -> bool
+    ensures { λ r. ⌜ MarkedIs count (wordsOf (now (image .entry))) (now (table .entry)) fits apart e place (now (buffer .entry)) (now (buffer .exit)) r ⌝ }
+{
+    if skipped(image, e, place) {
+        return apart;
+    }
+    let unit = e.field as usize;
+    if has_bit(buffer, unit) {
+        return still_apart(image, count, table, fits, apart, e.key, e.field);
+    }
+    set_bit(buffer, unit);
+    apart
+}
+
+// THE PASS
+// Whether the block of an entry with these parts is right, if it points to one.
+fn block_fine(image: &[u8], count: usize, op: u64, placement: u64, field: u64) -> bool
+    ensures { λ r. ⌜ r ≡ pick (points op placement) (blockRight 12 count (wordsOf (now (image .entry))) field) true ⌝ }
+{
+    if points(op, placement) {
+        return block_right(image, count, field);
+    }
+    true
+}
+
+// Whether the top entries agree, with one more; the chosen one of its key stands at word `place`.
+fn agreed(image: &[u8], so: bool, e: Head, place: usize) -> bool
+    ensures { λ r. ⌜ AgreedIs (wordsOf (now (image .entry))) so e place r ⌝ }
+{
+    if e.place == place {
+        return so;
+    }
+    if so {
+        return agrees(image, e, place);
+    }
+    false
+}
+
+// One entry of the pass.
+fn visit(
+    image: &[u8],
+    count: usize,
+    table: &[u64],
+    fits: bool,
+    buffer: &mut [u64; 1152],
+    s: Checked,
+    e: Head,
+) -> Checked
+    ensures { λ r. ⌜ VisitedIs count (wordsOf (now (image .entry))) (now (table .entry)) fits s e (now (buffer .entry)) (now (buffer .exit)) r ⌝ }
+{
+    let top = top_of(image, count, table, fits, e.key);
+    if e.version != top.version {
+        return s;
+    }
+    if block_fine(image, count, e.op, e.placement, e.field) {
+        let agreeing = agreed(image, s.agreeing, e, top.place);
+        let apart = marked(image, count, table, fits, buffer, s.apart, e, top.place);
+        return Checked {
+            blocks: true,
+            agreeing,
+            apart,
+        };
+    }
+    Checked {
+        blocks: false,
+        agreeing: s.agreeing,
+        apart: s.apart,
+    }
+}
+
+// The pass over the log of an image of `count` chunks. The table holds the keys where `fits`; the bits become the blocks in use.
+pub fn check(
+    image: &[u8],
+    count: usize,
+    table: &[u64],
+    fits: bool,
+    buffer: &mut [u64; 1152],
+) -> Checked
+    ensures { λ r. ⌜ CheckedAs count (wordsOf (now (image .entry))) (now (table .entry)) fits (now (buffer .entry)) (now (buffer .exit)) r ⌝ }
+{
+    clear_bits(buffer);
+    let mut s = Checked {
+        blocks: true,
+        agreeing: true,
+        apart: true,
+    };
+    let mut cursor = first_cursor();
+    loop {
+        let n = next_in_log(image, count, cursor);
+        match n {
+            Next::Done => {
+                return s;
+            }
+            Next::Wrong => {
+                return s;
+            }
+            Next::Entry {
+                op,
+                placement,
+                version,
+                field,
+                key,
+                words: _,
+                place,
+                cursor: after,
+            } => {
+                let e = Head {
+                    op,
+                    placement,
+                    version,
+                    field,
+                    key,
+                    place,
+                };
+                s = visit(image, count, table, fits, buffer, s, e);
+                if s.blocks {
+                    cursor = after;
+                } else {
+                    return s;
+                }
+            }
+        }
+    }
+}
+
+// What the pass finds. Where the log is `plain`, with one top entry a key and no value in a block, nothing is left to find and none is made.
+pub fn examine(
+    image: &[u8],
+    count: usize,
+    table: &[u64],
+    fits: bool,
+    plain: bool,
+    buffer: &mut [u64; 1152],
+) -> Checked
+    ensures { λ r. ⌜ Examined count (wordsOf (now (image .entry))) (now (table .entry)) fits plain (now (buffer .entry)) (now (buffer .exit)) r ⌝ }
+{
+    if plain {
+        clear_bits(buffer);
+        return Checked {
+            blocks: true,
+            agreeing: true,
+            apart: true,
+        };
+    }
+    check(image, count, table, fits, buffer)
+}

@@ -1,0 +1,172 @@
+-- The other calls' refusals: an example for each number of the rules' table, what is nearest to it and accepted, and
+-- their order.
+-- Assumes nothing.
+use mathlib.Core.Bool.{true, false}
+use mathlib.Core.List.{List, [], _∷_}
+use Prim.Native.Nat.{ℕ, zero, suc}
+use lib.Dec.{T}
+use lib.ListN.{replicate}
+use Rattle.spec.specs.Places.{basePower, base, firstLine, firstUnit, chunkBytes, chunkWords, chunkLines, chunkUnits, chunksIn, lengthAllowed, unitChunk, unitIn, wordChunk}
+use Rattle.spec.specs.Medium.{Fence}
+use Rattle.spec.specs.Header.{headerTail, headerTest}
+use Rattle.spec.specs.Directory.{roleOf, linesOf, sizeOf, sizeFor, isSize, directoryRight}
+use Rattle.spec.specs.Log.{Entry, firstOf, stepOf}
+use Rattle.spec.specs.Blocks.{blockLimit, unitsFor, blockSize, blockTest}
+use Rattle.spec.specs.Contents.{chosen, tops, capacity, keptIn}
+use Rattle.spec.specs.Opening.{opening}
+use Rattle.spec.specs.Actions.{appendOf, commitOf, bodyOf, padded, blockOf, formatOf, blankOf, fillOf}
+use Rattle.spec.specs.Plans.{Committing, entry, planPut, planDelete, planCommit, planClean, slotFor, logPlace, chosenChunk, lookUp}
+use Rattle.spec.specs.Machine.{Call, Format, Open, Put, Delete, Commit, Abandon, LookUp, Choose, Clean, Step, State, Closed, Rest, Busy, Formatting, answer}
+use Rattle.spec.specs.declared.Given.the-variants as G
+use Rattle.examples.specs.Shown.{Shown, Words, Number, Refused, Accepted, Begun, Fenced, Idle, shownReport, Row, _is_, allHold}
+use Rattle.examples.specs.Images.{Change, _becomes_, changed, image, first, log, blocks}
+
+abbrev ask : Call → State → List ℕ → ℕ → ℕ → Shown
+ask k σ ws bytes table = shownReport (answer basePower (blockLimit basePower) k σ ws bytes table)
+
+-- on an open register of 16,384 bytes with a table of 64 words: these items are staged, and these words are changed
+abbrev on : List Entry → List Change → Call → Shown
+on items changes k = ask k (Rest 16384 64 items) (changed changes image) 16384 64
+
+-- on a register of four chunks as a formatting leaves it
+abbrev empty : List ℕ
+empty = 1 ∷ blankOf (headerTail 4 G.Absent G.Absent)
+
+abbrev onEmpty : List Entry → List Change → Call → Shown
+onEmpty items changes k = ask k (Rest 16384 64 items) (changed changes empty) 16384 64
+
+-- staged items: an empty put, a delete, a put in a block; n empty puts of keys n and below
+abbrev put : ℕ → ℕ → Entry
+put version key = entry 1 0 version 0 key []
+
+abbrev delete : ℕ → ℕ → Entry
+delete version key = entry 2 0 version 0 key []
+
+abbrev putIn : ℕ → ℕ → Entry
+putIn unit key = entry 1 1 1 unit key []
+
+abbrev puts : ℕ → List Entry
+puts zero = []
+puts (suc n) = put 1 (suc n) ∷ puts n
+
+-- unfinished calls
+abbrev committing : State
+committing = Busy 16384 64 [] Committing (Fence ∷ [])
+
+abbrev large : ℕ → List ℕ
+large bytes = replicate bytes 94
+
+abbrev rows : List Row
+rows =
+    -- 2: no register open; a formatting begun without one
+    ask (LookUp 7) Closed image 16384 64 is Refused 2
+    ∷ ask (LookUp 7) (Formatting false 16384 64 []) image 16384 64 is Refused 2
+    ∷ on [] [] (LookUp 7) is Words (4112 ∷ 5 ∷ [])
+    -- 1: a lent length unlike that at opening, or at a formatting's begin; an idle step looks at no length
+    ∷ ask (LookUp 7) (Rest 16384 64 []) image 20480 64 is Refused 1
+    ∷ ask (LookUp 7) (Rest 16384 64 []) image 16384 63 is Refused 1
+    ∷ ask Step committing image 16384 63 is Refused 1
+    ∷ ask Step committing image 16384 64 is Fenced
+    ∷ ask Step (Formatting true 16384 64 (Fence ∷ [])) image 20480 64 is Refused 1
+    ∷ ask Step (Formatting true 16384 64 (Fence ∷ [])) image 16384 64 is Fenced
+    ∷ ask Step (Rest 16384 64 []) image 20480 63 is Idle
+    ∷ ask Step Closed image 0 0 is Idle
+    -- 1: a formatting asks only whether the length is allowed
+    ∷ ask (Format G.Absent G.Absent) (Rest 16384 64 []) image 4095 64 is Refused 1
+    ∷ ask (Format G.Absent G.Absent) (Rest 16384 64 []) image 20480 63 is Begun 582
+    -- 8: a call is unfinished; an opening may come at any time
+    ∷ ask (LookUp 7) committing image 16384 64 is Refused 8
+    ∷ ask (LookUp 7) (Formatting true 16384 64 []) image 16384 64 is Refused 8
+    ∷ ask (Format G.Absent G.Absent) committing image 16384 64 is Refused 8
+    ∷ ask (Format G.Absent G.Absent) (Formatting false 16384 64 []) image 16384 64 is Refused 8
+    ∷ ask Open committing image 16384 64 is Accepted
+    -- 9: value too long
+    ∷ onEmpty [] [] (Put 7 (large 4089)) is Refused 9
+    ∷ onEmpty [] [] (Put 7 (large 4088)) is Begun 578
+    -- 10: a 17th item
+    ∷ onEmpty (puts 16) [] (Put 17 []) is Refused 10
+    ∷ onEmpty (puts 15) [] (Put 17 []) is Begun 0
+    ∷ onEmpty (puts 16) [] (Delete 7) is Refused 10
+    ∷ onEmpty (puts 15) [] (Delete 7) is Begun 0
+    -- 11: key absent; for a delete staged items are counted, for a look-up they are unseen
+    ∷ onEmpty [] [] (Delete 5) is Refused 11
+    ∷ onEmpty (put 1 5 ∷ []) [] (Delete 5) is Begun 0
+    ∷ on [] [] (Delete 5) is Refused 11
+    ∷ on [] [] (Delete 7) is Begun 0
+    ∷ on (delete 2 7 ∷ []) [] (Delete 7) is Refused 11
+    ∷ on (delete 2 7 ∷ put 3 7 ∷ []) [] (Delete 7) is Begun 0
+    ∷ on [] [] (LookUp 5) is Refused 11
+    ∷ on (put 3 5 ∷ delete 2 7 ∷ []) [] (LookUp 5) is Refused 11
+    ∷ on (put 3 5 ∷ delete 2 7 ∷ []) [] (LookUp 7) is Words (4112 ∷ 5 ∷ [])
+    -- 12: version would pass 1,048,575, staged ones counted
+    ∷ on [] (512 becomes first 1 0 1048575 5 ∷ []) (Put 7 []) is Refused 12
+    ∷ on [] (512 becomes first 1 0 1048574 5 ∷ []) (Put 7 []) is Begun 0
+    ∷ on (put 1048575 7 ∷ []) (512 becomes first 1 0 1048574 5 ∷ []) (Put 7 []) is Refused 12
+    ∷ on [] (512 becomes first 1 0 1048575 5 ∷ []) (Delete 7) is Refused 12
+    ∷ on [] (512 becomes first 1 0 1048574 5 ∷ []) (Delete 7) is Begun 0
+    -- 7: known and staged keys exceed the table: of three words, and of 16 or 20 with four known
+    ∷ ask (Put 7 []) (Rest 16384 3 []) empty 16384 3 is Refused 7
+    ∷ ask (Put 7 []) (Rest 16384 4 []) empty 16384 4 is Begun 0
+    ∷ ask (Put 7 []) (Rest 16384 16 []) image 16384 16 is Begun 0
+    ∷ ask (Put 5 []) (Rest 16384 16 []) image 16384 16 is Begun 0
+    ∷ ask (Put 8 []) (Rest 16384 16 []) image 16384 16 is Refused 7
+    ∷ ask (Put 8 []) (Rest 16384 20 []) image 16384 20 is Begun 0
+    ∷ ask (Put 8 []) (Rest 16384 20 (put 1 6 ∷ [])) image 16384 20 is Refused 7
+    ∷ ask (Put 6 []) (Rest 16384 20 (put 1 6 ∷ [])) image 16384 20 is Begun 0
+    -- 14: nothing staged
+    ∷ onEmpty [] [] Commit is Refused 14
+    ∷ onEmpty (put 1 7 ∷ []) [] Commit is Begun 13
+    ∷ onEmpty [] [] Abandon is Refused 14
+    ∷ onEmpty (put 1 7 ∷ []) [] Abandon is Accepted
+    -- 15: a batch is staged; choosing does not ask
+    ∷ on (put 2 7 ∷ []) [] (Clean 1) is Refused 15
+    ∷ on [] [] (Clean 1) is Begun 16
+    ∷ on (put 2 7 ∷ []) [] Choose is Number 1
+    -- 16: chunk 0, free, past the count, data with a live block; choosing finds none
+    ∷ on [] [] (Clean 0) is Refused 16
+    ∷ on [] [] (Clean 3) is Refused 16
+    ∷ on [] [] (Clean 4) is Refused 16
+    ∷ on [] [] (Clean 18446744073709551615) is Refused 16
+    ∷ on [] [] (Clean 2) is Refused 16
+    ∷ on [] (516 becomes 11 ∷ 520 becomes 11 ∷ 521 becomes first 2 0 2 0 ∷ 522 becomes 11 ∷ []) (Clean 2) is Begun 3
+    ∷ on [] [] Choose is Number 1
+    ∷ on [] (9 becomes log 2 ∷ []) Choose is Number 1
+    ∷ onEmpty [] [] Choose is Refused 16
+    -- 13: staging of a large value: three chunks must be free, or a block of its size be neither live nor staged
+    ∷ onEmpty [] (9 becomes log 1 ∷ []) (Put 7 (large 257)) is Refused 13
+    ∷ onEmpty [] [] (Put 7 (large 257)) is Begun 41
+    ∷ onEmpty [] (9 becomes log 1 ∷ 10 becomes blocks 2 ∷ []) (Put 7 (large 257)) is Begun 39
+    ∷ onEmpty [] (9 becomes log 1 ∷ 10 becomes blocks 3 ∷ []) (Put 7 (large 257)) is Refused 13
+    ∷ onEmpty (putIn 32 5 ∷ []) (9 becomes log 1 ∷ 10 becomes blocks 16 ∷ []) (Put 7 (large 4088)) is Refused 13
+    ∷ onEmpty [] (9 becomes log 1 ∷ 10 becomes blocks 16 ∷ []) (Put 7 (large 4088)) is Begun 576
+    ∷ on [] (515 becomes 0 ∷ 516 becomes 0 ∷ 10 becomes blocks 16 ∷ 519 becomes first 1 1 1 32 ∷ []) (Put 7 (large 4088)) is Refused 13
+    ∷ on [] (515 becomes 0 ∷ 516 becomes 0 ∷ 10 becomes blocks 16 ∷ 519 becomes first 2 0 1 0 ∷ []) (Put 7 (large 4088)) is Begun 576
+    -- 13: commit: a log chunk with space, else three free chunks, or two if all items are deletes
+    ∷ onEmpty (put 1 7 ∷ []) (9 becomes log 64 ∷ []) Commit is Refused 13
+    ∷ onEmpty (put 1 7 ∷ []) (9 becomes log 63 ∷ []) Commit is Begun 13
+    ∷ onEmpty (delete 2 7 ∷ []) (9 becomes log 64 ∷ []) Commit is Begun 13
+    ∷ onEmpty (delete 2 7 ∷ put 3 7 ∷ []) (9 becomes log 64 ∷ []) Commit is Refused 13
+    ∷ onEmpty (delete 2 7 ∷ []) (9 becomes log 64 ∷ 10 becomes log 64 ∷ []) Commit is Refused 13
+    -- 13: cleaning: another log chunk with space, else a free chunk; none is needed where nothing is copied
+    ∷ on [] (11 becomes blocks 2 ∷ []) (Clean 1) is Refused 13
+    ∷ on [] (11 becomes log 64 ∷ []) (Clean 1) is Refused 13
+    ∷ on [] (11 becomes log 63 ∷ []) (Clean 1) is Begun 16
+    ∷ onEmpty [] (9 becomes log 1 ∷ 10 becomes blocks 2 ∷ 11 becomes blocks 2 ∷ []) (Clean 1) is Begun 3
+    -- the order: 2, 1, 8, 15, then 9, 11, 12, 10, 7, 14, 16, 13
+    ∷ ask Commit Closed image 20480 64 is Refused 2
+    ∷ ask Commit committing image 20480 64 is Refused 1
+    ∷ ask (Put 7 (large 4089)) committing image 16384 64 is Refused 8
+    ∷ ask (Clean 0) committing image 16384 64 is Refused 8
+    ∷ on (puts 1) [] (Clean 0) is Refused 15
+    ∷ on (puts 16) (512 becomes first 1 0 1048575 5 ∷ []) (Put 7 (large 4089)) is Refused 9
+    ∷ on (puts 16) [] (Delete 25) is Refused 11
+    ∷ on (put 1048575 5 ∷ puts 15) [] (Put 5 []) is Refused 12
+    ∷ ask (Put 25 []) (Rest 16384 64 (puts 16)) empty 16384 64 is Refused 10
+    ∷ ask (Put 25 (large 257)) (Rest 16384 3 []) image 16384 3 is Refused 7
+    ∷ onEmpty [] (9 becomes log 64 ∷ 10 becomes log 64 ∷ 11 becomes log 64 ∷ []) Commit is Refused 14
+    ∷ on [] (11 becomes log 64 ∷ []) (Clean 2) is Refused 16
+    ∷ []
+
+pub computed : T (allHold rows)
+unfolding base firstLine firstUnit chunkBytes chunkWords chunkLines chunkUnits chunksIn lengthAllowed unitChunk unitIn wordChunk headerTail headerTest roleOf linesOf sizeOf sizeFor isSize directoryRight firstOf stepOf blockLimit unitsFor blockSize blockTest chosen tops capacity keptIn opening appendOf commitOf bodyOf padded blockOf formatOf blankOf fillOf planPut planDelete planCommit planClean slotFor logPlace chosenChunk lookUp
+computed = tt

@@ -1,0 +1,130 @@
+-- What the code shows at each return of the begin of a formatting is what the contract says.
+-- Assumes nothing.
+use mathlib.Core.Path.{_≡_, refl, sym, _∙_, ap}
+use mathlib.Core.Logic.{inl, inr}
+use mathlib.Core.Bool.{Bool, true, false}
+use mathlib.Core.List.{List}
+use Prim.Native.Nat.{ℕ, zero, suc, _/_, _%_, _≤_}
+use native.Mathlib.Omega.{arith}
+use lib.Dec.{eqb}
+use lib.ListN.{length}
+use borrow.Author.Tests.{ne-eqb, le-leb, lt-leb}
+use Rattle.spec.specs.Basics.{pick}
+use Rattle.spec.specs.Places.{lengthAllowed, chunksIn}
+use Rattle.spec.specs.Header.{headerMap}
+use Rattle.spec.specs.Medium.{Action}
+use Rattle.spec.specs.Actions.{formatOf}
+use Rattle.spec.specs.Machine.{Format, Formatting, isUnfinished, isOpen, next}
+use Rattle.session.specs.declared.Control.{Control}
+use Rattle.session.specs.declared.Setup.{Setup}
+use Rattle.session.specs.declared.Source.{Source}
+use Rattle.session.specs.declared.Session.{Session}
+use Rattle.spec.specs.declared.Given.{Given}
+use Rattle.spec.specs.declared.Given.the-variants as H
+use Rattle.spec.specs.declared.Refusal.the-variants as N
+use Rattle.spec.specs.declared.Report.the-variants as R
+use Rattle.theory_base.proofs.Lists.{not-both}
+use Rattle.theory_crash.proofs.Format.{format-count}
+use Rattle.session.specs.State.{givenBy, formatActions, noSource, stateBy, stateAt, stateOf, limit}
+use Rattle.session.proofs.Phases.{past}
+use Rattle.session.proofs.Gates.{refused}
+use Rattle.formatting.specs.Begun.{numberIn, unfinishedAt, formattingAt}
+use Rattle.session.specs.Promise.{Does}
+
+module _ (c : Control) (k : Setup) (b bytes table : List ℕ) where
+  abbrev s : Session
+  s = record { control = c; setup = k; buffer = b }
+
+  -- what it was told is given back by the header's map
+  told : (station centre : Given)
+      → (givenBy (headerMap station centre / 2 % 2) (numberIn station) ≡ station) × (givenBy (headerMap station centre / 4 % 2) (numberIn centre) ≡ centre)
+  told (H.Number x) (H.Number y) = (refl, refl)
+  told (H.Number x) H.Absent = (refl, refl)
+  told H.Absent (H.Number y) = (refl, refl)
+  told H.Absent H.Absent = (refl, refl)
+
+  -- the state by the phase
+  unfinished-by : (phase : ℕ) → isUnfinished (stateBy phase c k b) ≡ unfinishedAt phase
+  unfinished-by zero = refl
+  unfinished-by (suc zero) = refl
+  unfinished-by (suc (suc zero)) = refl
+  unfinished-by (suc (suc (suc zero))) = refl
+  unfinished-by (suc (suc (suc (suc zero)))) = refl
+  unfinished-by (suc (suc (suc (suc (suc zero))))) = refl
+  unfinished-by (suc (suc (suc (suc (suc (suc zero)))))) = refl
+  unfinished-by (suc (suc (suc (suc (suc (suc (suc n))))))) = more (suc (suc (suc (suc (suc (suc (suc n))))))) (omega arith)
+    where
+      more : (p : ℕ) → 7 ≤ p → isUnfinished (stateBy p c k b) ≡ unfinishedAt p
+      more p h = ap isUnfinished (past c k b p h) ∙ sym (rw (le-leb 2 p (omega arith), lt-leb p 6 (omega arith)))
+
+  open-by : (phase : ℕ) → unfinishedAt phase ≡ false → isOpen (stateBy phase c k b) ≡ eqb phase 1
+  open-by zero h = refl
+  open-by (suc zero) h = refl
+  open-by (suc (suc zero)) h = absurd (not-both true refl h)
+  open-by (suc (suc (suc zero))) h = absurd (not-both true refl h)
+  open-by (suc (suc (suc (suc zero)))) h = absurd (not-both true refl h)
+  open-by (suc (suc (suc (suc (suc zero))))) h = absurd (not-both true refl h)
+  open-by (suc (suc (suc (suc (suc (suc zero)))))) h = absurd (not-both true refl h)
+  open-by (suc (suc (suc (suc (suc (suc (suc n))))))) h = more (suc (suc (suc (suc (suc (suc (suc n))))))) (omega arith)
+    where
+      more : (p : ℕ) → 7 ≤ p → isOpen (stateBy p c k b) ≡ eqb p 1
+      more p h = ap isOpen (past c k b p h) ∙ sym (ne-eqb p 1 (λ q. omega arith))
+
+  module _ (station centre : Given) where
+    abbrev formatting : Session
+    formatting = record {
+      control = record { phase = formattingAt (c .phase); next = 0; items = 0; words = 0; keys = 0; fresh = 0 };
+      setup = record { image = length bytes; table = length table; chunk = 0; old = 0; lines = 0; first = 0; least = 0; fields = headerMap station centre; station = numberIn station; centre = numberIn centre; source = noSource };
+      buffer = b;
+    }
+
+    abbrev acts : List Action
+    acts = formatOf (chunksIn 12 (length bytes)) station centre
+
+    -- the record after the begin, by whether a register was open
+    begun-state : stateOf formatting ≡ Formatting (eqb (c .phase) 1) (length bytes) (length table) acts
+    unfolding stateAt formatActions
+    begun-state = go (eqb (c .phase) 1)
+      where
+        go : (t : Bool) → stateBy (pick t 5 4) (formatting .control) (formatting .setup) b ≡ Formatting t (length bytes) (length table) acts
+        go true = rw (told station centre .0, told station centre .1)
+        go false = rw (told station centre .0, told station centre .1)
+
+    pub format-length : lengthAllowed 12 (length bytes) ≡ false → Does (Format station centre) s s bytes bytes table table (R.Refused N.ImageLength)
+    unfolding next
+    format-length h = refused 12 limit s bytes table N.ImageLength (Format station centre) refl (λ f q. absurd (not-both true refl q)) (λ f. rw h)
+        (λ r q. absurd (let z : _≡_ {A = ℕ} 0 1 = cc in omega arith)) (inl refl) (refl, refl) (rw h, rw h)
+
+    pub format-unfinished : lengthAllowed 12 (length bytes) ≡ true → unfinishedAt (c .phase) ≡ true → Does (Format station centre) s s bytes bytes table table (R.Refused N.Unfinished)
+    unfolding stateAt next
+    format-unfinished h u = refused 12 limit s bytes table N.Unfinished (Format station centre) refl (λ f q. absurd (not-both true refl q)) (λ f. rw (h, unfinished-by (c .phase), u))
+        (λ r q. absurd (let z : _≡_ {A = ℕ} 0 1 = cc in omega arith)) (inr (inl refl)) (refl, refl) (rw (h, unfinished-by (c .phase), u), rw (h, unfinished-by (c .phase), u))
+
+    begins : lengthAllowed 12 (length bytes) ≡ true → unfinishedAt (c .phase) ≡ false
+        → Does (Format station centre) s formatting bytes bytes table table (R.Begun 582)
+    unfolding stateAt next
+    begins h u = record {
+      exact = λ proper. record {
+        answered = rw (h, unfinished-by (c .phase), u, format-count (chunksIn 12 (length bytes)) station centre);
+        became = begun-state ∙ sym (rw (h, unfinished-by (c .phase), u, open-by (c .phase) u));
+        fits = λ q. (proper, rw begun-state tt);
+      };
+      first = λ r q. absurd (let z : _≡_ {A = ℕ} 0 1 = cc in omega arith);
+      image = refl;
+      sized = refl;
+      outcome = (rw (begun-state, format-count (chunksIn 12 (length bytes)) station centre), refl);
+      anyway = (
+        rw (h, unfinished-by (c .phase), u, format-count (chunksIn 12 (length bytes)) station centre),
+        begun-state ∙ sym (rw (h, unfinished-by (c .phase), u, open-by (c .phase) u)),
+      );
+    }
+
+    pub format-begun : (phase fields x y : ℕ) (f : Source) → phase ≡ formattingAt (c .phase) → fields ≡ headerMap station centre → x ≡ numberIn station → y ≡ numberIn centre → f ≡ noSource
+        → lengthAllowed 12 (length bytes) ≡ true → unfinishedAt (c .phase) ≡ false
+        → Does (Format station centre) s
+        (record {
+          control = record { phase = phase; next = 0; items = 0; words = 0; keys = 0; fresh = 0 };
+          setup = record { image = length bytes; table = length table; chunk = 0; old = 0; lines = 0; first = 0; least = 0; fields = fields; station = x; centre = y; source = f };
+          buffer = b;
+        }) bytes bytes table table (R.Begun 582)
+    format-begun phase fields x y f p q d e g h u = rw (p, q, d, e, g) (begins h u)

@@ -1,0 +1,145 @@
+// The begin of a formatting.
+ghost use mathlib.Core.Path.{_≡_};
+ghost use Prim.Native.Nat.{_≤_};
+ghost use Rattle.spec.specs.Header.{bitOf, headerMap};
+ghost use Rattle.spec.specs.Machine.{Format};
+ghost use Rattle.formatting.specs.Begun.{given, numberIn, unfinishedAt, formattingAt};
+ghost use Rattle.session.specs.Promise.{Does};
+use session::Control;
+use session::Outcome;
+use session::Setup;
+use spec::Given;
+use spec::Refusal;
+use spec::Report;
+
+// FORMAT
+// The bit of the header's map for a number that is given.
+fn bit(b: u64, given: Given) -> u64
+    requires { ⌜ b ≤ 4 ⌝ }
+    ensures { λ r. ⌜ (r ≡ bitOf b given) × (r ≤ 4) ⌝ }
+{
+    match given {
+        Given::Number(_) => b,
+        Given::Absent => 0,
+    }
+}
+
+fn header_map(station: Given, centre: Given) -> u64
+    ensures { λ r. ⌜ r ≡ headerMap station centre ⌝ }
+{
+    1 + bit(2, station) + bit(4, centre)
+}
+
+// The number given, 0 where none is.
+fn number_in(given: Given) -> u64
+    ensures { λ r. ⌜ r ≡ numberIn given ⌝ }
+{
+    match given {
+        Given::Number(x) => x,
+        Given::Absent => 0,
+    }
+}
+
+// Whether a call is unfinished in a phase.
+fn is_unfinished(phase: u64) -> bool
+    ensures { λ r. ⌜ r ≡ unfinishedAt phase ⌝ }
+{
+    if 2 <= phase {
+        return phase <= 6;
+    }
+    false
+}
+
+// The phase of a formatting that is begun in a phase with nothing unfinished.
+fn formatting_phase(phase: u64) -> u64
+    ensures { λ r. ⌜ r ≡ formattingAt phase ⌝ }
+{
+    if phase == 1 { 5 } else { 4 }
+}
+
+// 1, 8, or a formatting with what it was told.
+pub fn format_core(
+    control: Control,
+    setup: Setup,
+    buffer: &[u64; 1152],
+    image: &[u8],
+    table: &[u64],
+    station: Given,
+    centre: Given,
+) -> Outcome
+    ensures { λ r. ⌜ Does (Format station centre) (record { control = control; setup = setup; buffer = now (buffer .entry) }) (record { control = r .control; setup = r .setup; buffer = now (buffer .entry) }) (now (image .entry)) (now (image .entry)) (now (table .entry)) (now (table .entry)) (r .report) ⌝ }
+{
+    let bytes = image.len();
+    let words = table.len();
+    if opening::length_allowed(bytes) {
+        if is_unfinished(control.phase) {
+            return Outcome {
+                control,
+                setup,
+                report: Report::Refused(Refusal::Unfinished),
+            };
+        }
+        let begun = Control {
+            phase: formatting_phase(control.phase),
+            next: 0,
+            items: 0,
+            words: 0,
+            keys: 0,
+            fresh: 0,
+        };
+        let told = Setup {
+            image: bytes,
+            table: words,
+            chunk: 0,
+            old: 0,
+            lines: 0,
+            first: 0,
+            least: 0,
+            fields: header_map(station, centre),
+            station: number_in(station),
+            centre: number_in(centre),
+            source: session::no_source(),
+        };
+        Outcome {
+            control: begun,
+            setup: told,
+            report: Report::Begun(582),
+        }
+    } else {
+        Outcome {
+            control,
+            setup,
+            report: Report::Refused(Refusal::ImageLength),
+        }
+    }
+}
+
+// A number that is told with a mark whether it is given: what a host in C passes.
+fn told(is_given: bool, number: u64) -> Given
+    ensures { λ r. ⌜ r ≡ given «is_given» number ⌝ }
+{
+    if is_given {
+        Given::Number(number)
+    } else {
+        Given::Absent
+    }
+}
+
+// The same, told by marks and numbers.
+pub fn format_told(
+    control: Control,
+    setup: Setup,
+    buffer: &[u64; 1152],
+    image: &[u8],
+    table: &[u64],
+    station_given: bool,
+    station: u64,
+    centre_given: bool,
+    centre: u64,
+) -> Outcome
+    ensures { λ r. ⌜ Does (Format (given «station_given» station) (given «centre_given» centre)) (record { control = control; setup = setup; buffer = now (buffer .entry) }) (record { control = r .control; setup = r .setup; buffer = now (buffer .entry) }) (now (image .entry)) (now (image .entry)) (now (table .entry)) (now (table .entry)) (r .report) ⌝ }
+{
+    let a = told(station_given, station);
+    let b = told(centre_given, centre);
+    format_core(control, setup, buffer, image, table, a, b)
+}

@@ -1,0 +1,283 @@
+-- What the code shows of a look-up: the part of the entry that the table names is the definition's answer.
+-- Assumes nothing.
+use mathlib.Core.Path.{_≡_, refl, sym, _∙_, ap}
+use mathlib.Core.Logic.{inl, inr}
+use mathlib.Core.Bool.{Bool, true, false}
+use mathlib.Core.Option.{none, some}
+use mathlib.Core.List.{List, []}
+use Prim.Native.Nat.{ℕ, _+_, _-_, _*_, _/_, _%_, _≤_, _<_}
+use native.Mathlib.Omega.{arith}
+use lib.Dec.{eqb, leb}
+use lib.ListN.{length, getD, take, drop}
+use borrow.Author.Tests.{le-leb, lt-leb, leb-true, ne-eqb}
+use Rattle.spec.specs.Basics.{pick, both}
+use Rattle.spec.specs.Words.{wordsOf}
+use Rattle.spec.specs.Places.{unitChunk, unitWord, chunksIn}
+use Rattle.spec.specs.Directory.{sizeOf}
+use Rattle.spec.specs.Log.{Entry, Entries, wordsFor, imageEntries}
+use Rattle.spec.specs.Blocks.{pointed}
+use Rattle.spec.specs.Contents.{chosen}
+use Rattle.spec.specs.Reports.{isRefused, number}
+use Rattle.spec.specs.Plans.{partOr, lookUp}
+use Rattle.spec.specs.Machine.{LookUp, State, gate, answer, next}
+use Rattle.spec.specs.Contract.{Changed, Anyway, Outcome}
+use Rattle.session.specs.declared.Control.{Control}
+use Rattle.session.specs.declared.Setup.{Setup}
+use Rattle.session.specs.declared.Session.{Session}
+use Rattle.spec.specs.declared.Refusal.{Refusal}
+use Rattle.spec.specs.declared.Refusal.the-variants as N
+use Rattle.spec.specs.declared.Report.the-variants as R
+use Rattle.words.specs.Image.{length-wordsOf}
+use Rattle.theory_base.proofs.Lists.{pick-e, pick-same}
+use Rattle.theory_base.proofs.Places.{base-apart, unit-place, units-words}
+use Rattle.theory_log.specs.Batch.{Kind, put, block, delete}
+use Rattle.theory_log.proofs.Contents.{chosen-is}
+use Rattle.theory_log.proofs.Tops.{chosen-top}
+use Rattle.theory_log.proofs.Stands.{head-first}
+use Rattle.theory_crash.specs.Accepted.{Ok}
+use Rattle.theory_crash.proofs.Opening.{opens-ok}
+use Rattle.theory_crash.proofs.Blocks as Blocks
+use Rattle.log.specs.Stands.{StandsIn}
+use Rattle.log.proofs.Stands.{take-drop, image-stands}
+use Rattle.index.specs.declared.Info.{Info}
+use Rattle.index.specs.Index.{get}
+use Rattle.index.specs.Packed.{unpackOf}
+use Rattle.volatile.specs.Known.{extentOf, Bounded}
+use Rattle.volatile.proofs.Image.{image-bounded}
+use Rattle.volatile.proofs.Grow.{found-none, found-chosen}
+use Rattle.session.specs.State.{stateOf, limit}
+use Rattle.session.specs.Fits.{Fits}
+use Rattle.lookup.specs.declared.Located.{Located}
+use Rattle.lookup.specs.declared.Located.the-variants as L
+use Rattle.session.specs.declared.Gated.{Gated}
+use Rattle.session.specs.declared.Gated.the-variants as G
+use Rattle.session.specs.Asks.{gateOf, Asking}
+use Rattle.lookup.specs.Look.{reportOf, within, blockPart, partBy, firstWord, partAt, PartIn, InImage, Looking, sessionOf, Locating, Showing}
+use Rattle.session.proofs.Gates.{turned-down, at-rest}
+use Rattle.session.specs.Promise.{Does}
+use Rattle.session.specs.Fits.{Proper}
+
+-- ## Any memory: 11, or a part of the image
+
+within-in : (bytes a n : ℕ) → PartIn bytes (within bytes a n)
+within-in bytes a n = go (leb (a + n) bytes) (leb-true (a + n) bytes)
+  where
+    go : (t : Bool) → (t ≡ true → a + n ≤ bytes) → PartIn bytes (pick t (L.Part a n) (L.Refused N.KeyAbsent))
+    go true h = h refl
+    go false h = refl
+
+pick-in : (bytes : ℕ) (t : Bool) (x y : Located) → PartIn bytes x → PartIn bytes y → PartIn bytes (pick t x y)
+pick-in bytes true x y p q = p
+pick-in bytes false x y p q = q
+
+part-in : (bytes : ℕ) (ws : List ℕ) (place w : ℕ) → PartIn bytes (partBy bytes ws place w)
+part-in bytes ws place w =
+    pick-in bytes (eqb (w % 16) 1) _ _ (within-in bytes (8 * (place + 2)) (w / 16777216))
+    (pick-in bytes (eqb (w % 16) 5) _ (L.Refused N.KeyAbsent) (within-in bytes (8 * (unitWord (w / 16777216) + 1)) (getD ws (unitWord (w / 16777216)) 0)) refl)
+
+in-image : (bytes : ℕ) (r : Located) → PartIn bytes r → InImage bytes r
+in-image bytes (L.Refused n) h = tt
+in-image bytes (L.Part a n) h = h
+
+-- ## An accepted image: the part of its chosen entry
+
+-- the entry's own words say where its value is, in the log or in a block
+kind-part : (bytes : ℕ) (ws : List ℕ) (place w op pl x : ℕ) → Kind op pl x → w % 16 ≡ op + 4 * pl → w / 16777216 ≡ x
+    → partBy bytes ws place w ≡ pick (eqb op 1) (pick (eqb pl 1) (blockPart bytes ws x) (within bytes (8 * (place + 2)) x)) (L.Refused N.KeyAbsent)
+kind-part bytes ws place w op pl x (put l) a b = rw (a, b)
+kind-part bytes ws place w op pl x block a b = rw (a, b)
+kind-part bytes ws place w op pl x delete a b = rw a
+
+entry-part : (bytes : ℕ) (ws : List ℕ) (e : Entry) → StandsIn ws e → 8 * (e .at + 2) ≤ bytes
+    → (pointed e ≡ true → 8 * (unitWord (e .field) + 1) + getD ws (unitWord (e .field)) 0 ≤ bytes)
+    → (eqb (e .op) 1 ≡ true → eqb (e .placement) 1 ≡ false → 8 * (e .at + 2) + e .field ≤ bytes)
+    → reportOf (partAt bytes ws (e .at)) ≡ partOr ws (some e)
+entry-part bytes ws e stands has blocks logs =
+    let w = getD ws (e .at) 0 in
+    let h = head-first w (e .op) (e .placement) (e .version) (e .field) (stands .first) in
+    let k = kind-small (e .op) (e .placement) (e .field) (stands .right .kind) in
+    let v = stands .right .high in
+    let a : w % 16 ≡ e .op + 4 * e .placement = omega arith in
+    let b : w / 16777216 ≡ e .field = omega arith in
+    let f : firstWord bytes ws (e .at) ≡ w = rw (le-leb _ _ has) in
+    ap (λ x. reportOf (partBy bytes ws (e .at) x)) f ∙ ap reportOf (kind-part bytes ws (e .at) w (e .op) (e .placement) (e .field) (stands .right .kind) a b) ∙ go (eqb (e .op) 1) (eqb (e .placement) 1) blocks logs
+  where
+    kind-small : (op pl x : ℕ) → Kind op pl x → op + 4 * pl < 16
+    kind-small op pl x (put l) = omega arith
+    kind-small op pl x block = omega arith
+    kind-small op pl x delete = omega arith
+
+    go : (b1 b2 : Bool) → (both b1 b2 ≡ true → 8 * (unitWord (e .field) + 1) + getD ws (unitWord (e .field)) 0 ≤ bytes) → (b1 ≡ true → b2 ≡ false → 8 * (e .at + 2) + e .field ≤ bytes)
+        → reportOf (pick b1 (pick b2 (within bytes (8 * (unitWord (e .field) + 1)) (getD ws (unitWord (e .field)) 0)) (within bytes (8 * (e .at + 2)) (e .field))) (L.Refused N.KeyAbsent))
+        ≡ pick b1 (pick (both b1 b2) (R.Part (8 * (unitWord (e .field) + 1)) (getD ws (unitWord (e .field)) 0)) (R.Part (8 * (e .at + 2)) (e .field))) (R.Refused N.KeyAbsent)
+    go false b2 x y = refl
+    go true true x y = rw (le-leb _ _ (x refl))
+    go true false x y = rw (le-leb _ _ (y refl refl))
+
+-- an extent is that of a put with its value in the log, of more than one byte
+extent-kind : (op pl x : ℕ) → Kind op pl x → 0 < extentOf pl x → (eqb op 1 ≡ true) × (eqb pl 1 ≡ false) × (extentOf pl x + 1 ≡ x)
+extent-kind op pl x (put l) m = (refl, refl, omega arith)
+extent-kind op pl x block m = absurd (omega arith)
+extent-kind op pl x delete m = absurd (omega arith)
+
+log-words : (op pl x : ℕ) → Kind op pl x → eqb pl 1 ≡ false → x ≤ 8 * wordsFor pl x
+log-words op pl x (put l) h = omega arith
+log-words op pl x block h = absurd (let z : _≡_ {A = ℕ} 0 1 = cc in omega arith)
+log-words op pl x delete h = omega arith
+
+module _ (n : ℕ) (bytes : List ℕ) (es : List Entry) (ok : Ok 12 n (wordsOf bytes) es) where
+  abbrev ws : List ℕ
+  ws = wordsOf bytes
+
+  small : Bounded es
+  small = image-bounded n ws es (ok .parsed) (ok .most)
+
+  -- the words of the image lie in its bytes
+  long : 8 * length ws ≤ length bytes
+  long = let l = length-wordsOf bytes in omega arith
+
+  module _ (k : ℕ) (e : Entry) (h : chosen k es ≡ some e) where
+    stands : StandsIn ws e
+    stands = image-stands 12 (omega arith) (omega arith) n ws es (ok .parsed) e (chosen-is k es e h .in-list)
+
+    in-log : eqb (e .op) 1 ≡ true → eqb (e .placement) 1 ≡ false → 8 * (e .at + 2) + e .field ≤ length bytes
+    in-log o l =
+        let a = log-words (e .op) (e .placement) (e .field) (stands .right .kind) l in
+        let b = stands .fits in
+        let c = long in
+        omega arith
+
+    -- the part of a value whose extent the table holds
+    chosen-extent : 0 < extentOf (e .placement) (e .field) → reportOf (within (length bytes) (8 * (e .at + 2)) (extentOf (e .placement) (e .field) + 1)) ≡ lookUp ws es k
+    unfolding lookUp
+    chosen-extent m =
+        let q = extent-kind (e .op) (e .placement) (e .field) (stands .right .kind) m in
+        rw (h, q .2, q .0, q .1, le-leb _ _ (in-log (q .0) (q .1)))
+
+  chosen-part : (k : ℕ) (e : Entry) → chosen k es ≡ some e → reportOf (partAt (length bytes) ws (e .at)) ≡ lookUp ws es k
+  unfolding lookUp
+  chosen-part k e h = rw h (entry-part (length bytes) ws e (stands k e h) (let f = stands k e h .fits in let l = long in omega arith) in-block (in-log k e h))
+    where
+      in-block : pointed e ≡ true → 8 * (unitWord (e .field) + 1) + getD ws (unitWord (e .field)) 0 ≤ length bytes
+      in-block q =
+          let f = Blocks.block-fits 12 n (e .field) (sizeOf 12 ws (unitChunk 12 (e .field))) (getD ws (unitWord (e .field)) 0) _ (pick-e (pointed e) _ (ok .blocks e (chosen-top k es e h)) q) in
+          let a = f .ends in
+          let r = f .room in
+          let u = unit-place 12 (omega arith) (omega arith) (e .field) in
+          let b = base-apart 12 (omega arith) (omega arith) (unitChunk 12 (e .field)) n (f .high) in
+          let w = units-words 12 (omega arith) (omega arith) in
+          let l = ok .long in
+          let c = long in
+          omega arith
+
+-- ## What the code shows
+
+module _ (bytes a n : ℕ) where
+  pub within-yes : a ≤ bytes → n ≤ bytes - a → L.Part a n ≡ within bytes a n
+  within-yes h l = sym (rw (le-leb (a + n) bytes (omega arith)))
+
+  pub within-no : bytes < a + n → L.Refused N.KeyAbsent ≡ within bytes a n
+  within-no h = sym (rw (lt-leb (a + n) bytes h))
+
+  pub within-all : a + n ≤ bytes → L.Part a n ≡ within bytes a n
+  within-all h = sym (rw (le-leb (a + n) bytes h))
+
+module _ (bytes : ℕ) (ws : List ℕ) (place word : ℕ) (is-word : word ≡ firstWord bytes ws place) where
+  pub part-log : (r : Located) → word % 16 ≡ 1 → r ≡ within bytes (8 * (place + 2)) (word / 16777216) → r ≡ partAt bytes ws place
+  part-log r k h = h ∙ rw (← is-word, k)
+
+  pub part-block : (r : Located) → word % 16 ≡ 5 → r ≡ blockPart bytes ws (word / 16777216) → r ≡ partAt bytes ws place
+  part-block r k h = h ∙ rw (← is-word, k)
+
+  pub part-none : (word % 16 ≡ 1 → ⊥) → (word % 16 ≡ 5 → ⊥) → L.Refused N.KeyAbsent ≡ partAt bytes ws place
+  part-none a b = rw (← is-word, ne-eqb (word % 16) 1 a, ne-eqb (word % 16) 5 b)
+
+module _ (key : ℕ) (bytes table : List ℕ) (word : ℕ) (is : word ≡ get table key) where
+  pub looking-none : word ≡ 0 → Looking key bytes table (L.Refused N.KeyAbsent)
+  unfolding lookUp
+  looking-none z = record { inside = refl; exact = λ n keys es ok ix. sym (rw (found-none table keys es ix (small n bytes es ok) key word is z)) }
+
+  module _ (info : Info) (i : info ≡ unpackOf word) where
+    -- the entry itself is read
+    pub looking-part : (r : Located) → (word ≡ 0 → ⊥) → r ≡ partAt (length bytes) (wordsOf bytes) (info .place) → Looking key bytes table r
+    looking-part r nz e = record {
+      inside = rw e (part-in (length bytes) (wordsOf bytes) (info .place) (firstWord (length bytes) (wordsOf bytes) (info .place)));
+      exact = λ n keys es ok ix.
+          let f = found-chosen table keys es ix (small n bytes es ok) key word is nz in
+          let place : info .place ≡ f .0 .at = ap (λ (j : Info). j .place) (i ∙ f .2) in
+          ap reportOf (e ∙ ap (partAt (length bytes) (wordsOf bytes)) place) ∙ chosen-part n bytes es ok key (f .0) (f .1);
+    }
+
+    -- the table's word says enough
+    pub looking-extent : (r : Located) → 0 < info .extent → r ≡ within (length bytes) (8 * (info .place + 2)) (info .extent + 1) → Looking key bytes table r
+    looking-extent r more e = record {
+      inside = rw e (within-in (length bytes) (8 * (info .place + 2)) (info .extent + 1));
+      exact = λ n keys es ok ix.
+          let f = found-chosen table keys es ix (small n bytes es ok) key word is some-word in
+          let place : info .place ≡ f .0 .at = ap (λ (j : Info). j .place) (i ∙ f .2) in
+          let extent : info .extent ≡ extentOf (f .0 .placement) (f .0 .field) = ap (λ (j : Info). j .extent) (i ∙ f .2) in
+          ap reportOf (e ∙ ap (λ (x : ℕ). within (length bytes) (8 * (x + 2)) (info .extent + 1)) place ∙ ap (λ (x : ℕ). within (length bytes) (8 * (f .0 .at + 2)) (x + 1)) extent)
+          ∙ chosen-extent n bytes es ok key (f .0) (f .1) (rw extent at more);
+    }
+      where
+        some-word : word ≡ 0 → ⊥
+        some-word z = let x : info .extent ≡ 0 = ap (λ (j : Info). j .extent) (i ∙ ap unpackOf z) in omega arith
+
+-- ## The call
+
+-- a look-up leaves the state as it was
+next-same : (σ : State) (key : ℕ) (ws : List ℕ) (bytes words : ℕ) → σ ≡ next 12 limit (LookUp key) σ ws bytes words
+unfolding next
+next-same σ key ws bytes words = sym (pick-same (both (isRefused (answer 12 limit (LookUp key) σ ws bytes words)) true) σ)
+
+module _ (s : Session) (key : ℕ) (bytes table : List ℕ) where
+  outcome : (r : Located) → PartIn (length bytes) r → Outcome Proper stateOf Fits 12 limit (LookUp key) s s table table (reportOf r)
+  outcome (L.Refused n) h = (inr (inr (inr (inl h))), (refl, refl))
+  outcome (L.Part a n) h = (refl, refl)
+
+  anyway : (r : Located) → Anyway 12 limit (LookUp key) (stateOf s) (stateOf s) (wordsOf bytes) (length bytes) (length table) (reportOf r)
+  anyway (L.Refused n) = inl (n, refl)
+  anyway (L.Part a n) = inr (a, (n, refl))
+
+  unchanged : (r : Located) → Changed (reportOf r) bytes bytes
+  unchanged (L.Refused n) = refl
+  unchanged (L.Part a n) = refl
+
+  looked : (r : Located) → gate (stateOf s) (length bytes) (length table) ≡ none → Looking key bytes table r → Does (LookUp key) s s bytes bytes table table (reportOf r)
+  looked r g l = record {
+    exact = λ f. record { answered = exact f; became = next-same (stateOf s) key (wordsOf bytes) (length bytes) (length table); fits = f };
+    first = λ r′ h. absurd (let q : none ≡ some r′ = rw g at h in let z : _≡_ {A = ℕ} 0 1 = cc in omega arith);
+    image = unchanged r;
+    sized = refl;
+    outcome = outcome r (l .inside);
+    anyway = anyway r;
+  }
+    where
+      exact : Fits s (wordsOf bytes) table → reportOf r ≡ answer 12 limit (LookUp key) (stateOf s) (wordsOf bytes) (length bytes) (length table)
+      exact f =
+          let a = at-rest s (length bytes) (length table) (wordsOf bytes) table g f in
+          let rest = a .fits in
+          let o = opens-ok 12 (omega arith) (omega arith) (s .setup .image) (s .setup .table) (wordsOf bytes) (rest .entries) (rest .long) (rest .accepted) in
+          let n : chunksIn 12 (s .setup .image) ≡ chunksIn 12 (length bytes) = ap (chunksIn 12) (a .same-bytes) in
+          let p : imageEntries 12 (chunksIn 12 (length bytes)) (wordsOf bytes) ≡ Entries (rest .entries) = rw n at (o .0 .parsed) in
+          rw (g, p) (l .exact (chunksIn 12 (s .setup .image)) (s .control .keys) (rest .entries) (o .0) (rest .built .indexed))
+
+module _ (c : Control) (k : Setup) (key : ℕ) (bytes table : List ℕ) (g : Gated) (asks : Asking c k (length bytes) (length table) g) where
+  pub locate-refused : (n : Refusal) → g ≡ G.Refused n → Locating c k key bytes table (L.Refused n)
+  locate-refused n e = record { called = λ b. turned-down 12 limit (sessionOf c k b) bytes table n (asks .asked b ∙ ap gateOf e) (LookUp key) tt; inside = tt }
+
+  pub locate-open : (r : Located) → g ≡ G.Open → Looking key bytes table r → Locating c k key bytes table r
+  locate-open r e l = record { called = λ b. looked (sessionOf c k b) key bytes table r (asks .asked b ∙ ap gateOf e) l; inside = in-image (length bytes) r (l .inside) }
+
+-- the part itself
+module _ (c : Control) (k : Setup) (key : ℕ) (bytes table : List ℕ) (r : Located) (found : Locating c k key bytes table r) where
+  pub part-inside : (a n : ℕ) → r ≡ L.Part a n → a + n ≤ length bytes
+  part-inside a n e = rw e at (found .inside)
+
+  pub show-part : (a n : ℕ) → r ≡ L.Part a n → Showing c k key bytes table (take (a + n - a) (drop a bytes)) 0
+  show-part a n e =
+      let d : a + n - a ≡ n = omega arith in
+      record { located = L.Part a n; called = rw e at (found .called); inside = rw e at (found .inside); is-part = rw d (take-drop a n bytes); is-number = refl }
+
+  pub show-refused : (n : Refusal) (answer : ℕ) → r ≡ L.Refused n → answer ≡ number n → Showing c k key bytes table [] answer
+  show-refused n answer e m = record { located = L.Refused n; called = rw e at (found .called); inside = tt; is-part = refl; is-number = m }

@@ -1,0 +1,96 @@
+-- What a look-up answers, for any memory and on memory as our calls left it.
+-- Assumes nothing.
+use mathlib.Core.Path.{_≡_}
+use mathlib.Core.List.{List}
+use Prim.Native.Nat.{ℕ, _+_, _*_, _/_, _%_, _≤_}
+use lib.Dec.{eqb, leb}
+use lib.ListN.{length, getD}
+use Rattle.spec.specs.Basics.{pick}
+use Rattle.spec.specs.Words.{wordsOf}
+use Rattle.spec.specs.Places.{unitWord}
+use Rattle.spec.specs.Log.{Entry}
+use Rattle.spec.specs.Reports.{number}
+use Rattle.spec.specs.Plans.{lookUp}
+use Rattle.spec.specs.Machine.{LookUp}
+use Rattle.spec.specs.Contract.{partBytes}
+use Rattle.session.specs.declared.Control.{Control}
+use Rattle.session.specs.declared.Setup.{Setup}
+use Rattle.session.specs.declared.Session.{Session}
+use Rattle.spec.specs.declared.Refusal.the-variants as N
+use Rattle.spec.specs.declared.Report.{Report}
+use Rattle.spec.specs.declared.Report.the-variants as R
+use Rattle.theory_crash.specs.Accepted.{Ok}
+use Rattle.volatile.specs.Known.{Indexed}
+use Rattle.lookup.specs.declared.Located.{Located}
+use Rattle.lookup.specs.declared.Located.the-variants as L
+use Rattle.session.specs.Promise.{Does}
+
+abbrev pub reportOf : Located → Report
+reportOf (L.Refused n) = R.Refused n
+reportOf (L.Part a n) = R.Part a n
+
+-- the part from byte a, of n bytes, where an image of so many bytes has it
+abbrev pub within : (bytes a n : ℕ) → Located
+within bytes a n = pick (leb (a + n) bytes) (L.Part a n) (L.Refused N.KeyAbsent)
+
+-- the part that holds the value of the block at a unit: its length is the block's first word
+abbrev pub blockPart : ℕ → List ℕ → ℕ → Located
+blockPart bytes ws unit = within bytes (8 * (unitWord unit + 1)) (getD ws (unitWord unit) 0)
+
+-- the part that holds the value of the entry at word `place`, whose first word is w: a put with its value in the log, or in a block
+abbrev pub partBy : ℕ → List ℕ → ℕ → ℕ → Located
+partBy bytes ws place w =
+    pick (eqb (w % 16) 1) (within bytes (8 * (place + 2)) (w / 16777216))
+    (pick (eqb (w % 16) 5) (blockPart bytes ws (w / 16777216)) (L.Refused N.KeyAbsent))
+
+-- that first word, 0 where an image of so many bytes does not have the entry's first two words
+abbrev pub firstWord : ℕ → List ℕ → ℕ → ℕ
+firstWord bytes ws place = pick (leb (8 * (place + 2)) bytes) (getD ws place 0) 0
+
+abbrev pub partAt : ℕ → List ℕ → ℕ → Located
+partAt bytes ws place = partBy bytes ws place (firstWord bytes ws place)
+
+-- 11, or a part of an image of so many bytes
+abbrev pub PartIn : ℕ → Located → Type 0
+PartIn bytes (L.Refused n) = n ≡ N.KeyAbsent
+PartIn bytes (L.Part a n) = a + n ≤ bytes
+
+-- behind the gate: for any memory, and with the table of an accepted image
+pub record Looking (key : ℕ) (bytes table : List ℕ) (r : Located) : Type 0 where
+  pub inside : PartIn (length bytes) r
+  pub exact : (n keys : ℕ) (es : List Entry) → Ok 12 n (wordsOf bytes) es → Indexed table keys es → reportOf r ≡ lookUp (wordsOf bytes) es key
+
+-- a part that is answered lies in the image
+abbrev pub InImage : ℕ → Located → Type 0
+InImage bytes (L.Refused n) = Unit {0}
+InImage bytes (L.Part a n) = a + n ≤ bytes
+
+abbrev pub sessionOf : Control → Setup → List ℕ → Session
+sessionOf c k b = record { control = c; setup = k; buffer = b }
+
+-- THE CALL, whatever the buffer holds: record, image and table stay
+abbrev pub LookedUp : Control → Setup → ℕ → List ℕ → List ℕ → Report → Type 0
+LookedUp c k key bytes table r = (b : List ℕ) → Does (LookUp key) (sessionOf c k b) (sessionOf c k b) bytes bytes table table r
+
+pub record Locating (c : Control) (k : Setup) (key : ℕ) (bytes table : List ℕ) (r : Located) : Type 0 where
+  pub called : LookedUp c k key bytes table (reportOf r)
+  pub inside : InImage (length bytes) r
+
+-- the call with its report: for any memory a refusal or a part of the image
+pub record Reporting (c : Control) (k : Setup) (key : ℕ) (bytes table : List ℕ) (r : Report) : Type 0 where
+  pub called : LookedUp c k key bytes table r
+  pub located : Located
+  pub is-report : r ≡ reportOf located
+  pub inside : InImage (length bytes) located
+
+-- the call with the part itself, and 0 or the refusal's number: `located` is what it answers
+abbrev pub numberOf : Located → ℕ
+numberOf (L.Refused n) = number n
+numberOf (L.Part a n) = 0
+
+pub record Showing (c : Control) (k : Setup) (key : ℕ) (bytes table part : List ℕ) (answer : ℕ) : Type 0 where
+  pub located : Located
+  pub called : LookedUp c k key bytes table (reportOf located)
+  pub inside : InImage (length bytes) located
+  pub is-part : part ≡ partBytes (reportOf located) bytes
+  pub is-number : answer ≡ numberOf located

@@ -1,0 +1,140 @@
+// Look-up: the part of the image that holds the value of a key, or the refusal.
+ghost use mathlib.Core.Path.{_≡_};
+ghost use Prim.Native.Nat.{_+_, _*_, _^_, _<_};
+ghost use lib.ListN.{length};
+ghost use Rattle.spec.specs.Words.{wordsOf};
+ghost use Rattle.lookup.specs.Look.{within, blockPart, firstWord, partAt, Looking, Locating, Reporting, Showing};
+use session::Control;
+use session::Gated;
+use session::Setup;
+use spec::Refusal;
+use spec::Report;
+
+// What a look-up finds: a refusal, or the part of the image that holds the value.
+pub enum Located {
+    Refused(Refusal),
+    Part { start: usize, length: usize },
+}
+
+// The part from byte `start`, where an image of so many bytes has it.
+fn within(bytes: usize, start: usize, length: u64) -> Located
+    ensures { λ r. ⌜ r ≡ within bytes start length ⌝ }
+{
+    if start <= bytes {
+        let n = length as usize;
+        if n <= bytes - start {
+            return Located::Part { start, length: n };
+        }
+    }
+    Located::Refused(Refusal::KeyAbsent)
+}
+
+// The part that holds the value of the block at a unit.
+fn block_part(image: &[u8], unit: u64) -> Located
+    requires { ⌜ unit < 2 ^ 40 ⌝ }
+    ensures { λ r. ⌜ r ≡ blockPart (length (now (image .entry))) (wordsOf (now (image .entry))) unit ⌝ }
+{
+    let start = 32 * unit as usize;
+    within(image.len(), 8 * (start + 1), words::load(image, start))
+}
+
+// The part that holds a value in the log of an entry at word `place`.
+fn log_part(bytes: usize, place: usize, length: u64) -> Located
+    requires { ⌜ (place < 0x4_0000) × (length < 2 ^ 40) ⌝ }
+    ensures { λ r. ⌜ r ≡ within bytes (8 * (place + 2)) length ⌝ }
+{
+    let start = 8 * (place + 2);
+    let n = length as usize;
+    if start + n <= bytes {
+        return Located::Part { start, length: n };
+    }
+    Located::Refused(Refusal::KeyAbsent)
+}
+
+// The first word of the entry at word `place`, 0 where the image does not have the entry's first two words.
+fn first_word(image: &[u8], place: usize) -> u64
+    ensures { λ r. ⌜ r ≡ firstWord (length (now (image .entry))) (wordsOf (now (image .entry))) place ⌝ }
+{
+    words::load_leading(image, place)
+}
+
+// The part that holds the value of the entry at word `place`: a put with its value in the log, or one with its value in a block.
+fn part_at(image: &[u8], place: usize) -> Located
+    requires { ⌜ place < 0x4_0000 ⌝ }
+    ensures { λ r. ⌜ r ≡ partAt (length (now (image .entry))) (wordsOf (now (image .entry))) place ⌝ }
+{
+    let word = first_word(image, place);
+    let kind = word % 16;
+    let field = word / 16777216;
+    if kind == 1 {
+        return log_part(image.len(), place, field);
+    }
+    if kind == 5 {
+        return block_part(image, field);
+    }
+    Located::Refused(Refusal::KeyAbsent)
+}
+
+// The value of a key, by one probe of the table, which tells the extent of a short value in the log; else the entry is read.
+fn value_of(image: &[u8], table: &[u64], key: u64) -> Located
+    ensures { λ r. ⌜ Looking key (now (image .entry)) (now (table .entry)) r ⌝ }
+{
+    let held = index::look(table, key);
+    let info = index::unpack(held);
+    let extent = info.extent;
+    let place = info.place as usize;
+    if 0 < extent {
+        return log_part(image.len(), place, extent + 1);
+    }
+    if held == 0 {
+        return Located::Refused(Refusal::KeyAbsent);
+    }
+    part_at(image, place)
+}
+
+// 2, 1, 8, 11, or the part of the image that holds the value of a key.
+pub fn locate(control: Control, setup: Setup, image: &[u8], table: &[u64], key: u64) -> Located
+    ensures { λ r. ⌜ Locating control setup key (now (image .entry)) (now (table .entry)) r ⌝ }
+{
+    let g = session::gate(control, setup, image.len(), table.len());
+    match g {
+        Gated::Refused(n) => Located::Refused(n),
+        Gated::Open => value_of(image, table, key),
+    }
+}
+
+// Look-up, with its report.
+pub fn find(control: Control, setup: Setup, image: &[u8], table: &[u64], key: u64) -> Report
+    ensures { λ r. ⌜ Reporting control setup key (now (image .entry)) (now (table .entry)) r ⌝ }
+{
+    let r = locate(control, setup, image, table, key);
+    match r {
+        Located::Refused(n) => Report::Refused(n),
+        Located::Part { start, length } => Report::Part { start, length },
+    }
+}
+
+// Look-up: the part itself, the empty part on a refusal; `answer` gets 0 or the refusal's number.
+pub fn look_up_core<'a>(
+    control: Control,
+    setup: Setup,
+    image: &'a [u8],
+    table: &[u64],
+    key: u64,
+    answer: &mut u64,
+) -> &'a [u8]
+    ensures { λ r. ⌜ Showing control setup key (now (image .entry)) (now (table .entry)) (now r) (now (answer .exit)) ⌝ }
+{
+    let found = locate(control, setup, image, table, key);
+    match found {
+        Located::Part { start, length } => {
+            let end = start + length;
+            *answer = 0;
+            &image[start..end]
+        }
+        Located::Refused(n) => {
+            *answer = session::number(n);
+            &image[0..0]
+        }
+    }
+}

@@ -1,0 +1,4 @@
+pub mod Tests
+pub mod Pass
+pub mod Runs
+pub mod Opens

@@ -1,0 +1,270 @@
+-- What the code shows of an opening: one law for each return.
+-- Assumes nothing.
+use mathlib.Core.Path.{_≡_, refl, sym, _∙_, ap}
+use mathlib.Core.Logic.{inl, inr}
+use mathlib.Core.Bool.{Bool, true, false}
+use mathlib.Core.List.{List, []}
+use Prim.Native.Nat.{ℕ, _*_, _/_, _≤_}
+use native.Mathlib.Omega.{arith}
+use lib.ListN.{length, length-replicate}
+use Rattle.spec.specs.Basics.{pick, both, isIn}
+use Rattle.spec.specs.Words.{wordsOf}
+use Rattle.spec.specs.Places.{chunkBytes, maxChunks, chunksIn, lengthAllowed}
+use Rattle.spec.specs.Header.{headerRight}
+use Rattle.spec.specs.Log.{Entry, Parsed, Wrong, Entries, imageEntries}
+use Rattle.spec.specs.Contents.{keysOf, capacity, liveBlocks}
+use Rattle.spec.specs.Opening.{Opening, Refused, Accepted, directoryTest, blocksTest, agreeTest, apartTest, fitsTable, openLog, opening}
+use Rattle.spec.specs.Machine.{Closed, Rest, Open, next}
+use Rattle.session.specs.declared.Control.{Control}
+use Rattle.session.specs.declared.Setup.{Setup}
+use Rattle.session.specs.declared.Source.{Source}
+use Rattle.session.specs.declared.Session.{Session}
+use Rattle.spec.specs.declared.Refusal.{Refusal}
+use Rattle.spec.specs.declared.Refusal.the-variants as N
+use Rattle.spec.specs.declared.Report.the-variants as R
+use Rattle.words.specs.Image.{length-wordsOf}
+use Rattle.theory_base.proofs.Lists.{not-both}
+use Rattle.theory_base.proofs.Places.{length-allowed}
+use Rattle.log.proofs.Roles.{base-is}
+use Rattle.index.specs.Index.{zeros}
+use Rattle.blocks.specs.Bits.{hasBit}
+use Rattle.volatile.specs.Known.{Indexed, FillInv}
+use Rattle.volatile.proofs.Fill.{fill-end, fill-fits}
+use Rattle.consistency.specs.declared.Checked.{Checked}
+use Rattle.consistency.specs.Pass.{Listed, Tested, Examined}
+use Rattle.session.specs.State.{batchWords, batchItems, noSource, stateAt, stateOf}
+use Rattle.session.specs.Fits.{RestFits}
+use Rattle.session.proofs.Kept.{none-fit}
+use Rattle.opening.specs.declared.Verdict.{Verdict}
+use Rattle.opening.specs.declared.Verdict.the-variants as J
+use Rattle.opening.specs.Pass.{Filling}
+use Rattle.opening.specs.Judged.{firstRefusal, Judged, JudgingLog, Judging}
+use Rattle.session.specs.Promise.{Does}
+
+-- ## The log
+
+-- what the first pass says of the parsed log
+module _ (n : ℕ) (ws table table′ : List ℕ) (fits plain : Bool) (keys : ℕ) where
+  fill-wrong : Filling n ws table table′ false fits plain keys → n ≤ maxChunks → imageEntries 12 n ws ≡ Wrong
+  fill-wrong f most = go (imageEntries 12 n ws) refl
+    where
+      go : (q : Parsed) → imageEntries 12 n ws ≡ q → q ≡ Wrong
+      go Wrong h = refl
+      go (Entries es) h = absurd (not-both false (f .entries most es h .0) refl)
+
+  fill-right : Filling n ws table table′ true fits plain keys → n ≤ maxChunks → (es : List Entry) × (imageEntries 12 n ws ≡ Entries es) × FillInv (length table) es table′ keys fits
+  fill-right f most = go (imageEntries 12 n ws) refl
+    where
+      go : (q : Parsed) → imageEntries 12 n ws ≡ q → (es : List Entry) × (q ≡ Entries es) × FillInv (length table) es table′ keys fits
+      go Wrong h = absurd (not-both true refl (f .wrong h))
+      go (Entries es) h = (es, refl, f .entries most es h .1)
+
+module _ (n : ℕ) (ws table table′ : List ℕ) (right fits plain : Bool) (keys : ℕ) (filled : Filling n ws table table′ right fits plain keys) where
+  -- 4
+  pub log-wrong : (buffer : List ℕ) → right ≡ false → JudgingLog n ws table table′ buffer buffer (J.Refused N.EntryWrong)
+  log-wrong buffer e = record {
+    sized = filled .sized;
+    kept = refl;
+    judged = λ most long. (rw (fill-wrong n ws table table′ fits plain keys (rw e at filled) most), inr (inr (inr (inl refl))));
+  }
+
+  module _ (buffer buffer′ : List ℕ) (r : Checked) (checked : Examined n ws table′ fits plain buffer buffer′ r) (so : right ≡ true) where
+    -- the entries, with what both passes say of them
+    module _ (most : n ≤ maxChunks) (long : 512 * n ≤ length ws) where
+      found : (es : List Entry) × (imageEntries 12 n ws ≡ Entries es) × FillInv (length table) es table′ keys fits
+      found = fill-right n ws table table′ fits plain keys (rw so at filled) most
+
+      abbrev es : List Entry
+      es = found .0
+
+      indexed : (t : Bool) → FillInv (length table) es table′ keys t → t ≡ true → Indexed table′ keys es
+      indexed true inv e = fill-end (length table) es table′ keys inv
+      indexed false inv e = absurd (not-both false e refl)
+
+      listed : Listed n ws table′ fits es
+      listed = record { few = most; whole = long; entries = found .1; keys = keys; indexed = indexed fits (found .2) }
+
+      tested : Tested n ws es buffer′ r
+      tested = checked .tested es listed (filled .plainly most es (found .1))
+
+      space : fits ≡ fitsTable (length table) es
+      space = fill-fits (length table) es table′ keys fits (found .2)
+
+    -- 5
+    pub log-block : r .blocks ≡ false → JudgingLog n ws table table′ buffer buffer′ (J.Refused N.BlockWrong)
+    log-block b = record {
+      sized = filled .sized;
+      kept = checked .kept .long;
+      judged = λ most long.
+          let t : blocksTest 12 n ws (es most long) ≡ false = sym (tested most long .blocks) ∙ b in
+          (rw (found most long .1, t), inr (inr (inr (inr (inl refl)))));
+    }
+
+    -- 6, 7, or accepted
+    module _ (b : r .blocks ≡ true) (agreed : Bool) (is-agreed : agreed ≡ both (r .agreeing) (r .apart)) where
+      last : (most : n ≤ maxChunks) (long : 512 * n ≤ length ws) (t : Bool) → agreed ≡ t → (u : Bool) → fits ≡ u
+          → Judged (openLog 12 n ws (length table) (imageEntries 12 n ws)) table′ buffer′ (firstRefusal t N.TopsDisagree u N.TableFull keys)
+      last most long t h u i = go t h u i
+        where
+          five : blocksTest 12 n ws (es most long) ≡ true
+          five = sym (tested most long .blocks) ∙ b
+
+          six : both (agreeTest ws (es most long)) (apartTest (es most long)) ≡ agreed
+          six = rw (← tested most long .agreeing b, ← tested most long .apart b) (sym is-agreed)
+
+          go : (t : Bool) → agreed ≡ t → (u : Bool) → fits ≡ u → Judged (openLog 12 n ws (length table) (imageEntries 12 n ws)) table′ buffer′ (firstRefusal t N.TopsDisagree u N.TableFull keys)
+          go false h u i = (rw (found most long .1, five, six ∙ h), inr (inr (inr (inr (inr (inl refl))))))
+          go true h false i = (rw (found most long .1, five, six ∙ h, sym (space most long) ∙ i), inr (inr (inr (inr (inr (inr (inl refl)))))))
+          go true h true i = (
+            es most long,
+            rw (found most long .1, five, six ∙ h, sym (space most long) ∙ i),
+            indexed most long fits (found most long .2) i,
+            tested most long .bits b,
+          )
+
+      pub log-end : (v : Verdict) → v ≡ firstRefusal agreed N.TopsDisagree fits N.TableFull keys → JudgingLog n ws table table′ buffer buffer′ v
+      log-end v e = record { sized = filled .sized; kept = checked .kept .long; judged = λ most long. rw e (last most long agreed refl fits refl) }
+
+-- ## The image
+
+module _ (bytes table : List ℕ) where
+  abbrev count : ℕ
+  count = length bytes / 4096
+
+  count-is : chunksIn 12 (length bytes) ≡ count
+  unfolding chunksIn chunkBytes
+  count-is = refl
+
+  abbrev whole : Opening
+  whole = opening 12 (length bytes) (wordsOf bytes) (length table)
+
+  -- by the first three tests
+  abbrev openBy : Bool → Bool → Bool → Opening
+  openBy a b d = pick a (pick b (pick d (openLog 12 count (wordsOf bytes) (length table) (imageEntries 12 count (wordsOf bytes))) (Refused N.DirectoryWrong)) (Refused N.NotOpen)) (Refused N.ImageLength)
+
+  -- 1
+  pub judge-length : (buffer : List ℕ) (a : Bool) → a ≡ lengthAllowed 12 (length bytes) → a ≡ false → Judging bytes table table buffer buffer (J.Refused N.ImageLength)
+  unfolding opening
+  judge-length buffer a is-a e = record { sized = refl; kept = refl; judged = (rw (sym is-a ∙ e), inl refl) }
+
+  module _ (a : Bool) (is-a : a ≡ lengthAllowed 12 (length bytes)) (yes-a : a ≡ true) (b : Bool) (is-b : b ≡ headerRight count (wordsOf bytes)) where
+    -- 2
+    pub judge-header : (buffer : List ℕ) → b ≡ false → Judging bytes table table buffer buffer (J.Refused N.NotOpen)
+    unfolding opening
+    judge-header buffer e = record { sized = refl; kept = refl; judged = (rw (sym is-a ∙ yes-a, count-is, sym is-b ∙ e), inr (inl refl)) }
+
+    module _ (yes-b : b ≡ true) (d : Bool) (is-d : d ≡ directoryTest 12 count (wordsOf bytes)) where
+      by-tests : whole ≡ openBy a b d
+      unfolding opening chunksIn chunkBytes
+      by-tests = rw (is-a, is-b, is-d)
+
+      -- 3
+      pub judge-directory : (buffer : List ℕ) → d ≡ false → Judging bytes table table buffer buffer (J.Refused N.DirectoryWrong)
+      judge-directory buffer e = record { sized = refl; kept = refl; judged = (by-tests ∙ rw (yes-a, yes-b, e), inr (inr (inl refl))) }
+
+      pub judge-rest : d ≡ true → (table′ buffer buffer′ : List ℕ) (r : Verdict) → JudgingLog count (wordsOf bytes) table table′ buffer buffer′ r → Judging bytes table table′ buffer buffer′ r
+      judge-rest e table′ buffer buffer′ r j =
+          let l = length-allowed 12 (omega arith) (omega arith) (length bytes) (sym is-a ∙ yes-a) in
+          let n = count-is in
+          let k = base-is (chunksIn 12 (length bytes)) in
+          let w = length-wordsOf bytes in
+          let same : whole ≡ openBy true true true = by-tests ∙ rw (yes-a, yes-b, e) in
+          record { sized = j .sized; kept = j .kept; judged = rw same (j .judged (omega arith) (omega arith)) }
+
+-- ## The call
+
+abbrev closed : Control
+closed = record { phase = 0; next = 0; items = 0; words = 0; keys = 0; fresh = 0 }
+
+abbrev atRest : ℕ → Control
+atRest keys = record { phase = 1; next = 0; items = 0; words = 0; keys = keys; fresh = 0 }
+
+abbrev lent : ℕ → ℕ → Source → Setup
+lent bytes words f = record { image = bytes; table = words; chunk = 0; old = 0; lines = 0; first = 1; least = 64; fields = 0; station = 0; centre = 0; source = f }
+
+abbrev session : Control → Setup → List ℕ → Session
+session c k b = record { control = c; setup = k; buffer = b }
+
+state-closed : (k : Setup) (b : List ℕ) → stateOf (session closed k b) ≡ Closed
+unfolding stateAt
+state-closed k b = refl
+
+no-words : (keys : ℕ) (b : List ℕ) → batchWords (atRest keys) b ≡ []
+unfolding batchWords
+no-words keys b = refl
+
+no-items : (keys : ℕ) (b : List ℕ) → batchItems (atRest keys) b ≡ []
+unfolding batchItems
+no-items keys b = rw (no-words keys b)
+
+state-rest : (keys bytes words : ℕ) (b : List ℕ) → stateOf (session (atRest keys) (lent bytes words noSource) b) ≡ Rest bytes words []
+unfolding stateAt
+state-rest keys bytes words b = ap (Rest bytes words) (no-items keys b)
+
+-- nothing is barred, and the image stays
+module _ (c : Control) (k : Setup) (buffer bytes table table′ buffer′ : List ℕ) (v : Verdict) (judging : Judging bytes table table′ buffer buffer′ v) where
+  pub opens-refused : (n : Refusal) → v ≡ J.Refused n → (table″ : List ℕ) → table″ ≡ zeros (length table′)
+      → Does Open (session c k buffer) (session closed k buffer′) bytes bytes table table″ (R.Refused n)
+  unfolding next
+  opens-refused n e table″ z =
+      let j : Judged (opening 12 (length bytes) (wordsOf bytes) (length table)) table′ buffer′ (J.Refused n) = rw e at (judging .judged) in
+      let t : table″ ≡ zeros (length table) = z ∙ ap zeros (judging .sized) in
+      record {
+        exact = λ proper. record {
+          answered = sym (rw (j .0));
+          became = state-closed k buffer′ ∙ sym (rw (j .0));
+          fits = (judging .kept ∙ proper, rw (state-closed k buffer′) tt);
+        };
+        first = λ r h. absurd (let x : _≡_ {A = ℕ} 0 1 = cc in omega arith);
+        image = refl;
+        sized = ap length t ∙ length-replicate (length table) 0;
+        outcome = (j .1, (state-closed k buffer′, t));
+        anyway = inl (n, refl);
+      }
+
+  opens : (keys : ℕ) → v ≡ J.Accepted keys → Does Open (session c k buffer) (session (atRest keys) (lent (length bytes) (length table) noSource) buffer′) bytes bytes table table′ R.Opened
+  unfolding next
+  opens keys e =
+      let j : Judged (opening 12 (length bytes) (wordsOf bytes) (length table)) table′ buffer′ (J.Accepted keys) = rw e at (judging .judged) in
+      let rest = state-rest keys (length bytes) (length table) buffer′ in
+      record {
+        exact = λ proper. record {
+          answered = sym (rw (j .1));
+          became = rest ∙ sym (rw (j .1));
+          fits = (judging .kept ∙ proper, rw rest (fits keys (j .0) (j .1) (j .2) (j .3)));
+        };
+        first = λ r h. absurd (let x : _≡_ {A = ℕ} 0 1 = cc in omega arith);
+        image = refl;
+        sized = judging .sized;
+        outcome = rw rest;
+        anyway = inr (refl, rest);
+      }
+    where
+      fits : (keys : ℕ) (es : List Entry) → opening 12 (length bytes) (wordsOf bytes) (length table) ≡ Accepted es → Indexed table′ keys es → ((u : ℕ) → hasBit buffer′ u ≡ isIn u (liveBlocks es))
+          → RestFits (session (atRest keys) (lent (length bytes) (length table) noSource) buffer′) (wordsOf bytes) table′ []
+      fits keys es o ix bits =
+          let m : keys ≡ length (keysOf es) = ix .count in
+          let l : keys ≤ capacity (length table) = rw (judging .sized) at (ix .fits) in
+          record {
+            entries = es;
+            accepted = o;
+            long = length-wordsOf bytes;
+            lent = judging .sized;
+            built = record { indexed = ix; blocks = bits };
+            batch = record {
+              room = omega arith;
+              written = no-words keys buffer′;
+              count = refl;
+              few = omega arith;
+              right = tt;
+              counts = tt;
+              fit = none-fit (chunksIn 12 (length bytes)) (wordsOf bytes) es;
+              keys = omega arith;
+            };
+            table-room = omega arith;
+            hint = λ c l u m. absurd (omega arith);
+          }
+
+  pub opens-accepted : (keys : ℕ) (f : Source) → v ≡ J.Accepted keys → f ≡ noSource
+      → Does Open (session c k buffer) (session (atRest keys) (lent (length bytes) (length table) f) buffer′) bytes bytes table table′ R.Opened
+  opens-accepted keys f e q = rw q (opens keys e)

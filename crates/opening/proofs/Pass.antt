@@ -1,0 +1,160 @@
+-- What the code shows of the first pass: one law for each return of an entry's insertion, and the steps of the pass.
+-- Assumes nothing.
+use mathlib.Core.Path.{_≡_, refl, sym, _∙_, ap}
+use mathlib.Core.Bool.{Bool, true, false}
+use mathlib.Core.List.{List, [], _∷_, _++_}
+use Prim.Native.Nat.{ℕ, _+_, _≤_, _<_}
+use native.Mathlib.Omega.{arith}
+use lib.Dec.{eqb, ltb}
+use lib.ListN.{length, length-replicate}
+use borrow.Author.Tests.{ltb-true}
+use Rattle.spec.specs.Basics.{pick, both}
+use Rattle.spec.specs.Log.{Entry, Parsed, Wrong, Entries, prepend, imageEntries}
+use Rattle.spec.specs.Blocks.{pointed}
+use Rattle.theory_base.proofs.Lists.{not-both, both-l, both-r}
+use Rattle.theory_log.proofs.Parse.{cons-inv}
+use Rattle.index.specs.Index.{infoAt, stopOf, get, insert, putAt, zeros, capacity as tableRoom}
+use Rattle.index.specs.Laws.{insert-length}
+use Rattle.index.specs.Answers.{look-in, put-insert}
+use Rattle.volatile.specs.Known.{extentOf, infoOf, alone, ownOf, noted, FillInv}
+use Rattle.volatile.proofs.Info.{bounded-front}
+use Rattle.volatile.proofs.Grow.{capacity-same}
+use Rattle.volatile.proofs.Image.{image-bounded}
+use Rattle.volatile.proofs.Fill.{fill-start, fill-old, fill-new, fill-full, fill-over}
+use Rattle.volatile.proofs.Plain.{plain-start, plain-next, plain-end}
+use Rattle.log.specs.declared.Cursor.{Cursor}
+use Rattle.log.specs.declared.Next.the-variants as N
+use Rattle.log.specs.Stands.{entryIn}
+use Rattle.log.specs.Cursor.{start, remaining, Handed}
+use Rattle.log.proofs.Walk.{remaining-start, passed-entry, passed-done, passed-wrong}
+use Rattle.opening.specs.Pass.{Entering, Passing, Filling}
+
+-- One more entry, of a key whose probing stops at `slot`, where the table holds `old`.
+module _ (table : List ℕ) (keys : ℕ) (fits plain : Bool) (key own slot old : ℕ) (is-slot : slot ≡ stopOf table key) (is-word : old ≡ infoAt table slot) (so : fits ≡ true) where
+  is-old : old ≡ get table key
+  is-old = is-word ∙ look-in table key slot is-slot
+
+  pub enter-full : old ≡ 0 → tableRoom (length table) ≤ keys → Entering table table keys fits plain key own keys false false
+  enter-full z c = rw so (record {
+    sized = refl;
+    enters = λ xs e k o b inv. fill-full (length table) xs e table table keys old 0 inv b (rw k is-old) z (rw (capacity-same (length table)) c);
+    plainly = λ f. absurd (not-both true refl (sym f));
+  })
+
+  module _ (table′ : List ℕ) (info : ℕ) (is-info : info ≡ noted old own) (is-put : table′ ≡ putAt table slot key info) (plain′ : Bool) (is-plain : plain′ ≡ both plain (ltb info 0x8000_0000_0000_0000)) where
+    is-table : table′ ≡ insert table key info
+    is-table = is-put ∙ put-insert table key slot is-slot info
+
+    long : length table′ ≡ length table
+    long = ap length is-table ∙ insert-length table key info
+
+    low : plain′ ≡ true → (plain ≡ true) × (fits ≡ true) × (true ≡ true) × (noted (get table key) own < 0x8000_0000_0000_0000)
+    low t =
+        let q : both plain (ltb info 0x8000_0000_0000_0000) ≡ true = sym is-plain ∙ t in
+        let l : info < 0x8000_0000_0000_0000 = ltb-true info 0x8000_0000_0000_0000 (both-r plain _ q) in
+        (both-l plain _ q, so, refl, rw (← is-old, ← is-info) l)
+
+    pub enter-new : old ≡ 0 → keys < tableRoom (length table) → Entering table table′ keys fits plain key own (keys + 1) true plain′
+    enter-new z c = record {
+      sized = long;
+      enters = rw so (λ xs e k o b inv. fill-new (length table) xs e table table′ keys old info inv b (rw k is-old) (rw o is-info) (rw k is-table) z (rw (capacity-same (length table)) c));
+      plainly = low;
+    }
+
+    pub enter-old : (old ≡ 0 → ⊥) → Entering table table′ keys fits plain key own keys true plain′
+    enter-old n = record {
+      sized = long;
+      enters = rw so (λ xs e k o b inv. fill-old (length table) xs e table table′ keys old info inv b (rw k is-old) (rw o is-info) (rw k is-table) n);
+      plainly = low;
+    }
+
+pub enter-over : (table : List ℕ) (keys : ℕ) (fits plain : Bool) (key own : ℕ) → fits ≡ false → Entering table table keys fits plain key own keys false false
+enter-over table keys fits plain key own so =
+    record { sized = refl; enters = rw so (λ xs e k o b inv. fill-over (length table) xs e table keys inv); plainly = λ f. absurd (not-both true refl (sym f)) }
+
+-- what an entry of the log would give alone
+pub own-alone : (pl x extent a v own : ℕ) → extent ≡ extentOf pl x → own ≡ alone extent a v → own ≡ alone (extentOf pl x) a v
+own-alone pl x extent a v own is-extent is-own = is-own ∙ ap (λ (y : ℕ). alone y a v) is-extent
+
+-- THE PASS: its steps.
+pub pass-start : (n : ℕ) (ws : List ℕ) (words : ℕ) (table : List ℕ) → table ≡ zeros words → Passing n ws (length table) table 0 true true start
+pass-start n ws words table e = record {
+  sized = refl;
+  passed = [];
+  so-far = sym (remaining-start 12 n ws);
+  holds = λ m es h. (rw (e, length-replicate {A = ℕ} words 0) (fill-start words), plain-start);
+}
+
+-- past padding, or on to the next chunk
+pub pass-on : (n : ℕ) (ws : List ℕ) (words : ℕ) (table : List ℕ) (keys : ℕ) (fits plain : Bool) (c d : Cursor) → Passing n ws words table keys fits plain c → remaining 12 n ws c ≡ remaining 12 n ws d
+    → Passing n ws words table keys fits plain d
+pass-on n ws words table keys fits plain c d inv same = record { sized = inv .sized; passed = inv .passed; so-far = inv .so-far ∙ ap (prepend (inv .passed)) same; holds = inv .holds }
+
+-- what is passed is a front part of all
+prepend-front : (xs : List Entry) (q : Parsed) (es : List Entry) → prepend xs q ≡ Entries es → (rest : List Entry) × (es ≡ xs ++ rest)
+prepend-front [] q es h = (es, refl)
+prepend-front (x ∷ xs) q es h =
+    let a = cons-inv x (prepend xs q) es h in
+    let b = prepend-front xs q (a .0) (a .1) in
+    (b .0, a .2 ∙ ap (λ (l : List Entry). x ∷ l) (b .1))
+
+-- an entry that may stay plain points to no block
+no-pointer : (op pl : ℕ) (plain : Bool) → pick (eqb pl 1) false plain ≡ true → (plain ≡ true) × (both (eqb op 1) (eqb pl 1) ≡ false)
+no-pointer op pl plain h = go (eqb pl 1) h (eqb op 1)
+  where
+    go : (b : Bool) → pick b false plain ≡ true → (a : Bool) → (plain ≡ true) × (both a b ≡ false)
+    go true q a = absurd (not-both true refl (sym q))
+    go false q true = (q, refl)
+    go false q false = (q, refl)
+
+module _ (n : ℕ) (ws : List ℕ) (words : ℕ) (table : List ℕ) (keys : ℕ) (fits plain : Bool) (c : Cursor) (inv : Passing n ws words table keys fits plain c) where
+  pub pass-entry : (op pl v x k m a : ℕ) (behind : Cursor) → Handed n ws c op pl v x k m a behind → (so : Bool) → so ≡ pick (eqb pl 1) false plain
+      → (own : ℕ) → own ≡ alone (extentOf pl x) a v → (table′ : List ℕ) (keys′ : ℕ) (fits′ plain′ : Bool) → Entering table table′ keys fits so k own keys′ fits′ plain′
+      → Passing n ws words table′ keys′ fits′ plain′ behind
+  pass-entry op pl v x k m a behind told so is-so own is-own table′ keys′ fits′ plain′ entered = record {
+    sized = entered .sized ∙ inv .sized;
+    passed = inv .passed ++ f ∷ [];
+    so-far = more;
+    holds = λ most es h.
+        let front = prepend-front (inv .passed ++ f ∷ []) (remaining 12 n ws behind) es (sym more ∙ h) in
+        let small = bounded-front (inv .passed ++ f ∷ []) (front .0) (rw (front .1) at (image-bounded n ws es h most)) in
+        let held = inv .holds most es h in
+        (rw (inv .sized) at (entered .enters (inv .passed) f refl (sym is-own) small (rw (inv .sized) (held .0))), plain-next (inv .passed) f plain fits plain′ fits′ small (held .1) (plainer (held .0)));
+  }
+    where
+      f : Entry
+      f = entryIn ws op pl v x k m a
+
+      more : imageEntries 12 n ws ≡ prepend (inv .passed ++ f ∷ []) (remaining 12 n ws behind)
+      more = passed-entry n ws c (N.Entry op pl v x k m a behind) told (imageEntries 12 n ws) (inv .passed) (inv .so-far) op pl v x k m a behind refl
+
+      plainer : FillInv words (inv .passed) table keys fits → plain′ ≡ true
+          → (plain ≡ true) × (fits′ ≡ true) × (noted (infoOf k (inv .passed)) (ownOf f) < 0x8000_0000_0000_0000) × (pointed f ≡ false)
+      plainer held t =
+          let p = entered .plainly t in
+          let q = no-pointer op pl plain (sym is-so ∙ p .0) in
+          (q .0, p .2, rw (held .whole (p .1) .0 k, is-own) at (p .3), q .1)
+
+  module _ (before : List ℕ) (cleared : words ≡ length (zeros (length before))) where
+    same : words ≡ length before
+    same = cleared ∙ length-replicate (length before) 0
+
+    pub pass-done : remaining 12 n ws c ≡ Entries [] → Filling n ws before table true fits plain keys
+    pass-done told =
+        let all : imageEntries 12 n ws ≡ Entries (inv .passed) = passed-done n ws c N.Done told (imageEntries 12 n ws) (inv .passed) (inv .so-far) refl in
+        record {
+          sized = inv .sized ∙ same;
+          wrong = λ w. absurd (let z : _≡_ {A = ℕ} 0 1 = cc in omega arith);
+          entries = λ most es h. (refl, let q : inv .passed ≡ es = cc in rw (← q, ← same) (inv .holds most es h .0));
+          plainly = λ most es h t. let q : inv .passed ≡ es = cc in rw (← q) (plain-end (inv .passed) plain fits (inv .holds most es h .1) t);
+        }
+
+    pub pass-wrong : remaining 12 n ws c ≡ Wrong → Filling n ws before table false fits plain keys
+    pass-wrong told =
+        let all : imageEntries 12 n ws ≡ Wrong = passed-wrong n ws c N.Wrong told (imageEntries 12 n ws) (inv .passed) (inv .so-far) refl in
+        record {
+          sized = inv .sized ∙ same;
+          wrong = λ w. refl;
+          entries = λ most es h. absurd (let z : _≡_ {A = ℕ} 0 1 = cc in omega arith);
+          plainly = λ most es h t. absurd (let z : _≡_ {A = ℕ} 0 1 = cc in omega arith);
+        }

@@ -1,0 +1,137 @@
+-- `recovery::run` meets its contract. The loop's invariant: the pass has come to `place`, with the table's numbers as they are.
+-- Assumes nothing.
+use Prim.Native.Nat.{_-_}
+use native.Mathlib.Omega.{arith}
+use lib.ListN.{length}
+use borrow.Author.Needs.{needs}
+use Rattle.spec.specs.Words.{wordsOf}
+use Rattle.words.specs.Image.{length-wordsOf}
+use Rattle.theory_log.proofs.Walk.{room-entry}
+use Rattle.opening.specs.Pass.{Hastened}
+use Rattle.opening.proofs.Pass.{own-alone}
+use Rattle.opening.proofs.Runs.{put-told, run-more}
+use Rattle.opening.proofs.run.Statement.{statement}
+use Rattle.opening.proofs.run.Tie as tie
+
+abbrev Inv-loop : tie.InvT-loop
+Inv-loop image at end table₀ keys fits room place₀ count₀ table place count = Hastened (wordsOf image) end fits table₀ keys at table count place
+
+abbrev μ-loop : tie.MeasureT-loop
+μ-loop image at end table₀ keys fits room place₀ count₀ table place count = length (wordsOf image) - place
+
+capacity-requires : tie.Need-capacity-requires Inv-loop μ-loop
+capacity-requires c κs = search needs
+
+loop-holds : tie.Need-loop-holds Inv-loop μ-loop
+loop-holds c = search needs
+
+short-put-requires : tie.Need-short-put-requires Inv-loop μ-loop
+short-put-requires c κs = search needs
+
+enum-told : tie.Need-enum-told Inv-loop μ-loop
+enum-told c = search needs
+
+same-length : tie.Need-same-length Inv-loop μ-loop
+same-length c = search needs
+
+returns : tie.Need-returns Inv-loop μ-loop
+returns c = search needs
+
+enum-known-s : tie.Need-enum-known-s Inv-loop μ-loop
+enum-known-s c = search needs
+
+stop-requires : tie.Need-stop-requires Inv-loop μ-loop
+stop-requires c κs = search needs
+
+word-at-requires : tie.Need-word-at-requires Inv-loop μ-loop
+word-at-requires c κs = search needs
+
+same-length-2 : tie.Need-same-length-2 Inv-loop μ-loop
+same-length-2 c = search needs
+
+returns-2 : tie.Need-returns-2 Inv-loop μ-loop
+returns-2 c = search needs
+
+same-length-3 : tie.Need-same-length-3 Inv-loop μ-loop
+same-length-3 c = search needs
+
+returns-3 : tie.Need-returns-3 Inv-loop μ-loop
+returns-3 c = search needs
+
+extent-of-requires : tie.Need-extent-of-requires Inv-loop μ-loop
+extent-of-requires c κs = search needs
+
+alone-requires : tie.Need-alone-requires Inv-loop μ-loop
+alone-requires c κs = search needs
+
+put-at-requires : tie.Need-put-at-requires Inv-loop μ-loop
+put-at-requires c κs = search needs
+
+add-count : tie.Need-add-count Inv-loop μ-loop
+add-count c = search needs
+
+add-place : tie.Need-add-place Inv-loop μ-loop
+add-place c =
+    let a = c .before .before .before .before .before .before .before .before .before .before .before .before .before .before .before .before .before .before .before .before .before .args in
+    let w = c .before .before .before .before .before .before .before .before .before .before .before .before .before .before .before .before .before .loop in
+    let r = room-entry (wordsOf (a .image .now)) (w .place) (a .end) _ _ _ _ _ _ (put-told (wordsOf (a .image .now)) (w .place) (a .end) _ (c .before .before .before .before .before .before .before .before .before .before .before .before .before .before .before .short-put .ensures) _ _ _ _ (c .before .before .before .before .before .before .before .before .before .before .before .before .before .s .given .1)) in
+    let n = length-wordsOf (a .image .now) in
+    omega arith
+
+add-place-2 : tie.Need-add-place-2 Inv-loop μ-loop
+add-place-2 c =
+    let a = c .before .before .before .before .before .before .before .before .before .before .before .before .before .before .before .before .before .before .before .before .before .args in
+    let w = c .before .before .before .before .before .before .before .before .before .before .before .before .before .before .before .before .before .loop in
+    let r = room-entry (wordsOf (a .image .now)) (w .place) (a .end) _ _ _ _ _ _ (put-told (wordsOf (a .image .now)) (w .place) (a .end) _ (c .before .before .before .before .before .before .before .before .before .before .before .before .before .before .before .short-put .ensures) _ _ _ _ (c .before .before .before .before .before .before .before .before .before .before .before .before .before .s .given .1)) in
+    let n = length-wordsOf (a .image .now) in
+    omega arith
+
+loop-less : tie.Need-loop-less Inv-loop μ-loop
+loop-less c =
+    let a = c .before .before .before .before .before .before .before .before .before .before .before .before .before .before .before .before .before .before .before .before .before .args in
+    let w = c .before .before .before .before .before .before .before .before .before .before .before .before .before .before .before .before .before .loop in
+    let r = room-entry (wordsOf (a .image .now)) (w .place) (a .end) _ _ _ _ _ _ (put-told (wordsOf (a .image .now)) (w .place) (a .end) _ (c .before .before .before .before .before .before .before .before .before .before .before .before .before .before .before .short-put .ensures) _ _ _ _ (c .before .before .before .before .before .before .before .before .before .before .before .before .before .s .given .1)) in
+    omega arith
+
+loop-again : tie.Need-loop-again Inv-loop μ-loop
+loop-again c =
+    let a = c .before .before .before .before .before .before .before .before .before .before .before .before .before .before .before .before .before .before .before .before .before .args in
+    let w = c .before .before .before .before .before .before .before .before .before .before .before .before .before .before .before .before .before .loop in
+    run-more _ _ _ _ _ _ _ _ _ (w .inv) _ _ _ _ (put-told (wordsOf (a .image .now)) (w .place) (a .end) _ (c .before .before .before .before .before .before .before .before .before .before .before .before .before .before .before .short-put .ensures) _ _ _ _ (c .before .before .before .before .before .before .before .before .before .before .before .before .before .s .given .1)) _ _ (c .before .before .before .before .before .before .before .before .before .before .stop .ensures) (c .before .before .before .before .before .before .before .before .word-at .ensures) (c .before .before .before .before .before .before .before .if1 .left)
+    (rw (← c .before .before .before .before .before .before .before .before .before .before .before .before .before .before .before .before .before .before .capacity .ensures) (c .before .before .before .before .before .before .if2 .left)) _ (own-alone 0 (c .before .before .before .before .before .before .before .before .before .before .before .before .before .s .given .0 .1 .0) _ _ _ _ (c .before .before .before .before .before .extent-of .ensures) (c .before .before .before .before .alone .ensures)) _ (c .before .before .put-at .ensures) (c .before .before .before .before .before .before .before .before .before .before .before .before .before .before .before .before .loop-test .taken)
+
+same-length-4 : tie.Need-same-length-4 Inv-loop μ-loop
+same-length-4 c = search needs
+
+returns-4 : tie.Need-returns-4 Inv-loop μ-loop
+returns-4 c = search needs
+
+pub run-spec : {M : Type 1} → statement M
+run-spec =
+    tie.close
+    (tie.spec
+    Inv-loop
+    μ-loop
+    capacity-requires
+    loop-holds
+    short-put-requires
+    enum-told
+    same-length
+    returns
+    enum-known-s
+    stop-requires
+    word-at-requires
+    same-length-2
+    returns-2
+    same-length-3
+    returns-3
+    extent-of-requires
+    alone-requires
+    put-at-requires
+    add-count
+    add-place
+    add-place-2
+    loop-less
+    loop-again
+    same-length-4
+    returns-4)

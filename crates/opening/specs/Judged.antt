@@ -1,0 +1,40 @@
+-- What an opening finds of an image, and the key table and the block bits that it leaves where the image is accepted.
+-- Assumes nothing.
+use mathlib.Core.Path.{_≡_}
+use mathlib.Core.Bool.{Bool}
+use mathlib.Core.List.{List}
+use Prim.Native.Nat.{ℕ, _*_, _≤_}
+use lib.ListN.{length}
+use Rattle.spec.specs.Basics.{pick, isIn}
+use Rattle.spec.specs.Words.{wordsOf}
+use Rattle.spec.specs.Places.{maxChunks}
+use Rattle.spec.specs.Log.{Entry, imageEntries}
+use Rattle.spec.specs.Contents.{liveBlocks}
+use Rattle.spec.specs.Opening.{Opening, Refused, Accepted, openLog, opening}
+use Rattle.spec.specs.Machine.{Open, refusals}
+use Rattle.spec.specs.Contract.{MemRefusal}
+use Rattle.spec.specs.declared.Refusal.{Refusal}
+use Rattle.blocks.specs.Bits.{hasBit}
+use Rattle.volatile.specs.Known.{Indexed}
+use Rattle.opening.specs.declared.Verdict.{Verdict}
+use Rattle.opening.specs.declared.Verdict.the-variants as J
+
+abbrev pub firstRefusal : Bool → Refusal → Bool → Refusal → ℕ → Verdict
+firstRefusal first a second b keys = pick first (pick second (J.Accepted keys) (J.Refused b)) (J.Refused a)
+
+-- the verdict is the definition's; of an accepted image the table and the bits are its entries'
+abbrev pub Judged : Opening → List ℕ → List ℕ → Verdict → Type 0
+Judged o table buffer (J.Refused n) = (o ≡ Refused n) × MemRefusal n (refusals Open)
+Judged o table buffer (J.Accepted keys) = (es : List Entry) × (o ≡ Accepted es) × Indexed table keys es × ((u : ℕ) → hasBit buffer u ≡ isIn u (liveBlocks es))
+
+-- of the log alone, in an image of n chunks
+pub record JudgingLog (n : ℕ) (ws table table′ buffer buffer′ : List ℕ) (r : Verdict) : Type 0 where
+  pub sized : length table′ ≡ length table
+  pub kept : length buffer′ ≡ length buffer
+  pub judged : n ≤ maxChunks → 512 * n ≤ length ws → Judged (openLog 12 n ws (length table) (imageEntries 12 n ws)) table′ buffer′ r
+
+-- of the whole image
+pub record Judging (bytes table table′ buffer buffer′ : List ℕ) (r : Verdict) : Type 0 where
+  pub sized : length table′ ≡ length table
+  pub kept : length buffer′ ≡ length buffer
+  pub judged : Judged (opening 12 (length bytes) (wordsOf bytes) (length table)) table′ buffer′ r

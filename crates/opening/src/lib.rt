@@ -1,0 +1,429 @@
+// An opening: the refusals 1 to 7, and the volatile memory built. One pass over the entries fills the key table; a second one, where it is needed,
+// asks blocks and top entries.
+ghost use mathlib.Core.Path.{_≡_};
+ghost use mathlib.Core.Bool.{false};
+ghost use Prim.Native.Nat.{_+_, _<_};
+ghost use lib.Dec.{eqb, ltb};
+ghost use lib.ListN.{length, getD};
+ghost use Rattle.spec.specs.Basics.{pick, both};
+ghost use Rattle.spec.specs.Words.{wordsOf};
+ghost use Rattle.spec.specs.Places.{lengthAllowed};
+ghost use Rattle.spec.specs.Header.{headerRight};
+ghost use Rattle.spec.specs.Directory.{isRole, directoryRight};
+ghost use Rattle.spec.specs.Opening.{directoryTest};
+ghost use Rattle.spec.specs.Machine.{Open};
+ghost use Rattle.index.specs.Index.{zeros};
+ghost use Rattle.opening.specs.Pass.{Entering, Hastened, Filling};
+ghost use Rattle.opening.specs.Judged.{firstRefusal, JudgingLog, Judging};
+ghost use Rattle.session.specs.Promise.{Does};
+use log::Short;
+use session::Control;
+use session::Outcome;
+use session::Setup;
+use spec::LogStep;
+use spec::Refusal;
+use spec::Report;
+use spec::Role;
+
+// THE TESTS OF AN IMAGE
+// 1: the length is that of 4 to 504 whole chunks.
+pub fn length_allowed(bytes: usize) -> bool
+    ensures { λ r. ⌜ r ≡ lengthAllowed 12 bytes ⌝ }
+{
+    if bytes % 4096 == 0 {
+        let n = bytes / 4096;
+        if 4 <= n {
+            return n <= 504;
+        }
+    }
+    false
+}
+
+// 2: the header line is right, of an image of `count` chunks.
+pub fn header_fits(image: &[u8], count: usize) -> bool
+    ensures { λ r. ⌜ r ≡ headerRight count (wordsOf (now (image .entry))) ⌝ }
+{
+    let words = [
+        words::load(image, 0),
+        words::load(image, 1),
+        words::load(image, 2),
+        words::load(image, 3),
+        words::load(image, 4),
+        words::load(image, 5),
+        words::load(image, 6),
+        words::load(image, 7),
+    ];
+    codec::header_right(words, count as u64)
+}
+
+fn is_role(role: Role) -> bool
+    ensures { λ r. ⌜ r ≡ isRole role ⌝ }
+{
+    match role {
+        Role::Free => true,
+        Role::Log(_) => true,
+        Role::Data(_) => true,
+        Role::Wrong => false,
+    }
+}
+
+// The directory word of chunk c is right.
+fn directory_word_fits(image: &[u8], count: usize, c: usize) -> bool
+    requires { ⌜ c < 504 ⌝ }
+    ensures { λ r. ⌜ r ≡ directoryRight 12 count c (getD (wordsOf (now (image .entry))) (8 + c) 0) ⌝ }
+{
+    let word = words::load(image, 8 + c);
+    if 1 <= c {
+        if c < count {
+            return is_role(codec::role_of(word));
+        }
+    }
+    word == 0
+}
+
+// 3: every word of the directory is right.
+pub fn directory_fits(image: &[u8], count: usize) -> bool
+    ensures { λ r. ⌜ r ≡ directoryTest 12 count (wordsOf (now (image .entry))) ⌝ }
+{
+    let mut c: usize = 0;
+    while c < 504 {
+        if directory_word_fits(image, count, c) {
+            c += 1;
+        } else {
+            return false;
+        }
+    }
+    true
+}
+
+// THE FIRST PASS: every entry goes into the key table
+// Whether entries are still plain: a word of the table without the bit of several top entries, and no value in a block.
+fn single(plain: bool, info: u64) -> bool
+    ensures { λ r. ⌜ r ≡ both plain (ltb info 0x8000_0000_0000_0000) ⌝ }
+{
+    if plain {
+        return info < 0x8000_0000_0000_0000;
+    }
+    false
+}
+
+fn unpointed(plain: bool, placement: u64) -> bool
+    ensures { λ r. ⌜ r ≡ pick (eqb placement 1) false plain ⌝ }
+{
+    if placement == 1 {
+        return false;
+    }
+    plain
+}
+
+// The table's keys, whether those of all entries so far fit, and whether the entries are plain.
+struct Entered {
+    keys: usize,
+    fits: bool,
+    plain: bool,
+}
+
+// One more entry in the table; `own` is what it would hold of the key with this entry alone. Once the keys do not fit the table stays.
+fn enter(table: &mut [u64], keys: usize, fits: bool, plain: bool, key: u64, own: u64) -> Entered
+    ensures { λ r. ⌜ Entering (now (table .entry)) (now (table .exit)) keys fits plain key own (r .keys) (r .fits) (r .plain) ⌝ }
+{
+    if fits {
+        let slot = index::stop(table, key);
+        let old = index::word_at(table, slot);
+        if old == 0 {
+            if keys < index::capacity(table.len()) {
+                index::put_at(table, slot, key, own);
+                return Entered {
+                    keys: keys + 1,
+                    fits: true,
+                    plain: single(plain, own),
+                };
+            }
+            return Entered {
+                keys,
+                fits: false,
+                plain: false,
+            };
+        }
+        let info = volatile::noted(old, own);
+        index::put_at(table, slot, key, info);
+        return Entered {
+            keys,
+            fits: true,
+            plain: single(plain, info),
+        };
+    }
+    Entered {
+        keys,
+        fits: false,
+        plain: false,
+    }
+}
+
+// A run of the pass: how many keys the table has then, and how far it came.
+struct Ran {
+    keys: usize,
+    at: usize,
+}
+
+// The pass over puts with new keys and values in the log, from word `at` on, as long as the table has room: all else is left to `fill`.
+fn run(image: &[u8], at: usize, end: usize, table: &mut [u64], keys: usize, fits: bool) -> Ran
+    ensures { λ r. ⌜ Hastened (wordsOf (now (image .entry))) end fits (now (table .entry)) keys at (now (table .exit)) (r .keys) (r .at) ⌝ }
+{
+    let room = index::capacity(table.len());
+    let mut place = at;
+    let mut count = keys;
+    while fits {
+        let s = log::short_put(image, place, end);
+        match s {
+            Short::Other => {
+                return Ran {
+                    keys: count,
+                    at: place,
+                };
+            }
+            Short::Put {
+                version,
+                field,
+                key,
+                words,
+            } => {
+                let slot = index::stop(table, key);
+                let old = index::word_at(table, slot);
+                if old != 0 {
+                    return Ran {
+                        keys: count,
+                        at: place,
+                    };
+                }
+                if room <= count {
+                    return Ran {
+                        keys: count,
+                        at: place,
+                    };
+                }
+                let own = volatile::alone(volatile::extent_of(0, field), place, version);
+                index::put_at(table, slot, key, own);
+                count += 1;
+                place += 2 + words;
+            }
+        }
+    }
+    Ran {
+        keys: count,
+        at: place,
+    }
+}
+
+// What the pass finds: whether every entry is right, whether the keys fit and the entries are plain, and how many keys the table has.
+struct Filled {
+    right: bool,
+    fits: bool,
+    plain: bool,
+    keys: usize,
+}
+
+// The pass over the log of an image of `count` chunks, from an empty table. It walks as `log::next_in_log` does, the common entries
+// by a run first.
+fn fill(image: &[u8], count: usize, table: &mut [u64]) -> Filled
+    ensures { λ r. ⌜ Filling count (wordsOf (now (image .entry))) (now (table .entry)) (now (table .exit)) (r .right) (r .fits) (r .plain) (r .keys) ⌝ }
+{
+    index::clear(table);
+    let mut keys: usize = 0;
+    let mut fits = true;
+    let mut plain = true;
+    let mut chunk: usize = 0;
+    let mut at: usize = 0;
+    let mut end: usize = 0;
+    loop {
+        let r = run(image, at, end, table, keys, fits);
+        keys = r.keys;
+        at = r.at;
+        let s = log::next_entry(image, at, end);
+        match s {
+            LogStep::End => {
+                if count <= chunk {
+                    return Filled {
+                        right: true,
+                        fits,
+                        plain,
+                        keys,
+                    };
+                }
+                if count - chunk == 1 {
+                    return Filled {
+                        right: true,
+                        fits,
+                        plain,
+                        keys,
+                    };
+                }
+                let next = log::chunk_cursor(image, chunk + 1);
+                chunk = next.chunk;
+                at = next.at;
+                end = next.end;
+            }
+            LogStep::Wrong => {
+                return Filled {
+                    right: false,
+                    fits,
+                    plain,
+                    keys,
+                };
+            }
+            LogStep::Padding => {
+                at += 1;
+            }
+            LogStep::Entry {
+                op: _,
+                placement,
+                version,
+                field,
+                key,
+                words,
+            } => {
+                let so = unpointed(plain, placement);
+                let own = volatile::alone(volatile::extent_of(placement, field), at, version);
+                let e = enter(table, keys, fits, so, key, own);
+                keys = e.keys;
+                fits = e.fits;
+                plain = e.plain;
+                at += 2 + words;
+            }
+        }
+    }
+}
+
+// OPENING
+// Why an image is refused, or how many keys it has.
+pub enum Verdict {
+    Refused(Refusal),
+    Accepted(usize),
+}
+
+fn both(a: bool, b: bool) -> bool
+    ensures { λ r. ⌜ r ≡ both a b ⌝ }
+{
+    if a {
+        return b;
+    }
+    false
+}
+
+// Accepted unless a test fails: the first that does gives the refusal.
+fn first_refusal(first: bool, a: Refusal, second: bool, b: Refusal, keys: usize) -> Verdict
+    ensures { λ r. ⌜ r ≡ firstRefusal first a second b keys ⌝ }
+{
+    if first {
+        if second {
+            return Verdict::Accepted(keys);
+        }
+        return Verdict::Refused(b);
+    }
+    Verdict::Refused(a)
+}
+
+// 4 to 7, of an image of `count` chunks: key table and block bits are built anew.
+pub fn judge_log(image: &[u8], count: usize, table: &mut [u64], buffer: &mut [u64; 1152]) -> Verdict
+    ensures { λ r. ⌜ JudgingLog count (wordsOf (now (image .entry))) (now (table .entry)) (now (table .exit)) (now (buffer .entry)) (now (buffer .exit)) r ⌝ }
+{
+    let filled = fill(image, count, table);
+    if filled.right {
+        let checked = consistency::examine(image, count, table, filled.fits, filled.plain, buffer);
+        if checked.blocks {
+            let agreed = both(checked.agreeing, checked.apart);
+            let room = filled.fits;
+            let keys = filled.keys;
+            return first_refusal(
+                agreed,
+                Refusal::TopsDisagree,
+                room,
+                Refusal::TableFull,
+                keys,
+            );
+        }
+        return Verdict::Refused(Refusal::BlockWrong);
+    }
+    Verdict::Refused(Refusal::EntryWrong)
+}
+
+// 1 to 7.
+fn judge(image: &[u8], table: &mut [u64], buffer: &mut [u64; 1152]) -> Verdict
+    ensures { λ r. ⌜ Judging (now (image .entry)) (now (table .entry)) (now (table .exit)) (now (buffer .entry)) (now (buffer .exit)) r ⌝ }
+{
+    let bytes = image.len();
+    if length_allowed(bytes) {
+        let count = bytes / 4096;
+        if header_fits(image, count) {
+            if directory_fits(image, count) {
+                return judge_log(image, count, table, buffer);
+            }
+            return Verdict::Refused(Refusal::DirectoryWrong);
+        }
+        return Verdict::Refused(Refusal::NotOpen);
+    }
+    Verdict::Refused(Refusal::ImageLength)
+}
+
+// A refused opening leaves nothing in the table.
+fn empty(lent: &mut [u64])
+    ensures { λ _. ⌜ now (lent .exit) ≡ zeros (length (now (lent .entry))) ⌝ }
+{
+    index::clear(lent);
+}
+
+// Opening, on any record. A refused one leaves a record with nothing open, and a table of zeros.
+pub fn open_core(
+    control: Control,
+    setup: Setup,
+    buffer: &mut [u64; 1152],
+    image: &[u8],
+    table: &mut [u64],
+) -> Outcome
+    ensures { λ r. ⌜ Does Open (record { control = control; setup = setup; buffer = now (buffer .entry) }) (record { control = r .control; setup = r .setup; buffer = now (buffer .exit) }) (now (image .entry)) (now (image .entry)) (now (table .entry)) (now (table .exit)) (r .report) ⌝ }
+{
+    let bytes = image.len();
+    let words = table.len();
+    let verdict = judge(image, table, buffer);
+    match verdict {
+        Verdict::Refused(n) => {
+            empty(table);
+            Outcome {
+                control: Control {
+                    phase: 0,
+                    next: 0,
+                    items: 0,
+                    words: 0,
+                    keys: 0,
+                    fresh: 0,
+                },
+                setup,
+                report: Report::Refused(n),
+            }
+        }
+        Verdict::Accepted(keys) => Outcome {
+            control: Control {
+                phase: 1,
+                next: 0,
+                items: 0,
+                words: 0,
+                keys,
+                fresh: 0,
+            },
+            setup: Setup {
+                image: bytes,
+                table: words,
+                chunk: 0,
+                old: 0,
+                lines: 0,
+                first: 1,
+                least: 64,
+                fields: 0,
+                station: 0,
+                centre: 0,
+                source: session::no_source(),
+            },
+            report: Report::Opened,
+        },
+    }
+}

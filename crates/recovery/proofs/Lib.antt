@@ -1,6 +1,0 @@
-pub mod Tests
-pub mod Pass
-pub mod Runs
-pub mod Opens
-pub mod Gates
-pub mod Looks

@@ -1,4 +1,0 @@
-pub mod Pass
-pub mod Judged
-pub mod Asks
-pub mod Look

@@ -1,0 +1,112 @@
+-- What the code shows at the gate, and at each return of an abandoning, is what the contract says.
+-- Assumes nothing.
+use mathlib.Core.Path.{_≡_, refl, _∙_, ap}
+use mathlib.Core.Logic.{inl, inr}
+use mathlib.Core.Bool.{true, false}
+use mathlib.Core.Option.{none, some}
+use mathlib.Core.List.{List, [], _∷_}
+use Prim.Native.Nat.{ℕ}
+use native.Mathlib.Omega.{arith}
+use lib.ListN.{length}
+use Rattle.spec.specs.Basics.{isEmpty}
+use Rattle.spec.specs.Words.{wordsOf}
+use Rattle.spec.specs.Places.{chunksIn}
+use Rattle.spec.specs.Log.{Entry}
+use Rattle.spec.specs.Machine.{Rest, Call, Abandon, gate, refusedBy, answer, next}
+use Rattle.session.specs.declared.Control.{Control}
+use Rattle.session.specs.declared.Setup.{Setup}
+use Rattle.session.specs.declared.Session.{Session}
+use Rattle.spec.specs.declared.Refusal.{Refusal}
+use Rattle.spec.specs.declared.Refusal.the-variants as N
+use Rattle.spec.specs.declared.Report.{Report}
+use Rattle.spec.specs.declared.Report.the-variants as R
+use Rattle.session.specs.State.{batchWords, batchItems, stateAt, stateOf, limit}
+use Rattle.session.specs.Fits.{RestFits, Fits}
+use Rattle.session.proofs.Kept.{none-fit}
+use Rattle.session.specs.declared.Gated.{Gated}
+use Rattle.session.specs.declared.Gated.the-variants as G
+use Rattle.session.specs.Asks.{gateOf, Asking}
+use Rattle.session.proofs.Gates.{refused, Gating, turned-down, AtRest, at-rest, Passed, gate-passed}
+use Rattle.session.specs.Promise.{Does}
+
+module _ (c : Control) (k : Setup) (b bytes table : List ℕ) where
+  abbrev s : Session
+  s = record { control = c; setup = k; buffer = b }
+
+  -- ## The gate
+
+  module _ (g : Gated) (asks : Asking c k (length bytes) (length table) g) where
+    pub at-gate : (call : Call) → Gating call → (n : Refusal) → g ≡ G.Refused n → Does call s s bytes bytes table table (R.Refused n)
+    at-gate call t n e = turned-down 12 limit s bytes table n (asks .asked b ∙ ap gateOf e) call t
+
+    module _ (passes : g ≡ G.Open) where
+      pub opened : gate (stateOf s) (length bytes) (length table) ≡ none
+      opened = asks .asked b ∙ ap gateOf passes
+
+      -- the gate bars nothing
+      pub passed : (r r′ : Report) → refusedBy (gate (stateOf s) (length bytes) (length table)) ≡ some r′ → r ≡ r′
+      passed r r′ h = absurd (let q : none ≡ some r′ = rw opened at h in let z : _≡_ {A = ℕ} 0 1 = cc in omega arith)
+
+      pub rests : Fits s (wordsOf bytes) table → AtRest s (length bytes) (length table) (wordsOf bytes) table
+      rests f = at-rest s (length bytes) (length table) (wordsOf bytes) table opened f
+
+      lengths : Passed s (length bytes) (length table)
+      lengths = gate-passed s (length bytes) (length table) opened
+
+      -- ## Abandoning
+
+      empty : (items : List Entry) → length items ≡ 0 → isEmpty items ≡ true
+      empty [] h = refl
+      empty (e ∷ es) h = absurd (omega arith)
+
+      filled : (items : List Entry) → (length items ≡ 0 → ⊥) → isEmpty items ≡ false
+      filled [] h = absurd (h refl)
+      filled (e ∷ es) h = refl
+
+      pub abandon-none : c .items ≡ 0 → Does Abandon s s bytes bytes table table (R.Refused N.NothingStaged)
+      abandon-none h = refused 12 limit s bytes table N.NothingStaged Abandon refl (λ f. f) answered (passed (R.Refused N.NothingStaged)) (inr (inr (inr (inl refl)))) (refl, refl) (inl (N.NothingStaged, refl))
+        where
+          answered : Fits s (wordsOf bytes) table → R.Refused N.NothingStaged ≡ answer 12 limit Abandon (stateOf s) (wordsOf bytes) (length bytes) (length table)
+          answered f =
+              let a = rests f in
+              let n = a .fits .batch .count in
+              rw (opened, a .state, empty (a .items) (omega arith))
+
+      -- the record with nothing staged
+      abbrev bare : Session
+      bare = record { control = record { phase = 1; next = 0; items = 0; words = 0; keys = c .keys; fresh = 0 }; setup = k; buffer = b }
+
+      bare-fits : (items : List Entry) → RestFits s (wordsOf bytes) table items → RestFits bare (wordsOf bytes) table []
+      unfolding batchWords
+      bare-fits items f =
+          let n = f .built .indexed .count in
+          let r = f .table-room in
+          record {
+            entries = f .entries;
+            accepted = f .accepted;
+            long = f .long;
+            lent = f .lent;
+            built = record { indexed = f .built .indexed; blocks = f .built .blocks };
+            batch = record { room = omega arith; written = refl; count = refl; few = omega arith; right = tt; counts = tt; fit = none-fit (chunksIn 12 (k .image)) (wordsOf bytes) (f .entries); keys = omega arith };
+            table-room = omega arith;
+            hint = f .hint;
+          }
+
+      pub abandon-done : (c .items ≡ 0 → ⊥) → Does Abandon s bare bytes bytes table table R.Abandoned
+      unfolding stateAt batchItems batchWords next
+      abandon-done h = record {
+        exact = λ f.
+            let a = rests f in
+            let n = a .fits .batch .count in
+            let e = filled (a .items) (λ q. h (n ∙ q)) in
+            record {
+              answered = rw (opened, a .state, e);
+              became = rw (opened, a .state, e);
+              fits = (f .0, bare-fits (a .items) (a .fits));
+            };
+        first = passed R.Abandoned;
+        image = refl;
+        sized = refl;
+        outcome = (refl, refl);
+        anyway = inr (refl, ap (λ (i : ℕ). Rest i (k .table) []) (lengths .same-bytes) ∙ ap (λ (i : ℕ). Rest (length bytes) i []) (lengths .same-words));
+      }

@@ -1,0 +1,320 @@
+-- What the code of a staging shows at each return is what the contract says.
+-- Assumes nothing.
+use mathlib.Core.Path.{_≡_, refl, sym, _∙_, ap}
+use mathlib.Core.Logic.{inl, inr}
+use mathlib.Core.Bool.{Bool, true, false}
+use mathlib.Core.Option.{none, some}
+use mathlib.Core.List.{List, [], _∷_, _++_}
+use Prim.Native.Nat.{ℕ, suc, _+_, _/_, _<_, _≤_}
+use native.Mathlib.Omega.{arith}
+use lib.Dec.{eqb}
+use lib.ListN.{length, drop}
+use borrow.Author.Tests.{le-leb, lt-leb}
+use Rattle.spec.specs.Words.{AreBytes, wordsOf, packed}
+use Rattle.spec.specs.Places.{chunkUnits, chunksIn}
+use Rattle.spec.specs.Medium.{Action}
+use Rattle.spec.specs.Log.{Entry, Entries, filled, maxInLog, imageEntries}
+use Rattle.spec.specs.Blocks.{blockLimit}
+use Rattle.spec.specs.Contents.{highest, capacity, entriesIn}
+use Rattle.spec.specs.Plans.{Staging, Begin, entry, maxVersion, planPut, planDelete}
+use Rattle.spec.specs.Machine.{Call, Put, Delete, Busy, itemsOf, stepsLeft, gate, refusedBy, answer, next}
+use Rattle.spec.specs.Contract.{StagesIn, Anyway, Again, Ready, Barred}
+use Rattle.session.specs.declared.Control.{Control}
+use Rattle.session.specs.declared.Setup.{Setup}
+use Rattle.session.specs.declared.Session.{Session}
+use Rattle.spec.specs.declared.Refusal.{Refusal}
+use Rattle.spec.specs.declared.Refusal.the-variants as N
+use Rattle.spec.specs.declared.Report.{Report}
+use Rattle.spec.specs.declared.Report.the-variants as R
+use Rattle.words.specs.Values.{length-packed, packed-filled, filled-test}
+use Rattle.theory_log.specs.Batch.{put, delete, Right}
+use Rattle.theory_crash.specs.Accepted.{Ok}
+use Rattle.theory_crash.proofs.Opening.{opens-ok}
+use Rattle.volatile.specs.Known.{Bounded}
+use Rattle.volatile.proofs.Image.{image-bounded}
+use Rattle.session.specs.State.{batchItems, blockActions, behindAll, stateAt, stateOf, limit}
+use Rattle.session.specs.Fits.{BatchFits, Fits}
+use Rattle.session.proofs.Phases.{rest-items}
+use Rattle.actions.proofs.Nth.{drop-past}
+use Rattle.block_acts.proofs.Filling.{none-left}
+use Rattle.batch.specs.Added.{Added}
+use Rattle.batch.proofs.Items.{AtZero, zero-more, items-zero, items-read}
+use Rattle.batch.proofs.Count.{isOld, freshWith}
+use Rattle.batch.proofs.Fits.{fits-staged, batch-more}
+use Rattle.session.specs.declared.Gated.{Gated}
+use Rattle.session.specs.declared.Gated.the-variants as G
+use Rattle.session.specs.Asks.{Asking}
+use Rattle.session.proofs.Gates.{refused, gate-passed, AtRest}
+use Rattle.staging.specs.declared.Newest.{Newest}
+use Rattle.staging.specs.declared.Admission.{Admission}
+use Rattle.staging.specs.declared.Admission.the-variants as A
+use Rattle.session.specs.declared.Stepped.{Stepped}
+use Rattle.staging.specs.Staging.{NewestOf, VersionOf, presentBy, admitOf, refusedWith, oneMore}
+use Rattle.staging.proofs.Shows as Shows
+use Rattle.staging.proofs.Known.{Numbered, Says, newest-says, version-says}
+use Rattle.staging.proofs.Admits.{planBy, Admitting, admitted, turned, fresh-then, plan-admits}
+use Rattle.session.specs.Promise.{Does}
+use Rattle.session.specs.Fits.{Proper}
+
+-- ## The new entries are right
+
+pub put-right : (v : List ℕ) → AreBytes v → (version key : ℕ) → 1 ≤ version → version ≤ maxVersion → length v ≤ maxInLog → Right (entry 1 0 version (length v) key (packed v))
+put-right v small version key l h n = record { kind = put n; low = l; high = omega arith; words = length-packed v; fill = fill _ }
+  where
+    fill : (head : ℕ) → filled 0 (length v) (head ∷ key ∷ packed v) ≡ true
+    fill head = let q : 2 + length v / 8 ≡ suc (suc (length v / 8)) = omega arith in rw q (filled-test (length v) (packed v) (packed-filled v small))
+
+pub delete-right : (version key : ℕ) → 1 ≤ version → version ≤ maxVersion → Right (entry 2 0 version 0 key [])
+delete-right version key l h = record { kind = delete; low = l; high = omega arith; words = refl; fill = refl }
+
+module _ (c : Control) (k : Setup) (b bytes table : List ℕ) where
+  abbrev s : Session
+  s = record { control = c; setup = k; buffer = b }
+
+  abbrev pub ws : List ℕ
+  ws = wordsOf bytes
+
+  abbrev chunks : ℕ
+  chunks = chunksIn 12 (length bytes)
+
+  abbrev room : ℕ
+  room = capacity (length table)
+
+  -- a refusal that is answered leaves the record
+  pub left : (call : Call) (n : Refusal) (r : Stepped) → r ≡ refusedWith c n → Does call s s bytes bytes table table (R.Refused n)
+      → Does call s (record { control = r .control; setup = k; buffer = b }) bytes bytes table table (r .report)
+  left call n r e h = rw e h
+
+  module _ (g : Gated) (asks : Asking c k (length bytes) (length table) g) (passes : g ≡ G.Open) where
+    pub opened : gate (stateOf s) (length bytes) (length table) ≡ none
+    opened = Shows.opened c k b bytes table g asks passes
+
+    pub barred : (r r′ : Report) → refusedBy (gate (stateOf s) (length bytes) (length table)) ≡ some r′ → r ≡ r′
+    barred = Shows.passed c k b bytes table g asks passes
+
+    -- ## What fitting memory says
+
+    module _ (f : Fits s ws table) where
+      pub rests : AtRest s (length bytes) (length table) ws table
+      rests = Shows.rests c k b bytes table g asks passes f
+
+      abbrev pub es : List Entry
+      es = rests .fits .entries
+
+      abbrev pub items : List Entry
+      items = rests .items
+
+      pub batch : BatchFits c b (chunksIn 12 (k .image)) ws es items
+      batch = rests .fits .batch
+
+      pub ok : Ok 12 (chunksIn 12 (k .image)) ws es
+      ok = let r = rests .fits in opens-ok 12 (omega arith) (omega arith) (k .image) (k .table) ws es (r .long) (r .accepted) .0
+
+      pub parsed : imageEntries 12 chunks ws ≡ Entries es
+      parsed = rw (ap (chunksIn 12) (rests .same-bytes)) at (ok .parsed)
+
+      small : Bounded es
+      small = image-bounded (chunksIn 12 (k .image)) ws es (ok .parsed) (ok .most)
+
+      pub numbered : (key v : ℕ) → VersionOf b (c .words) table key v → Numbered key es items v
+      numbered key v is = version-says key chunks ws es items parsed small (batch .counts) table (c .keys) (rests .fits .built .indexed) v (is items (fits-staged c b (chunksIn 12 (k .image)) ws es items batch))
+
+      says : (key : ℕ) (n : Newest) → NewestOf b (c .words) table key n → Says key es items ws n
+      says key n is = newest-says key chunks ws es items parsed small (batch .counts) table (c .keys) (rests .fits .built .indexed) n (is items (fits-staged c b (chunksIn 12 (k .image)) ws es items batch))
+
+    -- ## Too long
+
+    pub put-long : (key : ℕ) (v : List ℕ) → limit < length v → Does (Put key v) s s bytes bytes table table (R.Refused N.TooLong)
+    unfolding planPut
+    put-long key v l =
+        refused 12 limit s bytes table N.TooLong (Put key v) refl (λ f. f) (λ f. sym (rw (opened, lt-leb (length v) limit l)))
+        (barred (R.Refused N.TooLong)) (inr (inr (inr (inl refl)))) (refl, refl) (inl (N.TooLong, refl))
+
+    -- `last` is the key's highest version so far
+    module _ (key last : ℕ) (is : VersionOf b (c .words) table key last) where
+      -- ## One more item
+
+      module _ (e : Entry) (fresh : ℕ) (adm : Admitting c last (2 + length (e .value)) room fresh) (after : List ℕ) (words : ℕ) (added : Added b after (c .words) words e) where
+        abbrev s′ : Session
+        s′ = record { control = record { phase = 2; next = behindAll; items = c .items + 1; words = words; keys = c .keys; fresh = fresh }; setup = k; buffer = after }
+
+        -- for any memory
+        none-to-do : drop behindAll (blockActions k after) ≡ []
+        none-to-do = drop-past (blockActions k after) behindAll (none-left k after behindAll (omega arith))
+
+        stages : StagesIn (length bytes) (length table) [] (stateOf s′)
+        unfolding stateAt
+        stages =
+            let l = gate-passed s (length bytes) (length table) opened in (
+              batchItems (s′ .control) after,
+              ap (λ (x : List Action). Busy (k .image) (k .table) (batchItems (s′ .control) after) Staging x) none-to-do
+                  ∙ ap (λ (i : ℕ). Busy i (k .table) (batchItems (s′ .control) after) Staging []) (l .same-bytes) ∙ ap (λ (i : ℕ). Busy (length bytes) i (batchItems (s′ .control) after) Staging []) (l .same-words),
+            )
+
+        steps : stepsLeft (stateOf s′) ≡ 1
+        unfolding stateAt
+        steps = rw none-to-do
+
+        module _ (right : Right e) (in-log : e .placement ≡ 0) (at-zero : e .at ≡ 0) (version : e .version ≡ suc last) (of-key : e .key ≡ key) (f : Fits s ws table) where
+          abbrev more : List Entry
+          more = items f ++ (e ∷ [])
+
+          counted : fresh ≡ freshWith (isOld (e .key) (es f) (items f)) (c .fresh)
+          counted =
+              let y = numbered f key last is in
+              rw of-key (adm .counted ∙ sym (fresh-then (isOld key (es f) (items f)) last (c .fresh) (y .old)))
+
+          batch-then : BatchFits (s′ .control) after (chunksIn 12 (k .image)) ws (es f) more
+          batch-then =
+              let y = numbered f key last is in
+              let v : e .version ≡ suc (highest (e .key) (es f ++ items f)) = rw of-key (version ∙ ap suc (y .version)) in
+              batch-more c b (chunksIn 12 (k .image)) ws (es f) (items f) (batch f) (s′ .control) after e added (adm .fits) (adm .few) right in-log v refl refl counted
+
+          items-then : batchItems (s′ .control) after ≡ more
+          items-then =
+              let r = sym (rest-items c k b (k .image) (k .table) (items f) (rests f .state)) in
+              let z : AtZero (items f) = rw r (items-zero c b) in
+              items-read (s′ .control) after more (batch-then .written) (batch-then .right) (zero-more (items f) e z at-zero)
+
+          state-then : stateOf s′ ≡ Busy (k .image) (k .table) more Staging []
+          unfolding stateAt
+          state-then = rw (items-then, none-to-do)
+
+          fits-then : Fits s′ ws table
+          fits-then =
+              let r = rests f .fits in
+              let q = adm .keys in
+              let l = r .lent in (
+                added .long ∙ f .0,
+                rw state-then (record {
+                  entries = es f;
+                  accepted = r .accepted;
+                  long = r .long;
+                  lent = r .lent;
+                  built = record { indexed = r .built .indexed; blocks = λ u. added .bits u ∙ r .built .blocks u };
+                  batch = batch-then;
+                  table-room = rw l at q;
+                  hint = r .hint;
+                }),
+              )
+
+        -- the call, by what it answers and leaves
+        staged : (call : Call) → (Ready Proper stateOf Fits 12 limit call s ws table → Fits s ws table) → ((Fit : Type 0) → Fit → Again call (R.Begun 0) Fit) → Barred Proper stateOf Fits 12 limit call s bytes table (R.Begun 0)
+            → Right e → e .placement ≡ 0 → e .at ≡ 0 → e .version ≡ suc last → e .key ≡ key
+            → ((f : Fits s ws table) → (answer 12 limit call (stateOf s) ws (length bytes) (length table) ≡ R.Begun 0)
+            × (next 12 limit call (stateOf s) ws (length bytes) (length table) ≡ Busy (k .image) (k .table) (items f ++ (e ∷ [])) Staging []))
+            → Anyway 12 limit call (stateOf s) (stateOf s′) ws (length bytes) (length table) (R.Begun 0)
+            → Does call s s′ bytes bytes table table (R.Begun 0)
+        staged call ready again bars right in-log at-zero version of-key goes any = record {
+          exact = λ r. let f = ready r in record {
+            answered = sym (goes f .0);
+            became = state-then right in-log at-zero version of-key f ∙ sym (goes f .1);
+            fits = again _ (fits-then right in-log at-zero version of-key f);
+          };
+          first = bars;
+          image = refl;
+          sized = refl;
+          outcome = (steps, refl);
+          anyway = any;
+        }
+
+      -- ## Put
+
+      module _ (v : List ℕ) where
+        within : length v ≤ 256 → length v ≤ limit
+        unfolding blockLimit chunkUnits
+        within l = omega arith
+
+        abbrev need-words : ℕ
+        need-words = 2 + (length v + 7) / 8
+
+        put-plan : (l : length v ≤ 256) (f : Fits s ws table)
+            → planPut 12 limit chunks ws (length table) (entriesIn 12 chunks ws) (itemsOf (stateOf s)) key v
+            ≡ planBy (admitOf c last need-words room) (Begin (items f ++ (entry 1 0 (suc last) (length v) key (packed v) ∷ [])) Staging [])
+        unfolding planPut
+        put-plan l f =
+            let y = numbered f key last is in
+            rw (parsed f, rests f .state, le-leb (length v) limit (within l), le-leb (length v) 256 l)
+            (plan-admits c b (chunksIn 12 (k .image)) ws (es f) (items f) (batch f) key last need-words (length table) (y .version) (y .old) _
+            ∙ ap (λ (h : ℕ). planBy (admitOf c last need-words room) (Begin (items f ++ (entry 1 0 (suc h) (length v) key (packed v) ∷ [])) Staging [])) (sym (y .version)))
+
+        module _ (l : length v ≤ 256) (a : Admission) (told : a ≡ admitOf c last need-words room) where
+          pub put-refused : (x : Refusal) → a ≡ A.Refused x → Does (Put key v) s s bytes bytes table table (R.Refused x)
+          put-refused x e =
+              refused 12 limit s bytes table x (Put key v) refl (λ f. f) (λ f. sym (rw (opened, put-plan l f, sym told ∙ e)))
+              (barred (R.Refused x)) (inr (inr (inr (inr (turned c last need-words room x (sym told ∙ e)))))) (refl, refl) (inl (x, refl))
+
+          pub put-done : (small : AreBytes v) (fresh : ℕ) → a ≡ A.Admitted fresh → (after : List ℕ) (words : ℕ)
+              → Added b after (c .words) words (entry 1 0 (last + 1) (length v) key (packed v)) → (r : Stepped) → r ≡ oneMore c words fresh
+              → Does (Put key v) s (record { control = r .control; setup = k; buffer = after }) bytes bytes table table (r .report)
+          unfolding next
+          put-done small fresh e after words added r is-r = rw is-r
+              (staged item fresh adm after words added (Put key v) (λ f. f) (λ Fit f. f) (barred (R.Begun 0)) right refl refl next-is refl
+              (λ f. (rw (opened, plan f), rw (opened, plan f, rests f .state))) (inr ([], (stages item fresh adm after words added, refl))))
+            where
+              next-is : last + 1 ≡ suc last
+              next-is = omega arith
+
+              item : Entry
+              item = entry 1 0 (last + 1) (length v) key (packed v)
+
+              adm : Admitting c last (2 + length (packed v)) room fresh
+              adm = rw (length-packed v) (admitted c last need-words room fresh (sym told ∙ e))
+
+              right : Right item
+              right = let u = adm .unspent in put-right v small (last + 1) key (omega arith) (omega arith) l
+
+              plan : (f : Fits s ws table) → planPut 12 limit chunks ws (length table) (entriesIn 12 chunks ws) (itemsOf (stateOf s)) key v ≡ Begin (items f ++ (item ∷ [])) Staging []
+              plan f = put-plan l f ∙ rw (sym told ∙ e, next-is)
+
+    -- ## Delete
+
+    module _ (key : ℕ) (n : Newest) (is : NewestOf b (c .words) table key n) where
+      version-is : VersionOf b (c .words) table key (n .version)
+      version-is items st = ap (λ (m : Newest). m .version) (is items st)
+
+      delete-plan : presentBy ws n ≡ true → (f : Fits s ws table)
+          → planDelete (length table) (entriesIn 12 chunks ws) (itemsOf (stateOf s)) key
+          ≡ planBy (admitOf c (n .version) 2 room) (Begin (items f ++ (entry 2 0 (suc (n .version)) 0 key [] ∷ [])) Staging [])
+      unfolding planDelete
+      delete-plan h f =
+          let x = says f key n is in
+          let y = x .numbered in
+          rw (parsed f, rests f .state, sym (x .shown) ∙ h)
+          (plan-admits c b (chunksIn 12 (k .image)) ws (es f) (items f) (batch f) key (n .version) 2 (length table) (y .version) (y .old) _
+          ∙ ap (λ (h′ : ℕ). planBy (admitOf c (n .version) 2 room) (Begin (items f ++ (entry 2 0 (suc h′) 0 key [] ∷ [])) Staging [])) (sym (y .version)))
+
+      pub delete-absent : presentBy ws n ≡ false → Does (Delete key) s s bytes bytes table table (R.Refused N.KeyAbsent)
+      unfolding planDelete
+      delete-absent h =
+          refused 12 limit s bytes table N.KeyAbsent (Delete key) refl (λ f. f) (λ f. sym (rw (opened, parsed f, rests f .state, sym (says f key n is .shown) ∙ h)))
+          (barred (R.Refused N.KeyAbsent)) (inr (inr (inr (inl refl)))) (refl, refl) (inl (N.KeyAbsent, refl))
+
+      module _ (h : presentBy ws n ≡ true) (a : Admission) (told : a ≡ admitOf c (n .version) 2 room) where
+        pub delete-refused : (x : Refusal) → a ≡ A.Refused x → Does (Delete key) s s bytes bytes table table (R.Refused x)
+        delete-refused x e =
+            refused 12 limit s bytes table x (Delete key) refl (λ f. f) (λ f. sym (rw (opened, delete-plan h f, sym told ∙ e)))
+            (barred (R.Refused x)) (inr (inr (inr (inr (turned c (n .version) 2 room x (sym told ∙ e)))))) (refl, refl) (inl (x, refl))
+
+        pub delete-done : (fresh : ℕ) → a ≡ A.Admitted fresh → (after : List ℕ) (words : ℕ)
+            → Added b after (c .words) words (entry 2 0 (n .version + 1) 0 key []) → (r : Stepped) → r ≡ oneMore c words fresh
+            → Does (Delete key) s (record { control = r .control; setup = k; buffer = after }) bytes bytes table table (r .report)
+        unfolding next
+        delete-done fresh e after words added r is-r = rw is-r
+            (staged key (n .version) version-is item fresh adm after words added (Delete key) (λ f. f) (λ Fit f. f) (barred (R.Begun 0)) right refl refl next-is refl
+            (λ f. (rw (opened, plan f), rw (opened, plan f, rests f .state))) (inr ([], (stages key (n .version) version-is item fresh adm after words added, refl))))
+          where
+            next-is : n .version + 1 ≡ suc (n .version)
+            next-is = omega arith
+
+            item : Entry
+            item = entry 2 0 (n .version + 1) 0 key []
+
+            adm : Admitting c (n .version) 2 room fresh
+            adm = admitted c (n .version) 2 room fresh (sym told ∙ e)
+
+            right : Right item
+            right = let u = adm .unspent in delete-right (n .version + 1) key (omega arith) (omega arith)
+
+            plan : (f : Fits s ws table) → planDelete (length table) (entriesIn 12 chunks ws) (itemsOf (stateOf s)) key ≡ Begin (items f ++ (item ∷ [])) Staging []
+            plan f = delete-plan h f ∙ rw (sym told ∙ e, next-is)

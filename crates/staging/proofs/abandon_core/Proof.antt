@@ -1,0 +1,28 @@
+-- `calls::abandon_core` meets its contract.
+-- Assumes nothing.
+use borrow.Author.Needs.{needs}
+use Rattle.staging.proofs.Shows.{at-gate, abandon-none, abandon-done}
+use Rattle.staging.proofs.abandon_core.Statement.{statement}
+use Rattle.staging.proofs.abandon_core.Tie as tie
+
+gate-requires : tie.Need-gate-requires
+gate-requires c κs = search needs
+
+enum-known-g : tie.Need-enum-known-g
+enum-known-g c = search needs
+
+enum-told : tie.Need-enum-told
+enum-told c = search needs
+
+returns : tie.Need-returns
+returns c = abandon-none _ _ _ _ _ _ (c .before .before .before .before .gate .ensures) (c .before .before .enum-told .given .1) (c .if1 .taken)
+
+returns-2 : tie.Need-returns-2
+returns-2 c = at-gate _ _ _ _ _ _ (c .before .before .before .gate .ensures) _ tt _ (c .before .g .given .1)
+
+returns-3 : tie.Need-returns-3
+returns-3 c = abandon-done _ _ _ _ _ _ (c .before .before .before .before .gate .ensures) (c .before .before .enum-told .given .1) (c .if1 .left)
+
+pub abandon-core-spec : {M : Type 1} → statement M
+abandon-core-spec =
+    tie.close (tie.spec gate-requires enum-known-g enum-told returns returns-2 returns-3)

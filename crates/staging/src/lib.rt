@@ -1,0 +1,382 @@
+// Staging: put, delete and abandon. Each finds its refusal or the new item and changes the record alone.
+ghost use mathlib.Core.Path.{_≡_};
+ghost use Prim.Native.Nat.{_≤_, _<_};
+ghost use lib.ListN.{length, getD};
+ghost use Rattle.spec.specs.Words.{wordsOf};
+ghost use Rattle.spec.specs.Log.{firstOf};
+ghost use Rattle.spec.specs.Machine.{Put, Delete, Abandon};
+ghost use Rattle.staging.specs.Staging.{NewestOf, VersionOf, putIn, presentBy, newKeys, admitOf, refusedWith, oneMore};
+ghost use Rattle.session.specs.Promise.{Does};
+use session::Control;
+use session::Gated;
+use session::Outcome;
+use session::Setup;
+use session::Stepped;
+use spec::FirstWord;
+use spec::Refusal;
+use spec::Report;
+
+// ABANDON
+// Forgets the staged items: 14 if there are none.
+pub fn abandon_core(
+    control: Control,
+    setup: Setup,
+    buffer: &[u64; 1152],
+    image: &[u8],
+    table: &[u64],
+) -> Outcome
+    ensures { λ r. ⌜ Does Abandon (record { control = control; setup = setup; buffer = now (buffer .entry) }) (record { control = r .control; setup = r .setup; buffer = now (buffer .entry) }) (now (image .entry)) (now (image .entry)) (now (table .entry)) (now (table .entry)) (r .report) ⌝ }
+{
+    let g = session::gate(control, setup, image.len(), table.len());
+    match g {
+        Gated::Refused(n) => Outcome {
+            control,
+            setup,
+            report: Report::Refused(n),
+        },
+        Gated::Open => {
+            if control.items == 0 {
+                return Outcome {
+                    control,
+                    setup,
+                    report: Report::Refused(Refusal::NothingStaged),
+                };
+            }
+            let next = Control {
+                phase: 1,
+                next: 0,
+                items: 0,
+                words: 0,
+                keys: control.keys,
+                fresh: 0,
+            };
+            Outcome {
+                control: next,
+                setup,
+                report: Report::Abandoned,
+            }
+        }
+    }
+}
+
+// STAGING
+// What is known of a key: the highest version, staged items counted, 0 where it has none; whether it is staged, and then the
+// operation of its last staged item; else the place of its chosen entry.
+pub struct Newest {
+    pub version: u64,
+    pub staged: bool,
+    pub op: u64,
+    pub place: usize,
+}
+
+fn known_of(buffer: &[u64; 1152], words: usize, table: &[u64], key: u64) -> Newest
+    ensures { λ r. ⌜ NewestOf (now (buffer .entry)) words (now (table .entry)) key r ⌝ }
+{
+    let last = batch::last_staged(buffer, words, key);
+    if last.version == 0 {
+        let word = index::look(table, key);
+        if word == 0 {
+            return Newest {
+                version: 0,
+                staged: false,
+                op: 0,
+                place: 0,
+            };
+        }
+        let info = index::unpack(word);
+        return Newest {
+            version: info.version,
+            staged: false,
+            op: 0,
+            place: info.place as usize,
+        };
+    }
+    Newest {
+        version: last.version,
+        staged: true,
+        op: last.op,
+        place: 0,
+    }
+}
+
+// The highest version of a key, staged items counted, 0 where it has none.
+fn version_of(buffer: &[u64; 1152], words: usize, table: &[u64], key: u64) -> u64
+    ensures { λ r. ⌜ VersionOf (now (buffer .entry)) words (now (table .entry)) key r ⌝ }
+{
+    let latest = batch::last_staged(buffer, words, key);
+    if latest.version == 0 {
+        let info = index::unpack(index::look(table, key));
+        return info.version;
+    }
+    latest.version
+}
+
+// Whether the entry at a word of the image is a put.
+fn is_put(image: &[u8], place: usize) -> bool
+    ensures { λ r. ⌜ r ≡ putIn (firstOf (getD (wordsOf (now (image .entry))) place 0)) ⌝ }
+{
+    let first = codec::first_of(words::load(image, place));
+    match first {
+        FirstWord::Padding => false,
+        FirstWord::Wrong => false,
+        FirstWord::Entry {
+            op,
+            placement: _,
+            version: _,
+            field: _,
+        } => op == 1,
+    }
+}
+
+fn is_present(image: &[u8], known: Newest) -> bool
+    ensures { λ r. ⌜ r ≡ presentBy (wordsOf (now (image .entry))) known ⌝ }
+{
+    if known.version == 0 {
+        return false;
+    }
+    if known.staged {
+        return known.op == 1;
+    }
+    is_put(image, known.place)
+}
+
+// Whether one more item is staged: a refusal, or the number of staged keys that are not known, then.
+pub enum Admission {
+    Refused(Refusal),
+    Admitted(usize),
+}
+
+fn new_keys(version: u64) -> usize
+    ensures { λ r. ⌜ r ≡ newKeys version ⌝ }
+{
+    if version == 0 { 1 } else { 0 }
+}
+
+// 12, 10, 7 for an item of `more` words, where a table holds `room` keys; `version` is the key's highest so far.
+fn admit(control: Control, version: u64, more: usize, room: usize) -> Admission
+    ensures { λ r. ⌜ r ≡ admitOf control version more room ⌝ }
+{
+    if 1_048_575 <= version {
+        return Admission::Refused(Refusal::VersionSpent);
+    }
+    if 16 <= control.items {
+        return Admission::Refused(Refusal::BatchFull);
+    }
+    let words = control.words;
+    if 512 < words {
+        return Admission::Refused(Refusal::BatchFull);
+    }
+    if 512 - words < more {
+        return Admission::Refused(Refusal::BatchFull);
+    }
+    let keys = control.keys;
+    if room < keys {
+        return Admission::Refused(Refusal::TableFull);
+    }
+    let left = room - keys;
+    let fresh = control.fresh;
+    if left < fresh {
+        return Admission::Refused(Refusal::TableFull);
+    }
+    let new = new_keys(version);
+    if left - fresh < new {
+        return Admission::Refused(Refusal::TableFull);
+    }
+    Admission::Admitted(fresh + new)
+}
+
+fn refused(control: Control, n: Refusal) -> Stepped
+    ensures { λ r. ⌜ r ≡ refusedWith control n ⌝ }
+{
+    Stepped {
+        control,
+        report: Report::Refused(n),
+    }
+}
+
+// One more item, with so many words in all; the call then has no action, and ends with its next step.
+fn one_more(control: Control, words: usize, fresh: usize) -> Stepped
+    requires { ⌜ control .items < 16 ⌝ }
+    ensures { λ r. ⌜ r ≡ oneMore control words fresh ⌝ }
+{
+    let next = Control {
+        phase: 2,
+        next: 1024,
+        items: control.items + 1,
+        words,
+        keys: control.keys,
+        fresh,
+    };
+    Stepped {
+        control: next,
+        report: Report::Begun(0),
+    }
+}
+
+// A put whose value goes into the log: 12, 10, 7. All is asked before the buffer is written.
+fn put_in_log(
+    control: Control,
+    setup: Setup,
+    buffer: &mut [u64; 1152],
+    image: &[u8],
+    table: &[u64],
+    key: u64,
+    value: &[u8],
+) -> Stepped
+    requires { ⌜ length (now value) ≤ 256 ⌝ }
+    ensures { λ r. ⌜ Does (Put key (now (value .entry))) (record { control = control; setup = setup; buffer = now (buffer .entry) }) (record { control = r .control; setup = setup; buffer = now (buffer .exit) }) (now (image .entry)) (now (image .entry)) (now (table .entry)) (now (table .entry)) (r .report) ⌝ }
+{
+    let g = session::gate(control, setup, image.len(), table.len());
+    match g {
+        Gated::Refused(n) => refused(control, n),
+        Gated::Open => {
+            let bytes = value.len();
+            let words = control.words;
+            let version = version_of(buffer, words, table, key);
+            let more = 2 + (bytes + 7) / 8;
+            let a = admit(control, version, more, index::capacity(table.len()));
+            match a {
+                Admission::Refused(n) => refused(control, n),
+                Admission::Admitted(fresh) => {
+                    let field = bytes as u64;
+                    let end = batch::add_entry(buffer, words, 1, 0, version + 1, field, key, value);
+                    one_more(control, end, fresh)
+                }
+            }
+        }
+    }
+}
+
+// A put whose value goes into a block: 9, 12, 10, 7, 13; else the call has the block's actions to come.
+fn put_in_block(
+    control: Control,
+    setup: Setup,
+    buffer: &mut [u64; 1152],
+    image: &[u8],
+    table: &[u64],
+    key: u64,
+    value: &[u8],
+) -> Outcome
+    requires { ⌜ 256 < length (now value) ⌝ }
+    ensures { λ r. ⌜ Does (Put key (now (value .entry))) (record { control = control; setup = setup; buffer = now (buffer .entry) }) (record { control = r .control; setup = r .setup; buffer = now (buffer .exit) }) (now (image .entry)) (now (image .entry)) (now (table .entry)) (now (table .entry)) (r .report) ⌝ }
+{
+    let g = session::gate(control, setup, image.len(), table.len());
+    match g {
+        Gated::Refused(n) => Outcome {
+            control,
+            setup,
+            report: Report::Refused(n),
+        },
+        Gated::Open => {
+            if 4088 < value.len() {
+                return Outcome {
+                    control,
+                    setup,
+                    report: Report::Refused(Refusal::TooLong),
+                };
+            }
+            let words = control.words;
+            let version = version_of(buffer, words, table, key);
+            let a = admit(control, version, 2, index::capacity(table.len()));
+            match a {
+                Admission::Refused(n) => Outcome {
+                    control,
+                    setup,
+                    report: Report::Refused(n),
+                },
+                Admission::Admitted(fresh) => {
+                    let large = large::stage_large(
+                        setup,
+                        buffer,
+                        words,
+                        image,
+                        version + 1,
+                        key,
+                        value,
+                    );
+                    if large.found {
+                        let begun = Control {
+                            phase: 2,
+                            next: 0,
+                            items: control.items + 1,
+                            words: large.words,
+                            keys: control.keys,
+                            fresh,
+                        };
+                        let bound = large.setup;
+                        return Outcome {
+                            control: begun,
+                            setup: bound,
+                            report: Report::Begun(large.count),
+                        };
+                    }
+                    Outcome {
+                        control,
+                        setup,
+                        report: Report::Refused(Refusal::NoSpace),
+                    }
+                }
+            }
+        }
+    }
+}
+
+// Stages a put: 9, 12, 10, 7, 13.
+pub fn put_core(
+    control: Control,
+    setup: Setup,
+    buffer: &mut [u64; 1152],
+    image: &[u8],
+    table: &[u64],
+    key: u64,
+    value: &[u8],
+) -> Outcome
+    ensures { λ r. ⌜ Does (Put key (now (value .entry))) (record { control = control; setup = setup; buffer = now (buffer .entry) }) (record { control = r .control; setup = r .setup; buffer = now (buffer .exit) }) (now (image .entry)) (now (image .entry)) (now (table .entry)) (now (table .entry)) (r .report) ⌝ }
+{
+    if value.len() <= 256 {
+        let staged = put_in_log(control, setup, buffer, image, table, key, value);
+        let next = staged.control;
+        let report = staged.report;
+        return Outcome {
+            control: next,
+            setup,
+            report,
+        };
+    }
+    put_in_block(control, setup, buffer, image, table, key, value)
+}
+
+// Stages a delete: 11, 12, 10, 7.
+pub fn delete_core(
+    control: Control,
+    setup: Setup,
+    buffer: &mut [u64; 1152],
+    image: &[u8],
+    table: &[u64],
+    key: u64,
+) -> Stepped
+    ensures { λ r. ⌜ Does (Delete key) (record { control = control; setup = setup; buffer = now (buffer .entry) }) (record { control = r .control; setup = setup; buffer = now (buffer .exit) }) (now (image .entry)) (now (image .entry)) (now (table .entry)) (now (table .entry)) (r .report) ⌝ }
+{
+    let g = session::gate(control, setup, image.len(), table.len());
+    match g {
+        Gated::Refused(n) => refused(control, n),
+        Gated::Open => {
+            let words = control.words;
+            let known = known_of(buffer, words, table, key);
+            if is_present(image, known) {
+                let a = admit(control, known.version, 2, index::capacity(table.len()));
+                match a {
+                    Admission::Refused(n) => refused(control, n),
+                    Admission::Admitted(fresh) => {
+                        let next = known.version + 1;
+                        let none = &image[0..0];
+                        let end = batch::add_entry(buffer, words, 2, 0, next, 0, key, none);
+                        one_more(control, end, fresh)
+                    }
+                }
+            } else {
+                refused(control, Refusal::KeyAbsent)
+            }
+        }
+    }
+}

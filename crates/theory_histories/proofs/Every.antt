@@ -1,0 +1,25 @@
+-- DEMAND 3 holds at every level: for chunks of 2^12 to 2^16 bytes, for any largest value up to the block's limit, and for any
+-- implementation whose calls meet `Called`. Nothing is asked of how it reads its record, or of what record and table hold.
+-- Assumes nothing.
+use Prim.Native.Nat.{ℕ, _≤_}
+use mathlib.Core.List.{List}
+use native.Mathlib.Omega.{arith}
+use Rattle.spec.specs.Places.{basePower, chunkUnits}
+use Rattle.spec.specs.Blocks.{blockLimit}
+use Rattle.spec.specs.Machine.{State}
+use Rattle.spec.specs.History.{Demand3}
+use Rattle.theory_plans.proofs.Hold.{laws-hold}
+use Rattle.theory_histories.proofs.Theorem.{demand3}
+
+pub every-list : (p : ℕ) → 12 ≤ p → p ≤ 16 → (limit : ℕ) → limit ≤ blockLimit p → {S : Type 0} (Proper : S → Type 0) (stateOf : S → State) (Fits : S → List ℕ → List ℕ → Type 0)
+    → Demand3 Proper stateOf Fits p limit
+every-list p low high limit fits Proper stateOf Fits = demand3 p limit (laws-hold p low high limit fits) Proper stateOf Fits
+
+-- at the counter and the centre, whose largest value is 256 bytes
+pub at-the-counter : {S : Type 0} (Proper : S → Type 0) (stateOf : S → State) (Fits : S → List ℕ → List ℕ → Type 0) → Demand3 Proper stateOf Fits basePower 256
+unfolding blockLimit chunkUnits
+at-the-counter = every-list basePower (omega arith) (omega arith) 256 (omega arith)
+
+-- at the archive, whose largest value is a block's limit
+pub at-the-archive : {S : Type 0} (Proper : S → Type 0) (stateOf : S → State) (Fits : S → List ℕ → List ℕ → Type 0) → Demand3 Proper stateOf Fits basePower (blockLimit basePower)
+at-the-archive = every-list basePower (omega arith) (omega arith) (blockLimit basePower) (omega arith)

@@ -1,0 +1,200 @@
+-- What holds of an open register between calls and while one is unfinished, by the state that the record stands for; and that the
+-- answer and the next state of every call but a formatting and an opening keep it.
+--
+-- `bytes` is the image's length, n = chunksIn p bytes its chunks, `least` the table's words at the opening before. `Holds` says:
+--   1. a register is open, no formatting is unfinished, and the state's lengths are `bytes` and `least`;
+--   2. with no call unfinished no batch is in hand, and the medium stands with the book's register and tray: `Standing`;
+--   3. with actions still to come, every cut up to the end shows the register as it is or with the batch in hand done, and at
+--      the end the medium stands with the latter and the tray, the state's items being those that the end leaves: `Going`.
+-- Kept, a lemma for each call: `put-kept`, `delete-kept`, `commit-kept`, `abandon-kept`, `look-kept`, `choose-kept`, `clean-kept`, `step-kept`.
+-- From 2 look-up answers what the book says: `look-right`.
+-- Assumes nothing.
+use mathlib.Core.Path.{_≡_, refl, sym, _∙_}
+use mathlib.Core.Bool.{Bool, true, false}
+use mathlib.Core.Option.{Option, none, some}
+use mathlib.Core.List.{List, [], _∷_}
+use Prim.Native.Nat.{ℕ, _+_, _*_}
+use native.Mathlib.Omega.{arith}
+use lib.Dec.{eqb}
+use lib.ListN.{length, getD}
+use borrow.Author.Tests.{eq-eqb}
+use Rattle.spec.specs.Basics.{pick, both, isEmpty}
+use Rattle.spec.specs.Words.{wordsOf, AreBytes}
+use Rattle.spec.specs.Places.{unitWord, chunksIn}
+use Rattle.spec.specs.Medium.{Medium, Action, Store, Flush, Fence, latest}
+use Rattle.spec.specs.Log.{Entry}
+use Rattle.spec.specs.Blocks.{pointed}
+use Rattle.spec.specs.Contents.{entriesIn, chosen}
+use Rattle.spec.specs.Reports.{asReport, mediumAfter, isRefused}
+use Rattle.spec.specs.Plans.{Task, Plan, Refuse, Begin, planPut, planDelete, planCommit, planClean, planned, chosenOr, chosenChunk, partOf, partOr, lookUp}
+use Rattle.spec.specs.Machine.{Call, Put, Delete, Commit, Abandon, LookUp, Choose, Clean, Step, State, Closed, Rest, Busy, Formatting, gate, itemsOf, begun, gated, countOf, itemsThen, emptied, answer, next}
+use Rattle.spec.specs.Book.{Book, doneBatch, note}
+use Rattle.spec.specs.History.{unfinishedAfter, shows}
+use Rattle.spec.specs.declared.Refusal.{Refusal}
+use Rattle.spec.specs.declared.Refusal.the-variants as N
+use Rattle.spec.specs.declared.Report.{Report}
+use Rattle.spec.specs.declared.Report.the-variants as R
+use Rattle.theory_base.proofs.Lists.{pick-same}
+use Rattle.theory_plans.specs.Standing.{Standing, Going}
+use Rattle.theory_plans.specs.Laws.{Laws}
+
+-- the medium by the book: between calls, with these entries staged; and with these actions still to come
+abbrev pub StandsBy : (p bytes least : ℕ) → Book → List Entry → Medium → Type 0
+StandsBy p bytes least b items m = Standing p (chunksIn p bytes) least (b .register) (b .staged) items m
+
+abbrev pub GoesBy : (p bytes least : ℕ) → Book → List Entry → List Action → Medium → Type 0
+GoesBy p bytes least b items rest m = Going p (chunksIn p bytes) least (b .register) (doneBatch (b .in-flight) (b .register)) (b .staged) items rest m
+
+abbrev pub Holds : (p bytes least : ℕ) → Bool → Book → State → Medium → Type 0
+Holds p bytes least u b Closed m = ⊥
+Holds p bytes least u b (Rest l t items) m = (l ≡ bytes) × (t ≡ least) × (b .in-flight ≡ none) × StandsBy p bytes least b items m
+Holds p bytes least u b (Busy l t items task rest) m = (l ≡ bytes) × (t ≡ least) × (u ≡ true) × GoesBy p bytes least b (itemsThen task items) rest m
+Holds p bytes least u b (Formatting o l t rest) m = ⊥
+
+-- what an answer makes of the unfinished calls, the book and the medium; and of the state, which a refusal leaves
+abbrev pub Leaves : (p bytes least : ℕ) → Bool → (Report → Book) → Report → State → State → Medium → Type 0
+Leaves p bytes least u noted r σ τ m = Holds p bytes least (unfinishedAfter r u) (noted r) (pick (both (isRefused r) true) σ τ) (mediumAfter r m)
+
+-- the call k, answered
+abbrev pub Keeps : (p limit bytes least : ℕ) → Bool → Book → Medium → Call → State → Type 0
+Keeps p limit bytes least u b m k σ =
+    Holds p bytes least (unfinishedAfter (answer p limit k σ (latest m) bytes least) u) (note k (answer p limit k σ (latest m) bytes least) b)
+    (next p limit k σ (latest m) bytes least) (mediumAfter (answer p limit k σ (latest m) bytes least) m)
+
+-- an answer that says nothing of the medium or of unfinished calls
+abbrev pub Direct : Report → Type 0
+Direct r = (u : Bool) (m : Medium) → (unfinishedAfter r u ≡ u) × (mediumAfter r m ≡ m)
+
+pick-direct : (t : Bool) (r s : Report) → Direct r → Direct s → Direct (pick t r s)
+pick-direct true r s d e = d
+pick-direct false r s d e = e
+
+part-direct : (ws : List ℕ) (c : Option Entry) → Direct (partOr ws c)
+part-direct ws none = λ u m. (refl, refl)
+part-direct ws (some e) =
+    pick-direct (eqb (e .op) 1) (partOf ws e) (R.Refused N.KeyAbsent)
+    (pick-direct (pointed e) (R.Part (8 * (unitWord (e .field) + 1)) (getD ws (unitWord (e .field)) 0)) (R.Part (8 * (e .at + 2)) (e .field)) (λ u m. (refl, refl)) (λ u m. (refl, refl)))
+    (λ u m. (refl, refl))
+
+look-direct : (ws : List ℕ) (es : List Entry) (k : ℕ) → Direct (lookUp ws es k)
+unfolding lookUp
+look-direct ws es k = part-direct ws (chosen k es)
+
+gated-direct : (g : Option Refusal) (r : Report) → Direct r → Direct (gated g r)
+gated-direct none r d = d
+gated-direct (some n) r d = λ u m. (refl, refl)
+
+pub look-reads : (p limit k : ℕ) (σ : State) (ws : List ℕ) (bytes table : ℕ) → Direct (answer p limit (LookUp k) σ ws bytes table)
+look-reads p limit k σ ws bytes table = gated-direct (gate σ bytes table) (lookUp ws (entriesIn p (chunksIn p bytes) ws) k) (look-direct ws (entriesIn p (chunksIn p bytes) ws) k)
+
+chosen-direct : (c : Option ℕ) → Direct (chosenOr c)
+chosen-direct none = λ u m. (refl, refl)
+chosen-direct (some c) = λ u m. (refl, refl)
+
+module _ (p limit : ℕ) (laws : Laws p limit) (bytes least : ℕ) (u : Bool) (b : Book) (m : Medium) where
+  abbrev n : ℕ
+  n = chunksIn p bytes
+
+  -- What the gate turns down changes nothing; what it lets through is a call on a register with no call unfinished.
+  gated-kept : (noted : Report → Book) (reply : State → Report) (become : State → State)
+      → ((n : Refusal) (σ : State) → Holds p bytes least u b σ m → Holds p bytes least u (noted (R.Refused n)) σ m)
+      → ((l t : ℕ) (items : List Entry) → Holds p bytes least u b (Rest l t items) m
+      → Leaves p bytes least u noted (reply (Rest l t items)) (Rest l t items) (become (Rest l t items)) m)
+      → (σ : State) → Holds p bytes least u b σ m → Leaves p bytes least u noted (gated (gate σ bytes least) (reply σ)) σ (become σ) m
+  gated-kept noted reply become turned passed Closed h = absurd h
+  gated-kept noted reply become turned passed (Rest l t items) h = go (both (eqb l bytes) (eqb t least))
+    where
+      go : (same : Bool) → Leaves p bytes least u noted (gated (pick same none (some N.ImageLength)) (reply (Rest l t items))) (Rest l t items) (become (Rest l t items)) m
+      go true = passed l t items h
+      go false = turned N.ImageLength (Rest l t items) h
+  gated-kept noted reply become turned passed (Busy l t items task rest) h = go (both (eqb l bytes) (eqb t least))
+    where
+      go : (same : Bool)
+          → Leaves p bytes least u noted (gated (pick same (some N.Unfinished) (some N.ImageLength)) (reply (Busy l t items task rest))) (Busy l t items task rest) (become (Busy l t items task rest)) m
+      go true = turned N.Unfinished (Busy l t items task rest) h
+      go false = turned N.ImageLength (Busy l t items task rest) h
+  gated-kept noted reply become turned passed (Formatting o l t rest) h = absurd h
+
+  -- A call with a plan: refused, or begun and then going on as the law of its plan says.
+  planned-kept : (noted : Report → Book) (plan : List Entry → Plan)
+      → ((n : Refusal) (σ : State) → Holds p bytes least u b σ m → Holds p bytes least u (noted (R.Refused n)) σ m)
+      → ((items items′ : List Entry) (task : Task) (acts : List Action) → b .in-flight ≡ none → StandsBy p bytes least b items m → plan items ≡ Begin items′ task acts
+      → GoesBy p bytes least (noted (R.Begun (length acts))) (itemsThen task items′) acts m)
+      → (σ : State) → Holds p bytes least u b σ m → Leaves p bytes least u noted (gated (gate σ bytes least) (planned (plan (itemsOf σ)))) σ (begun (plan (itemsOf σ)) σ) m
+  planned-kept noted plan turned begins = gated-kept noted (λ σ. planned (plan (itemsOf σ))) (λ σ. begun (plan (itemsOf σ)) σ) turned (λ l t items h. go l t items h (plan items) refl)
+    where
+      go : (l t : ℕ) (items : List Entry) → Holds p bytes least u b (Rest l t items) m → (q : Plan) → plan items ≡ q → Leaves p bytes least u noted (planned q) (Rest l t items) (begun q (Rest l t items)) m
+      go l t items h (Refuse n) e = turned n (Rest l t items) h
+      go l t items h (Begin items′ task acts) e = (h .0, h .1, refl, begins items items′ task acts (h .2) (h .3) e)
+
+  -- A call that answers directly, reads alone, and is not noted.
+  direct-kept : (reply : Report) → Direct reply → (σ : State) → Holds p bytes least u b σ m → Leaves p bytes least u (λ r. b) (gated (gate σ bytes least) reply) σ σ m
+  direct-kept reply d = gated-kept (λ r. b) (λ σ. reply) (λ σ. σ) (λ n σ h. h) (λ l t items h. rw (d u m .0, d u m .1, pick-same) h)
+
+  pub put-kept : (k : ℕ) (v : List ℕ) → AreBytes v → (σ : State) → Holds p bytes least u b σ m → Keeps p limit bytes least u b m (Put k v) σ
+  unfolding next
+  put-kept k v small =
+      planned-kept (λ r. note (Put k v) r b) (λ items. planPut p limit n (latest m) least (entriesIn p n (latest m)) items k v) (λ r σ h. h) λ items items′ task acts e s q.
+      let g = laws .put-goes n least (b .register) (b .staged) items items′ task acts m k v small s q in rw (e, g .0) (g .1)
+
+  pub delete-kept : (k : ℕ) (σ : State) → Holds p bytes least u b σ m → Keeps p limit bytes least u b m (Delete k) σ
+  unfolding next
+  delete-kept k =
+      planned-kept (λ r. note (Delete k) r b) (λ items. planDelete least (entriesIn p n (latest m)) items k) (λ r σ h. h) λ items items′ task acts e s q.
+      let g = laws .delete-goes n least (b .register) (b .staged) items items′ task acts m k s q in rw (e, g .0) (g .1)
+
+  pub commit-kept : (σ : State) → Holds p bytes least u b σ m → Keeps p limit bytes least u b m Commit σ
+  unfolding next
+  commit-kept =
+      planned-kept (λ r. note Commit r b) (λ items. planCommit p n (latest m) items) (λ r σ h. h) λ items items′ task acts e s q.
+      let g = laws .commit-goes n least (b .register) (b .staged) items items′ task acts m s q in rw (g .0) (g .1)
+
+  pub clean-kept : (c : ℕ) (σ : State) → Holds p bytes least u b σ m → Keeps p limit bytes least u b m (Clean c) σ
+  unfolding next
+  clean-kept c =
+      planned-kept (λ r. note (Clean c) r b) (λ items. planClean p n (latest m) (entriesIn p n (latest m)) items c) (λ r σ h. h) λ items items′ task acts e s q.
+      let g = laws .clean-goes n least (b .register) (b .staged) items items′ task acts m c s q in rw (e, g .0 .1, g .1 .0, g .1 .1 .0) (g .1 .1 .1)
+
+  pub abandon-kept : (σ : State) → Holds p bytes least u b σ m → Keeps p limit bytes least u b m Abandon σ
+  unfolding next
+  abandon-kept = gated-kept (λ r. note Abandon r b) (λ σ. pick (isEmpty (itemsOf σ)) (R.Refused N.NothingStaged) R.Abandoned) emptied (λ r σ h. h) (λ l t items h. go l t items h (isEmpty items))
+    where
+      go : (l t : ℕ) (items : List Entry) → Holds p bytes least u b (Rest l t items) m → (none : Bool)
+          → Leaves p bytes least u (λ r. note Abandon r b) (pick none (R.Refused N.NothingStaged) R.Abandoned) (Rest l t items) (Rest l t []) m
+      go l t items h true = h
+      go l t items h false = (h .0, h .1, h .2, laws .abandon-stands n least (b .register) (b .staged) items m (h .3))
+
+  pub look-kept : (k : ℕ) (σ : State) → Holds p bytes least u b σ m → Keeps p limit bytes least u b m (LookUp k) σ
+  unfolding next
+  look-kept k = direct-kept (lookUp (latest m) (entriesIn p n (latest m)) k) (look-direct (latest m) (entriesIn p n (latest m)) k)
+
+  pub choose-kept : (σ : State) → Holds p bytes least u b σ m → Keeps p limit bytes least u b m Choose σ
+  unfolding next
+  choose-kept = direct-kept (chosenOr (chosenChunk p n (latest m) (entriesIn p n (latest m)))) (chosen-direct (chosenChunk p n (latest m) (entriesIn p n (latest m))))
+
+  pub step-kept : (σ : State) → Holds p bytes least u b σ m → Keeps p limit bytes least u b m Step σ
+  unfolding next
+  step-kept Closed h = absurd h
+  step-kept (Rest l t items) h = h
+  step-kept (Busy l t items task []) h = go (both (eqb l bytes) (eqb t least))
+    where
+      go : (same : Bool) → Leaves p bytes least u (λ r. note Step r b) (pick same (R.End (countOf task)) (R.Refused N.ImageLength)) (Busy l t items task []) (Rest l t (itemsThen task items)) m
+      go true = (h .0, h .1, refl, h .3)
+      go false = h
+  step-kept (Busy l t items task (a ∷ rest)) h = go (both (eqb l bytes) (eqb t least)) a h
+    where
+      go : (same : Bool) (a : Action) → Holds p bytes least u b (Busy l t items task (a ∷ rest)) m
+          → Leaves p bytes least u (λ r. note Step r b) (pick same (asReport a) (R.Refused N.ImageLength)) (Busy l t items task (a ∷ rest)) (Busy l t items task rest) m
+      go true (Store w v) h = (h .0, h .1, h .2, h .3 .1)
+      go true (Flush n) h = (h .0, h .1, h .2, h .3 .1)
+      go true Fence h = (h .0, h .1, h .2, h .3 .1)
+      go false a h = h
+  step-kept (Formatting o l t rest) h = absurd h
+
+  pub look-right : (k : ℕ) (image : List ℕ) → AreBytes image → wordsOf image ≡ latest m → u ≡ false → (σ : State) → Holds p bytes least u b σ m
+      → shows (answer p limit (LookUp k) σ (latest m) bytes least) image ≡ some (b .register k)
+  look-right k image small agrees idle Closed h = absurd h
+  look-right k image small agrees idle (Rest l t items) h =
+      rw (eq-eqb l bytes (h .0), eq-eqb t least (h .1)) (laws .look-shows n least (b .register) (b .staged) items m image small agrees (h .3) k)
+  look-right k image small agrees idle (Busy l t items task rest) h = let z : true ≡ false = sym (h .2) ∙ idle in let f : _≡_ {A = ℕ} 0 1 = cc in absurd (omega arith)
+  look-right k image small agrees idle (Formatting o l t rest) h = absurd h

@@ -1,0 +1,28 @@
+-- The laws of the calls hold, for chunks of 2^12 to 2^16 bytes and any limit that a block can hold.
+-- Assumes nothing.
+use Prim.Native.Nat.{ℕ, _≤_}
+use Rattle.spec.specs.Blocks.{blockLimit}
+use Rattle.theory_plans.specs.Laws.{Laws}
+use Rattle.theory_plans.proofs.Between as B
+use Rattle.theory_plans.proofs.Looking as L
+use Rattle.theory_plans.proofs.Formatted as F
+use Rattle.theory_plans.proofs.Staging as S
+use Rattle.theory_plans.proofs.Committing as C
+use Rattle.theory_plans.proofs.Cleaning as D
+
+pub laws-hold : (p : ℕ) → 12 ≤ p → p ≤ 16 → (limit : ℕ) → limit ≤ blockLimit p → Laws p limit
+laws-hold p lo hi limit fits = record {
+  put-goes = S.put-goes p lo hi limit fits;
+  delete-goes = S.delete-goes p lo hi;
+  commit-goes = C.commit-goes p lo hi;
+  clean-goes = D.clean-goes p lo hi;
+  abandon-stands = B.abandon-stands p lo hi;
+  stand-cuts = B.stand-cuts p lo hi;
+  cut-stands = B.cut-stands p lo hi;
+  larger-table = B.larger-table p lo hi;
+  stand-length = B.stand-length p lo hi;
+  open-accepts = B.open-accepts p lo hi;
+  accepted-stands = B.accepted-stands p lo hi;
+  look-shows = L.look-shows p lo hi;
+  format-stands = F.format-stands p lo hi;
+}

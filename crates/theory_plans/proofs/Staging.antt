@@ -1,0 +1,158 @@
+-- Staging: an accepted put or delete puts its item last into the book's staged items and keeps the contents, cut or not.
+-- Assumes nothing.
+use mathlib.Core.Path.{_≡_, refl, sym, _∙_, ap}
+use mathlib.Core.Bool.{Bool, true, false}
+use mathlib.Core.List.{List, [], _∷_, _++_}
+use Prim.Native.Nat.{ℕ, suc, _+_, _*_, _/_, _%_, _^_, _≤_}
+use native.Mathlib.Omega.{arith}
+use lib.Dec.{eqb, leb, ltb}
+use lib.ListN.{length, getD}
+use borrow.Author.Tests.{eqb-false, leb-true, leb-false, lt-ltb}
+use Rattle.spec.specs.Basics.{pick}
+use Rattle.spec.specs.Words.{AreBytes, packed}
+use Rattle.spec.specs.Places.{firstUnit, directoryWord}
+use Rattle.spec.specs.Medium.{Action, Medium, latest}
+use Rattle.spec.specs.Directory.{isSize}
+use Rattle.spec.specs.Log.{Entry, filled, maxInLog}
+use Rattle.spec.specs.Blocks.{blockLimit, blockSize}
+use Rattle.spec.specs.Contents.{Held, Absent, Value, highest, entriesIn}
+use Rattle.spec.specs.Actions.{takeOf, blockOf}
+use Rattle.spec.specs.Plans.{Task, Staging, Plan, Begin, need, nextVersion, present, fitsBatch, fitsKeys, maxPutVersion, maxVersion, entry, Slot as Found, InData, InFree, Nowhere, slotFor, putWords, stageLarge, stagePut, planPut, planDelete}
+use Rattle.spec.specs.Book.{Item}
+use Rattle.spec.specs.declared.Refusal.{Refusal}
+use Rattle.spec.specs.declared.Refusal.the-variants as N
+use Rattle.words.specs.Values.{length-packed, packed-filled, bytes-packed}
+use Rattle.theory_base.proofs.Sizes as Z
+use Rattle.theory_log.specs.Batch.{put, block, delete, Right}
+use Rattle.theory_plans.specs.Standing.{Standing, Going}
+use Rattle.theory_plans.proofs.Between.{stand-entries}
+use Rattle.theory_plans.proofs.Item.{Admitted, log-ready, stand-more}
+use Rattle.theory_plans.proofs.Large.{block-words, data-goes, free-goes}
+
+-- A plan that begins has met its four tests.
+met : (a b c d : Bool) (x y z w : Refusal) (q : Plan) (items : List Entry) (task : Task) (acts : List Action) → need a x (need b y (need c z (need d w q))) ≡ Begin items task acts
+    → (a ≡ true) × (b ≡ true) × (c ≡ true) × (d ≡ true) × (q ≡ Begin items task acts)
+met true true true true x y z w q items task acts h = (refl, refl, refl, refl, h)
+met true true true false x y z w q items task acts h = absurd (let o : _≡_ {A = ℕ} 0 1 = cc in omega arith)
+met true true false d x y z w q items task acts h = absurd (let o : _≡_ {A = ℕ} 0 1 = cc in omega arith)
+met true false c d x y z w q items task acts h = absurd (let o : _≡_ {A = ℕ} 0 1 = cc in omega arith)
+met false b c d x y z w q items task acts h = absurd (let o : _≡_ {A = ℕ} 0 1 = cc in omega arith)
+
+-- The new entries are right; h, k: the words before the value's.
+module _ (v : List ℕ) (bytes : AreBytes v) where
+  put-filled : (h k : ℕ) → filled 0 (length v) (h ∷ k ∷ packed v) ≡ true
+  put-filled h k = go (eqb (length v % 8) 0) (eqb-false (length v % 8) 0)
+    where
+      go : (b : Bool) → (b ≡ false → length v % 8 ≡ 0 → ⊥) → pick b true (ltb (getD (h ∷ k ∷ packed v) (2 + length v / 8) 0) (256 ^ (length v % 8))) ≡ true
+      go true x = refl
+      go false x = let q : 2 + length v / 8 ≡ suc (suc (length v / 8)) = omega arith in rw q (lt-ltb (getD (packed v) (length v / 8) 0) (256 ^ (length v % 8)) (packed-filled v bytes (x refl)))
+
+  put-right : (version k : ℕ) → suc version ≤ maxPutVersion → length v ≤ maxInLog → Right (entry 1 0 (suc version) (length v) k (packed v))
+  put-right version k h l = record { kind = put l; low = omega arith; high = omega arith; words = length-packed v; fill = put-filled _ k }
+
+block-right : (version u k : ℕ) → suc version ≤ maxPutVersion → Right (entry 1 1 (suc version) u k [])
+block-right version u k h = record { kind = block; low = omega arith; high = omega arith; words = refl; fill = refl }
+
+delete-right : (version k : ℕ) → suc version ≤ maxVersion → Right (entry 2 0 (suc version) 0 k [])
+delete-right version k h = record { kind = delete; low = omega arith; high = omega arith; words = refl; fill = refl }
+
+module _ (p : ℕ) (lo : 12 ≤ p) (hi : p ≤ 16) (n table : ℕ) (C : ℕ → Held) (book : List Item) (items : List Entry) (m : Medium) (s : Standing p n table C book items m) where
+  abbrev ws : List ℕ
+  ws = s .words
+
+  abbrev es : List Entry
+  es = s .entries
+
+  -- a plan that begins a staging
+  begins : (book′ : List Item) (items₁ items′ : List Entry) (task : Task) (acts₁ acts : List Action) → Begin items₁ Staging acts₁ ≡ Begin items′ task acts → Going p n table C C book′ items₁ acts₁ m
+      → (task ≡ Staging) × Going p n table C C book′ items′ acts m
+  begins book′ items₁ items′ task acts₁ acts h g =
+      let a : items₁ ≡ items′ = cc in
+      let b : task ≡ Staging = cc in
+      let c : acts₁ ≡ acts = cc in
+      (b, (rw (a, c) at g))
+
+  -- A PUT of at most the bytes that a block can hold
+  planned-put : (limit : ℕ) → limit ≤ blockLimit p → (items′ : List Entry) (task : Task) (acts : List Action) (k : ℕ) (v : List ℕ) → AreBytes v → planPut p limit n ws table es items k v ≡ Begin items′ task acts
+      → (task ≡ Staging) × Going p n table C C (book ++ (record { key = k; gets = Value v } ∷ [])) items′ acts m
+  unfolding planPut
+  planned-put limit fits items′ task acts k v bytes h = go (leb (length v) maxInLog) refl (tests .2) (tests .4)
+    where
+      version : ℕ
+      version = nextVersion k es items
+
+      book′ : List Item
+      book′ = book ++ (record { key = k; gets = Value v } ∷ [])
+
+      size : ℕ
+      size = blockSize p (length v)
+
+      Goal : Type 0
+      Goal = (task ≡ Staging) × Going p n table C C book′ items′ acts m
+
+      tests : (leb (length v) limit ≡ true) × (leb version maxPutVersion ≡ true) × (fitsBatch items (putWords (length v)) ≡ true) × (fitsKeys table es items k ≡ true)
+          × (stagePut p n ws es items version k v ≡ Begin items′ task acts)
+      tests = met (leb (length v) limit) (leb version maxPutVersion) (fitsBatch items (putWords (length v))) (fitsKeys table es items k) N.TooLong N.VersionSpent N.BatchFull N.TableFull
+          (stagePut p n ws es items version k v) items′ task acts h
+
+      spent : version ≤ maxPutVersion
+      spent = leb-true version maxPutVersion (tests .1)
+
+      admitted : (u : ℕ) → fitsBatch items 2 ≡ true → Admitted table es items (entry 1 1 version u k [])
+      admitted u b = record { counts = refl; right = block-right (highest k (es ++ items)) u k spent; batch = b; keys = tests .3 }
+
+      block′ : 257 ≤ length v → (isSize p size ≡ true) × (length v + 8 ≤ 256 * size)
+      block′ l = let a = leb-true (length v) limit (tests .0) in Z.block-size p (length v) l (omega arith)
+
+      large : 257 ≤ length v → fitsBatch items 2 ≡ true → (q : Found) → slotFor p n ws es items size ≡ q → stageLarge p ws items version k v q ≡ Begin items′ task acts → Goal
+      large l b (InData u) e g =
+          begins book′ (items ++ (entry 1 1 version u k [] ∷ [])) items′ task (blockOf u (length v ∷ packed v)) acts g
+          (data-goes p lo hi n table C book items m s v bytes size (block′ l .0) (block-words v bytes size l (block′ l .1)) version k u e (admitted u b))
+      large l b (InFree c) e g =
+          begins book′ (items ++ (entry 1 1 version (firstUnit p c) k [] ∷ [])) items′ task (takeOf c (getD ws (directoryWord c) 0) size ++ blockOf (firstUnit p c) (length v ∷ packed v)) acts g
+          (free-goes p lo hi n table C book items m s v bytes size (block′ l .0) (block-words v bytes size l (block′ l .1)) version k c e (admitted (firstUnit p c) b))
+      large l b Nowhere e g = absurd (let o : _≡_ {A = ℕ} 0 1 = cc in omega arith)
+
+      go : (b : Bool) → leb (length v) maxInLog ≡ b → fitsBatch items (2 + pick b ((length v + 7) / 8) 0) ≡ true
+          → pick b (Begin (items ++ (entry 1 0 version (length v) k (packed v) ∷ [])) Staging []) (stageLarge p ws items version k v (slotFor p n ws es items size)) ≡ Begin items′ task acts → Goal
+      go true q b g =
+          begins book′ (items ++ (entry 1 0 version (length v) k (packed v) ∷ [])) items′ task [] acts g
+          (stand-more p n table C book items m s (entry 1 0 version (length v) k (packed v)) (Value v)
+          (record { counts = refl; right = put-right v bytes (highest k (es ++ items)) k spent (leb-true (length v) maxInLog q); batch = rw (length-packed v) b; keys = tests .3 })
+          (log-ready p n ws es items m (entry 1 0 version (length v) k (packed v)) refl) (ap Value (bytes-packed v bytes)))
+      go false q b g = large (leb-false (length v) maxInLog q) b (slotFor p n ws es items size) refl g
+
+  planned-delete : (items′ : List Entry) (task : Task) (acts : List Action) (k : ℕ) → planDelete table es items k ≡ Begin items′ task acts
+      → (task ≡ Staging) × Going p n table C C (book ++ (record { key = k; gets = Absent } ∷ [])) items′ acts m
+  unfolding planDelete
+  planned-delete items′ task acts k h =
+      begins (book ++ (record { key = k; gets = Absent } ∷ [])) (items ++ (e ∷ [])) items′ task [] acts (tests .4)
+      (stand-more p n table C book items m s e Absent
+      (record { counts = refl; right = delete-right (highest k (es ++ items)) k (leb-true version maxVersion (tests .1)); batch = tests .2; keys = tests .3 })
+      (log-ready p n ws es items m e refl) refl)
+    where
+      version : ℕ
+      version = nextVersion k es items
+
+      e : Entry
+      e = entry 2 0 version 0 k []
+
+      tests : (present k es items ≡ true) × (leb version maxVersion ≡ true) × (fitsBatch items 2 ≡ true) × (fitsKeys table es items k ≡ true) × (Begin (items ++ (e ∷ [])) Staging [] ≡ Begin items′ task acts)
+      tests = met (present k es items) (leb version maxVersion) (fitsBatch items 2) (fitsKeys table es items k) N.KeyAbsent N.VersionSpent N.BatchFull N.TableFull (Begin (items ++ (e ∷ [])) Staging []) items′ task acts h
+
+module _ (p : ℕ) (lo : 12 ≤ p) (hi : p ≤ 16) where
+  pub put-goes : (limit : ℕ) → limit ≤ blockLimit p → (n table : ℕ) (C : ℕ → Held) (book : List Item) (items items′ : List Entry) (task : Task) (acts : List Action) (m : Medium) (k : ℕ) (v : List ℕ)
+      → AreBytes v → Standing p n table C book items m → planPut p limit n (latest m) table (entriesIn p n (latest m)) items k v ≡ Begin items′ task acts
+      → (task ≡ Staging) × Going p n table C C (book ++ (record { key = k; gets = Value v } ∷ [])) items′ acts m
+  put-goes limit fits n table C book items items′ task acts m k v bytes s h =
+      planned-put p lo hi n table C book items m s limit fits items′ task acts k v bytes
+      (ap (λ (ws : List ℕ). planPut p limit n ws table (s .entries) items k v) (sym (s .rest .now))
+      ∙ ap (λ (es : List Entry). planPut p limit n (latest m) table es items k v) (sym (stand-entries p lo hi n table C book items m s))
+      ∙ h)
+
+  pub delete-goes : (n table : ℕ) (C : ℕ → Held) (book : List Item) (items items′ : List Entry) (task : Task) (acts : List Action) (m : Medium) (k : ℕ)
+      → Standing p n table C book items m → planDelete table (entriesIn p n (latest m)) items k ≡ Begin items′ task acts
+      → (task ≡ Staging) × Going p n table C C (book ++ (record { key = k; gets = Absent } ∷ [])) items′ acts m
+  delete-goes n table C book items items′ task acts m k s h =
+      planned-delete p lo hi n table C book items m s items′ task acts k
+      (ap (λ (es : List Entry). planDelete table es items k) (sym (stand-entries p lo hi n table C book items m s)) ∙ h)

@@ -1,0 +1,63 @@
+-- The laws of the calls that the theorem on histories stands on, each over plain variables. n: the image's chunks; table: the key table's
+-- words at the opening before; C, D: contents before and after a call; book: the desk book's staged items; items: the entries staged.
+-- Assumes nothing.
+use mathlib.Core.Path.{_≡_}
+use mathlib.Core.Logic.{_⊎_}
+use mathlib.Core.Bool.{true}
+use mathlib.Core.Option.{some}
+use mathlib.Core.List.{List, [], _∷_, _++_}
+use Prim.Native.Nat.{ℕ, _*_, _/_, _≤_}
+use lib.ListN.{length}
+use Rattle.spec.specs.Words.{wordsOf, AreBytes}
+use Rattle.spec.specs.Places.{base, chunksIn, lengthAllowed}
+use Rattle.spec.specs.Medium.{Medium, Action, latest, cut, settledAt}
+use Rattle.spec.specs.Log.{Entry}
+use Rattle.spec.specs.Contents.{Held, Absent, Value, capacity, contents, entriesIn}
+use Rattle.spec.specs.Opening.{Accepted, opening}
+use Rattle.spec.specs.Actions.{formatOf}
+use Rattle.spec.specs.Plans.{Task, Staging, Committing, Cleaning, Begin, planPut, planDelete, planCommit, planClean, lookUp}
+use Rattle.spec.specs.Book.{Item, nothing, doneItems}
+use Rattle.spec.specs.History.{shows}
+use Rattle.spec.specs.declared.Given.{Given}
+use Rattle.theory_base.proofs.Through.{Through}
+use Rattle.theory_crash.specs.Rest.{Cuts}
+use Rattle.theory_plans.specs.Standing.{Standing, Going}
+
+abbrev pub Anything : Medium → Type 0
+Anything m = Unit {0}
+
+pub record Laws (p limit : ℕ) : Type 0 where
+  -- an accepted staging puts its item last into the book's staged items, and keeps the contents
+  pub put-goes : (n table : ℕ) (C : ℕ → Held) (book : List Item) (items items′ : List Entry) (task : Task) (acts : List Action) (m : Medium) (k : ℕ) (v : List ℕ)
+      → AreBytes v → Standing p n table C book items m → planPut p limit n (latest m) table (entriesIn p n (latest m)) items k v ≡ Begin items′ task acts
+      → (task ≡ Staging) × Going p n table C C (book ++ (record { key = k; gets = Value v } ∷ [])) items′ acts m
+  pub delete-goes : (n table : ℕ) (C : ℕ → Held) (book : List Item) (items items′ : List Entry) (task : Task) (acts : List Action) (m : Medium) (k : ℕ)
+      → Standing p n table C book items m → planDelete table (entriesIn p n (latest m)) items k ≡ Begin items′ task acts
+      → (task ≡ Staging) × Going p n table C C (book ++ (record { key = k; gets = Absent } ∷ [])) items′ acts m
+  -- a commit does the book's staged items in order
+  pub commit-goes : (n table : ℕ) (C : ℕ → Held) (book : List Item) (items items′ : List Entry) (task : Task) (acts : List Action) (m : Medium)
+      → Standing p n table C book items m → planCommit p n (latest m) items ≡ Begin items′ task acts
+      → (task ≡ Committing) × Going p n table C (doneItems book C) [] [] acts m
+  -- a cleaning keeps the contents
+  pub clean-goes : (n table : ℕ) (C : ℕ → Held) (book : List Item) (items items′ : List Entry) (task : Task) (acts : List Action) (m : Medium) (c : ℕ)
+      → Standing p n table C book items m → planClean p n (latest m) (entriesIn p n (latest m)) items c ≡ Begin items′ task acts
+      → ((count : ℕ) × (task ≡ Cleaning count)) × ((book ≡ []) × ((items′ ≡ []) × Going p n table C C [] [] acts m))
+  pub abandon-stands : (n table : ℕ) (C : ℕ → Held) (book : List Item) (items : List Entry) (m : Medium) → Standing p n table C book items m → Standing p n table C [] [] m
+  -- power cuts
+  pub stand-cuts : (n table : ℕ) (C : ℕ → Held) (book : List Item) (items : List Entry) (m : Medium) → Standing p n table C book items m → Cuts p n (capacity table) C C m
+  pub cut-stands : (n table : ℕ) (C D : ℕ → Held) (m : Medium) (chooses : ℕ → ℕ) → Cuts p n (capacity table) C D m
+      → Standing p n table C [] [] (settledAt (cut chooses m)) ⊎ Standing p n table D [] [] (settledAt (cut chooses m))
+  -- openings: one succeeds wherever memory stands, with a table no smaller; one that accepted an image left memory so
+  pub larger-table : (n table table′ : ℕ) (C : ℕ → Held) (book : List Item) (items : List Entry) (m : Medium) → table ≤ table′ → Standing p n table C book items m → Standing p n table′ C book items m
+  pub stand-length : (n table : ℕ) (C : ℕ → Held) (book : List Item) (items : List Entry) (m : Medium) → Standing p n table C book items m
+      → (length m ≡ base p n) × (chunksIn p (8 * base p n) ≡ n)
+  pub open-accepts : (n table : ℕ) (C : ℕ → Held) (book : List Item) (items : List Entry) (m : Medium) → Standing p n table C book items m
+      → (es : List Entry) × (opening p (8 * base p n) (latest m) table ≡ Accepted es)
+  pub accepted-stands : (bytes table : ℕ) (ws : List ℕ) (es : List Entry) → length ws ≡ bytes / 8 → opening p bytes ws table ≡ Accepted es
+      → Standing p (chunksIn p bytes) table (contents p (chunksIn p bytes) ws) [] [] (settledAt ws) × (bytes ≡ 8 * base p (chunksIn p bytes))
+  -- look-up shows the contents
+  pub look-shows : (n table : ℕ) (C : ℕ → Held) (book : List Item) (items : List Entry) (m : Medium) (image : List ℕ) → AreBytes image → wordsOf image ≡ latest m
+      → Standing p n table C book items m → (k : ℕ) → shows (lookUp (latest m) (entriesIn p n (latest m)) k) image ≡ some (C k)
+  -- a formatting to its end, begun on any medium, leaves an empty register
+  pub format-stands : (bytes table : ℕ) (m : Medium) (station centre : Given) → lengthAllowed p bytes ≡ true → length m ≡ bytes / 8
+      → Through Anything (Standing p (chunksIn p bytes) table nothing [] []) (formatOf (chunksIn p bytes) station centre) m × (bytes ≡ 8 * base p (chunksIn p bytes))

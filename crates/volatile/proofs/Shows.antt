@@ -1,0 +1,38 @@
+-- What the code shows of a key's word with one more entry: one law for each return.
+-- Assumes nothing.
+use mathlib.Core.Path.{_≡_, sym, _∙_, ap}
+use Prim.Native.Nat.{ℕ, _+_, _-_, _≤_, _<_}
+use native.Mathlib.Omega.{arith}
+use borrow.Author.Tests.{eq-eqb, ne-eqb, lt-ltb, le-ltb}
+use Rattle.index.specs.declared.Info.{Info}
+use Rattle.index.specs.Packed.{packOf, unpackOf}
+use Rattle.volatile.specs.Known.{extentOf, raised, noted}
+
+-- the extent of a value in the log, of an empty one, and of an entry with none in the log
+pub extent-log : (placement field : ℕ) → placement ≡ 0 → field - 1 ≡ extentOf placement field
+extent-log placement field z = sym (rw (eq-eqb placement 0 z))
+
+pub extent-empty : (placement field : ℕ) → placement ≡ 0 → field ≤ 0 → 0 ≡ extentOf placement field
+extent-empty placement field z l = let q : 0 ≡ field - 1 = omega arith in q ∙ extent-log placement field z
+
+pub extent-none : (placement field : ℕ) → (placement ≡ 0 → ⊥) → 0 ≡ extentOf placement field
+extent-none placement field n = sym (rw (ne-eqb placement 0 n))
+
+module _ (word own r : ℕ) (i j : Info) (is-i : i ≡ unpackOf word) (is-j : j ≡ unpackOf own) (some-word : word ≡ 0 → ⊥) where
+  shows-raised : r ≡ packOf (raised i j) → r ≡ noted word own
+  unfolding noted
+  shows-raised e =
+      e ∙ ap (λ (x : Info). packOf (raised x j)) is-i ∙ ap (λ (x : Info). packOf (raised (unpackOf word) x)) is-j ∙ sym (rw (ne-eqb word 0 some-word))
+
+  -- of a higher version than all others, of the highest, and of a lower one
+  pub shows-higher : i .version < j .version → r ≡ packOf (record { extent = j .extent; place = j .place; version = j .version; entries = i .entries + 1; several = 0 })
+      → r ≡ noted word own
+  shows-higher l e = shows-raised (e ∙ sym (rw (lt-ltb (i .version) (j .version) l)))
+
+  pub shows-twin : j .version ≤ i .version → i .version ≡ j .version
+      → r ≡ packOf (record { extent = i .extent; place = i .place; version = i .version; entries = i .entries + 1; several = 1 }) → r ≡ noted word own
+  shows-twin l q e = shows-raised (e ∙ sym (rw (le-ltb (i .version) (j .version) l, eq-eqb (i .version) (j .version) q)))
+
+  pub shows-lower : j .version ≤ i .version → (i .version ≡ j .version → ⊥)
+      → r ≡ packOf (record { extent = i .extent; place = i .place; version = i .version; entries = i .entries + 1; several = i .several }) → r ≡ noted word own
+  shows-lower l q e = shows-raised (e ∙ sym (rw (le-ltb (i .version) (j .version) l, ne-eqb (i .version) (j .version) q)))
