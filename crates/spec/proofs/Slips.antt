@@ -19,15 +19,15 @@ use Rattle.spec.specs.Actions.{appendOf, commitOf, bodyOf, padded}
 use Rattle.spec.specs.Plans.{Plan, Refuse, Begin, Slot, InData, InFree, Nowhere, entry, planCommit, logPlace, slotFor}
 
 -- Four chunks: the directory words of chunks 1 and 2, eight words in the first line of each; words that mean nothing are 3.
-abbrev image : ℕ → ℕ → List ℕ → List ℕ → List ℕ
+abbrev pub image : ℕ → ℕ → List ℕ → List ℕ → List ℕ
 image one two first second =
     1 ∷ 4 ∷ 0 ∷ 0 ∷ 0 ∷ 0 ∷ 0 ∷ 18446744073709551611 ∷ 0 ∷ one ∷ two ∷ 0 ∷ (replicate 500 0 ++ (first ++ (replicate 504 3 ++ (second ++ replicate 1016 3))))
 
 -- put 7 of one byte; put 9 of no byte
-abbrev line : List ℕ
+abbrev pub line : List ℕ
 line = 16777233 ∷ 7 ∷ 104 ∷ 17 ∷ 9 ∷ 0 ∷ 0 ∷ 0 ∷ []
 
-abbrev accepted : Opening → Bool
+abbrev pub accepted : Opening → Bool
 accepted (Refused n) = false
 accepted (Accepted es) = true
 
@@ -37,11 +37,11 @@ shows ws seven nine =
     both (accepted (opening basePower 16384 ws 64)) (both (sameHeld (contents basePower 4 ws 7) seven) (sameHeld (contents basePower 4 ws 9) nine))
 
 -- the commit of a delete of 7 and a put of 9, behind that line, and cuts in it
-abbrev begunActions : Plan → List Action
+abbrev pub begunActions : Plan → List Action
 begunActions (Refuse n) = []
 begunActions (Begin items task acts) = acts
 
-abbrev before : List ℕ
+abbrev pub before : List ℕ
 before = image 257 0 line (replicate 8 3)
 
 abbrev commit : List Action

@@ -15,3 +15,5 @@ pub mod Machine
 pub mod Book
 pub mod Contract
 pub mod History
+pub mod Means
+pub mod FormatCut

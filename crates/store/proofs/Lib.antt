@@ -1,3 +1,4 @@
 pub mod Lent
 pub mod Demand
 pub mod Runs
+pub mod Meaning

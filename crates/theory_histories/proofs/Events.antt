@@ -35,7 +35,7 @@ module _ (p limit : ℕ) (laws : Laws p limit) {S : Type 0} (Proper : S → Type
   n = chunksIn p bytes
 
   -- CALLS on the record and table that the last one left.
-  same-lent : (w : World S) (b : Book) (lent : Option (Lent S)) (s : S) (table : List ℕ) → SameLent lent s table → HeldAt p Proper stateOf Fits bytes lent w b
+  pub same-lent : (w : World S) (b : Book) (lent : Option (Lent S)) (s : S) (table : List ℕ) → SameLent lent s table → HeldAt p Proper stateOf Fits bytes lent w b
       → HeldAt p Proper stateOf Fits bytes (some (record { session = s; table = table })) w b
   same-lent w b none s table e h = absurd e
   same-lent w b (some l) s table e h = rw (← (e .0), ← (e .1)) h
@@ -55,7 +55,7 @@ module _ (p limit : ℕ) (laws : Laws p limit) {S : Type 0} (Proper : S → Type
     follows : (wordsOf image′ ≡ latest (mediumAfter r (w .medium))) × (length image′ ≡ length (w .image))
     follows = image-follows r (w .medium) (w .image) image′ (c .image) (i .agrees)
 
-    answered : Ready Proper stateOf Fits p limit k s (wordsOf (w .image)) table → r ≡ answer p limit k (stateOf s) (latest (w .medium)) bytes (w .least)
+    pub answered : Ready Proper stateOf Fits p limit k s (wordsOf (w .image)) table → r ≡ answer p limit k (stateOf s) (latest (w .medium)) bytes (w .least)
     answered y = rw (← (i .agrees), ← (i .sized), ← (lent .1)) (c .exact y .answered)
 
     became : Ready Proper stateOf Fits p limit k s (wordsOf (w .image)) table → stateOf s′ ≡ next p limit k (stateOf s) (latest (w .medium)) bytes (w .least)

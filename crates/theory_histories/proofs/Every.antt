@@ -1,5 +1,6 @@
--- DEMAND 3 holds at every level: for chunks of 2^12 to 2^16 bytes, for any largest value up to the block's limit, and for any
--- implementation whose calls meet `Called`. Nothing is asked of how it reads its record, or of what record and table hold.
+-- DEMANDS 2 AND 3 and a cut in a formatting hold at every level: for chunks of 2^12 to 2^16 bytes, for any largest value
+-- up to the block's limit, and for any implementation whose calls meet `Called`. Nothing is asked of how it reads its record, or of
+-- what record and table hold.
 -- Assumes nothing.
 use Prim.Native.Nat.{ℕ, _≤_}
 use mathlib.Core.List.{List}
@@ -8,8 +9,12 @@ use Rattle.spec.specs.Places.{basePower, chunkUnits}
 use Rattle.spec.specs.Blocks.{blockLimit}
 use Rattle.spec.specs.Machine.{State}
 use Rattle.spec.specs.History.{Demand3}
+use Rattle.spec.specs.Means.{Demand2}
+use Rattle.spec.specs.FormatCut.{FormatCut}
 use Rattle.theory_plans.proofs.Hold.{laws-hold}
 use Rattle.theory_histories.proofs.Theorem.{demand3}
+use Rattle.theory_histories.proofs.Means.{demand2}
+use Rattle.theory_histories.proofs.Interrupted.{format-cut}
 
 pub every-list : (p : ℕ) → 12 ≤ p → p ≤ 16 → (limit : ℕ) → limit ≤ blockLimit p → {S : Type 0} (Proper : S → Type 0) (stateOf : S → State) (Fits : S → List ℕ → List ℕ → Type 0)
     → Demand3 Proper stateOf Fits p limit
@@ -23,3 +28,10 @@ at-the-counter = every-list basePower (omega arith) (omega arith) 256 (omega ari
 -- at the archive, whose largest value is a block's limit
 pub at-the-archive : {S : Type 0} (Proper : S → Type 0) (stateOf : S → State) (Fits : S → List ℕ → List ℕ → Type 0) → Demand3 Proper stateOf Fits basePower (blockLimit basePower)
 at-the-archive = every-list basePower (omega arith) (omega arith) (blockLimit basePower) (omega arith)
+
+module _ (p : ℕ) (low : 12 ≤ p) (high : p ≤ 16) (limit : ℕ) (fits : limit ≤ blockLimit p) {S : Type 0} (Proper : S → Type 0) (stateOf : S → State) (Fits : S → List ℕ → List ℕ → Type 0) where
+  pub every-meaning : Demand2 Proper stateOf Fits p limit
+  every-meaning = demand2 p limit (laws-hold p low high limit fits) Proper stateOf Fits
+
+  pub every-format-cut : FormatCut Proper stateOf Fits p limit
+  every-format-cut = format-cut p limit low high (laws-hold p low high limit fits) Proper stateOf Fits

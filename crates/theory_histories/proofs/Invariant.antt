@@ -18,7 +18,7 @@ use Prim.Native.Nat.{ℕ}
 use native.Mathlib.Omega.{arith}
 use lib.ListN.{length, set}
 use Rattle.spec.specs.Words.{wordsOf}
-use Rattle.spec.specs.Medium.{Medium, Store, Flush, Fence, latest}
+use Rattle.spec.specs.Medium.{Medium, Store, Flush, Fence, latest, settledAt}
 use Rattle.spec.specs.Reports.{mediumAfter, isRefused}
 use Rattle.spec.specs.Machine.{State}
 use Rattle.spec.specs.Book.{Book, noteOpen}
@@ -60,6 +60,9 @@ image-follows R.Opened m image image′ c e = (ap wordsOf c ∙ e, ap length c)
 image-follows R.Abandoned m image image′ c e = (ap wordsOf c ∙ e, ap length c)
 image-follows (R.Chosen c′) m image image′ c e = (ap wordsOf c ∙ e, ap length c)
 image-follows (R.Part a n) m image image′ c e = (ap wordsOf c ∙ e, ap length c)
+
+pub same-length : (r : Report) (image image′ : List ℕ) → Changed r image image′ → length image′ ≡ length image
+same-length r image image′ c = image-follows r (settledAt (wordsOf image)) image image′ c (sym (W.latest-settled (wordsOf image))) .1
 
 pub false-true : false ≡ true → ⊥
 false-true e = let z : _≡_ {A = ℕ} 0 1 = cc in omega arith

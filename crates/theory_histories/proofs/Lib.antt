@@ -4,4 +4,6 @@ pub mod Events
 pub mod Starts
 pub mod Theorem
 pub mod Every
+pub mod Means
+pub mod Interrupted
 pub mod Ends

@@ -20,7 +20,7 @@ use Rattle.spec.specs.Actions.{formatOf}
 use Rattle.spec.specs.Reports.{asReport, mediumAfter, isRefused}
 use Rattle.spec.specs.Machine.{Format, Open, Step, State, Closed, Formatting, opened, isUnfinished, isOpen, nextReport, stepped, answer, next}
 use Rattle.spec.specs.Book.{newBook, nothing, isEnd}
-use Rattle.spec.specs.Contract.{Exact, Called}
+use Rattle.spec.specs.Contract.{Called}
 use Rattle.spec.specs.History.{World, Stepped, world}
 use Rattle.spec.specs.declared.Given.{Given}
 use Rattle.spec.specs.declared.Refusal.the-variants as N
@@ -41,7 +41,7 @@ module _ (p limit : ℕ) (laws : Laws p limit) {S : Type 0} (Proper : S → Type
   apart r r′ e x y = I.false-true (sym y ∙ ap isEnd (sym e) ∙ x)
 
   -- one action of the formatting
-  next-medium : (a : Action) (m : Medium) → mediumAfter (asReport a) m ≡ apply a m
+  pub next-medium : (a : Action) (m : Medium) → mediumAfter (asReport a) m ≡ apply a m
   next-medium (Store w v) m = refl
   next-medium (Flush l) m = refl
   next-medium Fence m = refl
@@ -57,37 +57,42 @@ module _ (p limit : ℕ) (laws : Laws p limit) {S : Type 0} (Proper : S → Type
   next-end (Flush l) = refl
   next-end Fence = refl
 
-  format-step : (o : Bool) (acts : List Action) (s s₁ : S) (image image₁ table table₁ : List ℕ) (r : Report) (l t : ℕ)
-      → stateOf s ≡ Formatting o l t acts → l ≡ length image → t ≡ length table → Fits s (wordsOf image) table → Called Proper stateOf Fits p limit Step s s₁ image image₁ table table₁ r
+  -- a step is exact whatever record and table hold
+  pub format-step : (o : Bool) (acts : List Action) (s s₁ : S) (image image₁ table table₁ : List ℕ) (r : Report) (l t : ℕ)
+      → stateOf s ≡ Formatting o l t acts → l ≡ length image → t ≡ length table → Called Proper stateOf Fits p limit Step s s₁ image image₁ table table₁ r
       → (r ≡ nextReport 0 acts) × (stateOf s₁ ≡ stepped (Formatting o l t acts))
   unfolding next
-  format-step o acts s s₁ image image₁ table table₁ r l t e x y f c = (
-    c .exact f .answered ∙ rw (e, eq-eqb l (length image) x, eq-eqb t (length table) y),
-    c .exact f .became ∙ rw (e, eq-eqb l (length image) x, eq-eqb t (length table) y) (next-state acts (Formatting o l t acts) (stepped (Formatting o l t acts))),
+  format-step o acts s s₁ image image₁ table table₁ r l t e x y c = (
+    c .anyway .0 ∙ rw (e, eq-eqb l (length image) x, eq-eqb t (length table) y),
+    c .anyway .1 ∙ rw (e, eq-eqb l (length image) x, eq-eqb t (length table) y) (next-state acts (Formatting o l t acts) (stepped (Formatting o l t acts))),
   )
 
-  -- a record with no register open reports no end
-  closed-walk : (rs : List Report) (n : ℕ) (m m′ : Medium) (s s′ : S) (image image′ table table′ : List ℕ) → stateOf s ≡ Closed → Fits s (wordsOf image) table
-      → Stepped Proper stateOf Fits p limit (rs ++ (R.End n ∷ [])) m s image table m′ s′ image′ table′ → ⊥
+  -- a record with no register open and no formatting unfinished: a step is idle
+  pub idle-step : (s s₁ : S) (image image₁ table table₁ : List ℕ) (r : Report) → stateOf s ≡ Closed → Called Proper stateOf Fits p limit Step s s₁ image image₁ table table₁ r
+      → (r ≡ R.Idle) × (stateOf s₁ ≡ Closed)
   unfolding next
-  closed-walk [] n m m′ s s′ image image′ table table′ e f (s₁, (image₁, (table₁, (c, rest)))) = apart (R.End n) R.Idle (c .exact f .answered ∙ rw e) refl refl
-  closed-walk (r ∷ rs) n m m′ s s′ image image′ table table′ e f (s₁, (image₁, (table₁, (c, rest)))) =
-      closed-walk rs n (mediumAfter r m) m′ s₁ s′ image₁ image′ table₁ table′ (c .exact f .became ∙ rw e) (c .exact f .fits) rest
+  idle-step s s₁ image image₁ table table₁ r e c = (c .anyway .0 ∙ rw e, c .anyway .1 ∙ rw e)
 
-  format-walk : (A : Medium → Type 0) (l t : ℕ) (o : Bool) (acts : List Action) (rs : List Report) (n : ℕ) (m m′ : Medium) (s s′ : S) (image image′ table table′ : List ℕ)
-      → stateOf s ≡ Formatting o l t acts → l ≡ length image → t ≡ length table → Fits s (wordsOf image) table → wordsOf image ≡ latest m → Through Anything A acts m
+  closed-walk : (rs : List Report) (n : ℕ) (m m′ : Medium) (s s′ : S) (image image′ table table′ : List ℕ) → stateOf s ≡ Closed
+      → Stepped Proper stateOf Fits p limit (rs ++ (R.End n ∷ [])) m s image table m′ s′ image′ table′ → ⊥
+  closed-walk [] n m m′ s s′ image image′ table table′ e (s₁, (image₁, (table₁, (c, rest)))) = apart (R.End n) R.Idle (idle-step s s₁ image image₁ table table₁ (R.End n) e c .0) refl refl
+  closed-walk (r ∷ rs) n m m′ s s′ image image′ table table′ e (s₁, (image₁, (table₁, (c, rest)))) =
+      closed-walk rs n (mediumAfter r m) m′ s₁ s′ image₁ image′ table₁ table′ (idle-step s s₁ image image₁ table table₁ r e c .1) rest
+
+  format-walk : (B A : Medium → Type 0) (l t : ℕ) (o : Bool) (acts : List Action) (rs : List Report) (n : ℕ) (m m′ : Medium) (s s′ : S) (image image′ table table′ : List ℕ)
+      → stateOf s ≡ Formatting o l t acts → l ≡ length image → t ≡ length table → wordsOf image ≡ latest m → Through B A acts m
       → Stepped Proper stateOf Fits p limit (rs ++ (R.End n ∷ [])) m s image table m′ s′ image′ table′ → A m′ × (wordsOf image′ ≡ latest m′) × (length image′ ≡ l)
-  format-walk A l t o [] [] n m m′ s s′ image image′ table table′ e x y f g h (s₁, (image₁, (table₁, (c, rest)))) =
+  format-walk B A l t o [] [] n m m′ s s′ image image′ table table′ e x y g h (s₁, (image₁, (table₁, (c, rest)))) =
       let q = I.image-follows (R.End n) m image image₁ (c .image) g in
       rw (rest .0, rest .1 .1 .0) (h, q .0, q .1 ∙ sym x)
-  format-walk A l t o (a ∷ acts) [] n m m′ s s′ image image′ table table′ e x y f g h (s₁, (image₁, (table₁, (c, rest)))) =
-      absurd (apart (R.End n) (asReport a) (format-step o (a ∷ acts) s s₁ image image₁ table table₁ (R.End n) l t e x y f c .0) refl (next-end a))
-  format-walk A l t o [] (r ∷ rs) n m m′ s s′ image image′ table table′ e x y f g h (s₁, (image₁, (table₁, (c, rest)))) =
-      absurd (closed-walk rs n (mediumAfter r m) m′ s₁ s′ image₁ image′ table₁ table′ (format-step o [] s s₁ image image₁ table table₁ r l t e x y f c .1) (c .exact f .fits) rest)
-  format-walk A l t o (a ∷ acts) (r ∷ rs) n m m′ s s′ image image′ table table′ e x y f g h (s₁, (image₁, (table₁, (c, rest)))) =
-      let d = format-step o (a ∷ acts) s s₁ image image₁ table table₁ r l t e x y f c in
+  format-walk B A l t o (a ∷ acts) [] n m m′ s s′ image image′ table table′ e x y g h (s₁, (image₁, (table₁, (c, rest)))) =
+      absurd (apart (R.End n) (asReport a) (format-step o (a ∷ acts) s s₁ image image₁ table table₁ (R.End n) l t e x y c .0) refl (next-end a))
+  format-walk B A l t o [] (r ∷ rs) n m m′ s s′ image image′ table table′ e x y g h (s₁, (image₁, (table₁, (c, rest)))) =
+      absurd (closed-walk rs n (mediumAfter r m) m′ s₁ s′ image₁ image′ table₁ table′ (format-step o [] s s₁ image image₁ table table₁ r l t e x y c .1) rest)
+  format-walk B A l t o (a ∷ acts) (r ∷ rs) n m m′ s s′ image image′ table table′ e x y g h (s₁, (image₁, (table₁, (c, rest)))) =
+      let d = format-step o (a ∷ acts) s s₁ image image₁ table table₁ r l t e x y c in
       let q = I.image-follows r m image image₁ (c .image) g in
-      format-walk A l t o acts rs n (mediumAfter r m) m′ s₁ s′ image₁ image′ table₁ table′ (d .1) (x ∙ sym (q .1)) (y ∙ sym (c .sized)) (c .exact f .fits) (q .0) (rw (d .0, next-medium) (h .1)) rest
+      format-walk B A l t o acts rs n (mediumAfter r m) m′ s₁ s′ image₁ image′ table₁ table′ (d .1) (x ∙ sym (q .1)) (y ∙ sym (c .sized)) (q .0) (rw (d .0, next-medium) (h .1)) rest
 
   -- a formatting that was begun
   format-begun : (station centre : Given) (σ τ : State) (a bytes table : ℕ) (ws : List ℕ) → R.Begun a ≡ answer p limit (Format station centre) σ ws bytes table
@@ -104,28 +109,32 @@ module _ (p limit : ℕ) (laws : Laws p limit) {S : Type 0} (Proper : S → Type
       go true false e f = (refl, f)
       go false busy e f = absurd (I.false-true (ap isRefused e))
 
+  -- the formatting's begin, which is exact whatever record and table hold
+  pub format-begins : (m : Medium) (s s₀ : S) (image table table₀ : List ℕ) (station centre : Given) (a : ℕ) → wordsOf image ≡ latest m
+      → Called Proper stateOf Fits p limit (Format station centre) s s₀ image image table table₀ (R.Begun a)
+      → (lengthAllowed p (length image) ≡ true) × (length m ≡ length image / 8)
+      × (stateOf s₀ ≡ Formatting (isOpen (stateOf s)) (length image) (length table) (formatOf (chunksIn p (length image)) station centre))
+  format-begins m s s₀ image table table₀ station centre a agrees c =
+      let f = format-begun station centre (stateOf s) (stateOf s₀) a (length image) (length table) (wordsOf image) (c .anyway .0) (c .anyway .1) in
+      (f .0, sym (W.length-latest m) ∙ ap length (sym agrees) ∙ length-wordsOf image, f .1)
+
   pub format-start : (m m′ : Medium) (s s₀ s′ : S) (image image′ table table₀ table′ : List ℕ) (station centre : Given) (a n : ℕ) (rs : List Report)
-      → wordsOf image ≡ latest m → Proper s → Called Proper stateOf Fits p limit (Format station centre) s s₀ image image table table₀ (R.Begun a)
+      → wordsOf image ≡ latest m → Called Proper stateOf Fits p limit (Format station centre) s s₀ image image table table₀ (R.Begun a)
       → Stepped Proper stateOf Fits p limit (rs ++ (R.End n ∷ [])) m s₀ image table₀ m′ s′ image′ table′
       → (length image ≡ 8 * base p (chunksIn p (length image))) × Inv p Proper stateOf Fits (length image) (world Proper stateOf Fits p limit m′ image′ none 0) (newBook nothing)
-  format-start m m′ s s₀ s′ image image′ table table₀ table′ station centre a n rs agrees proper c steps =
+  format-start m m′ s s₀ s′ image image′ table table₀ table′ station centre a n rs agrees c steps =
       (made .1, record { agrees = walked .1; sized = walked .2; held = inl (walked .0) })
     where
-      x : Exact Proper stateOf Fits p limit (Format station centre) s s₀ image image table table₀ (R.Begun a)
-      x = c .exact proper
-
-      started : (lengthAllowed p (length image) ≡ true) × (stateOf s₀ ≡ Formatting (isOpen (stateOf s)) (length image) (length table) (formatOf (chunksIn p (length image)) station centre))
-      started = format-begun station centre (stateOf s) (stateOf s₀) a (length image) (length table) (wordsOf image) (x .answered) (x .became)
-
-      long : length m ≡ length image / 8
-      long = sym (W.length-latest m) ∙ ap length (sym agrees) ∙ length-wordsOf image
+      started : (lengthAllowed p (length image) ≡ true) × (length m ≡ length image / 8)
+          × (stateOf s₀ ≡ Formatting (isOpen (stateOf s)) (length image) (length table) (formatOf (chunksIn p (length image)) station centre))
+      started = format-begins m s s₀ image table table₀ station centre a agrees c
 
       made : Through Anything (Standing p (chunksIn p (length image)) 0 nothing [] []) (formatOf (chunksIn p (length image)) station centre) m × (length image ≡ 8 * base p (chunksIn p (length image)))
-      made = laws .format-stands (length image) 0 m station centre (started .0) long
+      made = laws .format-stands (length image) 0 m station centre (started .0) (started .1)
 
       walked : Standing p (chunksIn p (length image)) 0 nothing [] [] m′ × (wordsOf image′ ≡ latest m′) × (length image′ ≡ length image)
-      walked = format-walk (Standing p (chunksIn p (length image)) 0 nothing [] []) (length image) (length table) (isOpen (stateOf s)) (formatOf (chunksIn p (length image)) station centre) rs n m m′ s₀ s′ image image′ table₀ table′
-          (started .1) refl (sym (c .sized)) (x .fits refl) agrees (made .0) steps
+      walked = format-walk Anything (Standing p (chunksIn p (length image)) 0 nothing [] []) (length image) (length table) (isOpen (stateOf s)) (formatOf (chunksIn p (length image)) station centre) rs n m m′ s₀ s′ image image′ table₀ table′
+          (started .2) refl (sym (c .sized)) agrees (made .0) steps
 
   -- SECOND START. The image was accepted, so the opening was that of a medium that stands.
   opened-accepts : (o : Opening) → R.Opened ≡ opened o → (es : List Entry) × (o ≡ Accepted es)

@@ -24,13 +24,16 @@ use Rattle.theory_histories.proofs.Starts as Start
 
 module _ (p limit : ℕ) (laws : Laws p limit) {S : Type 0} (Proper : S → Type 0) (stateOf : S → State) (Fits : S → List ℕ → List ℕ → Type 0) where
   module _ (bytes : ℕ) (whole : bytes ≡ 8 * base p (chunksIn p bytes)) where
+    pub usual-step : Usual p limit laws Proper stateOf Fits bytes Step
+    usual-step = record { ready = λ s ws t f. f; again = λ s ws t r f. f; least = λ t a. refl; kept = K.step-kept p limit laws bytes }
+
     module _ (Then : World S → Book → Type 0) (sound : (w : World S) (b : Book) → Inv p Proper stateOf Fits bytes w b → Then w b) where
       usual : (k : Call) → Usual p limit laws Proper stateOf Fits bytes k → (w : World S) (b : Book) → Inv p Proper stateOf Fits bytes w b → (s s′ : S) (image′ table table′ : List ℕ) (r : Report)
           → SameLent (w .lent) s table → Called Proper stateOf Fits p limit k s s′ (w .image) image′ table table′ r → Then (afterCall k w s′ image′ table′ r) (note k r b)
       usual k q w b i s s′ image′ table table′ r l c =
           sound (afterCall k w s′ image′ table′ r) (note k r b) (E.usual-kept p limit laws Proper stateOf Fits bytes k w b s s′ image′ table table′ r i l c q)
 
-      call : (k : Call) (w : World S) (b : Book) → Inv p Proper stateOf Fits bytes w b → (s s′ : S) (image′ table table′ : List ℕ) (r : Report) → Lends Proper k w s table
+      pub call : (k : Call) (w : World S) (b : Book) → Inv p Proper stateOf Fits bytes w b → (s s′ : S) (image′ table table′ : List ℕ) (r : Report) → Lends Proper k w s table
           → Called Proper stateOf Fits p limit k s s′ (w .image) image′ table table′ r → AreBytes image′ → Stands k r → Ends Proper stateOf Fits p limit k Then w b s′ image′ table′ r
       call (Format a z) w b i s s′ image′ table table′ r l c small e = sound (afterCall (Format a z) w s′ image′ table′ r) b (E.format-kept p limit laws Proper stateOf Fits bytes a z w b s s′ image′ table table′ r i l c e)
       call Open w b i s s′ image′ table table′ r l c small e = E.opening-claim p limit laws Proper stateOf Fits bytes whole Then sound w b s s′ image′ table table′ r i l c small
@@ -51,7 +54,7 @@ module _ (p limit : ℕ) (laws : Laws p limit) {S : Type 0} (Proper : S → Type
       call (Clean z) w b i s s′ image′ table table′ r l c small e =
           usual (Clean z) (record { ready = λ s ws t f. f; again = λ s ws t r f. f; least = λ t a. refl; kept = λ least u b m. K.clean-kept p limit laws bytes least u b m z }) w b i s s′ image′ table table′ r l c
       call Step w b i s s′ image′ table table′ r l c small e =
-          usual Step (record { ready = λ s ws t f. f; again = λ s ws t r f. f; least = λ t a. refl; kept = K.step-kept p limit laws bytes }) w b i s s′ image′ table table′ r l c
+          usual Step usual-step w b i s s′ image′ table table′ r l c
 
       claim : (e : Event) (w : World S) (b : Book) → Inv p Proper stateOf Fits bytes w b → Claim Proper stateOf Fits p limit e Then w b
       claim (Do k) w b i = call k w b i
@@ -63,7 +66,7 @@ module _ (p limit : ℕ) (laws : Laws p limit) {S : Type 0} (Proper : S → Type
 
   after-format : (events : List Event) → AfterFormat Proper stateOf Fits p limit events
   after-format events m m′ s s₀ s′ image image′ table table₀ table′ station centre a n rs agrees proper c steps small =
-      let i = Start.format-start p limit laws Proper stateOf Fits m m′ s s₀ s′ image image′ table table₀ table′ station centre a n rs agrees proper c steps in
+      let i = Start.format-start p limit laws Proper stateOf Fits m m′ s s₀ s′ image image′ table table₀ table′ station centre a n rs agrees c steps in
       faithful (length image) (i .0) events (world Proper stateOf Fits p limit m′ image′ none 0) (newBook nothing) (i .1)
 
   after-opening : (events : List Event) → AfterOpening Proper stateOf Fits p limit events
