@@ -1,6 +1,6 @@
--- Demand 2: an accepted image means one register, and what the calls do to it, on memory as our calls left it: an opening accepted
--- the image, and each later call was lent record, image and table as the last one left them.
--- What a call does is `Called`, the very predicate that each public function ensures. Power cuts are demand 3's (History).
+-- Demand 2: an accepted image means one register, and what the calls do to it, on memory as our calls left it: an
+-- opening accepted the image, and each later call was lent record, image and table as the last one left them. What a
+-- call does is `Called`, the very predicate that each public function ensures. Power cuts are demand 3's (History).
 -- Assumes nothing.
 use mathlib.Core.Path.{_≡_}
 use mathlib.Core.Bool.{Bool, false}
@@ -22,8 +22,8 @@ use Rattle.spec.specs.declared.Report.the-variants as R
 abbrev pub meant : ℕ → List ℕ → ℕ → Held
 meant p image = contents p (chunksIn p (length image)) (wordsOf image)
 
--- What a call does to the register from its begin to its end, with these items in the tray: a commit does them in order; a staging
--- and a cleaning keep the register the same; a formatting makes it empty.
+-- What a call does to the register from its begin to its end, with these items in the tray: a commit does them in
+-- order; a staging and a cleaning keep the register the same; a formatting makes it empty.
 abbrev pub does : Call → List Item → (ℕ → Held) → ℕ → Held
 does (Format a b) tray register = nothing
 does Open tray register = register
@@ -63,8 +63,9 @@ Untouching (Clean c) u = Unit {0}
 Untouching Step u = u ≡ false
 
 module _ {S : Type 0} (Proper : S → Type 0) (stateOf : S → State) (Fits : S → List ℕ → List ℕ → Type 0) (p limit : ℕ) where
-  -- WHAT IS CLAIMED of a record, an image and a table as our calls left them. The book has noted the calls and their answers; its tray
-  -- has the items staged since the last commit, abandoning or opening. u: whether a call begun has not ended.
+  -- WHAT IS CLAIMED of a record, an image and a table as our calls left them. The book has noted the calls and their
+  -- answers; its tray has the items staged since the last commit, abandoning or opening. u: whether a call begun has
+  -- not ended.
   pub record Right (b : Book) (u : Bool) (s : S) (image table : List ℕ) : Type 0 where
     -- with no call unfinished the image means what the book's register says, whatever refused calls stood between
     pub booked : u ≡ false → (key : ℕ) → meant p image key ≡ b .register key
@@ -75,12 +76,13 @@ module _ {S : Type 0} (Proper : S → Type 0) (stateOf : S → State) (Fits : S 
         → Called Proper stateOf Fits p limit k s s₀ image image table table₀ (R.Begun a)
         → Stepped Proper stateOf Fits p limit (rs ++ (R.End n ∷ [])) m s₀ image table₀ m′ s′ image′ table′
         → (key : ℕ) → meant p image′ key ≡ does k (b .staged) (meant p image) key
-    -- all else leaves the image as it was, byte for byte: refused calls, begins, openings, abandonings, choosings, look-ups, idle steps
+    -- all else leaves the image as it was, byte for byte: refused calls, begins, openings, abandonings, choosings,
+    -- look-ups, idle steps
     pub keeps : (k : Call) (s′ : S) (image′ table′ : List ℕ) (r : Report) → Untouching k u
         → Called Proper stateOf Fits p limit k s s′ image image′ table table′ r → image′ ≡ image
 
-  -- AFTER A LIST OF CALLS, whatever they answer, such a thing holds of what they left. Any calls but an accepted formatting; and an
-  -- opening, which starts anew.
+  -- AFTER A LIST OF CALLS, whatever they answer, such a thing holds of what they left. Any calls but an accepted
+  -- formatting; and an opening, which starts anew.
   abbrev pub Along : (Book → Bool → S → List ℕ → List ℕ → Type 0) → List Call → Book → Bool → S → List ℕ → List ℕ → Type 0
   Along P [] b u s image table = P b u s image table
   Along P (k ∷ ks) b u s image table =

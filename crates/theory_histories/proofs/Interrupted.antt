@@ -1,4 +1,5 @@
--- A power cut in a formatting: after any number of its steps the medium is one that the law of its action list speaks of.
+-- A power cut in a formatting: after any number of its steps the medium is one that the law of its action list speaks
+-- of.
 -- Assumes nothing.
 use mathlib.Core.Path.{_≡_, refl, sym, _∙_, ap}
 use mathlib.Core.Logic.{_⊎_, inl, inr}
@@ -16,15 +17,15 @@ use Rattle.spec.specs.Opening.{Opening, Refused, opening}
 use Rattle.spec.specs.Actions.{formatOf}
 use Rattle.spec.specs.Reports.{mediumAfter}
 use Rattle.spec.specs.Machine.{Format, Open, State, Closed, Formatting, opened, isOpen}
-use Rattle.spec.specs.Book.{newBook, nothing}
+use Rattle.spec.specs.Book.{newBook, nothing, noteOpen}
 use Rattle.spec.specs.Contract.{Called}
-use Rattle.spec.specs.History.{World, Stepped, world, afterCall}
-use Rattle.spec.specs.FormatCut.{Old, Empty, FormatCut}
+use Rattle.spec.specs.History.{World, Stepped, Shows, world, afterCall}
+use Rattle.spec.specs.FormatCut.{Old, Empty, FormatCut, FormatCutAmong}
 use Rattle.spec.specs.declared.Given.{Given}
 use Rattle.spec.specs.declared.Refusal.the-variants as N
 use Rattle.spec.specs.declared.Report.{Report}
 use Rattle.spec.specs.declared.Report.the-variants as R
-use Rattle.theory_base.proofs.Words.{can-cut}
+use Rattle.theory_base.proofs.Words.{can-cut, can-is-cut}
 use Rattle.theory_base.proofs.Places.{length-allowed}
 use Rattle.theory_base.proofs.Through.{Through}
 use Rattle.theory_crash.specs.Rest.{Holds, Rests, FormatCuts, empty}
@@ -123,3 +124,17 @@ module _ (p limit : ℕ) (lo : 12 ≤ p) (hi : p ≤ 16) (laws : Laws p limit) {
   format-cut m m′ s s₀ s₁ image image₁ table table₀ table₁ station centre a rs agrees c steps chooses image′ small words long t t′ table₂ table₃ r proper d =
       opens m m′ s s₀ s₁ image image₁ table table₀ table₁ station centre a rs agrees c steps image′ small long t t′ table₂ table₃ r proper d
       (cuts m m′ s s₀ s₁ image image₁ table table₀ table₁ station centre a rs agrees c steps (wordsOf image′) (rw words (can-cut chooses m′)))
+
+  -- what demand 3 says of a cut just before it says what the old image opens with
+  pub format-cut-among : FormatCutAmong Proper stateOf Fits p limit
+  format-cut-among w b faithful agrees m′ s s₀ s₁ image₁ table table₀ table₁ station centre a rs c steps chooses image′ small words long t t′ table₂ table₃ r proper larger d =
+      go (format-cut (w .medium) m′ s s₀ s₁ (w .image) image₁ table table₀ table₁ station centre a rs agrees c steps chooses image′ small words long t t′ table₂ table₃ r proper d)
+    where
+      go : Old Proper stateOf Fits p limit (w .medium) image′ table₂ r ⊎ ((r ≡ R.Refused N.NotOpen) ⊎ Empty Proper stateOf Fits p limit t′ image′ table₃ r)
+          → ((r ≡ R.Opened) × ((done : Bool) × Shows Proper stateOf Fits p limit t′ image′ table₃ (noteOpen done b .register)))
+          ⊎ ((r ≡ R.Refused N.NotOpen) ⊎ Empty Proper stateOf Fits p limit t′ image′ table₃ r)
+      go (inr q) = inr q
+      go (inl q) =
+          let before = can-is-cut (w .medium) (wordsOf image′) (q .0) in
+          let o = faithful (before .0) image′ small (sym (before .1)) long t t′ image′ table₂ table₃ r (refl, (proper, larger)) d small tt in
+          inl (o .0, (o .1 .0, o .1 .1 .0))

@@ -1,5 +1,5 @@
--- Demand 2, from the invariant of demand 3: with no call unfinished the book's register is what the image means, every call keeps the
--- invariant, and at a call's end the batch in hand is done.
+-- Demand 2, from the invariant of demand 3: with no call unfinished the book's register is what the image means, every
+-- call keeps the invariant, and at a call's end the batch in hand is done.
 -- Assumes nothing.
 use mathlib.Core.Path.{_≡_, refl, sym, _∙_, ap}
 use mathlib.Core.Bool.{Bool, true, false}
@@ -109,7 +109,8 @@ rest-quiet (Rest l t items) x y e = refl
 rest-quiet (Busy l t items task rest) x y e = absurd (false-true (sym e))
 rest-quiet (Formatting o l t rest) x y e = absurd (false-true (sym e))
 
--- WHAT WRITES NOTHING: every call but a step reports no store, whatever memory holds; nor does a step with no call unfinished.
+-- WHAT WRITES NOTHING: every call but a step reports no store, whatever memory holds; nor does a step with no call
+-- unfinished.
 module _ (p limit : ℕ) {S : Type 0} (Proper : S → Type 0) (stateOf : S → State) (Fits : S → List ℕ → List ℕ → Type 0) (s s′ : S) (image image′ table table′ : List ℕ) (r : Report) where
   silent : (q : Report) → r ≡ q → isStore q ≡ false → isStore r ≡ false
   silent q e f = rw e f
