@@ -235,9 +235,9 @@ module _ (s : Session) (key : ℕ) (bytes table : List ℕ) where
   outcome (L.Refused n) h = (inr (inr (inr (inl h))), (refl, refl))
   outcome (L.Part a n) h = (refl, refl)
 
-  anyway : (r : Located) → Anyway 12 limit (LookUp key) (stateOf s) (stateOf s) (wordsOf bytes) (length bytes) (length table) (reportOf r)
-  anyway (L.Refused n) = inl (n, refl)
-  anyway (L.Part a n) = inr (a, (n, refl))
+  anyway : (r : Located) → PartIn (length bytes) r → Anyway 12 limit (LookUp key) (stateOf s) (stateOf s) (wordsOf bytes) (length bytes) (length table) (reportOf r)
+  anyway (L.Refused n) h = inl (n, refl)
+  anyway (L.Part a n) h = inr (a, (n, (refl, h)))
 
   unchanged : (r : Located) → Changed (reportOf r) bytes bytes
   unchanged (L.Refused n) = refl
@@ -250,7 +250,7 @@ module _ (s : Session) (key : ℕ) (bytes table : List ℕ) where
     image = unchanged r;
     sized = refl;
     outcome = outcome r (l .inside);
-    anyway = anyway r;
+    anyway = anyway r (l .inside);
   }
     where
       exact : Fits s (wordsOf bytes) table → reportOf r ≡ answer 12 limit (LookUp key) (stateOf s) (wordsOf bytes) (length bytes) (length table)

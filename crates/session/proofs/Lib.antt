@@ -2,3 +2,4 @@ pub mod Gates
 pub mod Part
 pub mod Kept
 pub mod Phases
+pub mod Zeroed

@@ -11,7 +11,7 @@ use Rattle.spec.specs.Words.{wordsOf, AreBytes}
 use Rattle.spec.specs.Places.{chunksIn}
 use Rattle.spec.specs.Medium.{Medium}
 use Rattle.spec.specs.Contents.{Held, contents}
-use Rattle.spec.specs.Machine.{Call, Format, Open, Put, Delete, Commit, Abandon, LookUp, Choose, Clean, Step, State, isOpening}
+use Rattle.spec.specs.Machine.{Call, Format, Open, Put, Delete, Commit, Abandon, LookUp, Choose, Clean, Step, State, isOpening, kindOf}
 use Rattle.spec.specs.Book.{Item, Book, newBook, nothing, doneItems, note}
 use Rattle.spec.specs.Contract.{Called}
 use Rattle.spec.specs.History.{Stands, Stepped, Shows, unfinishedAfter}
@@ -86,7 +86,7 @@ module _ {S : Type 0} (Proper : S → Type 0) (stateOf : S → State) (Fits : S 
   abbrev pub Along : (Book → Bool → S → List ℕ → List ℕ → Type 0) → List Call → Book → Bool → S → List ℕ → List ℕ → Type 0
   Along P [] b u s image table = P b u s image table
   Along P (k ∷ ks) b u s image table =
-      (s′ : S) (image′ table′ : List ℕ) (r : Report) → Called Proper stateOf Fits p limit k s s′ image image′ table table′ r → AreBytes image′ → Stands k r → isOpening k ≡ false
+      (s′ : S) (image′ table′ : List ℕ) (r : Report) → Called Proper stateOf Fits p limit k s s′ image image′ table table′ r → AreBytes image′ → Stands k r → isOpening (kindOf k) ≡ false
       → Along P ks (note k r b) (unfinishedAfter r u) s′ image′ table′
 
   -- after every list of calls behind an opening, lent any record and table, that accepted an image

@@ -52,7 +52,7 @@ module _ (p limit : ℕ) (laws : Laws p limit) {S : Type 0} (Proper : S → Type
       → Stepped Proper stateOf Fits p limit rs m s image table m′ s′ image′ table′ → m′ ≡ m
   idle-walk [] m m′ s s′ image image′ table table′ e q = q .0
   idle-walk (r ∷ rs) m m′ s s′ image image′ table table′ e (s₁, (image₁, (table₁, (c, rest)))) =
-      let d = S.idle-step p limit laws Proper stateOf Fits s s₁ image image₁ table table₁ r e c in
+      let d = Start.idle-step p limit laws Proper stateOf Fits s s₁ image image₁ table table₁ r e c in
       idle-walk rs (mediumAfter r m) m′ s₁ s′ image₁ image′ table₁ table′ (d .1) rest ∙ ap (λ (x : Report). mediumAfter x m) (d .0)
 
   -- ANY NUMBER OF STEPS of a formatting keep what its action list keeps.
@@ -61,12 +61,12 @@ module _ (p limit : ℕ) (laws : Laws p limit) {S : Type 0} (Proper : S → Type
       → Stepped Proper stateOf Fits p limit rs m s image table m′ s′ image′ table′ → B m′
   part-walk B A weaker l t o acts [] m m′ s s′ image image′ table table′ e x y h q = rw (q .0) (through-first B A weaker acts m h)
   part-walk B A weaker l t o [] (r ∷ rs) m m′ s s′ image image′ table table′ e x y h (s₁, (image₁, (table₁, (c, rest)))) =
-      let d = S.format-step p limit laws Proper stateOf Fits o [] s s₁ image image₁ table table₁ r l t e x y c in
+      let d = Start.format-step p limit laws Proper stateOf Fits o [] s s₁ image image₁ table table₁ r l t e x y c in
       let still : m′ ≡ m = idle-walk rs (mediumAfter r m) m′ s₁ s′ image₁ image′ table₁ table′ (d .1) rest ∙ ap (λ (x : Report). mediumAfter x m) (d .0) in
       rw still (weaker m h)
   part-walk B A weaker l t o (a ∷ acts) (r ∷ rs) m m′ s s′ image image′ table table′ e x y h (s₁, (image₁, (table₁, (c, rest)))) =
-      let d = S.format-step p limit laws Proper stateOf Fits o (a ∷ acts) s s₁ image image₁ table table₁ r l t e x y c in
-      part-walk B A weaker l t o acts rs (mediumAfter r m) m′ s₁ s′ image₁ image′ table₁ table′ (d .1) (x ∙ sym (I.same-length r image image₁ (c .image))) (y ∙ sym (c .sized)) (rw (d .0, S.next-medium p limit laws Proper stateOf Fits a m) (h .1)) rest
+      let d = Start.format-step p limit laws Proper stateOf Fits o (a ∷ acts) s s₁ image image₁ table table₁ r l t e x y c in
+      part-walk B A weaker l t o acts rs (mediumAfter r m) m′ s₁ s′ image₁ image′ table₁ table′ (d .1) (x ∙ sym (I.same-length r image image₁ (c .image))) (y ∙ sym (c .sized)) (rw (d .0, Start.next-medium p limit laws Proper stateOf Fits a m) (h .1)) rest
 
   -- AN EMPTY REGISTER opens with any table, and look-up then says 11 for every key.
   empty-opens : (image : List ℕ) → AreBytes image → length image ≡ 8 * base p (chunksIn p (length image)) → Standing p (chunksIn p (length image)) 0 nothing [] [] (settledAt (wordsOf image))
@@ -93,7 +93,7 @@ module _ (p limit : ℕ) (lo : 12 ≤ p) (hi : p ≤ 16) (laws : Laws p limit) {
     n = chunksIn p (length image)
 
     started : (lengthAllowed p (length image) ≡ true) × (length m ≡ length image / 8) × (stateOf s₀ ≡ Formatting (isOpen (stateOf s)) (length image) (length table) (formatOf n station centre))
-    started = S.format-begins p limit laws Proper stateOf Fits m s s₀ image table table₀ station centre a agrees c
+    started = Start.format-begins p limit laws Proper stateOf Fits m s s₀ image table table₀ station centre a agrees c
 
     whole : length image ≡ 8 * base p n
     whole = length-allowed p lo hi (length image) (started .0) .2

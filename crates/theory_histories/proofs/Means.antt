@@ -17,7 +17,7 @@ use Rattle.spec.specs.Medium.{Medium, Action, Store, Flush, Fence, latest, sett
 use Rattle.spec.specs.Log.{Entry}
 use Rattle.spec.specs.Contents.{Held, contents, contentsBy, meaning, entriesIn, listed}
 use Rattle.spec.specs.Reports.{mediumAfter, isRefused}
-use Rattle.spec.specs.Machine.{Call, Format, Open, Put, Delete, Commit, Abandon, LookUp, Choose, Clean, Step, State, Closed, Rest, Busy, Formatting, gate, refusedBy, isUnfinished, isOpening, stepAnswer, answer}
+use Rattle.spec.specs.Machine.{Call, Format, Open, Put, Delete, Commit, Abandon, LookUp, Choose, Clean, Step, State, Closed, Rest, Busy, Formatting, gate, refusedBy, isUnfinished, isOpening, kindOf, stepAnswer, answer}
 use Rattle.spec.specs.Book.{Item, Book, newBook, nothing, doneItem, doneItems, doneBatch, note, isEnd}
 use Rattle.spec.specs.Contract.{Changed, Refuses, Called}
 use Rattle.spec.specs.History.{Lent, World, SameLent, Stands, Stepped, unfinishedAfter, afterCall, world}
@@ -202,7 +202,7 @@ module _ (p limit : ℕ) (laws : Laws p limit) {S : Type 0} (Proper : S → Type
 
     -- EVERY CALL but an opening and an accepted formatting keeps the invariant.
     kept : (k : Call) (w : World S) (b : Book) (s s′ : S) (image′ table table′ : List ℕ) (r : Report) → Inv p Proper stateOf Fits bytes w b → SameLent (w .lent) s table
-        → Called Proper stateOf Fits p limit k s s′ (w .image) image′ table table′ r → AreBytes image′ → Stands k r → isOpening k ≡ false → Kept k w b s′ image′ table′ r
+        → Called Proper stateOf Fits p limit k s s′ (w .image) image′ table table′ r → AreBytes image′ → Stands k r → isOpening (kindOf k) ≡ false → Kept k w b s′ image′ table′ r
     kept (Format x y) w b s s′ image′ table table′ r i l c small st o = T.call p limit laws Proper stateOf Fits bytes whole (Inv p Proper stateOf Fits bytes) (λ w b i. i) (Format x y) w b i s s′ image′ table table′ r l c small st
     kept Open w b s s′ image′ table table′ r i l c small st o = absurd (false-true (sym o))
     kept (Put k v) w b s s′ image′ table table′ r i l c small st o = T.call p limit laws Proper stateOf Fits bytes whole (Inv p Proper stateOf Fits bytes) (λ w b i. i) (Put k v) w b i s s′ image′ table table′ r l c small st
@@ -231,7 +231,7 @@ module _ (p limit : ℕ) (laws : Laws p limit) {S : Type 0} (Proper : S → Type
     module _ (w : World S) (b : Book) (s s₀ s′ : S) (image′ table table₀ table′ : List ℕ) (a n : ℕ) (rs : List Report) (m m′ : Medium) (i : Inv p Proper stateOf Fits bytes w b)
         (same : SameLent (w .lent) s table) (small : AreBytes (w .image)) (steps : Stepped Proper stateOf Fits p limit (rs ++ (R.End n ∷ [])) m s₀ (w .image) table₀ m′ s′ image′ table′) where
       -- a begun call to its end, by what the book makes of its begin
-      ends-by : (k : Call) → Called Proper stateOf Fits p limit k s s₀ (w .image) (w .image) table table₀ (R.Begun a) → Stands k (R.Begun a) → isOpening k ≡ false
+      ends-by : (k : Call) → Called Proper stateOf Fits p limit k s s₀ (w .image) (w .image) table table₀ (R.Begun a) → Stands k (R.Begun a) → isOpening (kindOf k) ≡ false
           → (key : ℕ) → meant p image′ key ≡ doneBatch (note k (R.Begun a) b .in-flight) (note k (R.Begun a) b .register) key
       ends-by k c st o =
           to-end rs n (afterCall k w s₀ (w .image) table₀ (R.Begun a)) (note k (R.Begun a) b) s₀ s′ image′ table₀ table′ m m′
