@@ -128,7 +128,7 @@ module _ (p limit : ℕ) {S : Type 0} (Proper : S → Type 0) (stateOf : S → S
   writes-none (Delete k) u idle t c = ⊎-elim refused (λ q. silent (R.Begun (length (q .0))) (q .1 .1) refl) (c .anyway)
   writes-none Commit u idle t c = ⊎-elim refused (λ q. silent (R.Begun (length (q .0))) (q .1 .1) refl) (c .anyway)
   writes-none Abandon u idle t c = ⊎-elim refused (λ q. silent R.Abandoned (q .0) refl) (c .anyway)
-  writes-none (LookUp k) u idle t c = ⊎-elim refused (λ q. silent (R.Part (q .0) (q .1 .0)) (q .1 .1) refl) (c .anyway)
+  writes-none (LookUp k) u idle t c = ⊎-elim refused (λ q. silent (R.Part (q .0) (q .1 .0)) (q .1 .1 .0) refl) (c .anyway)
   writes-none Choose u idle t c = ⊎-elim refused (λ q. silent (R.Chosen (q .0)) (q .1 .0) refl) (c .anyway)
   writes-none (Clean k) u idle t c = ⊎-elim refused (λ q. silent (R.Begun (length (q .0))) (q .1 .1) refl) (c .anyway)
   writes-none Step u idle t c = silent (stepAnswer (stateOf s) (length image) (length table)) (c .anyway .0) (rest-quiet (stateOf s) (length image) (length table) (idle t))
