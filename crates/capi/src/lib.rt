@@ -8,7 +8,7 @@ ghost use Rattle.spec.specs.Places.{chunksIn};
 ghost use Rattle.spec.specs.Directory.{freeChunks};
 ghost use Rattle.spec.specs.Machine.{Format, Open, Put, Delete, Commit, Abandon, Clean, Step};
 ghost use Rattle.formatting.specs.Begun.{given};
-ghost use Rattle.stepping.specs.Inner.{RunsOn};
+ghost use Rattle.fast_path.specs.Run.{RunsOn};
 ghost use Rattle.store.specs.Look.{Reported};
 ghost use Rattle.store.specs.Choice.{Chosen};
 ghost use Rattle.store.specs.List.{KeysListed, KeyListed};
@@ -197,7 +197,7 @@ fn step_whole(s: &mut Session, image: &mut [u8], table: &mut [u64]) -> Answer
     told(report)
 }
 
-// The same numbers, taken out of the place where a call left them: those of the short way then need no place in memory.
+// The same numbers, taken out of the place where a call left them: those of the fast path then need no place in memory.
 fn same(a: Answer) -> Answer
     ensures { λ r. ⌜ r ≡ a ⌝ }
 {
@@ -208,16 +208,16 @@ fn same(a: Answer) -> Answer
     }
 }
 
-// One step of the call that is begun: on the short way where it may be gone (`store::step_inner`), else `store::step`.
+// One step of the call that is begun: on the fast path inside a commit (`store::step_fast`), else `store::step`.
 #[no_mangle]
 pub extern "C" fn zkv_step(s: &mut Session, image: &mut [u8], table: &mut [u64]) -> Answer
     ensures { λ r. ⌜ Told (Does Step (now (s .entry)) (now (s .exit)) (now (image .entry)) (now (image .exit)) (now (table .entry)) (now (table .exit))) r ⌝ }
 {
     let c = s.control;
     let k = s.setup;
-    let short = stepping::is_inner(c, k, image.len(), table.len());
-    if short {
-        let report = store::step_inner(s, image, table);
+    let fast = fast_path::is_fast_step(c, k, image.len(), table.len());
+    if fast {
+        let report = store::step_fast(s, image, table);
         return told(report);
     } else {
         let answer = step_whole(s, image, table);
@@ -225,25 +225,41 @@ pub extern "C" fn zkv_step(s: &mut Session, image: &mut [u8], table: &mut [u64])
     }
 }
 
-// A run in numbers, where a commit's short way is not gone (`store::run_rest`).
-fn run_whole(s: &mut Session, image: &mut [u8], table: &mut [u64]) -> Answer
+// A run in numbers, whatever is begun (`store::run_rest`).
+fn run_any(s: &mut Session, image: &mut [u8], table: &mut [u64]) -> Answer
     ensures { λ r. ⌜ Told (RunsOn (now (s .entry)) (now (s .exit)) (now (image .entry)) (now (image .exit)) (now (table .entry)) (now (table .exit))) r ⌝ }
 {
     let report = store::run_rest(s, image, table);
     told(report)
 }
 
-// Several steps in one: those that store a word, as many as come next, and the step behind them; in a commit on the
-// short way (`store::run_inner`), else `store::run_rest`.
+// A run in numbers, where no commit is on the fast path: in a staging `store::run_staging`, else `store::run_rest`.
+fn run_whole(s: &mut Session, image: &mut [u8], table: &mut [u64]) -> Answer
+    ensures { λ r. ⌜ Told (RunsOn (now (s .entry)) (now (s .exit)) (now (image .entry)) (now (image .exit)) (now (table .entry)) (now (table .exit))) r ⌝ }
+{
+    let c = s.control;
+    let k = s.setup;
+    let staging = fast_path::is_staging(c, k, image.len(), table.len());
+    if staging {
+        let report = store::run_staging(s, image, table);
+        return told(report);
+    } else {
+        let answer = run_any(s, image, table);
+        return same(answer);
+    }
+}
+
+// Several steps in one: those that store a word, as many as come next, and the step behind them; inside a commit and in
+// a staging on the fast path (`store::run_fast`, `store::run_staging`), else `store::run_rest`.
 #[no_mangle]
 pub extern "C" fn zkv_run(s: &mut Session, image: &mut [u8], table: &mut [u64]) -> Answer
     ensures { λ r. ⌜ Told (RunsOn (now (s .entry)) (now (s .exit)) (now (image .entry)) (now (image .exit)) (now (table .entry)) (now (table .exit))) r ⌝ }
 {
     let c = s.control;
     let k = s.setup;
-    let short = stepping::is_inner(c, k, image.len(), table.len());
-    if short {
-        let report = store::run_inner(s, image, table);
+    let fast = fast_path::is_fast_step(c, k, image.len(), table.len());
+    if fast {
+        let report = store::run_fast(s, image, table);
         return told(report);
     } else {
         let answer = run_whole(s, image, table);

@@ -25,25 +25,11 @@ use Rattle.cleaning.specs.Record.{cleanCount}
 use Rattle.cleaning.proofs.Acting.{clean-flush}
 use Rattle.cleaning.proofs.Keeping.{acted}
 use Rattle.cleaning_step.proofs.Shows.{shows-acts}
-use Rattle.stepping.specs.Inner.{Inner, toNext, Runs, RunsOn, isStore}
+use Rattle.fast_path.specs.Run.{toNext, Runs, RunsOn, isStore}
 use Rattle.stepping.proofs.Cleaning.{cleans}
-use Rattle.stepping.proofs.Inner.{stored-first}
+use Rattle.fast_path.proofs.Run.{stored-first, store-is}
 use Rattle.running.specs.Run.{Copying, CleaningRun}
 use Rattle.session.specs.Promise.{Does}
-
--- a report that tells of a store
-store-is : (r : Report) → isStore r ≡ true → (w : ℕ) × ((v : ℕ) × (r ≡ R.Store w v))
-store-is (R.Refused n) h = absurd (not-both false h refl)
-store-is (R.Begun a) h = absurd (not-both false h refl)
-store-is (R.Store w v) h = (w, (v, refl))
-store-is (R.Flush l) h = absurd (not-both false h refl)
-store-is R.Fence h = absurd (not-both false h refl)
-store-is (R.End n) h = absurd (not-both false h refl)
-store-is R.Idle h = absurd (not-both false h refl)
-store-is R.Opened h = absurd (not-both false h refl)
-store-is R.Abandoned h = absurd (not-both false h refl)
-store-is (R.Chosen c) h = absurd (not-both false h refl)
-store-is (R.Part a n) h = absurd (not-both false h refl)
 
 -- the record after an action
 counted : (c : Control) → c .phase ≡ 6 → acted c (c .keys) ≡ toNext (c .next + 1) c

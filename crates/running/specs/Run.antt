@@ -13,7 +13,7 @@ use Rattle.spec.specs.declared.Report.{Report}
 use Rattle.session.specs.State.{stateOf, limit}
 use Rattle.session.specs.Fits.{Fits}
 use Rattle.cleaning.specs.Record.{cleanCount}
-use Rattle.stepping.specs.Inner.{Inner, toNext, RunsOn}
+use Rattle.fast_path.specs.Run.{toNext, RunsOn}
 
 -- The next action is one of a cleaning's but not its last, and the lent lengths are those at its begin.
 abbrev pub Copying : Control → Setup → (bytes words : ℕ) → Type 0

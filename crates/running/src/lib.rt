@@ -1,12 +1,12 @@
 // Several steps in one call: those that store a word, as many as come next, and the one behind them. A cleaning has a short loop of its own.
 ghost use mathlib.Core.Path.{_≡_};
 ghost use mathlib.Core.Bool.{true, false};
-ghost use Rattle.stepping.specs.Inner.{isStore, RunsOn};
+ghost use Rattle.fast_path.specs.Run.{isStore, RunsOn};
 ghost use Rattle.running.specs.Run.{Copying, CleaningRun};
+use fast_path::Advanced;
 use session::Control;
 use spec::Report;
 use session::Setup;
-use stepping::Advanced;
 use session::Stepped;
 
 fn is_store(report: Report) -> bool

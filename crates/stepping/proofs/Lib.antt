@@ -1,4 +1,3 @@
-mod Keeping
-mod Shows
+pub mod Keeping
+pub mod Shows
 pub mod Cleaning
-pub mod Inner

@@ -1,12 +1,10 @@
 // The step: the next action of the call that is begun, or its end.
 ghost use mathlib.Core.Path.{_≡_};
-ghost use mathlib.Core.Bool.{true, false};
 ghost use Prim.Native.Nat.{_≤_};
 ghost use lib.Dec.{leb};
 ghost use lib.ListN.{length};
 ghost use Rattle.spec.specs.Machine.{Step};
 ghost use Rattle.session.specs.State.{blockActions};
-ghost use Rattle.stepping.specs.Inner.{Inner, RunsOn, ShortWay, Stores};
 ghost use Rattle.session.specs.Promise.{Does};
 use session::Control;
 use session::Setup;
@@ -75,7 +73,7 @@ fn commit_step(
 }
 
 // Whether a staging has no action from number `at` on.
-fn is_stored(setup: Setup, buffer: &[u64; 1152], at: usize) -> bool
+pub fn is_stored(setup: Setup, buffer: &[u64; 1152], at: usize) -> bool
     ensures { λ r. ⌜ r ≡ leb (length (blockActions setup (now (buffer .entry)))) at ⌝ }
 {
     if 1024 <= at {
@@ -236,107 +234,4 @@ pub fn step_core(
         return clean_step(control, setup, buffer, image, table);
     }
     format_step(control, setup, buffer, image, table)
-}
-
-// THE SHORT WAY
-// The number of the next action after an action on the short way, which alters nothing else of the record, and its report.
-pub struct Advanced {
-    pub next: usize,
-    pub report: Report,
-}
-
-// Whether the next action is one of a commit's but not its last. Then a step needs neither key table nor bits.
-pub fn is_inner(control: Control, setup: Setup, bytes: usize, words: usize) -> bool
-    ensures { λ r. ⌜ (r ≡ true → Inner control setup bytes words) × (r ≡ false → Inner control setup bytes words → ⊥) ⌝ }
-{
-    if control.phase == 3 {
-        if setup.image == bytes {
-            if setup.table == words {
-                if control.next < actions::commit_count(control.words) - 1 {
-                    return true;
-                }
-            }
-        }
-    }
-    false
-}
-
-// A step on the short way; elsewhere nothing is done.
-pub fn inner_step(
-    control: Control,
-    setup: Setup,
-    buffer: &[u64; 1152],
-    image: &mut [u8],
-    table: &mut [u64],
-) -> Advanced
-    ensures { λ r. ⌜ ShortWay (Does Step) control setup (now (buffer .entry)) (now (image .entry)) (now (image .exit)) (now (table .entry)) (now (table .exit)) (r .next) (r .report) ⌝ }
-{
-    let at = control.next;
-    if is_inner(control, setup, image.len(), table.len()) {
-        let action = actions::commit_action(control, setup, buffer, at);
-        actions::perform(image, action);
-        let next = at + 1;
-        return Advanced {
-            next,
-            report: action,
-        };
-    }
-    Advanced {
-        next: at,
-        report: Report::Idle,
-    }
-}
-
-// The batch's stores from the next one on: the number of the action behind them.
-fn store_batch(control: Control, setup: Setup, buffer: &[u64; 1152], image: &mut [u8]) -> usize
-    ensures { λ r. ⌜ Stores control setup (now (buffer .entry)) (now (image .entry)) (now (image .exit)) r ⌝ }
-{
-    let stores = actions::commit_stores(control.words);
-    let start = actions::batch_start(setup);
-    let mut at = control.next;
-    while at < stores {
-        let value = actions::batch_word(buffer, control.words, at);
-        words::save(image, start + at, value);
-        at += 1;
-    }
-    at
-}
-
-// The stores that come next, in one go, and then the action behind them, whose report is told: a flush or a fence. Elsewhere nothing is done.
-pub fn inner_run(
-    control: Control,
-    setup: Setup,
-    buffer: &[u64; 1152],
-    image: &mut [u8],
-    table: &mut [u64],
-) -> Advanced
-    ensures { λ r. ⌜ ShortWay RunsOn control setup (now (buffer .entry)) (now (image .entry)) (now (image .exit)) (now (table .entry)) (now (table .exit)) (r .next) (r .report) ⌝ }
-{
-    if is_inner(control, setup, image.len(), table.len()) {
-        let actions = actions::commit_count(control.words);
-        let at = store_batch(control, setup, buffer, image);
-        if at == actions - 3 {
-            let seal = actions::commit_action(control, setup, buffer, at);
-            actions::perform(image, seal);
-            let behind = at + 1;
-            let flush = actions::commit_action(control, setup, buffer, behind);
-            actions::perform(image, flush);
-            let next = behind + 1;
-            return Advanced {
-                next,
-                report: flush,
-            };
-        }
-        let action = actions::commit_action(control, setup, buffer, at);
-        actions::perform(image, action);
-        let next = at + 1;
-        return Advanced {
-            next,
-            report: action,
-        };
-    }
-    Advanced {
-        next: control.next,
-        report: Report::Idle,
-    }
 }

@@ -12,7 +12,7 @@ use Rattle.spec.specs.declared.Report.{Report}
 use Rattle.spec.specs.declared.Report.the-variants as R
 use Rattle.session.specs.State.{stateOf, limit}
 use Rattle.session.specs.Fits.{Fits}
-use Rattle.stepping.specs.Inner.{Ran, Runs}
+use Rattle.fast_path.specs.Run.{Ran, Runs}
 use Rattle.session.specs.Fits.{Proper}
 
 -- reports that each tell of a store

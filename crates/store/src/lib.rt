@@ -6,7 +6,8 @@ ghost use mathlib.Core.Path.{_≡_};
 ghost use Rattle.spec.specs.Machine.{Open, Put, Delete, Commit, Abandon, Clean, Step, Format};
 ghost use Rattle.spec.specs.Contract.{Called};
 ghost use Rattle.formatting.specs.Begun.{given};
-ghost use Rattle.stepping.specs.Inner.{RunsOn, OnShortWay};
+ghost use Rattle.fast_path.specs.Run.{RunsOn};
+ghost use Rattle.fast_path.specs.Fast.{FastStep, InStaging, OnFastPath};
 ghost use Rattle.store.specs.Look.{Reported, Shown};
 ghost use Rattle.store.specs.Choice.{Chosen};
 ghost use Rattle.store.specs.List.{KeysListed, KeyListed};
@@ -137,26 +138,37 @@ pub fn step(s: &mut Session, image: &mut [u8], table: &mut [u64]) -> Report
     m.report
 }
 
-// THE SHORT WAY: the same step where `stepping::is_inner` says that it may be gone; elsewhere nothing is done, and the
-// report is idle. Of the record it alters the number of the next action alone.
-pub fn step_inner(s: &mut Session, image: &mut [u8], table: &mut [u64]) -> Report
-    ensures { λ r. ⌜ OnShortWay (Does Step) (now (s .entry)) (now (s .exit)) (now (image .entry)) (now (image .exit)) (now (table .entry)) (now (table .exit)) r ⌝ }
+// THE FAST PATH: the same step where `fast_path::is_fast_step` says so; elsewhere nothing is done, and the report is
+// idle. Of the record it alters the number of the next action alone.
+pub fn step_fast(s: &mut Session, image: &mut [u8], table: &mut [u64]) -> Report
+    ensures { λ r. ⌜ OnFastPath FastStep (Does Step) (now (s .entry)) (now (s .exit)) (now (image .entry)) (now (image .exit)) (now (table .entry)) (now (table .exit)) r ⌝ }
 {
     let c = s.control;
     let k = s.setup;
-    let m = stepping::inner_step(c, k, &s.buffer, image, table);
+    let m = fast_path::fast_step(c, k, &s.buffer, image, table);
     s.control.next = m.next;
     m.report
 }
 
-// The stores that come next, and the action behind them, whose report is told; elsewhere nothing, as before.
-pub fn run_inner(s: &mut Session, image: &mut [u8], table: &mut [u64]) -> Report
-    ensures { λ r. ⌜ OnShortWay RunsOn (now (s .entry)) (now (s .exit)) (now (image .entry)) (now (image .exit)) (now (table .entry)) (now (table .exit)) r ⌝ }
+// The stores of a commit that come next, and the action behind them, whose report is told; elsewhere nothing, as before.
+pub fn run_fast(s: &mut Session, image: &mut [u8], table: &mut [u64]) -> Report
+    ensures { λ r. ⌜ OnFastPath FastStep RunsOn (now (s .entry)) (now (s .exit)) (now (image .entry)) (now (image .exit)) (now (table .entry)) (now (table .exit)) r ⌝ }
 {
     let c = s.control;
     let k = s.setup;
-    let m = stepping::inner_run(c, k, &s.buffer, image, table);
+    let m = fast_path::fast_run(c, k, &s.buffer, image, table);
     s.control.next = m.next;
+    m.report
+}
+
+// The same in a staging: its end is told too.
+pub fn run_staging(s: &mut Session, image: &mut [u8], table: &mut [u64]) -> Report
+    ensures { λ r. ⌜ OnFastPath InStaging RunsOn (now (s .entry)) (now (s .exit)) (now (image .entry)) (now (image .exit)) (now (table .entry)) (now (table .exit)) r ⌝ }
+{
+    let c = s.control;
+    let k = s.setup;
+    let m = fast_path::staging_run(c, k, &s.buffer, image, table);
+    s.control = m.control;
     m.report
 }
 

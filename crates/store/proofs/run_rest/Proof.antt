@@ -1,10 +1,12 @@
--- `store::run_rest` meets its contract: a walk of its MIR, made by walk_thin.py. The borrow of the record is opened and
--- its control copied out; `buffer` is lent where it lies, for a lifetime made for the call; the other references are
--- given to `run_core` for good; what it returns is taken apart, the control stored back, and the borrow closed. All
--- that the proof knows of `run_core` is that it meets its contract.
+-- `store::run_rest` meets its contract: a walk of its MIR, made by walk_thin.py. The borrow of the record is opened and its control copied out; `buffer` is lent where it lies, for a lifetime made for the call; the other references are given to `run_core` for good; what it returns is taken apart, the control stored back, and the borrow closed.
+-- All that the proof knows of `run_core` is that it meets its contract.
 -- Assumes nothing.
 use mathlib.Core.Path.{_≡_}
-use Rattle.stepping.specs.Inner.{RunsOn}
+use Rattle.spec.specs.Machine.{Open, Put, Delete, Commit, Abandon, Clean, Step, Format}
+use Rattle.spec.specs.Contract.{Called}
+use Rattle.session.specs.State.{stateOf, limit}
+use Rattle.session.specs.Fits.{Fits}
+use Rattle.fast_path.specs.Run.{RunsOn, isStore}
 use mathlib.Core.Bool.{true, false}
 use mathlib.Core.Path.{refl, ap}
 use mathlib.Core.Bool.{Bool}
@@ -180,6 +182,7 @@ module _ {M : Type 1} (𝓤 : URA M) (H : Heap 𝓤) (A : Atoms 𝓤) (W : Given
         use1 W (given ((Is Lent.Row-buffer (zs .1 .1 .0) (Lent.val-buffer (zs .1 .1 .0) ∷ []))) (‵ (fat fullShare T′.mir b o (Lent.parts (h .control) (h .setup) (zs .1 .1 .0))))) (Lent.back 𝓤 H A W b o (h .control) (h .setup) (zs .1 .1 .0)) $ learn ! (λ j.
         -- the control is stored back, and the report is the result
         assigns ! (of-opd ! (load ! (from ! (fld ! refl (stop !))) (look-in ! 24 (sub ! 0 refl (whole !))))) (from ! (hop ! (look ! 34 refl) (fld ! refl (stop !)))) (store-in ! 0 (sub ! 0 refl (whole !)) (LL.lawful Ctl.the-type Ctl′.the-laws 𝓤 H A W .typed (r .control) _ (is-new r w is) .0)) $
+
         assigns ! (of-opd ! (load ! (from ! (fld ! refl (stop !))) (look-in ! 24 (sub ! 1 refl (whole !))))) (from ! (stop !)) (init ! 36 refl (EL.lawful P.the-type P′.the-laws 𝓤 H A W tt .typed (r .report) _ (is-result r w is) .0)) $
         -- the borrow is closed
         use1 W (‵ (fat fullShare (rawTy T′.mir) b o (mach (record { control = r .control; setup = h .setup; buffer = (zs .1 .1 .0) })))) (Lent.hidden 𝓤 H A W b o (r .control) (h .setup) (zs .1 .1 .0)) $ owned ! T.the-row (Is T.the-row) (LL.makes T.the-type T′.the-plain 𝓤 H A) (record { control = r .control; setup = h .setup; buffer = (zs .1 .1 .0) }) _ (Lent.made (r .control) (h .setup) (zs .1 .1 .0) (is-new r w is) (Lent.is-setup h g) j) $ move ! (1 ∷ 0 ∷ 10 ∷ 11 ∷ 12 ∷ []) $

@@ -1,4 +1,4 @@
--- `stepping::store_batch` meets its contract. The loop's invariant: the stores up to the next one are made, wherever a setup says that the batch begins there.
+-- `fast_path::store_batch` meets its contract. The loop's invariant: the stores up to the next one are made, wherever a setup says that the batch begins there.
 -- Assumes nothing.
 use mathlib.Core.Path.{_≡_}
 use Prim.Native.Nat.{_+_, _-_, _*_}
@@ -6,10 +6,10 @@ use native.Mathlib.Omega.{arith}
 use borrow.Author.Needs.{needs}
 use Rattle.session.specs.declared.Setup.{Setup}
 use Rattle.session.specs.State.{chunkIn, linesIn}
-use Rattle.stepping.specs.Inner.{StoresTo}
-use Rattle.stepping.proofs.Inner.{no-stores, one-more}
-use Rattle.stepping.proofs.store_batch.Statement.{statement}
-use Rattle.stepping.proofs.store_batch.Tie as tie
+use Rattle.fast_path.specs.Fast.{StoresTo}
+use Rattle.fast_path.proofs.Fast.{no-stores, one-more}
+use Rattle.fast_path.proofs.store_batch.Statement.{statement}
+use Rattle.fast_path.proofs.store_batch.Tie as tie
 
 abbrev Inv-loop : tie.InvT-loop
 Inv-loop control buffer image₀ stores start at₀ image at =
@@ -46,7 +46,7 @@ loop-again : tie.Need-loop-again Inv-loop μ-loop
 loop-again c = λ k e. one-more _ k _ _ _ _ (c .before .before .before .before .before .before .loop .inv k e) _ _ _ (omega arith) e (c .before .before .before .before .batch-word .ensures) (c .before .before .save .ensures)
 
 same-length : tie.Need-same-length Inv-loop μ-loop
-same-length c = c .before .loop .inv (c .before .before .before .before .before .args .setup) (c .before .before .batch-start .ensures) .sized
+same-length c = c .before .loop .inv (c .before .before .before .before .before .args .setup) (c .before .before .batch-start .ensures) .made .sized
 
 returns : tie.Need-returns Inv-loop μ-loop
 returns c = (c .before .loop .inv (c .before .before .before .before .before .args .setup) (c .before .before .batch-start .ensures), omega arith)

@@ -1,4 +1,5 @@
--- What the code on the short way shows is what its contracts say: one action of a commit that is not its last, and several with the stores before it.
+-- What the code of the fast path shows inside a commit is what its contracts say: one action that is not the last, and several with the stores
+-- before it.
 -- Assumes nothing.
 use mathlib.Core.Path.{_≡_, refl, sym, _∙_, ap, subst}
 use mathlib.Core.Bool.{false}
@@ -22,31 +23,29 @@ use Rattle.session.specs.State.{bufferPart, batchRoom, batchWords, chunkIn, lin
 use Rattle.actions.specs.Nth.{nthReport, commitCount}
 use Rattle.actions.proofs.Committing.{commit-flush, commit-fence, commit-seal, commit-seal-flush}
 use Rattle.actions.proofs.Performed.{changed-length}
-use Rattle.stepping.specs.Inner.{Inner, toNext, Runs, isStore, RunsOn, StoresTo}
 use Rattle.stepping.proofs.Keeping.{acted}
 use Rattle.stepping.proofs.Shows.{commit-acts, commit-stores}
+use Rattle.fast_path.specs.Run.{toNext, isStore, RunsOn}
+use Rattle.fast_path.specs.Fast.{FastStep, StoresTo}
+use Rattle.fast_path.proofs.Run.{stored-first}
+use Rattle.fast_path.proofs.Stores.{before-none}
 use Rattle.session.specs.Promise.{Does}
-
--- one step that stored a word, before a run
-pub stored-first : {s s₁ s′ : Session} {bytes bytes₁ bytes′ table table₁ table′ : List ℕ} {w v : ℕ} {r : Report}
-    → Does Step s s₁ bytes bytes₁ table table₁ (R.Store w v) → Runs s₁ s′ bytes₁ bytes′ table₁ table′ r → Runs s s′ bytes bytes′ table table′ r
-stored-first q (n, ran) = (suc n, (_, (_, (_, (_, (_, (q, ran)))))))
 
 -- the record after an action
 counted : (c : Control) → c .phase ≡ 3 → acted c (c .keys) (c .fresh) ≡ toNext (c .next + 1) c
 counted c e = ap (λ (p : ℕ). record { phase = p; next = c .next + 1; items = c .items; words = c .words; keys = c .keys; fresh = c .fresh }) (sym e)
 
 -- ONE ACTION
-module _ (c : Control) (k : Setup) (b bytes bytes′ table : List ℕ) (h : Inner c k (length bytes) (length table)) where
+module _ (c : Control) (k : Setup) (b bytes bytes′ table : List ℕ) (h : FastStep c k (length bytes) (length table)) where
   abbrev Stepping : Report → Control → Type 0
   Stepping r x = Does Step (record { control = c; setup = k; buffer = b }) (record { control = x; setup = k; buffer = b }) bytes bytes′ table table r
 
-  pub inner-acts : (r : Report) → r ≡ nthReport (commitActions c k b) (c .next) → Changed r bytes bytes′ → Stepping r (toNext (c .next + 1) c)
-  inner-acts r e changed = subst (Stepping r) (counted c (h .0)) (commit-acts c k b bytes table (h .1 .0) (h .1 .1 .0) (h .0) bytes′ r e changed (h .1 .1 .1))
+  pub fast-acts : (r : Report) → r ≡ nthReport (commitActions c k b) (c .next) → Changed r bytes bytes′ → Stepping r (toNext (c .next + 1) c)
+  fast-acts r e changed = subst (Stepping r) (counted c (h .0)) (commit-acts c k b bytes table (h .1 .0) (h .1 .1 .0) (h .0) bytes′ r e changed (h .1 .1 .1))
 
-  pub inner-stores : (w v : ℕ) → c .next < 8 * linesFor (min (c .words) batchRoom) → w ≡ 512 * chunkIn k + 8 * linesIn k + c .next
+  pub fast-stores : (w v : ℕ) → c .next < 8 * linesFor (min (c .words) batchRoom) → w ≡ 512 * chunkIn k + 8 * linesIn k + c .next
       → v ≡ getD (padded (bufferPart b 0 (min (c .words) batchRoom))) (c .next) 0 → Saved bytes bytes′ w v → Stepping (R.Store w v) (toNext (c .next + 1) c)
-  inner-stores w v l ew ev saved = subst (Stepping (R.Store w v)) (counted c (h .0)) (commit-stores c k b bytes table (h .1 .0) (h .1 .1 .0) (h .0) bytes′ w v l ew ev saved)
+  fast-stores w v l ew ev saved = subst (Stepping (R.Store w v)) (counted c (h .0)) (commit-stores c k b bytes table (h .1 .0) (h .1 .1 .0) (h .0) bytes′ w v l ew ev saved)
 
 -- SEVERAL
 -- a commit's actions, whichever of them is the next
@@ -67,38 +66,42 @@ no-store c k b n behind unsealed l = go (decLt n (9 * linesFor (min (c .words) b
 module _ (c : Control) (k : Setup) (b bytes : List ℕ) where
   -- before a run, no store is made
   pub no-stores : StoresTo c k b bytes bytes (c .next)
-  no-stores = record { sized = refl; before-last = λ h. h; run = λ table h s′ bytes″ table″ r q. q }
+  no-stores = record { made = before-none FastStep c k b bytes; before-last = λ h. h }
 
   module _ (bytes₁ : List ℕ) (n : ℕ) (so-far : StoresTo c k b bytes bytes₁ n) where
-    still : (table : List ℕ) → Inner c k (length bytes) (length table) → Inner (toNext n c) k (length bytes₁) (length table)
-    still table h = (h .0, (h .1 .0 ∙ sym (so-far .sized), (h .1 .1 .0, so-far .before-last (h .1 .1 .1))))
+    still : (table : List ℕ) → FastStep c k (length bytes) (length table) → FastStep (toNext n c) k (length bytes₁) (length table)
+    still table h = (h .0, (h .1 .0 ∙ sym (so-far .made .sized), (h .1 .1 .0, so-far .before-last (h .1 .1 .1))))
 
     -- one more
     pub one-more : (bytes₂ : List ℕ) (start v : ℕ) → n < 8 * linesFor (min (c .words) batchRoom) → start ≡ 512 * chunkIn k + 8 * linesIn k
         → v ≡ getD (padded (bufferPart b 0 (min (c .words) batchRoom))) n 0 → Saved bytes₁ bytes₂ (start + n) v → StoresTo c k b bytes bytes₂ (n + 1)
     one-more bytes₂ start v l es ev saved = record {
-      sized = saved .size ∙ so-far .sized;
+      made = record {
+        sized = saved .size ∙ so-far .made .sized;
+        run = λ table h s′ bytes″ table″ r q.
+            so-far .made .run table h s′ bytes″ table″ r (stored-first (fast-stores (toNext n c) k b bytes₁ bytes₂ table (still table h) (start + n) v l (omega arith) ev saved) q);
+      };
       before-last = λ h. omega arith;
-      run = λ table h s′ bytes″ table″ r q.
-          so-far .run table h s′ bytes″ table″ r (stored-first (inner-stores (toNext n c) k b bytes₁ bytes₂ table (still table h) (start + n) v l (omega arith) ev saved) q);
     }
 
     -- then an action that is none, whose report is told
     pub run-acts : 8 * linesFor (min (c .words) batchRoom) ≤ n → (n + 3 ≡ commitCount (c .words) → ⊥) → (bytes₂ table : List ℕ) (r : Report) → r ≡ nthReport (commitActions c k b) n → Changed r bytes₁ bytes₂
-        → Inner c k (length bytes) (length table)
+        → FastStep c k (length bytes) (length table)
         → RunsOn (record { control = c; setup = k; buffer = b }) (record { control = toNext (n + 1) c; setup = k; buffer = b }) bytes bytes₂ table table r
     run-acts behind unsealed bytes₂ table r e changed h = (
-      so-far .run table h _ bytes₂ table r (zero, inner-acts (toNext n c) k b bytes₁ bytes₂ table (still table h) r (e ∙ ap (λ (l : List Action). nthReport l n) (sym (acts-same c k b n))) changed),
+      so-far .made .run table h _ bytes₂ table r (zero, fast-acts (toNext n c) k b bytes₁ bytes₂ table (still table h) r (e ∙ ap (λ (l : List Action). nthReport l n) (sym (acts-same c k b n))) changed),
       ap isStore e ∙ no-store c k b n behind unsealed (so-far .before-last (h .1 .1 .1)),
     )
 
     -- the store of the directory word is one more
     pub sealed : (bytes₂ : List ℕ) (r : Report) → n + 3 ≡ commitCount (c .words) → r ≡ nthReport (commitActions c k b) n → Changed r bytes₁ bytes₂ → StoresTo c k b bytes bytes₂ (n + 1)
     sealed bytes₂ r last e changed = record {
-      sized = changed-length r bytes₁ bytes₂ changed ∙ so-far .sized;
+      made = record {
+        sized = changed-length r bytes₁ bytes₂ changed ∙ so-far .made .sized;
+        run = λ table h s′ bytes″ table″ r′ q.
+            so-far .made .run table h s′ bytes″ table″ r′
+            (stored-first (fast-acts (toNext n c) k b bytes₁ bytes₂ table (still table h) _ (ap asReport (sym (commit-seal c k b n last)) ∙ ap (λ (l : List Action). nthReport l n) (sym (acts-same c k b n)))
+            (subst (λ (x : Report). Changed x bytes₁ bytes₂) (e ∙ ap asReport (commit-seal c k b n last)) changed)) q);
+      };
       before-last = λ h. omega arith;
-      run = λ table h s′ bytes″ table″ r′ q.
-          so-far .run table h s′ bytes″ table″ r′
-          (stored-first (inner-acts (toNext n c) k b bytes₁ bytes₂ table (still table h) _ (ap asReport (sym (commit-seal c k b n last)) ∙ ap (λ (l : List Action). nthReport l n) (sym (acts-same c k b n)))
-          (subst (λ (x : Report). Changed x bytes₁ bytes₂) (e ∙ ap asReport (commit-seal c k b n last)) changed)) q);
     }

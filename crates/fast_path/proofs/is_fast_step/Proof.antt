@@ -1,11 +1,11 @@
--- `stepping::is_inner` meets its contract.
+-- `fast_path::is_fast_step` meets its contract.
 -- Assumes nothing.
 use mathlib.Core.Path.{sym, subst}
 use lib.Dec.{T}
 use native.Mathlib.Omega.{arith}
 use borrow.Author.Needs.{needs}
-use Rattle.stepping.proofs.is_inner.Statement.{statement}
-use Rattle.stepping.proofs.is_inner.Tie as tie
+use Rattle.fast_path.proofs.is_fast_step.Statement.{statement}
+use Rattle.fast_path.proofs.is_fast_step.Tie as tie
 
 commit-count-requires : tie.Need-commit-count-requires
 commit-count-requires c κs = search needs
@@ -28,7 +28,7 @@ returns-4 c = (λ e. absurd (subst T (sym e) tt), λ e h. omega arith)
 returns-5 : tie.Need-returns-5
 returns-5 c = (λ e. absurd (subst T (sym e) tt), λ e h. omega arith)
 
-pub is-inner-spec : {M : Type 1} → statement M
-is-inner-spec =
+pub is-fast-step-spec : {M : Type 1} → statement M
+is-fast-step-spec =
     tie.close
     (tie.spec commit-count-requires sub-if4 returns returns-2 returns-3 returns-4 returns-5)

@@ -1,0 +1,86 @@
+-- Words saved one behind the other are the stores of a run, where each is the next action of the call that is begun.
+-- Assumes nothing.
+use mathlib.Core.Path.{_≡_, refl, sym, _∙_, ap, subst}
+use mathlib.Core.List.{List}
+use Prim.Native.Nat.{ℕ, zero, suc, _+_, _-_, _≤_, _<_, min}
+use native.Mathlib.Omega.{arith}
+use native.Mathlib.Nat.{add-zero}
+use lib.Dec.{ltb}
+use lib.ListN.{length, getD}
+use borrow.Author.Tests.{lt-ltb, le-ltb}
+use Rattle.spec.specs.Machine.{Step}
+use Rattle.spec.specs.Contract.{Changed}
+use Rattle.session.specs.declared.Control.{Control}
+use Rattle.session.specs.declared.Setup.{Setup}
+use Rattle.session.specs.declared.Session.{Session}
+use Rattle.spec.specs.declared.Report.{Report}
+use Rattle.spec.specs.declared.Report.the-variants as R
+use Rattle.words.specs.Image.{Saved}
+use Rattle.session.specs.State.{areaStart, batchRoom}
+use Rattle.fast_path.specs.Run.{toNext, Runs}
+use Rattle.fast_path.specs.Stores.{areaWord, Filled, Before}
+use Rattle.fast_path.proofs.Run.{stored-first}
+use Rattle.session.specs.Promise.{Does}
+
+-- A WORD OF THE AREA, as the code reads it
+pub area-held : (b : List ℕ) (held i : ℕ) → i < min held batchRoom → getD b (areaStart + i) 0 ≡ areaWord b held i
+area-held b held i h = sym (rw (lt-ltb i (min held batchRoom) h))
+
+pub area-behind : (b : List ℕ) (held i : ℕ) → min held batchRoom ≤ i → 0 ≡ areaWord b held i
+area-behind b held i h = sym (rw (le-ltb i (min held batchRoom) h))
+
+-- THE LOOP: what is saved so far, with whatever is saved behind it, is one row
+module _ (value : ℕ → ℕ) (start : ℕ) where
+  abbrev pub SoFar : (from i : ℕ) (bytes bytes₁ : List ℕ) → Type 0
+  SoFar from i bytes bytes₁ = (from ≤ i) × ((m : ℕ) (bytes′ : List ℕ) → Filled value start i m bytes₁ bytes′ → Filled value start from (i - from + m) bytes bytes′)
+
+  pub none-saved : (from : ℕ) (bytes : List ℕ) → SoFar from from bytes bytes
+  none-saved from bytes = (omega arith, λ m bytes′ f. let e : m ≡ from - from + m = omega arith in subst (λ (x : ℕ). Filled value start from x bytes bytes′) e f)
+
+  pub one-saved : (from i : ℕ) (bytes bytes₁ bytes₂ : List ℕ) (v : ℕ) → SoFar from i bytes bytes₁ → v ≡ value i → Saved bytes₁ bytes₂ (start + i) v → SoFar from (i + 1) bytes bytes₂
+  one-saved from i bytes bytes₁ bytes₂ v s e saved = (
+    (let l = s .0 in omega arith),
+    λ m bytes′ f.
+        let l = s .0 in
+        let a : i - from + suc m ≡ i + 1 - from + m = omega arith in
+        let d : i + 1 ≡ suc i = omega arith in
+        subst (λ (x : ℕ). Filled value start from x bytes bytes′) a
+        (s .1 (suc m) bytes′ (bytes₂, (subst (Saved bytes₁ bytes₂ (start + i)) e saved, subst (λ (x : ℕ). Filled value start x m bytes₂ bytes′) d f))),
+  )
+
+  pub all-saved : (from i end : ℕ) (bytes bytes₁ : List ℕ) → SoFar from i bytes bytes₁ → i ≡ end → Filled value start from (end - from) bytes bytes₁
+  all-saved from i end bytes bytes₁ s h =
+      let l = s .0 in
+      let a : i - from + zero ≡ end - from = omega arith in
+      subst (λ (x : ℕ). Filled value start from x bytes bytes₁) a (s .1 zero bytes₁ refl)
+
+  -- it leaves the length
+  pub filled-length : (m i : ℕ) (bytes bytes′ : List ℕ) → Filled value start i m bytes bytes′ → length bytes′ ≡ length bytes
+  filled-length zero i bytes bytes′ e = ap length e
+  filled-length (suc m) i bytes bytes′ (bytes₁, (saved, more)) = filled-length m (suc i) bytes₁ bytes′ more ∙ saved .size
+
+  pub so-far-length : (from i : ℕ) (bytes bytes₁ : List ℕ) → SoFar from i bytes bytes₁ → length bytes₁ ≡ length bytes
+  so-far-length from i bytes bytes₁ s = filled-length (i - from + zero) from bytes bytes₁ (s .1 zero bytes₁ refl)
+
+-- THE RUN
+module _ (c : ℕ → Control) (k : Setup) (b table : List ℕ) (value : ℕ → ℕ) (start size : ℕ) where
+  abbrev at : ℕ → Session
+  at i = record { control = c i; setup = k; buffer = b }
+
+  -- the store of word number i is a step
+  abbrev pub Steps : ℕ → Type 0
+  Steps i = (bytes bytes′ : List ℕ) → length bytes ≡ size → Saved bytes bytes′ (start + i) (value i) → Does Step (at i) (at (suc i)) bytes bytes′ table table (R.Store (start + i) (value i))
+
+  pub filled-runs : (m i n : ℕ) (bytes bytes′ : List ℕ) → Filled value start i m bytes bytes′ → n ≡ i + m → ((j : ℕ) → i ≤ j → j < n → Steps j) → length bytes ≡ size
+      → (s′ : Session) (bytes″ table″ : List ℕ) (r : Report) → Runs (at n) s′ bytes′ bytes″ table table″ r → Runs (at i) s′ bytes bytes″ table table″ r
+  filled-runs zero i n bytes bytes′ f e steps l s′ bytes″ table″ r q =
+      let z : n ≡ i = omega arith in
+      subst (λ (x : List ℕ). Runs (at i) s′ x bytes″ table table″ r) f (subst (λ (x : ℕ). Runs (at x) s′ bytes′ bytes″ table table″ r) z q)
+  filled-runs (suc m) i n bytes bytes′ (bytes₁, (saved, more)) e steps l s′ bytes″ table″ r q =
+      stored-first (steps i (omega arith) (omega arith) bytes bytes₁ l saved)
+      (filled-runs m (suc i) n bytes₁ bytes′ more (omega arith) (λ j a d. steps j (omega arith) d) (saved .size ∙ l) s′ bytes″ table″ r q)
+
+-- SEVERAL IN A ROW
+module _ (Here : Control → Setup → (bytes words : ℕ) → Type 0) (c : Control) (k : Setup) (b bytes : List ℕ) where
+  pub before-none : Before Here c k b bytes bytes (c .next)
+  before-none = record { sized = refl; run = λ table h s′ bytes″ table″ r q. q }

@@ -1,0 +1,3 @@
+pub mod Run
+pub mod Stores
+pub mod Fast

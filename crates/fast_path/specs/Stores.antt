@@ -1,0 +1,31 @@
+-- Stores made one behind the other: of words of the buffer's second area, and of actions that are to come.
+-- Assumes nothing.
+use mathlib.Core.Path.{_≡_}
+use mathlib.Core.List.{List}
+use Prim.Native.Nat.{ℕ, zero, suc, _+_, min}
+use lib.Dec.{ltb}
+use lib.ListN.{length, getD}
+use Rattle.spec.specs.Basics.{pick}
+use Rattle.session.specs.declared.Control.{Control}
+use Rattle.session.specs.declared.Setup.{Setup}
+use Rattle.session.specs.declared.Session.{Session}
+use Rattle.spec.specs.declared.Report.{Report}
+use Rattle.words.specs.Image.{Saved}
+use Rattle.session.specs.State.{areaStart, batchRoom}
+use Rattle.fast_path.specs.Run.{toNext, Runs}
+
+-- word i of those held in the second area, 0 behind them
+abbrev pub areaWord : (b : List ℕ) (held i : ℕ) → ℕ
+areaWord b held i = pick (ltb i (min held batchRoom)) (getD b (areaStart + i) 0) 0
+
+-- m words saved, from number i on: word start + i is `value i`, and so on
+abbrev pub Filled : (ℕ → ℕ) → (start i m : ℕ) → (bytes bytes′ : List ℕ) → Type 0
+Filled value start i zero bytes bytes′ = bytes′ ≡ bytes
+Filled value start i (suc m) bytes bytes′ = (bytes₁ : List ℕ) × (Saved bytes bytes₁ (start + i) (value i) × Filled value start (suc i) m bytes₁ bytes′)
+
+-- Stores up to action n are made, from the next one on, where `Here` holds: with whatever run follows they are one.
+pub record Before (Here : Control → Setup → (bytes words : ℕ) → Type 0) (c : Control) (k : Setup) (b bytes bytes′ : List ℕ) (n : ℕ) : Type 0 where
+  pub sized : length bytes′ ≡ length bytes
+  pub run : (table : List ℕ) → Here c k (length bytes) (length table) → (s′ : Session) (bytes″ table″ : List ℕ) (r : Report)
+      → Runs (record { control = toNext n c; setup = k; buffer = b }) s′ bytes′ bytes″ table table″ r
+      → Runs (record { control = c; setup = k; buffer = b }) s′ bytes bytes″ table table″ r

@@ -1,0 +1,247 @@
+// The fast path: a step inside a commit, and runs inside a commit and a staging. A run makes the stores that come next in a short loop, and
+// then tells of the action behind them.
+ghost use mathlib.Core.Path.{_≡_};
+ghost use mathlib.Core.Bool.{true, false};
+ghost use Prim.Native.Nat.{_-_, _^_, _≤_, _<_};
+ghost use Rattle.spec.specs.Machine.{Step};
+ghost use Rattle.fast_path.specs.Run.{RunsOn};
+ghost use Rattle.fast_path.specs.Stores.{areaWord, Filled};
+ghost use Rattle.fast_path.specs.Fast.{FastStep, InStaging, OnFastPath, FastPath, Stores, takeCount, BlockStores};
+ghost use Rattle.session.specs.Promise.{Does};
+use session::Control;
+use spec::Report;
+use session::Setup;
+use session::Stepped;
+
+// A COMMIT
+// The number of the next action after a step or a run inside a commit, which alters nothing else of the record, and its report.
+pub struct Advanced {
+    pub next: usize,
+    pub report: Report,
+}
+
+// Whether the next action is one of a commit's but not its last. Then a step needs neither key table nor bits.
+pub fn is_fast_step(control: Control, setup: Setup, bytes: usize, words: usize) -> bool
+    ensures { λ r. ⌜ (r ≡ true → FastStep control setup bytes words) × (r ≡ false → FastStep control setup bytes words → ⊥) ⌝ }
+{
+    if control.phase == 3 {
+        if setup.image == bytes {
+            if setup.table == words {
+                if control.next < actions::commit_count(control.words) - 1 {
+                    return true;
+                }
+            }
+        }
+    }
+    false
+}
+
+// A step inside a commit; elsewhere nothing is done.
+pub fn fast_step(
+    control: Control,
+    setup: Setup,
+    buffer: &[u64; 1152],
+    image: &mut [u8],
+    table: &mut [u64],
+) -> Advanced
+    ensures { λ r. ⌜ FastPath (Does Step) control setup (now (buffer .entry)) (now (image .entry)) (now (image .exit)) (now (table .entry)) (now (table .exit)) (r .next) (r .report) ⌝ }
+{
+    let at = control.next;
+    if is_fast_step(control, setup, image.len(), table.len()) {
+        let action = actions::commit_action(control, setup, buffer, at);
+        actions::perform(image, action);
+        let next = at + 1;
+        return Advanced {
+            next,
+            report: action,
+        };
+    }
+    Advanced {
+        next: at,
+        report: Report::Idle,
+    }
+}
+
+// The batch's stores from the next one on: the number of the action behind them.
+fn store_batch(control: Control, setup: Setup, buffer: &[u64; 1152], image: &mut [u8]) -> usize
+    ensures { λ r. ⌜ Stores control setup (now (buffer .entry)) (now (image .entry)) (now (image .exit)) r ⌝ }
+{
+    let stores = actions::commit_stores(control.words);
+    let start = actions::batch_start(setup);
+    let mut at = control.next;
+    while at < stores {
+        let value = actions::batch_word(buffer, control.words, at);
+        words::save(image, start + at, value);
+        at += 1;
+    }
+    at
+}
+
+// The stores that come next, in one go, and then the action behind them, whose report is told: a flush or a fence. Elsewhere nothing is done.
+pub fn fast_run(
+    control: Control,
+    setup: Setup,
+    buffer: &[u64; 1152],
+    image: &mut [u8],
+    table: &mut [u64],
+) -> Advanced
+    ensures { λ r. ⌜ FastPath RunsOn control setup (now (buffer .entry)) (now (image .entry)) (now (image .exit)) (now (table .entry)) (now (table .exit)) (r .next) (r .report) ⌝ }
+{
+    if is_fast_step(control, setup, image.len(), table.len()) {
+        let actions = actions::commit_count(control.words);
+        let at = store_batch(control, setup, buffer, image);
+        if at == actions - 3 {
+            let seal = actions::commit_action(control, setup, buffer, at);
+            actions::perform(image, seal);
+            let behind = at + 1;
+            let flush = actions::commit_action(control, setup, buffer, behind);
+            actions::perform(image, flush);
+            let next = behind + 1;
+            return Advanced {
+                next,
+                report: flush,
+            };
+        }
+        let action = actions::commit_action(control, setup, buffer, at);
+        actions::perform(image, action);
+        let next = at + 1;
+        return Advanced {
+            next,
+            report: action,
+        };
+    }
+    Advanced {
+        next: control.next,
+        report: Report::Idle,
+    }
+}
+
+// WORDS OF THE SECOND AREA
+// Word i of those held there, 0 behind them.
+fn area_word(buffer: &[u64; 1152], held: usize, i: usize) -> u64
+    ensures { λ r. ⌜ r ≡ areaWord (now (buffer .entry)) held i ⌝ }
+{
+    if i < actions::at_most(held, 512) {
+        return buffer[512 + i];
+    }
+    0
+}
+
+// Those numbered `from` up to `end` into the image, counted from its word `start`.
+pub fn store_area(
+    buffer: &[u64; 1152],
+    image: &mut [u8],
+    start: usize,
+    held: usize,
+    from: usize,
+    end: usize,
+)
+    requires { ⌜ (start < 2 ^ 32) × (from ≤ end) × (end < 2 ^ 32) ⌝ }
+    ensures { λ _. ⌜ Filled (areaWord (now (buffer .entry)) held) start from (end - from) (now (image .entry)) (now (image .exit)) ⌝ }
+{
+    let mut i = from;
+    while i < end {
+        let value = area_word(buffer, held, i);
+        words::save(image, start + i, value);
+        i += 1;
+    }
+}
+
+// A STAGING
+// Whether a staging is begun.
+pub fn is_staging(control: Control, setup: Setup, bytes: usize, words: usize) -> bool
+    ensures { λ r. ⌜ (r ≡ true → InStaging control setup bytes words) × (r ≡ false → InStaging control setup bytes words → ⊥) ⌝ }
+{
+    if control.phase == 2 {
+        if setup.image == bytes {
+            if setup.table == words {
+                return true;
+            }
+        }
+    }
+    false
+}
+
+// How many actions take the chunk: none where it is a data chunk already.
+fn take_count(setup: Setup) -> usize
+    ensures { λ r. ⌜ (r ≡ takeCount setup) × (r ≤ 2) ⌝ }
+{
+    if setup.fields == 0 {
+        return 0;
+    }
+    2
+}
+
+// The stores of a large value's staging that come next: the directory word of a chunk that is taken, or the words held. The number of the
+// action behind them.
+fn store_block(control: Control, setup: Setup, buffer: &[u64; 1152], image: &mut [u8]) -> usize
+    ensures { λ r. ⌜ BlockStores control setup (now (buffer .entry)) (now (image .entry)) (now (image .exit)) r ⌝ }
+{
+    let at = control.next;
+    let first = take_count(setup);
+    let held = block_acts::held_words(buffer);
+    let behind = first + held;
+    if behind <= at {
+        return at;
+    }
+    if first <= at {
+        let unit = block_acts::unit_of(setup);
+        let start = unit.word_offset();
+        let from = at - first;
+        store_area(buffer, image, start, held, from, held);
+        return behind;
+    }
+    if at == 0 {
+        let action = block_acts::block_action(setup, buffer, 0);
+        actions::perform(image, action);
+        return 1;
+    }
+    at
+}
+
+// The stores that come next, and then the flush behind them, or the end. Elsewhere nothing is done.
+pub fn staging_run(
+    control: Control,
+    setup: Setup,
+    buffer: &[u64; 1152],
+    image: &mut [u8],
+    table: &mut [u64],
+) -> Stepped
+    ensures { λ r. ⌜ OnFastPath InStaging RunsOn (record { control = control; setup = setup; buffer = now (buffer .entry) }) (record { control = r .control; setup = setup; buffer = now (buffer .entry) }) (now (image .entry)) (now (image .exit)) (now (table .entry)) (now (table .exit)) (r .report) ⌝ }
+{
+    if is_staging(control, setup, image.len(), table.len()) {
+        let at = store_block(control, setup, buffer, image);
+        if stepping::is_stored(setup, buffer, at) {
+            let staged = Control {
+                phase: 1,
+                next: 0,
+                items: control.items,
+                words: control.words,
+                keys: control.keys,
+                fresh: control.fresh,
+            };
+            return Stepped {
+                control: staged,
+                report: Report::End(0),
+            };
+        }
+        let action = block_acts::block_action(setup, buffer, at);
+        let next = at + 1;
+        let moved = Control {
+            phase: control.phase,
+            next,
+            items: control.items,
+            words: control.words,
+            keys: control.keys,
+            fresh: control.fresh,
+        };
+        return Stepped {
+            control: moved,
+            report: action,
+        };
+    }
+    Stepped {
+        control,
+        report: Report::Idle,
+    }
+}
