@@ -1,12 +1,13 @@
 -- The entries before and after a cleaning, key by key: what is chosen, how many entries there are, and the live blocks.
 -- Assumes nothing.
 use mathlib.Core.Path.{_≡_, refl, sym, _∙_, ap}
-use mathlib.Core.Logic.{_⊎_, inl, inr}
+use mathlib.Core.Logic.{by-cases, _⊎_, inl, inr}
 use mathlib.Core.Bool.{Bool, true, false}
 use mathlib.Core.Option.{Option, none, some}
 use mathlib.Core.List.{List, [], _∷_, _++_}
 use Prim.Native.Nat.{ℕ, suc, _+_, _≤_, _<_}
 use native.Mathlib.Omega.{arith}
+use native.Mathlib.Decide.{ℕ-discrete}
 use lib.Dec.{eqb}
 use lib.ListN.{length}
 use borrow.Author.Tests.{eq-eqb}
@@ -22,12 +23,13 @@ use Rattle.theory_log.proofs.Clean.{mem-placed, placed-mem, is-at}
 use Rattle.theory_log.proofs.Tops.{chosen-top, top-chosen}
 use Rattle.theory_log.proofs.Places.{Rising, rising-from, rising-apart}
 use Rattle.index.specs.declared.Info.{Info}
-use Rattle.index.specs.Packed.{pack-fits}
-use Rattle.volatile.specs.Known.{entryCount, several, extentOf, infoOf, Indexed}
+use Rattle.index.specs.Index.{get}
+use Rattle.index.specs.Packed.{unpackOf, pack-fits}
+use Rattle.volatile.specs.Known.{entryCount, several, infoOf, Indexed}
 use Rattle.volatile.proofs.Info.{said, info-chosen, info-none, info-says, info-nonzero}
 use Rattle.apply.proofs.Live.{mem-between, mem-around, Holder, live-holder, holder-live}
-use Rattle.session.specs.Cleaned.{before, keptOf, copiesOf, after, Cleaned}
-use Rattle.leaving.specs.Leaving.{Singles, owed, Told, Awaits, OneEach, Pointing}
+use Rattle.session.specs.Cleaned.{before, keptOf, copiesOf, after, Cleaned, Stand}
+use Rattle.leaving.specs.Leaving.{Singles, Single, NoneKept, owed, Told, Awaits, Leaving, OneEach}
 use Rattle.leaving.proofs.Sole.{single-sole, sole-chosen, sole-single, once-filter, once-placed, once-same, count-append, count-no, count-one, count-placed, info-without}
 
 module _ (xs mid ys as′ bs : List Entry) (at : ℕ) (t : Cleaned xs mid ys as′ bs at) where
@@ -36,6 +38,9 @@ module _ (xs mid ys as′ bs : List Entry) (at : ℕ) (t : Cleaned xs mid ys as�
 
   abbrev others : List Entry
   others = xs ++ ys
+
+  abbrev test : Entry → Bool
+  test = isKept es others
 
   abbrev kept : List Entry
   kept = keptOf xs mid ys
@@ -112,8 +117,8 @@ module _ (xs mid ys as′ bs : List Entry) (at : ℕ) (t : Cleaned xs mid ys as�
   same-chosen : (j k : ℕ) (e f : Entry) → j ≡ k → chosen j es ≡ some e → chosen k es ≡ some f → e ≡ f
   same-chosen j k e f q a b = let w : chosen j es ≡ some f = ap (λ (i : ℕ). chosen i es) q ∙ b in cc
 
-  once : OneEach copies
-  once = once-placed at kept (once-filter (isKept es others) (t .low) (t .high) mid rising-mid (λ e f m n q. same-chosen (e .key) (f .key) e f q (kept-is e m .1) (kept-is f n .1)))
+  rising-mid : Rising (t .low) (t .high) mid
+  rising-mid = front (t .low) (t .high) mid (part (t .low) (t .high) xs (t .rising))
     where
       part : (lo hi : ℕ) (zs : List Entry) → Rising lo hi (zs ++ (mid ++ ys)) → Rising lo hi (mid ++ ys)
       part lo hi [] r = r
@@ -127,8 +132,8 @@ module _ (xs mid ys as′ bs : List Entry) (at : ℕ) (t : Cleaned xs mid ys as�
       front lo hi [] r = ends lo hi ys r
       front lo hi (z ∷ zs) r = (r .0, front (suc (z .at)) hi zs (r .1))
 
-      rising-mid : Rising (t .low) (t .high) mid
-      rising-mid = front (t .low) (t .high) mid (part (t .low) (t .high) xs (t .rising))
+  once : OneEach copies
+  once = once-placed at kept (once-filter test (t .low) (t .high) mid rising-mid (λ e f m n q. same-chosen (e .key) (f .key) e f q (kept-is e m .1) (kept-is f n .1)))
 
   -- ## How many
 
@@ -226,79 +231,94 @@ module _ (xs mid ys as′ bs : List Entry) (at : ℕ) (t : Cleaned xs mid ys as�
 
   -- ## The beginning: what the table holds of the entries before is what is owed, but for the keys that have a copy
 
+  -- a key of which nothing is kept
+  pub told-unkept : (k : ℕ) → Single es mid k → NoneKept test mid k → Told k (infoOf k es) mid out
+  unfolding infoOf
+  told-unkept k single none-kept = go (chosen k es) refl
+    where
+      n : Uncopied k
+      n c m q = let o = origin c m in let r = mem-filter test (o .entry) mid (o .member) in none-kept (o .entry) (r .0) (r .1) (sym (origin-key c o) ∙ q)
+
+      go : (o : Option Entry) → chosen k es ≡ o → Told k (infoOf k es) mid out
+      go none h =
+          let z : chosen k out ≡ none = chosen-none k out (λ g m q. none-of k es g h (others-in g (uncopied-out k n g m q)) q) in
+          inl (info-none k es h ∙ sym (rw z))
+      go (some f) h = two single
+        where
+          three : several k es ≡ 0 → Mem f mid ⊎ Mem f others → Told k (infoOf k es) mid out
+          three s (inr b) =
+              inl (info-chosen k es f h ∙ sym (rw (elsewhere-chosen k f h s b, elsewhere-single k f h s b, count-uncopied k n, s)))
+          three s (inl a) = four (either (eqb (f .op) 1) (known (f .key) others)) refl
+            where
+              q : f .key ≡ k
+              q = chosen-is k es f h .of-key
+
+              four : (b : Bool) → either (eqb (f .op) 1) (known (f .key) others) ≡ b → Told k (infoOf k es) mid out
+              four true e = absurd (unkept k n f (is-kept f a (ap (λ (j : ℕ). chosen j es) q ∙ h) e) q)
+              four false e = inr (record {
+                entry = f;
+                member = a;
+                of-key = q;
+                place = ap (λ (i : Info). i .place) (info-says k es (t .small) f h);
+                narrow = rw (info-chosen k es f h) (pack-fits (said k es f));
+                delete = λ o. not-both (eqb (f .op) 1) (eq-eqb (f .op) 1 o) (either-no (eqb (f .op) 1) (known (f .key) others) e .0);
+                nowhere = gone k f h s e;
+              })
+
+          two : Single es mid k → Told k (infoOf k es) mid out
+          two (inl s) = three s (before-cases f (chosen-is k es f h .in-list))
+          two (inr none-here) =
+              let z : entryCount k mid + entryCount k out ≡ entryCount k out = omega (arith, count-no k mid none-here) in
+              inl (sym (info-same k none-here) ∙ sym (rw z))
+
+  -- a kept entry
+  pub awaits-kept : (f : Entry) → Mem f mid → test f ≡ true → several (f .key) es ≡ 0 → Awaits (infoOf (f .key) es) mid out f
+  awaits-kept f i h s =
+      let m : Mem f kept = filter-mem test f mid i h in
+      let c : chosen (f .key) es ≡ some f = kept-is f m .1 in
+      let p = placed-mem f at kept m in
+      let one : entryCount (f .key) kept ≡ 1 = sym (count-placed (f .key) at kept) ∙ count-one (f .key) copies once (moved (p .0) f) (p .1) refl in
+      record {
+        entries = entryCount (f .key) es;
+        says = info-says (f .key) es (t .small) f c ∙ rw s;
+        known = info-nonzero (f .key) es (t .small) f c;
+        narrow = rw (info-chosen (f .key) es f c) (pack-fits (said (f .key) es f));
+        more = let b = count-both (f .key) in omega arith;
+      }
+
+  -- a copy
+  pub copy-sole-top : (c : Entry) → Mem c copies → several (c .key) es ≡ 0 → (chosen (c .key) out ≡ some c) × (several (c .key) out ≡ 0)
+  copy-sole-top c m s = let o = origin c m in (copy-chosen (c .key) (o .entry) (o .is-chosen) s c m refl, copy-single (c .key) (o .entry) (o .is-chosen) s c m refl)
+
+  -- THE BEGINNING
+  pub leaving-start : (ws : List ℕ) (until : ℕ) (table : List ℕ) (keys : ℕ) → Indexed table keys es → Stand ws at until copies → Leaving ws until es mid out test table keys mid at
+  leaving-start ws until table keys i s = record {
+    probed = i .probed;
+    stored = i .stored;
+    fits = i .fits;
+    inside = λ e m. m;
+    seen = λ e m. inl m;
+    twins = λ e m. twins e m (chosen (e .key) es) refl;
+    told = λ k o n. rw (i .info k) (told-unkept k o n);
+    awaits = λ f m h o. rw (i .info (f .key)) (awaits-kept f m h o);
+    copies = copy-sole-top;
+    standing = s;
+    low = t .low;
+    high = t .high;
+    rising = rising-mid;
+    small = λ e m. t .small .each e (mid-in e m);
+    small-out = t .small-after;
+    clear = t .clear;
+    few = t .few;
+  }
+    where
+      twins : (e : Entry) → Mem e mid → (o : Option Entry) → chosen (e .key) es ≡ o → (several (e .key) es ≡ 0) ⊎ (unpackOf (get table (e .key)) .several ≡ 0 → ⊥)
+      twins e m none h = absurd (none-of (e .key) es e h (mid-in e m) refl)
+      twins e m (some g) h =
+          let says : unpackOf (get table (e .key)) .several ≡ several (e .key) es = ap (λ (w : ℕ). unpackOf w .several) (i .info (e .key)) ∙ ap (λ (j : Info). j .several) (info-says (e .key) es (t .small) g h) in
+          by-cases (ℕ-discrete (several (e .key) es) 0) (λ z. inl z) (λ n. inr (λ z. n (sym says ∙ z)))
+
   module _ (singles : Singles mid es) where
-    pub told-uncopied : (k : ℕ) → Uncopied k → Told k (infoOf k es) mid out
-    unfolding infoOf
-    told-uncopied k n = go (chosen k es) refl
-      where
-        go : (o : Option Entry) → chosen k es ≡ o → Told k (infoOf k es) mid out
-        go none h =
-            let z : chosen k out ≡ none = chosen-none k out (λ g m q. none-of k es g h (others-in g (uncopied-out k n g m q)) q) in
-            inl (info-none k es h ∙ sym (rw z))
-        go (some f) h = two (known k mid) refl
-          where
-            here : known k mid ≡ true → several k es ≡ 0
-            here b = let r = known-mem k mid b in ap (λ (j : ℕ). several j es) (sym (r .2)) ∙ singles (r .0) (r .1)
-
-            three : several k es ≡ 0 → Mem f mid ⊎ Mem f others → Told k (infoOf k es) mid out
-            three s (inr b) =
-                inl (info-chosen k es f h ∙ sym (rw (elsewhere-chosen k f h s b, elsewhere-single k f h s b, count-uncopied k n, s)))
-            three s (inl a) = four (either (eqb (f .op) 1) (known (f .key) others)) refl
-              where
-                q : f .key ≡ k
-                q = chosen-is k es f h .of-key
-
-                four : (b : Bool) → either (eqb (f .op) 1) (known (f .key) others) ≡ b → Told k (infoOf k es) mid out
-                four true e = absurd (unkept k n f (is-kept f a (ap (λ (j : ℕ). chosen j es) q ∙ h) e) q)
-                four false e = inr (record { entry = f; member = a; of-key = q; place = ap (λ (i : Info). i .place) (info-says k es (t .small) f h); narrow = rw (info-chosen k es f h) (pack-fits (said k es f)); nowhere = gone k f h s e })
-
-            two : (b : Bool) → known k mid ≡ b → Told k (infoOf k es) mid out
-            two true b = three (here b) (before-cases f (chosen-is k es f h .in-list))
-            two false b =
-                let none-here : ((e : Entry) → Mem e mid → e .key ≡ k → ⊥) = λ e m q. not-both (known k mid) (mem-known k mid e m q) b in
-                let z : entryCount k mid + entryCount k out ≡ entryCount k out = omega (arith, count-no k mid none-here) in
-                inl (sym (info-same k none-here) ∙ sym (rw z))
-
-    pub awaits-copy : (d : Entry) → Mem d copies → Awaits (infoOf (d .key) es) mid out d
-    awaits-copy d m =
-        let o = origin d m in
-        let f = o .entry in
-        let h : chosen (d .key) es ≡ some f = o .is-chosen in
-        let s : several (d .key) es ≡ 0 = ap (λ (j : ℕ). several j es) (origin-key d o) ∙ singles f (kept-is f (o .member) .0) in
-        let one : entryCount (d .key) kept ≡ 1 = sym (count-placed (d .key) at kept) ∙ count-one (d .key) copies once d m refl in
-        record {
-          place = f .at;
-          entries = entryCount (d .key) es;
-          says = info-says (d .key) es (t .small) f h ∙ shown d f (o .place) (o .is-copy) s;
-          known = info-nonzero (d .key) es (t .small) f h;
-          more = let b = count-both (d .key) in omega arith;
-          is = copy-chosen (d .key) f h s d m refl;
-          alone = copy-single (d .key) f h s d m refl;
-        }
-      where
-        shown : (d f : Entry) (a : ℕ) → d ≡ moved a f → several (d .key) es ≡ 0
-            → said (d .key) es f ≡ record { extent = extentOf (d .placement) (d .field); place = f .at; version = d .version; entries = entryCount (d .key) es; several = 0 }
-        shown d f a q s =
-            let p : d .placement ≡ f .placement = ap (λ (e : Entry). e .placement) q in
-            let x : d .field ≡ f .field = ap (λ (e : Entry). e .field) q in
-            let v : d .version ≡ f .version = ap (λ (e : Entry). e .version) q in
-            rw (p, x, v, s)
-
-    -- THE BEGINNING
-    pub pointing-start : (table : List ℕ) (keys : ℕ) → Indexed table keys es → Pointing table keys mid out copies
-    pointing-start table keys i = record {
-      probed = i .probed;
-      stored = i .stored;
-      fits = i .fits;
-      told = λ k n. rw (i .info k) (told-uncopied k n);
-      awaits = λ c m. rw (i .info (c .key)) (awaits-copy c m);
-      once = once;
-      small = λ e m. t .small .each e (mid-in e m);
-      small-out = t .small-after;
-      clear = t .clear;
-      few = t .few;
-    }
-
     -- ## The live blocks stay
 
     -- an entry of the new list says what one before says

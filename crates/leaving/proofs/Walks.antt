@@ -1,28 +1,28 @@
--- The passes over the words of a chunk: what is left from a cursor on, at the beginning, after one more entry, and at the end.
+-- The pass over the words of a chunk: what is left from a cursor on, at the beginning, after one more entry, and at the end.
 -- Assumes nothing.
 use mathlib.Core.Path.{_≡_, refl, sym, _∙_, ap}
 use mathlib.Core.Logic.{_⊎_, inl, inr}
 use mathlib.Core.Bool.{Bool, true, false}
 use mathlib.Core.List.{List, [], _∷_, _++_, append-nil}
-use Prim.Native.Nat.{ℕ, suc}
+use Prim.Native.Nat.{ℕ, suc, _+_, _≤_, _<_}
 use native.Mathlib.Omega.{arith}
 use lib.ListN.{length}
 use lib.Seq.{slice}
-use Rattle.spec.specs.Log.{Entry, Parsed, Wrong, Entries, join, parse}
+use Rattle.spec.specs.declared.LogStep.the-variants as S
+use Rattle.spec.specs.Log.{Entry, Parsed, Wrong, Entries, stepOf, join, parse}
 use Rattle.theory_base.proofs.Lists.{not-both}
-use Rattle.theory_log.specs.Contents.{Mem}
 use Rattle.theory_log.proofs.Parse.{cons-inv, prepend-entries}
 use Rattle.log.specs.declared.Cursor.{Cursor}
 use Rattle.log.specs.declared.Next.{Next}
 use Rattle.log.specs.declared.Next.the-variants as N
 use Rattle.log.specs.Stands.{entryIn}
-use Rattle.log.specs.Cursor.{cursorAt, remaining, Advanced}
-use Rattle.log.proofs.Walk.{handed}
-use Rattle.index.specs.Index.{get}
-use Rattle.index.specs.Packed.{unpackOf}
-use Rattle.leaving.specs.Leaving.{Leaving, Pointing}
+use Rattle.log.specs.Cursor.{cursorAt, remaining, left, Advanced}
+use Rattle.log.proofs.Walk.{handed, next-found}
+use Rattle.leaving.specs.Leaving.{Leaving, Marked}
 use Rattle.session.specs.Cleaned.{Stand}
-use Rattle.leaving.specs.Passes.{OnlySingles, Pointed, AllPointed, OneLeft, AllLeft}
+use Rattle.leaving.specs.declared.Went.{Went}
+use Rattle.leaving.specs.declared.Run.{Run}
+use Rattle.leaving.specs.Passes.{IsCopied, OneLeft, PutsLeft, AllLeft}
 
 -- what remains, in a walk that goes to no other chunk
 join-none : (q : Parsed) → join q (Entries []) ≡ q
@@ -34,110 +34,83 @@ unfolding remaining
 from-here ws at end = join-none (parse (slice at end ws) 0 at)
 
 abbrev pub Left : List ℕ → Cursor → List Entry → Type 0
-Left ws c left = remaining 12 0 ws c ≡ Entries left
+Left ws c todo = remaining 12 0 ws c ≡ Entries todo
 
 -- one step
-module _ (ws : List ℕ) (c : Cursor) (r : Next) (told : Advanced 0 ws c r) (left : List Entry) (is : Left ws c left) where
-  pub none-left : r ≡ N.Done → left ≡ []
+module _ (ws : List ℕ) (c : Cursor) (r : Next) (told : Advanced 0 ws c r) (todo : List Entry) (is : Left ws c todo) where
+  pub none-left : r ≡ N.Done → todo ≡ []
   none-left e = let w : remaining 12 0 ws c ≡ Entries [] = rw e at told in let v = is in cc
 
   pub not-wrong : r ≡ N.Wrong → ⊥
   not-wrong e = let w : remaining 12 0 ws c ≡ Wrong = rw e at told in let v = is in let z : _≡_ {A = ℕ} 0 1 = cc in omega arith
 
-  pub one-left : (op pl v x k m a : ℕ) (behind : Cursor) → r ≡ N.Entry op pl v x k m a behind → (es : List Entry) × Left ws behind es × (left ≡ entryIn ws op pl v x k m a ∷ es)
-  one-left op pl v x k m a behind e = cons-inv (entryIn ws op pl v x k m a) (remaining 12 0 ws behind) left (sym (handed 0 ws c r told op pl v x k m a behind e .whole) ∙ is)
+  pub one-left : (op pl v x k m a : ℕ) (behind : Cursor) → r ≡ N.Entry op pl v x k m a behind → (es : List Entry) × Left ws behind es × (todo ≡ entryIn ws op pl v x k m a ∷ es)
+  one-left op pl v x k m a behind e = cons-inv (entryIn ws op pl v x k m a) (remaining 12 0 ws behind) todo (sym (handed 0 ws c r told op pl v x k m a behind e .whole) ∙ is)
 
--- ## Whether there are several top entries
+-- ## A run of puts: at its beginning, after one more, and broken off
 
-pub record Looking (ws table : List ℕ) (at end : ℕ) (c : Cursor) : Type 0 where
-  pub seen : (mid : List Entry) → Stand ws at end mid → (left : List Entry) × Left ws c left × ((e : Entry) → Mem e mid → Mem e left ⊎ (unpackOf (get table (e .key)) .several ≡ 0))
+pub puts-not : (ws table table′ : List ℕ) (keys from end to : ℕ) (so at : ℕ) → length table′ ≡ length table → ((n c : ℕ) → left n ws (cursorAt c at end) ≤ left n ws (cursorAt c from end)) → (copy : ℕ)
+    → PutsLeft ws table table′ keys from end to (record { keys = so; to = copy; single = false; at = at })
+puts-not ws table table′ keys from end to so at sized nearer copy = record { sized = sized; nearer = nearer; passes = λ h. absurd (not-both true refl (sym h)) }
 
-pub looking-start : (ws table : List ℕ) (at end : ℕ) → Looking ws table at end (cursorAt 0 at end)
-looking-start ws table at end = record { seen = λ mid s. (mid, from-here ws at end ∙ s, λ e m. inl m) }
+module _ (ws table : List ℕ) (keys from end to : ℕ) where
+  pub puts-start : PutsLeft ws table table keys from end to (record { keys = keys; to = to; single = true; at = from })
+  puts-start = record { sized = refl; nearer = λ n c. omega arith; passes = λ h c until es mid out test todo is l. (todo, is, l) }
 
-pub looking-not : (ws table : List ℕ) (at end : ℕ) → OnlySingles ws table at end false
-looking-not ws table at end = record { single = λ h. absurd (not-both true refl (sym h)) }
+  module _ (now′ : List ℕ) (so copy a : ℕ) (p : PutsLeft ws table now′ keys from end to (record { keys = so; to = copy; single = true; at = a })) where
+    pub puts-more : (v x k m : ℕ) → stepOf (slice a end ws) ≡ S.Entry 1 0 v x k m → m < 0x2000_0000_0000_0000 → (next′ : List ℕ) (r : Went) → OneLeft now′ next′ so k a copy (2 + m) true r → r .single ≡ true
+        → PutsLeft ws table next′ keys from end to (record { keys = r .keys; to = r .to; single = true; at = a + (2 + m) })
+    puts-more v x k m q few next′ r one single = record {
+      sized = one .sized ∙ p .sized;
+      nearer = λ n c. let f = next-found n ws c a end 1 0 v x k m q .falls in let g = p .nearer n c in omega arith;
+      passes = λ h c until es mid out test todo is l.
+          let w = p .passes refl c until es mid out test todo is l in
+          let f = next-found 0 ws c a end 1 0 v x k m q in
+          let e = entryIn ws 1 0 v x k m a in
+          let u = cons-inv e (remaining 12 0 ws (cursorAt c (a + (2 + m)) end)) (w .0) (sym (f .whole) ∙ w .1) in
+          let size : length (e .value) ≡ m = f .stands .right .words ∙ sym (f .size) in
+          let marked : Marked test true (u .0) e = record { by = λ y. inl refl; not = λ y. absurd (not-both true refl y) } in
+          (u .0, u .1, one .leaves single ws until es mid out test (u .0) e refl refl (omega arith) (omega arith) marked (rw (u .2) at (w .2)));
+    }
 
-module _ (ws table : List ℕ) (at end : ℕ) (c : Cursor) (inv : Looking ws table at end c) (r : Next) (told : Advanced 0 ws c r) where
-  pub looking-done : r ≡ N.Done → OnlySingles ws table at end true
-  looking-done d = record {
-    single = λ h mid s e m.
-        let q = inv .seen mid s in
-        let z = none-left ws c r told (q .0) (q .1) d in
-        elim (q .2 e m) [ inl n ↦ absurd (rw z at n) | inr k ↦ k ];
-  }
+-- ## All of them
 
-  pub looking-next : (op pl v x k m a : ℕ) (behind : Cursor) → r ≡ N.Entry op pl v x k m a behind → unpackOf (get table k) .several ≡ 0 → Looking ws table at end behind
-  looking-next op pl v x k m a behind d zero = record {
-    seen = λ mid s.
-        let q = inv .seen mid s in
-        let o = one-left ws c r told (q .0) (q .1) op pl v x k m a behind d in
-        (o .0, o .1, λ e i. elim (q .2 e i) [ inl n ↦ go (o .0) e (rw (o .2) at n) | inr y ↦ inr y ]);
-  }
-    where
-      go : (es : List Entry) (e : Entry) → Mem e (entryIn ws op pl v x k m a ∷ es) → Mem e es ⊎ (unpackOf (get table (e .key)) .several ≡ 0)
-      go es e (inl p) = inr (ap (λ (f : Entry). unpackOf (get table (f .key)) .several) p ∙ zero)
-      go es e (inr n) = inl n
-
--- ## The copies
-
-pub record PointsOn (ws table₀ : List ℕ) (at end : ℕ) (table : List ℕ) (c : Cursor) : Type 0 where
+pub record LeavesOn (ws table₀ : List ℕ) (keys₀ at end from until : ℕ) (table : List ℕ) (keys to : ℕ) (c : Cursor) : Type 0 where
   pub sized : length table ≡ length table₀
-  pub goes : (keys : ℕ) (mid out copies : List Entry) → Stand ws at end copies → Pointing table₀ keys mid out copies → (todo : List Entry) × Left ws c todo × Pointing table keys mid out todo
+  pub goes : (es mid out : List Entry) (test : Entry → Bool) → Stand ws at end mid → Leaving ws until es mid out test table₀ keys₀ mid from → (todo : List Entry) × Left ws c todo × Leaving ws until es mid out test table keys todo to
 
-pub points-start : (ws table : List ℕ) (at end : ℕ) → PointsOn ws table at end table (cursorAt 0 at end)
-points-start ws table at end = record { sized = refl; goes = λ keys mid out copies s l. (copies, from-here ws at end ∙ s, l) }
+pub leaves-start : (ws table : List ℕ) (keys at end from until : ℕ) → LeavesOn ws table keys at end from until table keys from (cursorAt 0 at end)
+leaves-start ws table keys at end from until = record { sized = refl; goes = λ es mid out test s l. (mid, from-here ws at end ∙ s, l) }
 
-module _ (ws table₀ : List ℕ) (at end : ℕ) (table : List ℕ) (c : Cursor) (inv : PointsOn ws table₀ at end table c) (r : Next) (told : Advanced 0 ws c r) where
-  pub points-done : r ≡ N.Done → AllPointed ws table₀ table at end
-  points-done d = record {
-    sized = inv .sized;
-    points = λ keys mid out copies s l. let q = inv .goes keys mid out copies s l in rw (none-left ws c r told (q .0) (q .1) d) at (q .2);
-  }
+pub leaves-not : (ws table table′ : List ℕ) (keys at end from until so to : ℕ) → length table′ ≡ length table → AllLeft ws table table′ keys at end from until (record { keys = so; to = to; single = false })
+leaves-not ws table table′ keys at end from until so to sized = record { sized = sized; leaves = λ h. absurd (not-both true refl (sym h)) }
 
-  pub points-wrong : r ≡ N.Wrong → AllPointed ws table₀ table at end
-  points-wrong d = record {
-    sized = inv .sized;
-    points = λ keys mid out copies s l. let q = inv .goes keys mid out copies s l in absurd (not-wrong ws c r told (q .0) (q .1) d);
-  }
-
-  pub points-next : (op pl v x k m a : ℕ) (behind : Cursor) → r ≡ N.Entry op pl v x k m a behind → (table′ : List ℕ) → Pointed table table′ k a → PointsOn ws table₀ at end table′ behind
-  points-next op pl v x k m a behind d table′ p = record {
+module _ (ws table₀ : List ℕ) (keys₀ at end from until : ℕ) (table : List ℕ) (keys to : ℕ) where
+  -- behind a run
+  pub leaves-run : (chunk place stop : ℕ) → LeavesOn ws table₀ keys₀ at end from until table keys to (cursorAt chunk place stop) → (table′ : List ℕ) (r : Run) → PutsLeft ws table table′ keys place stop to r → r .single ≡ true
+      → LeavesOn ws table₀ keys₀ at end from until table′ (r .keys) (r .to) (cursorAt chunk (r .at) stop)
+  leaves-run chunk place stop inv table′ r p single = record {
     sized = p .sized ∙ inv .sized;
-    goes = λ keys mid out copies s l.
-        let q = inv .goes keys mid out copies s l in
-        let o = one-left ws c r told (q .0) (q .1) op pl v x k m a behind d in
-        (o .0, o .1, p .points keys mid out (o .0) (entryIn ws op pl v x k m a) refl refl (rw (o .2) at (q .2)));
+    goes = λ es mid out test s l. let q = inv .goes es mid out test s l in p .passes single chunk until es mid out test (q .0) (q .1) (q .2);
   }
 
--- ## The entries
+  module _ (c : Cursor) (inv : LeavesOn ws table₀ keys₀ at end from until table keys to c) (r : Next) (told : Advanced 0 ws c r) where
+    pub leaves-done : r ≡ N.Done → AllLeft ws table₀ table keys₀ at end from until (record { keys = keys; to = to; single = true })
+    leaves-done d = record {
+      sized = inv .sized;
+      leaves = λ h es mid out test s l. let q = inv .goes es mid out test s l in rw (none-left ws c r told (q .0) (q .1) d) at (q .2);
+    }
 
-pub record LeavesOn (ws table₀ : List ℕ) (at end keys₀ : ℕ) (table : List ℕ) (keys : ℕ) (c : Cursor) : Type 0 where
-  pub sized : length table ≡ length table₀
-  pub goes : (mid out : List Entry) → Stand ws at end mid → Leaving table₀ keys₀ mid out → (left : List Entry) × Left ws c left × Leaving table keys left out
-
-pub leaves-start : (ws table : List ℕ) (at end keys : ℕ) → LeavesOn ws table at end keys table keys (cursorAt 0 at end)
-leaves-start ws table at end keys = record { sized = refl; goes = λ mid out s l. (mid, from-here ws at end ∙ s, l) }
-
-module _ (ws table₀ : List ℕ) (at end keys₀ : ℕ) (table : List ℕ) (keys : ℕ) (c : Cursor) (inv : LeavesOn ws table₀ at end keys₀ table keys c) (r : Next) (told : Advanced 0 ws c r) where
-  pub leaves-done : r ≡ N.Done → AllLeft ws table₀ table at end keys₀ keys
-  leaves-done d = record {
-    sized = inv .sized;
-    leaves = λ mid out s l. let q = inv .goes mid out s l in rw (none-left ws c r told (q .0) (q .1) d) at (q .2);
-  }
-
-  pub leaves-wrong : r ≡ N.Wrong → AllLeft ws table₀ table at end keys₀ keys
-  leaves-wrong d = record {
-    sized = inv .sized;
-    leaves = λ mid out s l. let q = inv .goes mid out s l in absurd (not-wrong ws c r told (q .0) (q .1) d);
-  }
-
-  pub leaves-next : (op pl v x k m a : ℕ) (behind : Cursor) → r ≡ N.Entry op pl v x k m a behind → (table′ : List ℕ) (keys′ : ℕ) → OneLeft table table′ keys k a keys′
-      → LeavesOn ws table₀ at end keys₀ table′ keys′ behind
-  leaves-next op pl v x k m a behind d table′ keys′ p = record {
-    sized = p .sized ∙ inv .sized;
-    goes = λ mid out s l.
-        let q = inv .goes mid out s l in
-        let o = one-left ws c r told (q .0) (q .1) op pl v x k m a behind d in
-        (o .0, o .1, p .leaves (o .0) out (entryIn ws op pl v x k m a) refl refl (rw (o .2) at (q .2)));
-  }
+    pub leaves-next : (op pl v x k m a : ℕ) (behind : Cursor) → r ≡ N.Entry op pl v x k m a behind → m < 0x2000_0000_0000_0000 → (copied : Bool) → IsCopied ws to until op k copied
+        → (table′ : List ℕ) (w : Went) → OneLeft table table′ keys k a to (2 + m) copied w → w .single ≡ true → LeavesOn ws table₀ keys₀ at end from until table′ (w .keys) (w .to) behind
+    leaves-next op pl v x k m a behind d few copied marks table′ w p single = record {
+      sized = p .sized ∙ inv .sized;
+      goes = λ es mid out test s l.
+          let q = inv .goes es mid out test s l in
+          let o = one-left ws c r told (q .0) (q .1) op pl v x k m a behind d in
+          let h = handed 0 ws c r told op pl v x k m a behind d in
+          let e = entryIn ws op pl v x k m a in
+          let size : length (e .value) ≡ m = h .stands .right .words ∙ sym (h .size) in
+          let now′ : Leaving ws until es mid out test table keys (e ∷ o .0) to = rw (o .2) at (q .2) in
+          (o .0, o .1, p .leaves single ws until es mid out test (o .0) e refl refl (omega arith) (omega arith) (marks .marks test (o .0) e refl refl (now′ .standing)) now′);
+    }

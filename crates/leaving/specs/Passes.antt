@@ -1,45 +1,44 @@
--- What the passes over the entries of a chunk and over their copies do to the key table, and all of them together at a cleaning's last fence.
+-- What the pass over the entries of a chunk does to the key table: one entry, a run of puts, and all of them, at a cleaning's last fence.
 -- Assumes nothing.
 use mathlib.Core.Path.{_≡_}
 use mathlib.Core.Bool.{Bool, true}
 use mathlib.Core.List.{List, [], _∷_, _++_}
-use Prim.Native.Nat.{ℕ, _*_, _≤_}
+use Prim.Native.Nat.{ℕ, _+_, _*_, _≤_, _<_}
 use lib.ListN.{length}
-use lib.Seq.{slice}
-use Rattle.spec.specs.Basics.{isIn}
+use Rattle.spec.specs.Basics.{isIn, filter}
 use Rattle.spec.specs.Places.{maxChunks}
-use Rattle.spec.specs.Log.{Entry, imageEntries}
+use Rattle.spec.specs.Log.{Entry, Entries, placed, imageEntries}
 use Rattle.spec.specs.Contents.{liveBlocks}
 use Rattle.spec.specs.Opening.{Accepted, openLog}
-use Rattle.theory_log.specs.Contents.{Mem}
-use Rattle.index.specs.Index.{get}
-use Rattle.index.specs.Packed.{unpackOf}
+use Rattle.log.specs.Cursor.{cursorAt, remaining, left}
 use Rattle.blocks.specs.Bits.{hasBit}
 use Rattle.volatile.specs.Known.{Indexed}
 use Rattle.session.specs.Cleaned.{before, copiesOf, after, Cleaned, Stand}
-use Rattle.leaving.specs.Leaving.{Leaving, Pointing}
+use Rattle.leaving.specs.Leaving.{Leaving, Marked}
+use Rattle.leaving.specs.declared.Went.{Went}
+use Rattle.leaving.specs.declared.Run.{Run}
 
--- whether no word of their keys has the bit of several top entries
-pub record OnlySingles (ws table : List ℕ) (at end : ℕ) (r : Bool) : Type 0 where
-  pub single : r ≡ true → (mid : List Entry) → Stand ws at end mid → (e : Entry) → Mem e mid → unpackOf (get table (e .key)) .several ≡ 0
+-- whether the chosen entry with this operation and key has a copy, the copies still to come standing from `to` to `until`
+pub record IsCopied (ws : List ℕ) (to until op key : ℕ) (r : Bool) : Type 0 where
+  pub marks : (test : Entry → Bool) (left : List Entry) (e : Entry) → e .op ≡ op → e .key ≡ key → Stand ws to until (placed to (filter test (e ∷ left))) → Marked test r left e
 
--- the table before and after the copy of a key at this place is pointed to; and all copies
-pub record Pointed (table table′ : List ℕ) (key place : ℕ) : Type 0 where
+-- the table, with so many keys, before and after the entry of a key at this place, of so many words, leaves
+pub record OneLeft (table table′ : List ℕ) (keys key place to size : ℕ) (copied : Bool) (r : Went) : Type 0 where
   pub sized : length table′ ≡ length table
-  pub points : (keys : ℕ) (mid out todo : List Entry) (c : Entry) → c .key ≡ key → c .at ≡ place → Pointing table keys mid out (c ∷ todo) → Pointing table′ keys mid out todo
+  pub leaves : r .single ≡ true → (ws : List ℕ) (until : ℕ) (es mid out : List Entry) (test : Entry → Bool) (left : List Entry) (e : Entry) → e .key ≡ key → e .at ≡ place → size ≡ 2 + length (e .value) → size < 0x4000_0000_0000_0000
+      → Marked test copied left e → Leaving ws until es mid out test table keys (e ∷ left) to → Leaving ws until es mid out test table′ (r .keys) left (r .to)
 
-pub record AllPointed (ws table table′ : List ℕ) (at end : ℕ) : Type 0 where
+-- before and after a run of puts, from word `from` on and before word `end`
+pub record PutsLeft (ws table table′ : List ℕ) (keys from end to : ℕ) (r : Run) : Type 0 where
   pub sized : length table′ ≡ length table
-  pub points : (keys : ℕ) (mid out copies : List Entry) → Stand ws at end copies → Pointing table keys mid out copies → Pointing table′ keys mid out []
+  pub nearer : (n c : ℕ) → left n ws (cursorAt c (r .at) end) ≤ left n ws (cursorAt c from end)
+  pub passes : r .single ≡ true → (c until : ℕ) (es mid out : List Entry) (test : Entry → Bool) (todo : List Entry) → remaining 12 0 ws (cursorAt c from end) ≡ Entries todo → Leaving ws until es mid out test table keys todo to
+      → (todo′ : List Entry) × (remaining 12 0 ws (cursorAt c (r .at) end) ≡ Entries todo′) × Leaving ws until es mid out test table′ (r .keys) todo′ (r .to)
 
--- the table, with so many keys, before and after the entry of a key at this place leaves; and all of them
-pub record OneLeft (table table′ : List ℕ) (keys key place keys′ : ℕ) : Type 0 where
+-- and all of them
+pub record AllLeft (ws table table′ : List ℕ) (keys at end from until : ℕ) (r : Went) : Type 0 where
   pub sized : length table′ ≡ length table
-  pub leaves : (left out : List Entry) (e : Entry) → e .key ≡ key → e .at ≡ place → Leaving table keys (e ∷ left) out → Leaving table′ keys′ left out
-
-pub record AllLeft (ws table table′ : List ℕ) (at end keys keys′ : ℕ) : Type 0 where
-  pub sized : length table′ ≡ length table
-  pub leaves : (mid out : List Entry) → Stand ws at end mid → Leaving table keys mid out → Leaving table′ keys′ [] out
+  pub leaves : r .single ≡ true → (es mid out : List Entry) (test : Entry → Bool) → Stand ws at end mid → Leaving ws until es mid out test table keys mid from → Leaving ws until es mid out test table′ (r .keys) [] (r .to)
 
 -- table and bits are those of the entries es
 pub record Holds (buffer table : List ℕ) (keys : ℕ) (es : List Entry) : Type 0 where
