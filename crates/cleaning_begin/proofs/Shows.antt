@@ -3,7 +3,7 @@
 use mathlib.Core.Path.{_≡_, refl, sym, _∙_, ap, subst}
 use mathlib.Core.Logic.{_⊎_, inl, inr}
 use mathlib.Core.List.{List, [], _∷_}
-use Prim.Native.Nat.{ℕ, _+_, _*_}
+use Prim.Native.Nat.{ℕ, min}
 use native.Mathlib.Omega.{arith}
 use lib.ListN.{length}
 use Rattle.spec.specs.Words.{wordsOf}
@@ -14,55 +14,60 @@ use Rattle.session.specs.declared.Setup.{Setup}
 use Rattle.spec.specs.declared.Refusal.{Refusal}
 use Rattle.spec.specs.declared.Report.the-variants as R
 use Rattle.session.specs.Fits.{RestFits}
-use Rattle.gathering.specs.declared.Tally.{Tally}
-use Rattle.gathering.specs.Gathering.{Gathered}
+use Rattle.gathering.specs.Gathering.{Copied}
+use Rattle.gathering.proofs.Words.{stored-gathered}
 use Rattle.session.specs.declared.Source.{Source}
-use Rattle.session.specs.State.{sourceIn, sourceLines}
 use Rattle.cleaning.specs.Record.{cleaning, copyingTo}
 use Rattle.cleaning.proofs.Acting.{length-clean}
 use Rattle.planning.specs.declared.CleanPlan.{CleanPlan}
 use Rattle.planning.specs.declared.CleanPlan.the-variants as P
-use Rattle.planning.specs.Plans.{Beginning, CleanPlanned}
+use Rattle.planning.specs.Plans.{Beginning, KeptAt, CleanPlanned}
 use Rattle.planning.proofs.Begun.{Begun, begins-bare, begins-copies}
-use Rattle.cleaning_begin.specs.Outsets.{KeptGathered, Outsets}
+use Rattle.cleaning_begin.specs.Outsets.{KeptStored, Outsets}
 
-pub shows-none : (f : Source) (ws table b : List ℕ) → f .words ≡ 0 → KeptGathered f ws table b b
-shows-none f ws table b z = inl (z, refl)
+module _ (f : Source) (kept b : List ℕ) where
+  pub stored-none : f .words ≡ 0 → KeptStored f kept b b
+  stored-none z = inl (z, refl)
 
-pub shows-gathered : (f : Source) (ws table b b′ : List ℕ) (at end : ℕ) (t : Tally) → (f .words ≡ 0 → ⊥) → at ≡ 512 * sourceIn f → end ≡ at + 8 * sourceLines f → Gathered ws table b b′ at end t → KeptGathered f ws table b b′
-shows-gathered f ws table b b′ at end t z ea ee g = inr (z, record { at = at; end = end; tally = t; at-is = ea; end-is = ee; gathered = g })
+  pub stored-some : (b′ : List ℕ) (n : ℕ) → (f .words ≡ 0 → ⊥) → length b ≡ 1152 → n ≡ min (f .words) 512 → Copied kept b b′ 0 512 n → KeptStored f kept b b′
+  stored-some b′ n z long is c = inr (z, long, n, is, c)
 
-module _ (c : Control) (k : Setup) (b image table : List ℕ) (s : ℕ) (plan : CleanPlan) (right : CleanPlanned c k b image table s plan) where
+module _ (c : Control) (k : Setup) (b image table words : List ℕ) (s : ℕ) (plan : CleanPlan) (right : CleanPlanned c k b image table words s plan) where
   abbrev ws : List ℕ
   ws = wordsOf image
 
   pub turned : (x : Refusal) → plan ≡ P.Refused x → Outsets c c k k b b image table s (R.Refused x)
   turned x e =
-      let p : CleanPlanned c k b image table s (P.Refused x) = rw e at right in
+      let p : CleanPlanned c k b image table words s (P.Refused x) = rw e at right in
       inl (record { number = x; report = refl; listed = p .sound; control = refl; setup = refl; buffer = refl; right = p .plans })
 
-  module _ (chunk old lines first : ℕ) (g : Source) (actions : ℕ) (e : plan ≡ P.At chunk old lines first g actions) (b′ : List ℕ) (kept : KeptGathered g ws table b b′) where
+  module _ (chunk old lines first : ℕ) (g : Source) (actions : ℕ) (e : plan ≡ P.At chunk old lines first g actions) (b′ : List ℕ) (kept : KeptStored g words b b′) where
     abbrev k′ : Setup
     k′ = copyingTo k chunk old lines first (k .least) g
 
-    p : CleanPlanned c k b image table s (P.At chunk old lines first g actions)
+    p : CleanPlanned c k b image table words s (P.At chunk old lines first g actions)
     p = rw e at right
 
     long : length b′ ≡ length b
     long = go kept
       where
-        go : KeptGathered g ws table b b′ → length b′ ≡ length b
+        go : KeptStored g words b b′ → length b′ ≡ length b
         go (inl a) = ap length (a .1)
-        go (inr a) = a .1 .gathered .area .long
+        go (inr a) = a .4 .long
 
-    began : (r : RestFits (record { control = c; setup = k; buffer = b }) ws table []) → Beginning ws (r .entries) (chunksIn 12 (k .image)) s chunk old lines (k .first) first g actions → KeptGathered g ws table b b′
-        → Begun c k′ g b′ ws table (r .entries) (chunksIn 12 (k .image)) s actions
-    began r q (inl a) = subst (λ (x : List ℕ). Begun c k′ g x ws table (r .entries) (chunksIn 12 (k .image)) s actions) (sym (a .1)) (begins-bare c k b ws table r s chunk old lines first g actions q (a .0))
-    began r q (inr a) = begins-copies c k b ws table r s chunk old lines first g actions q b′ (a .1 .at) (a .1 .end) (a .1 .tally) (a .1 .at-is) (a .1 .end-is) (a .1 .gathered) (a .0)
+    began : (r : RestFits (record { control = c; setup = k; buffer = b }) ws table []) → Beginning ws (r .entries) (chunksIn 12 (k .image)) s chunk old lines (k .first) first g actions → KeptStored g words b b′
+        → (g .words ≡ 0) ⊎ KeptAt g ws table words → Begun c k′ g b′ ws table (r .entries) (chunksIn 12 (k .image)) s actions
+    began r q (inl a) h = subst (λ (x : List ℕ). Begun c k′ g x ws table (r .entries) (chunksIn 12 (k .image)) s actions) (sym (a .1)) (begins-bare c k b ws table r s chunk old lines first g actions q (a .0))
+    began r q (inr a) (inl z) = absurd (a .0 z)
+    began r q (inr (z, size, n, is, copied)) (inr h) =
+        let low = h .collected .bound in
+        let w = h .words in
+        let n-is : n ≡ h .tally .words = omega arith in
+        begins-copies c k b ws table r s chunk old lines first g actions q b′ (h .at) (h .end) (h .tally) (h .at-is) (h .end-is) (stored-gathered ws table words b b′ (h .at) (h .end) n (h .tally) (h .collected) n-is size copied) z
 
     all : (items : List Entry) (q : RestFits (record { control = c; setup = k; buffer = b }) ws table items) → (items ≡ []) × Beginning ws (q .entries) (chunksIn 12 (k .image)) s chunk old lines (k .first) first g actions
         → (items ≡ []) × Begun c k′ g b′ ws table (q .entries) (chunksIn 12 (k .image)) s actions
-    all [] q h = (h .0, began q (h .1) kept)
+    all [] q h = (h .0, began q (h .1) kept (p .keeps))
     all (i ∷ items) q h = absurd (let z : _≡_ {A = ℕ} 0 1 = let y = h .0 in cc in omega arith)
 
     pub set : Outsets c (cleaning c) k k′ b b′ image table s (R.Begun actions)

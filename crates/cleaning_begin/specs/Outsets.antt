@@ -3,7 +3,7 @@
 use mathlib.Core.Path.{_≡_}
 use mathlib.Core.Logic.{_⊎_}
 use mathlib.Core.List.{List, []}
-use Prim.Native.Nat.{ℕ, _+_, _*_}
+use Prim.Native.Nat.{ℕ, min}
 use lib.ListN.{length}
 use Rattle.spec.specs.Words.{wordsOf}
 use Rattle.spec.specs.Places.{chunksIn}
@@ -17,23 +17,15 @@ use Rattle.spec.specs.declared.Refusal.{Refusal}
 use Rattle.spec.specs.declared.Report.{Report}
 use Rattle.spec.specs.declared.Report.the-variants as R
 use Rattle.session.specs.Fits.{RestFits}
-use Rattle.gathering.specs.declared.Tally.{Tally}
-use Rattle.gathering.specs.Gathering.{Gathered}
+use Rattle.gathering.specs.Gathering.{Copied}
 use Rattle.session.specs.declared.Source.{Source}
-use Rattle.session.specs.State.{sourceIn, sourceLines, cleanActions}
+use Rattle.session.specs.State.{cleanActions}
 use Rattle.cleaning.specs.Record.{cleaning}
 use Rattle.planning.proofs.Begun.{Begun}
 
-pub record GatheredAt (f : Source) (ws table b b′ : List ℕ) : Type 0 where
-  pub at : ℕ
-  pub end : ℕ
-  pub tally : Tally
-  pub at-is : at ≡ 512 * sourceIn f
-  pub end-is : end ≡ at + 8 * sourceLines f
-  pub gathered : Gathered ws table b b′ at end tally
-
-abbrev pub KeptGathered : (f : Source) (ws table b b′ : List ℕ) → Type 0
-KeptGathered f ws table b b′ = ((f .words ≡ 0) × (b′ ≡ b)) ⊎ ((f .words ≡ 0 → ⊥) × GatheredAt f ws table b b′)
+-- the kept words are stored in the record's buffer, if there are any
+abbrev pub KeptStored : (f : Source) (kept b b′ : List ℕ) → Type 0
+KeptStored f kept b b′ = ((f .words ≡ 0) × (b′ ≡ b)) ⊎ ((f .words ≡ 0 → ⊥) × (length b ≡ 1152) × (n : ℕ) × (n ≡ min (f .words) 512) × Copied kept b b′ 0 512 n)
 
 -- turned down: nothing is changed, and the number is one of the call's
 pub record Turned (c c′ : Control) (k k′ : Setup) (b b′ image table : List ℕ) (s : ℕ) (r : Report) : Type 0 where

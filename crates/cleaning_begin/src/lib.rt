@@ -1,7 +1,6 @@
-// The begin of a cleaning: the gate, its plan, and the kept words gathered where it is not turned down.
-ghost use Rattle.spec.specs.Words.{wordsOf};
+// The begin of a cleaning: the gate, its plan, and the words that it keeps stored in the record where it is not turned down.
 ghost use Rattle.spec.specs.Machine.{Clean};
-ghost use Rattle.cleaning_begin.specs.Outsets.{KeptGathered, Outsets};
+ghost use Rattle.cleaning_begin.specs.Outsets.{KeptStored, Outsets};
 ghost use Rattle.session.specs.Promise.{Does};
 use planning::CleanPlan;
 use session::Control;
@@ -12,15 +11,16 @@ use session::Source;
 use spec::Report;
 
 // The kept words go to the buffer's second area, if there are any.
-fn gather_kept(source: Source, buffer: &mut [u64; 1152], image: &[u8], table: &[u64])
-    ensures { λ _. ⌜ KeptGathered source (wordsOf (now (image .entry))) (now (table .entry)) (now (buffer .entry)) (now (buffer .exit)) ⌝ }
+fn store_kept(source: Source, buffer: &mut [u64; 1152], kept: &[u64; 512])
+    ensures { λ _. ⌜ KeptStored source (now (kept .entry)) (now (buffer .entry)) (now (buffer .exit)) ⌝ }
 {
-    if source.words == 0 {
+    blocks::buffer_length(buffer);
+    let words = source.words;
+    if words == 0 {
         return;
     }
-    let at = 512 * (source.chunk % 512);
-    let end = at + 8 * (source.lines % 128);
-    gathering::gather(image, table, buffer, at, end);
+    let n = actions::at_most(words, 512);
+    gathering::store_kept(buffer, kept, n);
 }
 
 // Behind the gate: 15, 16, 13, or begun.
@@ -34,7 +34,8 @@ fn begin_clean(
 ) -> Outcome
     ensures { λ r. ⌜ Outsets control (r .control) setup (r .setup) (now (buffer .entry)) (now (buffer .exit)) (now (image .entry)) (now (table .entry)) number (r .report) ⌝ }
 {
-    let plan = planning::plan_clean(control, setup, buffer, image, table, number);
+    let mut kept: [u64; 512] = [0; 512];
+    let plan = planning::plan_clean(control, setup, buffer, image, table, &mut kept, number);
     match plan {
         CleanPlan::Refused(n) => Outcome {
             control,
@@ -49,7 +50,7 @@ fn begin_clean(
             source,
             actions,
         } => {
-            gather_kept(source, buffer, image, table);
+            store_kept(source, buffer, &kept);
             let begun = Control {
                 phase: 6,
                 next: 0,

@@ -11,7 +11,7 @@ use native.Mathlib.Decide.{decLt, ℕ-discrete}
 use lib.Dec.{eqb, ltb}
 use lib.ListN.{length, replicate, length-replicate}
 use lib.Seq.{slice}
-use borrow.Author.Tests.{eqb-true, eqb-false, eq-eqb, ne-eqb, lt-ltb, le-ltb}
+use borrow.Author.Tests.{eq-eqb, ne-eqb, lt-ltb, le-ltb}
 use Rattle.spec.specs.Log.{Entry}
 use Rattle.spec.specs.Contents.{chosen, known}
 use Rattle.theory_base.proofs.Lists.{not-both}
@@ -32,21 +32,12 @@ use Rattle.index.specs.Packed.{unpackOf}
 use Rattle.volatile.specs.Known.{entryCount}
 use Rattle.volatile.proofs.Info.{said, info-says}
 use Rattle.session.specs.Cleaned.{before, Stand}
-use Rattle.leaving.proofs.Sole.{count-append, count-own, count-other, count-no}
+use Rattle.leaving.proofs.Sole.{count-append, count-own, count-other, count-known, count-no}
 use Rattle.leaving.proofs.Walks.{Left, from-here, none-left, not-wrong, one-left}
 use Rattle.gathering.specs.Gathering.{Gatherable, Counting, Tells, Decided, CountedOnce, KeptTest}
 use Rattle.gathering.proofs.Words.{few-words}
 
 -- ## A key has entries exactly if it is known
-
-count-known : (k : ℕ) (es : List Entry) (e : Entry) → Mem e es → e .key ≡ k → 1 ≤ entryCount k es
-count-known k [] e m q = absurd m
-count-known k (x ∷ xs) e (inl p) q = let y : x .key ≡ k = sym (ap (λ (f : Entry). f .key) p) ∙ q in let c = count-own k x xs y in omega arith
-count-known k (x ∷ xs) e (inr m) q = go (eqb (x .key) k) (count-known k xs e m q) (eqb-true (x .key) k) (eqb-false (x .key) k)
-  where
-    go : (b : Bool) → 1 ≤ entryCount k xs → (b ≡ true → x .key ≡ k) → (b ≡ false → x .key ≡ k → ⊥) → 1 ≤ entryCount k (x ∷ xs)
-    go true h y n = let c = count-own k x xs (y refl) in omega arith
-    go false h y n = let c = count-other k x xs (n refl) in omega arith
 
 known-count : (k : ℕ) (es : List Entry) → known k es ≡ ltb 0 (entryCount k es)
 known-count k es = go (known k es) refl

@@ -11,24 +11,23 @@ use native.Mathlib.Omega.{arith}
 use lib.ListN.{length, getD, set, take, drop, length-append, length-set}
 use lib.Seq.{slice, drop-cons, getD-set-same, getD-set-other}
 use Rattle.spec.specs.Basics.{filter}
-use Rattle.spec.specs.Log.{Entry, wordsFor, encode, encodeAll}
-use Rattle.theory_log.proofs.Contents.{mem-l, mem-r}
+use Rattle.spec.specs.Log.{Entry, encode, encodeAll}
 use Rattle.theory_log.proofs.Walk.{slice-long}
 use Rattle.theory_plans.proofs.Cleaning.{parse-words, filter-words}
-use Rattle.log.specs.Stands.{StandsIn}
 use Rattle.session.specs.State.{bufferPart}
 use Rattle.session.proofs.Part.{length-part, part-agree}
 use Rattle.session.specs.Cleaned.{keptOf}
 use Rattle.gathering.specs.declared.Tally.{Tally}
-use Rattle.gathering.specs.Gathering.{Gatherable, Copied, AreaWritten, Owing, keptTest, Room, OneGathered}
+use Rattle.gathering.specs.Gathering.{Gatherable, Copied, keptTest, Room, Gathered, Measured}
+use Rattle.gathering.specs.Reading.{Owing, OneTaken, Collected}
 
 -- ## Copying words
 
 pub copied-start : (ws buffer : List ℕ) (from to : ℕ) → Copied ws buffer buffer from to 0
 copied-start ws buffer from to = record { long = refl; words = λ i l. absurd (omega arith); others = λ j o. refl }
 
-pub copied-next : (ws buffer now′ next′ : List ℕ) (from to i v : ℕ) → length buffer ≡ 1152 → to + i < 1152 → Copied ws buffer now′ from to i → v ≡ getD ws (from + i) 0 → next′ ≡ set now′ (to + i) v → Copied ws buffer next′ from to (i + 1)
-copied-next ws buffer now′ next′ from to i v size low c is-v is = record {
+pub copied-next : (size : ℕ) (ws buffer now′ next′ : List ℕ) (from to i v : ℕ) → length buffer ≡ size → to + i < size → Copied ws buffer now′ from to i → v ≡ getD ws (from + i) 0 → next′ ≡ set now′ (to + i) v → Copied ws buffer next′ from to (i + 1)
+copied-next n ws buffer now′ next′ from to i v size low c is-v is = record {
   long = rw (is, length-set) (c .long);
   words = λ j l. ap (λ (b : List ℕ). getD b (to + j) 0) is ∙ by-cases (ℕ-discrete j i)
       (λ q. rw q (getD-set-same now′ (to + i) v 0 (rw (c .long, size) low) ∙ is-v))
@@ -84,9 +83,9 @@ kept-words ws table keys at end xs mid ys g =
 
 -- ## One entry
 
-module _ (buffer : List ℕ) (test : Entry → Bool) (mid left : List Entry) (t : Tally) (e : Entry) (o : Owing buffer test mid t (e ∷ left)) where
+module _ (kept : List ℕ) (test : Entry → Bool) (mid todo : List Entry) (t : Tally) (e : Entry) (o : Owing kept test mid t (e ∷ todo)) where
   -- it is not kept
-  owing-skip : test e ≡ false → Owing buffer test mid t left
+  owing-skip : test e ≡ false → Owing kept test mid t todo
   owing-skip h = record {
     words = o .words ∙ rw h;
     count = o .count ∙ rw h;
@@ -95,19 +94,20 @@ module _ (buffer : List ℕ) (test : Entry → Bool) (mid left : List Entry) (t 
 
   -- it is, and its words go behind the others
   module _ (h : test e ≡ true) where
-    owing-words : encodeAll (filter test mid) ≡ bufferPart buffer 512 (t .words) ++ (encode e ++ encodeAll (filter test left))
+    owing-words : encodeAll (filter test mid) ≡ bufferPart kept 0 (t .words) ++ (encode e ++ encodeAll (filter test todo))
     owing-words = o .words ∙ rw h
 
-    owing-count : length (filter test mid) ≡ t .entries + suc (length (filter test left))
+    owing-count : length (filter test mid) ≡ t .entries + suc (length (filter test todo))
     owing-count = o .count ∙ rw h
 
-    owing-take : (buffer′ : List ℕ) (n : ℕ) → n ≡ 2 + length (e .value) → bufferPart buffer′ 512 (t .words) ≡ bufferPart buffer 512 (t .words) → bufferPart buffer′ (512 + t .words) n ≡ encode e
-        → Owing buffer′ test mid (record { words = t .words + n; entries = t .entries + 1 }) left
-    owing-take buffer′ n is same new =
-        let both′ : bufferPart buffer′ 512 (t .words) ++ bufferPart buffer′ (512 + t .words) n ≡ bufferPart buffer 512 (t .words) ++ encode e = rw (same, new) in
-        let part : bufferPart buffer 512 (t .words) ++ encode e ≡ bufferPart buffer′ 512 (t .words + n) = sym (part-more buffer′ 512 (t .words) n ∙ both′) in
+    owing-take : (kept′ : List ℕ) (n : ℕ) → n ≡ 2 + length (e .value) → bufferPart kept′ 0 (t .words) ≡ bufferPart kept 0 (t .words) → bufferPart kept′ (t .words) n ≡ encode e
+        → Owing kept′ test mid (record { words = t .words + n; entries = t .entries + 1 }) todo
+    owing-take kept′ n is same new =
+        let first : bufferPart kept′ (0 + t .words) n ≡ encode e = rw zero-add new in
+        let both′ : bufferPart kept′ 0 (t .words) ++ bufferPart kept′ (0 + t .words) n ≡ bufferPart kept 0 (t .words) ++ encode e = rw (same, first) in
+        let part : bufferPart kept 0 (t .words) ++ encode e ≡ bufferPart kept′ 0 (t .words + n) = sym (part-more kept′ 0 (t .words) n ∙ both′) in
         record {
-          words = owing-words ∙ sym (append-assoc (bufferPart buffer 512 (t .words)) (encode e) (encodeAll (filter test left))) ∙ ap (λ (l : List ℕ). l ++ encodeAll (filter test left)) part;
+          words = owing-words ∙ sym (append-assoc (bufferPart kept 0 (t .words)) (encode e) (encodeAll (filter test todo))) ∙ ap (λ (l : List ℕ). l ++ encodeAll (filter test todo)) part;
           count = let c = owing-count in omega arith;
           inside = λ f m. o .inside f (inr m);
         }
@@ -115,60 +115,72 @@ module _ (buffer : List ℕ) (test : Entry → Bool) (mid left : List Entry) (t 
     owing-room : length (encodeAll (filter test mid)) ≤ 512 → (t .words + (2 + length (e .value)) ≤ 512) × (t .entries < 512)
     owing-room l =
         let a = ap length owing-words in
-        let b = length-append (bufferPart buffer 512 (t .words)) (encode e ++ encodeAll (filter test left)) in
-        let c = length-append (e .value) (encodeAll (filter test left)) in
-        let d = length-part buffer 512 (t .words) in
+        let b = length-append (bufferPart kept 0 (t .words)) (encode e ++ encodeAll (filter test todo)) in
+        let c = length-append (e .value) (encodeAll (filter test todo)) in
+        let d = length-part kept 0 (t .words) in
         let f = few-words (filter test mid) in
         let g = owing-count in
         (omega arith, omega arith)
 
 -- ## What the code shows of one entry
 
-area-all : (b : List ℕ) → length b ≡ 1152 → AreaWritten b b
-area-all b size = record { size = size; long = refl; below = λ j l. refl; above = λ j l. refl }
+module _ (ws kept : List ℕ) (t : Tally) (place size : ℕ) (long : length kept ≡ 512) where
+  pub take-not : OneTaken ws kept kept t false place size t
+  take-not = record { long = long; bound = λ l. l; adds = λ test mid todo e few low h ev es fits o. owing-skip kept test mid todo t e o (sym h) }
 
-module _ (ws buffer : List ℕ) (t : Tally) (place size : ℕ) (long : length buffer ≡ 1152) where
-  pub take-not : OneGathered ws buffer buffer t false place size t
-  take-not = record {
-    area = area-all buffer long;
-    bound = λ l. l;
-    adds = λ table at end keys xs mid ys left e g h ea ev es o. owing-skip buffer (keptTest xs mid ys) mid left t e o (sym h);
-  }
-
-  pub take-full : (words entries : ℕ) → words ≡ t .words → entries ≡ t .entries → Room words entries place size false → OneGathered ws buffer buffer t true place size t
+  pub take-full : (words entries : ℕ) → words ≡ t .words → entries ≡ t .entries → Room words entries place size false → OneTaken ws kept kept t true place size t
   take-full words entries iw ie r = record {
-    area = area-all buffer long;
+    long = long;
     bound = λ l. l;
-    adds = λ table at end keys xs mid ys left e g h ea ev es o.
-        let m = o .inside e (inl refl) in
-        let f = owing-room buffer (keptTest xs mid ys) mid left t e o (sym h) (kept-words ws table keys at end xs mid ys g) in
-        let p = g .small .each e (mem-r e xs (mid ++ ys) (mem-l e mid ys m)) .place-high in
+    adds = λ test mid todo e few low h ev es fits o.
+        let f = owing-room kept test mid todo t e o (sym h) few in
         let x = f .0 in
         let y = f .1 in
-        absurd (r .lacks refl (omega arith) (omega arith) (omega arith));
+        absurd (r .lacks refl (omega arith) (omega arith) low);
   }
 
-  pub take-kept : (words entries : ℕ) → words ≡ t .words → entries ≡ t .entries → Room words entries place size true
-      → (buffer′ : List ℕ) → Copied ws buffer buffer′ place (512 + words) (2 + size)
-      → OneGathered ws buffer buffer′ t true place size (record { words = words + (2 + size); entries = entries + 1 })
-  take-kept words entries iw ie r buffer′ c = record {
-    area = record {
-      size = long;
-      long = c .long;
-      below = λ j l. c .others j (inl (omega arith));
-      above = λ j l. let f = r .fits refl .0 in c .others j (inr (omega arith));
-    };
+  pub take-kept : (words entries : ℕ) → words ≡ t .words → entries ≡ t .entries → Room words entries place size true → (kept′ : List ℕ) → Copied ws kept kept′ place words (2 + size)
+      → OneTaken ws kept kept′ t true place size (record { words = words + (2 + size); entries = entries + 1 })
+  take-kept words entries iw ie r kept′ c = record {
+    long = c .long ∙ long;
     bound = λ l. r .fits refl .0;
-    adds = adds;
+    adds = λ test mid todo e few low h ev es fits o.
+        let same : bufferPart kept′ 0 (t .words) ≡ bufferPart kept 0 (t .words) = part-agree kept′ kept 0 (t .words) (λ j a b. c .others j (inl (omega arith))) in
+        let new : bufferPart kept′ (t .words) (2 + size) ≡ encode e = rw (← iw) (part-words kept′ ws words place (2 + size) (c .words) fits ∙ es) in
+        rw (iw, ie) (owing-take kept test mid todo t e o (sym h) kept′ (2 + size) (omega arith) same new);
   }
-    where
-      adds : (table : List ℕ) (at end keys : ℕ) (xs mid ys left : List Entry) (e : Entry) → Gatherable ws table keys at end xs mid ys → true ≡ keptTest xs mid ys e → e .at ≡ place → length (e .value) ≡ size → StandsIn ws e
-          → Owing buffer (keptTest xs mid ys) mid t (e ∷ left) → Owing buffer′ (keptTest xs mid ys) mid (record { words = words + (2 + size); entries = entries + 1 }) left
-      adds table at end keys xs mid ys left e g h ea ev s o =
-          let test : keptTest xs mid ys e ≡ true = sym h in
-          let same : bufferPart buffer′ 512 (t .words) ≡ bufferPart buffer 512 (t .words) = part-agree buffer′ buffer 512 (t .words) (λ j a b. c .others j (inl (omega arith))) in
-          let n : 2 + size ≡ 2 + wordsFor (e .placement) (e .field) = omega (arith, s .right .words) in
-          let f = s .fits in
-          let at′ : bufferPart buffer′ (512 + words) (2 + size) ≡ take (2 + size) (drop place ws) = part-words buffer′ ws (512 + words) place (2 + size) (c .words) (rw (← ea) (omega arith)) in
-          let new : bufferPart buffer′ (512 + t .words) (2 + size) ≡ encode e = rw (← iw) (at′ ∙ rw (n, ← ea) (s .words)) in
-          rw (iw, ie) (owing-take buffer (keptTest xs mid ys) mid left t e o test buffer′ (2 + size) (omega arith) same new)
+
+-- ## The words in the record's buffer
+
+part-same : (b kept : List ℕ) (i j n : ℕ) → ((k : ℕ) → k < n → getD b (i + k) 0 ≡ getD kept (j + k) 0) → bufferPart b i n ≡ bufferPart kept j n
+part-same b kept i j zero h = refl
+part-same b kept i j (suc n) h =
+    let z = h 0 (omega arith) in
+    let first : getD b i 0 ≡ getD kept j 0 = rw (add-zero i, add-zero j) at z in
+    let rest = part-same b kept (suc i) (suc j) n (λ k u.
+    let x = h (suc k) (omega arith) in
+    let p : i + suc k ≡ suc i + k = omega arith in
+    let q : j + suc k ≡ suc j + k = omega arith in
+    rw (p, q) at x) in
+    rw (first, rest)
+
+pub stored-gathered : (ws table kept b b′ : List ℕ) (at end n : ℕ) (t : Tally) → Collected ws table kept at end t → n ≡ t .words → length b ≡ 1152 → Copied kept b b′ 0 512 n → Gathered ws table b b′ at end t
+stored-gathered ws table kept b b′ at end n t g is size c = record {
+  area = record {
+    size = size;
+    long = c .long;
+    below = λ j l. c .others j (inl l);
+    above = λ j l. let w = g .bound in c .others j (inr (omega arith));
+  };
+  bound = g .bound;
+  gathers = λ keys xs mid ys u.
+      let p = g .gathers keys xs mid ys u in
+      (part-same b′ kept 512 0 (t .words) (λ k l. c .words k (omega arith)) ∙ p .0, p .1);
+}
+
+-- what is gathered is measured
+pub collected-measured : (ws table kept : List ℕ) (at end : ℕ) (t : Tally) → Collected ws table kept at end t → Measured ws table at end t
+collected-measured ws table kept at end t g = record {
+  bound = g .bound;
+  measures = λ keys xs mid ys u. let p = g .gathers keys xs mid ys u in (sym (length-part kept 0 (t .words)) ∙ ap length (p .0), p .1);
+}

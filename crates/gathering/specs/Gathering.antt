@@ -53,7 +53,7 @@ pub record CountedOnce (ws table : List ℕ) (at end : ℕ) (counts counts′ : 
 pub record KeptTest (table counts : List ℕ) (op key place : ℕ) (r : Bool) : Type 0 where
   pub kept : (ws : List ℕ) (at end keys : ℕ) (xs mid ys : List Entry) (e : Entry) → Gatherable ws table keys at end xs mid ys → Decided ws table counts at end op key → Mem e mid → e .op ≡ op → e .key ≡ key → e .at ≡ place → r ≡ isKept (before xs mid ys) (xs ++ ys) e
 
--- n words of the image are copied into the buffer
+-- n words are copied from one list of words into another
 pub record Copied (ws buffer buffer′ : List ℕ) (from to n : ℕ) : Type 0 where
   pub long : length buffer′ ≡ length buffer
   pub words : (i : ℕ) → i < n → getD buffer′ (to + i) 0 ≡ getD ws (from + i) 0
@@ -66,12 +66,6 @@ pub record AreaWritten (buffer buffer′ : List ℕ) : Type 0 where
   pub below : (j : ℕ) → j < 512 → getD buffer′ j 0 ≡ getD buffer j 0
   pub above : (j : ℕ) → 1024 ≤ j → getD buffer′ j 0 ≡ getD buffer j 0
 
--- the words gathered so far, and those of the entries `left`, are those of all that the test keeps
-pub record Owing (buffer : List ℕ) (test : Entry → Bool) (mid : List Entry) (t : Tally) (left : List Entry) : Type 0 where
-  pub words : encodeAll (filter test mid) ≡ bufferPart buffer 512 (t .words) ++ encodeAll (filter test left)
-  pub count : length (filter test mid) ≡ t .entries + length (filter test left)
-  pub inside : (e : Entry) → Mem e left → Mem e mid
-
 abbrev pub keptTest : (xs mid ys : List Entry) → Entry → Bool
 keptTest xs mid ys = isKept (before xs mid ys) (xs ++ ys)
 
@@ -80,14 +74,7 @@ pub record Room (words entries place size : ℕ) (r : Bool) : Type 0 where
   pub fits : r ≡ true → (words + (2 + size) ≤ 512) × (entries < 512) × (place < 0x4_0000)
   pub lacks : r ≡ false → words + (2 + size) ≤ 512 → entries < 512 → place < 0x4_0000 → ⊥
 
--- before and after one entry, kept or not, with so many words of value
-pub record OneGathered (ws buffer buffer′ : List ℕ) (t : Tally) (kept : Bool) (place size : ℕ) (t′ : Tally) : Type 0 where
-  pub area : AreaWritten buffer buffer′
-  pub bound : t .words ≤ 512 → t′ .words ≤ 512
-  pub adds : (table : List ℕ) (at end keys : ℕ) (xs mid ys left : List Entry) (e : Entry) → Gatherable ws table keys at end xs mid ys → kept ≡ keptTest xs mid ys e → e .at ≡ place
-      → length (e .value) ≡ size → StandsIn ws e → Owing buffer (keptTest xs mid ys) mid t (e ∷ left) → Owing buffer′ (keptTest xs mid ys) mid t′ left
-
--- THE GATHERING: of any memory, and where the table is that of the image's entries
+-- THE GATHERING, with the words in the record's buffer: of any memory, and where the table is that of the image's entries
 pub record Gathered (ws table buffer buffer′ : List ℕ) (at end : ℕ) (t : Tally) : Type 0 where
   pub area : AreaWritten buffer buffer′
   pub bound : t .words ≤ 512

@@ -34,6 +34,8 @@ use Rattle.space.proofs.Answer.{placed-at, placed-nowhere}
 use Rattle.space.proofs.Space.{log-lines}
 use Rattle.gathering.specs.declared.Tally.{Tally}
 use Rattle.gathering.specs.Gathering.{Measured}
+use Rattle.gathering.specs.Reading.{Collected}
+use Rattle.gathering.proofs.Words.{collected-measured}
 use Rattle.gathering.proofs.Chunks.{chunk-measured}
 use Rattle.session.specs.declared.Source.{Source}
 use Rattle.cleaning.specs.Record.{cleanCount, sourceOf}
@@ -41,7 +43,7 @@ use Rattle.cleaning.proofs.Forward.{lo, hi}
 use Rattle.cleaning.proofs.Acting.{count-none}
 use Rattle.planning.specs.declared.CleanPlan.{CleanPlan}
 use Rattle.planning.specs.declared.CleanPlan.the-variants as P
-use Rattle.planning.specs.Plans.{anyBit, Right, LogPlanned, DataPlanned, CleanPlanned}
+use Rattle.planning.specs.Plans.{anyBit, Right, KeptAt, LogPlanned, DataPlanned, CleanPlanned}
 use Rattle.planning.proofs.Finding.{bits-live}
 
 -- THE PLAN, by what was found
@@ -91,12 +93,18 @@ no-words : (fs : List Entry) → length (encodeAll fs) ≡ 0 → fs ≡ []
 no-words [] h = refl
 no-words (f ∷ fs) h = absurd (omega arith)
 
-module _ (ws table : List ℕ) (n s hint : ℕ) (old lines at end : ℕ) (t : Tally) (eo : old ≡ getD ws (directoryWord s) 0) (el : lines ≡ linesOf 12 ws s) (ea : at ≡ 512 * (s % 512)) (ee : end ≡ at + 8 * lines) (m : Measured ws table at end t) where
+module _ (ws table : List ℕ) (n s hint : ℕ) (old lines at end : ℕ) (t : Tally) (eo : old ≡ getD ws (directoryWord s) 0) (el : lines ≡ linesOf 12 ws s) (ea : at ≡ 512 * (s % 512)) (ee : end ≡ at + 8 * lines) (few : lines ≤ 64) (words : List ℕ) (g : Collected ws table words at end t) where
+  m : Measured ws table at end t
+  m = collected-measured ws table words at end t g
+
   abbrev f : Source
   f = record { chunk = s; old = old; lines = lines; words = t .words; entries = t .entries }
 
   f-is : f ≡ sourceOf ws s (t .words) (t .entries)
   f-is = rw (eo, el)
+
+  kept-at : KeptAt f ws table words
+  kept-at = record { at = at; end = end; tally = t; at-is = ea; end-is = ee ∙ (let q : at + 8 * lines ≡ at + 8 * (lines % 128) = omega arith in q); words = refl; collected = g }
 
   module _ (keys : ℕ) (es : List Entry) (ok : Ok 12 n ws es) (indexed : Indexed table keys es) (low : 1 ≤ s) (high : s < n) where
     measured : (t .words ≡ length (encodeAll (keptIn 12 s es))) × (t .entries ≡ length (keptIn 12 s es))
@@ -108,9 +116,10 @@ module _ (ws table : List ℕ) (n s hint : ℕ) (old lines at end : ℕ) (t : Ta
     kept-some : (t .words ≡ 0 → ⊥) → keptIn 12 s es ≡ [] → ⊥
     kept-some z e = z (measured .0 ∙ ap (λ (l : List Entry). length (encodeAll l)) e)
 
-  pub log-bare : t .words ≡ 0 → LogPlanned ws table n s hint (P.At 0 0 0 hint f 3)
+  pub log-bare : t .words ≡ 0 → LogPlanned ws table words n s hint (P.At 0 0 0 hint f 3)
   log-bare z = record {
     sound = rw (count-none (t .words) z);
+    keeps = inl z;
     plans = λ keys es ok indexed low high used log. (
       refl,
       record {
@@ -138,11 +147,12 @@ module _ (ws table : List ℕ) (n s hint : ℕ) (old lines at end : ℕ) (t : Ta
     lines-are : (keys : ℕ) (es : List Entry) → Ok 12 n ws es → Indexed table keys es → 1 ≤ s → s < n → b ≡ linesFor (length (encodeAll (keptIn 12 s es)))
     lines-are keys es ok indexed low high = eb ∙ ap linesFor (measured keys es ok indexed low high .0)
 
-    pub log-copies : place .found ≡ true → (actions first : ℕ) → actions ≡ cleanCount (t .words) → first ≡ min hint (place .chunk) → LogPlanned ws table n s hint (P.At (place .chunk) (place .old) (place .committed) first f actions)
+    pub log-copies : place .found ≡ true → (actions first : ℕ) → actions ≡ cleanCount (t .words) → first ≡ min hint (place .chunk) → LogPlanned ws table words n s hint (P.At (place .chunk) (place .old) (place .committed) first f actions)
     log-copies h actions first ec ef =
         let q = placed-at ws (logPlace 12 n ws b s 1) place ep h in
         record {
           sound = ec;
+          keeps = inr kept-at;
           plans = λ keys es ok indexed low high used log. (
             refl,
             record {
@@ -168,9 +178,10 @@ module _ (ws table : List ℕ) (n s hint : ℕ) (old lines at end : ℕ) (t : Ta
           );
         }
 
-    pub log-full : place .found ≡ false → LogPlanned ws table n s hint (P.Refused N.NoSpace)
+    pub log-full : place .found ≡ false → LogPlanned ws table words n s hint (P.Refused N.NoSpace)
     log-full h = record {
       sound = inr (inr (inr (inr (inr (inl refl)))));
+      keeps = tt;
       plans = λ keys es ok indexed low high used log.
           plan-full n ws es s low high used log (kept-some keys es ok indexed low high z) (rw (← lines-are keys es ok indexed low high) (placed-nowhere ws (logPlace 12 n ws b s 1) place ep h));
     }
@@ -183,12 +194,13 @@ module _ (ws buffer : List ℕ) (s hint : ℕ) (live : Bool) (ev : live ≡ anyB
       ev ∙ ap (λ (x : ℕ). anyBit buffer (16 * x) 16) e ∙ bits-live buffer es (built .blocks) s
 
   pub data-live : live ≡ true → DataPlanned ws buffer s hint (P.Refused N.NotCleanable)
-  data-live h = record { sound = inr (inr (inr (inr (inl refl)))); plans = λ c table es n ok built low high used log. plan-live n ws es s low high used log (sym (live-is c table es n ok built high) ∙ h) }
+  data-live h = record { sound = inr (inr (inr (inr (inl refl)))); keeps = λ table kept. tt; plans = λ c table es n ok built low high used log. plan-live n ws es s low high used log (sym (live-is c table es n ok built high) ∙ h) }
 
   pub data-dead : live ≡ false → (old lines : ℕ) → old ≡ getD ws (directoryWord s) 0 → lines ≡ linesOf 12 ws s
       → DataPlanned ws buffer s hint (P.At 0 0 0 hint (record { chunk = s; old = old; lines = lines; words = 0; entries = 0 }) 3)
   data-dead h old lines eo el = record {
     sound = refl;
+    keeps = λ table kept. inl refl;
     plans = λ c table es n ok built low high used log. (
       refl,
       record {
@@ -213,13 +225,13 @@ module _ (ws buffer : List ℕ) (s hint : ℕ) (live : Bool) (ev : live ≡ anyB
   }
 
 -- THE CALL
-module _ (c : Control) (k : Setup) (buffer image table : List ℕ) (s : ℕ) where
+module _ (c : Control) (k : Setup) (buffer image table words : List ℕ) (s : ℕ) where
   abbrev ws : List ℕ
   ws = wordsOf image
 
   -- 15
-  pub staged : (c .items ≡ 0 → ⊥) → CleanPlanned c k buffer image table s (P.Refused N.BatchStaged)
-  staged h = record { sound = inr (inr (inr (inl refl))); plans = λ e items q. go items q }
+  pub staged : (c .items ≡ 0 → ⊥) → CleanPlanned c k buffer image table words s (P.Refused N.BatchStaged)
+  staged h = record { sound = inr (inr (inr (inl refl))); keeps = tt; plans = λ e items q. go items q }
     where
       go : (items : List Entry) (q : RestFits (record { control = c; setup = k; buffer = buffer }) ws table items) → planClean 12 (chunksIn 12 (k .image)) ws (q .entries) items s ≡ Refuse N.BatchStaged
       go [] q = absurd (h (q .batch .count))
@@ -238,26 +250,26 @@ module _ (c : Control) (k : Setup) (buffer image table : List ℕ) (s : ℕ) whe
     chunks-are n e q = omega arith
 
     refused : (x : Refusal) → MemRefusal x (refusals (Clean 0)) → ((items : List Entry) (q : RestFits (record { control = c; setup = k; buffer = buffer }) ws table items) → k .image ≡ length image → planClean 12 (chunksIn 12 (k .image)) ws (q .entries) [] s ≡ Refuse x)
-        → CleanPlanned c k buffer image table s (P.Refused x)
-    refused x listed h = record { sound = listed; plans = λ e items q. rw (none-staged items q) (h items q e) }
+        → CleanPlanned c k buffer image table words s (P.Refused x)
+    refused x listed h = record { sound = listed; keeps = tt; plans = λ e items q. rw (none-staged items q) (h items q e) }
 
     right : (r : CleanPlan) (es items : List Entry) (n hint : ℕ) → items ≡ [] → Right ws es [] n s hint r → Right ws es items n s hint r
     right (P.Refused x) es items n hint e h = rw e h
     right (P.At a b d first f actions) es items n hint e h = (e, h .1)
 
     -- 16
-    pub chunk-zero : s ≡ 0 → CleanPlanned c k buffer image table s (P.Refused N.NotCleanable)
+    pub chunk-zero : s ≡ 0 → CleanPlanned c k buffer image table words s (P.Refused N.NotCleanable)
     chunk-zero e = refused N.NotCleanable (inr (inr (inr (inr (inl refl))))) (λ items q same. plan-unused (chunksIn 12 (k .image)) ws (q .entries) s (rw e))
 
     module _ (n : ℕ) (en : n ≡ length image / 4096) where
-      pub past-count : n ≤ s → CleanPlanned c k buffer image table s (P.Refused N.NotCleanable)
+      pub past-count : n ≤ s → CleanPlanned c k buffer image table words s (P.Refused N.NotCleanable)
       past-count h = refused N.NotCleanable (inr (inr (inr (inr (inl refl))))) (λ items q same. plan-unused (chunksIn 12 (k .image)) ws (q .entries) s (rw (chunks-are n en same, le-ltb s n h) (go (leb 1 s))))
         where
           go : (t : Bool) → both t false ≡ false
           go true = refl
           go false = refl
 
-      pub chunk-free : true ≡ isFree (roleAt 12 ws s) → CleanPlanned c k buffer image table s (P.Refused N.NotCleanable)
+      pub chunk-free : true ≡ isFree (roleAt 12 ws s) → CleanPlanned c k buffer image table words s (P.Refused N.NotCleanable)
       chunk-free h = refused N.NotCleanable (inr (inr (inr (inr (inl refl))))) (λ items q same. plan-unused (chunksIn 12 (k .image)) ws (q .entries) s (rw (← h) (go (leb 1 s) (ltb s (chunksIn 12 (k .image))))))
         where
           go : (t u : Bool) → both t (both u false) ≡ false
@@ -269,17 +281,19 @@ module _ (c : Control) (k : Setup) (buffer image table : List ℕ) (s : ℕ) whe
         ok : (items : List Entry) (q : RestFits (record { control = c; setup = k; buffer = buffer }) ws table items) → Ok 12 (chunksIn 12 (k .image)) ws (q .entries)
         ok items q = opens-ok 12 lo hi (k .image) (k .table) ws (q .entries) (q .long) (q .accepted) .0
 
-        pub chunk-data : (lines : ℕ) → lines ≡ linesOf 12 ws s → lines ≡ 0 → (r : CleanPlan) → DataPlanned ws buffer s (k .first) r → CleanPlanned c k buffer image table s r
+        pub chunk-data : (lines : ℕ) → lines ≡ linesOf 12 ws s → lines ≡ 0 → (r : CleanPlan) → DataPlanned ws buffer s (k .first) r → CleanPlanned c k buffer image table words s r
         chunk-data lines el e r d = record {
           sound = d .sound;
+          keeps = d .keeps table words;
           plans = λ same items q.
               right r (q .entries) items (chunksIn 12 (k .image)) (k .first) (none-staged items q)
               (d .plans c table (q .entries) (chunksIn 12 (k .image)) (ok items q) (q .built) (omega (arith, low)) (rw (chunks-are n en same) high) (sym used) (rw (log-lines 12 ws s, ← el, e)));
         }
 
-        pub chunk-log : (lines : ℕ) → lines ≡ linesOf 12 ws s → (lines ≡ 0 → ⊥) → (r : CleanPlan) → LogPlanned ws table n s (k .first) r → CleanPlanned c k buffer image table s r
+        pub chunk-log : (lines : ℕ) → lines ≡ linesOf 12 ws s → (lines ≡ 0 → ⊥) → (r : CleanPlan) → LogPlanned ws table words n s (k .first) r → CleanPlanned c k buffer image table words s r
         chunk-log lines el ne r d = record {
           sound = d .sound;
+          keeps = d .keeps;
           plans = λ same items q.
               right r (q .entries) items (chunksIn 12 (k .image)) (k .first) (none-staged items q)
               (rw (chunks-are n en same) (d .plans (c .keys) (q .entries) (rw (chunks-are n en same) at (ok items q)) (q .built .indexed) (omega (arith, low)) high (sym used)

@@ -5,7 +5,7 @@ use mathlib.Core.Logic.{_⊎_}
 use mathlib.Core.Bool.{Bool, true, false}
 use mathlib.Core.Option.{some}
 use mathlib.Core.List.{List, []}
-use Prim.Native.Nat.{ℕ, zero, suc, _≤_, _<_}
+use Prim.Native.Nat.{ℕ, zero, suc, _+_, _*_, _≤_, _<_}
 use lib.ListN.{length, getD}
 use Rattle.spec.specs.Basics.{either}
 use Rattle.spec.specs.Words.{wordsOf}
@@ -22,8 +22,10 @@ use Rattle.session.specs.declared.Setup.{Setup}
 use Rattle.theory_crash.specs.Accepted.{Ok}
 use Rattle.blocks.specs.Bits.{hasBit}
 use Rattle.volatile.specs.Known.{Indexed}
-use Rattle.session.specs.State.{batchRoom}
+use Rattle.session.specs.State.{batchRoom, sourceIn, sourceLines}
 use Rattle.session.specs.Fits.{RestFits, Built}
+use Rattle.gathering.specs.declared.Tally.{Tally}
+use Rattle.gathering.specs.Reading.{Collected}
 use Rattle.session.specs.declared.Source.{Source}
 use Rattle.cleaning.specs.Record.{cleanCount, sourceOf}
 use Rattle.planning.specs.declared.CleanPlan.{CleanPlan}
@@ -75,17 +77,34 @@ abbrev pub Sound : CleanPlan → Type 0
 Sound (P.Refused x) = MemRefusal x (refusals (Clean 0))
 Sound (P.At chunk old lines first f actions) = actions ≡ cleanCount (f .words)
 
+-- what the plan keeps of the chunk is gathered in words of the call's own, where it keeps any
+pub record KeptAt (f : Source) (ws table kept : List ℕ) : Type 0 where
+  pub at : ℕ
+  pub end : ℕ
+  pub tally : Tally
+  pub at-is : at ≡ 512 * sourceIn f
+  pub end-is : end ≡ at + 8 * sourceLines f
+  pub words : f .words ≡ tally .words
+  pub collected : Collected ws table kept at end tally
+
+abbrev pub Keeps : CleanPlan → (ws table kept : List ℕ) → Type 0
+Keeps (P.Refused x) ws table kept = Unit {0}
+Keeps (P.At chunk old lines first f actions) ws table kept = (f .words ≡ 0) ⊎ KeptAt f ws table kept
+
 -- of a log chunk in use, with nothing staged; of another in use
-pub record LogPlanned (ws table : List ℕ) (n s hint : ℕ) (r : CleanPlan) : Type 0 where
+pub record LogPlanned (ws table kept : List ℕ) (n s hint : ℕ) (r : CleanPlan) : Type 0 where
   pub sound : Sound r
+  pub keeps : Keeps r ws table kept
   pub plans : (keys : ℕ) (es : List Entry) → Ok 12 n ws es → Indexed table keys es → 1 ≤ s → s < n → isFree (roleAt 12 ws s) ≡ false → isLog (roleAt 12 ws s) ≡ true → Right ws es [] n s hint r
 
 pub record DataPlanned (ws buffer : List ℕ) (s hint : ℕ) (r : CleanPlan) : Type 0 where
   pub sound : Sound r
+  pub keeps : (table kept : List ℕ) → Keeps r ws table kept
   pub plans : (c : Control) (table : List ℕ) (es : List Entry) (n : ℕ) → Ok 12 n ws es → Built c buffer table es → 1 ≤ s → s < n → isFree (roleAt 12 ws s) ≡ false → isLog (roleAt 12 ws s) ≡ false → Right ws es [] n s hint r
 
 -- of any memory at rest as the calls left it
-pub record CleanPlanned (c : Control) (k : Setup) (buffer image table : List ℕ) (s : ℕ) (r : CleanPlan) : Type 0 where
+pub record CleanPlanned (c : Control) (k : Setup) (buffer image table kept : List ℕ) (s : ℕ) (r : CleanPlan) : Type 0 where
   pub sound : Sound r
+  pub keeps : Keeps r (wordsOf image) table kept
   pub plans : k .image ≡ length image → (items : List Entry) (q : RestFits (record { control = c; setup = k; buffer = buffer }) (wordsOf image) table items)
       → Right (wordsOf image) (q .entries) items (chunksIn 12 (k .image)) s (k .first) r

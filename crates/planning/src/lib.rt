@@ -1,4 +1,5 @@
-// What a cleaning finds before it is begun: a refusal, or the place of its copies and how many actions it has. Nothing is changed.
+// What a cleaning finds before it is begun: a refusal, or the words that it keeps, the place of their copies and how many actions it has.
+// Neither record, image nor key table is changed.
 ghost use mathlib.Core.Path.{_≡_};
 ghost use Prim.Native.Nat.{_*_, _%_};
 ghost use Rattle.spec.specs.Words.{wordsOf};
@@ -96,15 +97,22 @@ fn has_live(buffer: &[u64; 1152], chunk: usize) -> bool
 }
 
 // THE PLAN
-// of a log chunk: its kept entries are counted, and a place is looked for if there are any
-fn plan_log(image: &[u8], table: &[u64], count: usize, chunk: usize, first: usize) -> CleanPlan
-    ensures { λ r. ⌜ LogPlanned (wordsOf (now (image .entry))) (now (table .entry)) count chunk first r ⌝ }
+// of a log chunk: its kept entries are gathered, and a place is looked for if there are any
+fn plan_log(
+    image: &[u8],
+    table: &[u64],
+    kept: &mut [u64; 512],
+    count: usize,
+    chunk: usize,
+    first: usize,
+) -> CleanPlan
+    ensures { λ r. ⌜ LogPlanned (wordsOf (now (image .entry))) (now (table .entry)) (now (kept .exit)) count chunk first r ⌝ }
 {
     let old = space::directory_word(image, chunk);
     let lines = lines_of(image, chunk);
     let at = 512 * (chunk % 512);
     let end = at + 8 * lines;
-    let tally = gathering::measure(image, table, at, end);
+    let tally = gathering::gather(image, table, kept, at, end);
     let words = tally.words;
     let source = Source {
         chunk,
@@ -165,16 +173,17 @@ fn plan_data(buffer: &[u64; 1152], image: &[u8], chunk: usize, first: usize) -> 
     }
 }
 
-// 15, 16, 13, or what the cleaning begins with.
+// 15, 16, 13, or what the cleaning begins with: the words that it keeps go to `kept`, and to no other memory.
 pub fn plan_clean(
     control: Control,
     setup: Setup,
     buffer: &[u64; 1152],
     image: &[u8],
     table: &[u64],
+    kept: &mut [u64; 512],
     chunk: usize,
 ) -> CleanPlan
-    ensures { λ r. ⌜ CleanPlanned control setup (now (buffer .entry)) (now (image .entry)) (now (table .entry)) chunk r ⌝ }
+    ensures { λ r. ⌜ CleanPlanned control setup (now (buffer .entry)) (now (image .entry)) (now (table .entry)) (now (kept .exit)) chunk r ⌝ }
 {
     if control.items == 0 {
         let count = image.len() / 4096;
@@ -190,7 +199,7 @@ pub fn plan_clean(
         if lines_of(image, chunk) == 0 {
             return plan_data(buffer, image, chunk, setup.first);
         }
-        return plan_log(image, table, count, chunk, setup.first);
+        return plan_log(image, table, kept, count, chunk, setup.first);
     }
     CleanPlan::Refused(Refusal::BatchStaged)
 }

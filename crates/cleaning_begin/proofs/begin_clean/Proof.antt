@@ -14,20 +14,20 @@ enum-known-plan c = search needs
 enum-known-plan-2 : tie.Need-enum-known-plan-2
 enum-known-plan-2 c = search needs
 
-gather-kept-requires : tie.Need-gather-kept-requires
-gather-kept-requires c κs = search needs
+store-kept-requires : tie.Need-store-kept-requires
+store-kept-requires c κs = search needs
 
 returns : tie.Need-returns
 returns c =
-    let a = c .before .before .before .before .before .before .before .args in
+    let a = c .before .before .before .before .before .before .before .before .args in
     let p = c .before .before .before .plan-clean in
-    turned (a .control) (a .setup) (a .buffer .now) (a .image .now) (a .table .now) (a .number) (p .result) (p .ensures) _ (c .before .plan .given .1)
+    turned (a .control) (a .setup) (a .buffer .now) (a .image .now) (a .table .now) _ (a .number) (p .result) (p .ensures) _ (c .before .plan .given .1)
 
 returns-2 : tie.Need-returns-2
 returns-2 c =
-    let a = c .before .before .before .before .before .before .before .before .before .args in
-    let p = c .before .before .before .before .before .plan-clean in
-    set (a .control) (a .setup) (a .buffer .now) (a .image .now) (a .table .now) (a .number) (p .result) (p .ensures) _ _ _ _ _ _ (c .before .before .before .plan2 .given .1) _ (c .gather-kept .ensures)
+    let a = c .before .before .before .before .before .before .before .before .before .before .before .args in
+    let p = c .before .before .before .before .before .before .plan-clean in
+    set (a .control) (a .setup) (a .buffer .now) (a .image .now) (a .table .now) _ (a .number) (p .result) (p .ensures) _ _ _ _ _ _ (c .before .before .before .before .plan2 .given .1) _ (c .store-kept .ensures)
 
 pub begin-clean-spec : {M : Type 1} → statement M
 begin-clean-spec =
@@ -36,6 +36,6 @@ begin-clean-spec =
     plan-clean-requires
     enum-known-plan
     enum-known-plan-2
-    gather-kept-requires
+    store-kept-requires
     returns
     returns-2)

@@ -23,16 +23,16 @@ mul-end c = search needs
 add-end : tie.Need-add-end
 add-end c = search needs
 
-measure-requires : tie.Need-measure-requires
-measure-requires c κs = search needs
+gather-requires : tie.Need-gather-requires
+gather-requires c κs = omega arith
 
 returns : tie.Need-returns
 returns c =
-    let a = c .before .before .before .before .before .before .args in
-    let o = c .before .before .before .directory-word in
-    let l = c .before .before .lines-of in
-    let m = c .before .measure in
-    log-bare (wordsOf (a .image .now)) (a .table .now) (a .count) (a .chunk) (a .first) (o .result) (l .result) _ _ (m .result) (o .ensures) (l .ensures .0) refl refl (m .ensures) (c .if1 .taken)
+    let a = c .before .before .before .before .before .before .before .args in
+    let o = c .before .before .before .before .directory-word in
+    let l = c .before .before .before .lines-of in
+    let m = c .before .gather in
+    log-bare (wordsOf (a .image .now)) (a .table .now) (a .count) (a .chunk) (a .first) (o .result) (l .result) _ _ (m .result) (o .ensures) (l .ensures .0) refl refl (l .ensures .1) _ (m .ensures) (c .if1 .taken)
 
 add-copy-place : tie.Need-add-copy-place
 add-copy-place c = search needs
@@ -48,19 +48,19 @@ at-most-requires c κs = search needs
 
 returns-2 : tie.Need-returns-2
 returns-2 c =
-    let a = c .before .before .before .before .before .before .before .before .before .before .args in
-    let o = c .before .before .before .before .before .before .before .directory-word in
-    let l = c .before .before .before .before .before .before .lines-of in
-    let m = c .before .before .before .before .before .measure in
-    log-copies (wordsOf (a .image .now)) (a .table .now) (a .count) (a .chunk) (a .first) (o .result) (l .result) _ _ (m .result) (o .ensures) (l .ensures .0) refl refl (m .ensures) (c .before .before .before .before .if1 .left) _ refl _ (c .before .before .before .copy-place .ensures) (c .before .before .if2 .taken) _ _ (c .before .clean-count .ensures) (c .at-most .ensures)
+    let a = c .before .before .before .before .before .before .before .before .before .before .before .args in
+    let o = c .before .before .before .before .before .before .before .before .directory-word in
+    let l = c .before .before .before .before .before .before .before .lines-of in
+    let m = c .before .before .before .before .before .gather in
+    log-copies (wordsOf (a .image .now)) (a .table .now) (a .count) (a .chunk) (a .first) (o .result) (l .result) _ _ (m .result) (o .ensures) (l .ensures .0) refl refl (l .ensures .1) _ (m .ensures) (c .before .before .before .before .if1 .left) _ refl _ (c .before .before .before .copy-place .ensures) (c .before .before .if2 .taken) _ _ (c .before .clean-count .ensures) (c .at-most .ensures)
 
 returns-3 : tie.Need-returns-3
 returns-3 c =
-    let a = c .before .before .before .before .before .before .before .before .args in
-    let o = c .before .before .before .before .before .directory-word in
-    let l = c .before .before .before .before .lines-of in
-    let m = c .before .before .before .measure in
-    log-full (wordsOf (a .image .now)) (a .table .now) (a .count) (a .chunk) (a .first) (o .result) (l .result) _ _ (m .result) (o .ensures) (l .ensures .0) refl refl (m .ensures) (c .before .before .if1 .left) _ refl _ (c .before .copy-place .ensures) (c .if2 .left)
+    let a = c .before .before .before .before .before .before .before .before .before .args in
+    let o = c .before .before .before .before .before .before .directory-word in
+    let l = c .before .before .before .before .before .lines-of in
+    let m = c .before .before .before .gather in
+    log-full (wordsOf (a .image .now)) (a .table .now) (a .count) (a .chunk) (a .first) (o .result) (l .result) _ _ (m .result) (o .ensures) (l .ensures .0) refl refl (l .ensures .1) _ (m .ensures) (c .before .before .if1 .left) _ refl _ (c .before .copy-place .ensures) (c .if2 .left)
 
 pub plan-log-spec : {M : Type 1} → statement M
 plan-log-spec =
@@ -71,7 +71,7 @@ plan-log-spec =
     mul-at
     mul-end
     add-end
-    measure-requires
+    gather-requires
     returns
     add-copy-place
     copy-place-requires

@@ -1,0 +1,99 @@
+-- `gathering::take_all` meets its contract.
+-- Assumes nothing.
+use mathlib.Core.Path.{refl}
+use mathlib.Core.Logic.{inl}
+use native.Mathlib.Omega.{arith}
+use Rattle.spec.specs.Words.{wordsOf}
+use Rattle.words.specs.Image.{length-wordsOf}
+use Rattle.log.specs.Cursor.{left}
+use Rattle.log.proofs.Walk.{handed}
+use Rattle.gathering.specs.Reading.{Collecting}
+use Rattle.gathering.proofs.Passes.{collects-start, collects-done, collects-wrong, collects-next}
+use borrow.Author.Needs.{needs}
+use Rattle.gathering.proofs.take_all.Statement.{statement}
+use Rattle.gathering.proofs.take_all.Tie as tie
+
+abbrev Inv-loop : tie.InvT-loop
+Inv-loop copy table kept₀ at n tally₀ cursor₀ kept tally cursor = Collecting (wordsOf copy) table kept at n tally cursor
+
+abbrev μ-loop : tie.MeasureT-loop
+μ-loop copy table kept₀ at n tally₀ cursor₀ kept tally cursor = left 0 (wordsOf copy) cursor
+
+kept-length-requires : tie.Need-kept-length-requires Inv-loop μ-loop
+kept-length-requires c κs = search needs
+
+loop-holds : tie.Need-loop-holds Inv-loop μ-loop
+loop-holds c = collects-start _ _ _ _ _ (c .kept-length .ensures .1)
+
+take-puts-requires : tie.Need-take-puts-requires Inv-loop μ-loop
+take-puts-requires c κs = c .before .before .before .before .before .before .pre
+
+next-in-log-requires : tie.Need-next-in-log-requires Inv-loop μ-loop
+next-in-log-requires c κs = search needs
+
+enum-told : tie.Need-enum-told Inv-loop μ-loop
+enum-told c = search needs
+
+returns : tie.Need-returns Inv-loop μ-loop
+returns c = collects-done _ _ _ _ _ _ _ (c .before .before .before .before .take-puts .ensures .keeps _ _ (c .before .before .before .before .before .before .loop .inv)) _ (c .before .before .next-in-log .ensures) (c .enum-told .given .1)
+
+enum-told-2 : tie.Need-enum-told-2 Inv-loop μ-loop
+enum-told-2 c = search needs
+
+returns-2 : tie.Need-returns-2 Inv-loop μ-loop
+returns-2 c = collects-wrong _ _ _ _ _ _ _ (c .before .before .before .before .take-puts .ensures .keeps _ _ (c .before .before .before .before .before .before .loop .inv)) _ (c .before .before .next-in-log .ensures) (c .enum-told2 .given .1)
+
+enum-known-next : tie.Need-enum-known-next Inv-loop μ-loop
+enum-known-next c = search needs
+
+add-is-kept : tie.Need-add-is-kept Inv-loop μ-loop
+add-is-kept c =
+    let h = handed _ _ _ _ (c .before .before .before .before .next-in-log .ensures) _ _ _ _ _ _ _ _ (c .before .before .next .given .1) .stands .fits in
+    let l = length-wordsOf (c .before .before .before .before .before .before .before .before .before .before .before .before .before .args .copy .now) in
+    let b = c .before .before .before .before .before .before .before .before .before .before .before .before .before .good in
+    let p = c .before .before .before .before .before .before .before .before .before .before .before .before .before .pre in
+    omega arith
+
+is-kept-requires : tie.Need-is-kept-requires Inv-loop μ-loop
+is-kept-requires c κs = search needs
+
+take-requires : tie.Need-take-requires Inv-loop μ-loop
+take-requires c κs = search needs
+
+loop-less : tie.Need-loop-less Inv-loop μ-loop
+loop-less c =
+    let h = handed _ _ _ _ (c .before .before .before .before .before .before .before .next-in-log .ensures) _ _ _ _ _ _ _ _ (c .before .before .before .before .before .next .given .1) .falls in
+    let g = c .before .before .before .before .before .before .before .before .before .take-puts .ensures .nearer (c .before .before .before .before .before .before .before .before .before .before .before .loop .cursor .chunk) in
+    omega arith
+
+loop-again : tie.Need-loop-again Inv-loop μ-loop
+loop-again c = collects-next _ _ _ _ _ _ _ (c .before .before .before .before .before .before .before .before .before .take-puts .ensures .keeps _ _ (c .before .before .before .before .before .before .before .before .before .before .before .loop .inv)) _ (c .before .before .before .before .before .before .before .next-in-log .ensures) _ _ _ _ _ _ _ _ (c .before .before .before .before .before .next .given .1) _ (inl (c .before .before .before .if1 .taken)) _ refl _ (c .before .before .is-kept .ensures) _ _ (c .take .ensures)
+
+take-rest-requires : tie.Need-take-rest-requires Inv-loop μ-loop
+take-rest-requires c κs = c .before .before .before .before .before .before .before .before .before .before .before .before .before .before .pre
+
+returns-3 : tie.Need-returns-3 Inv-loop μ-loop
+returns-3 c = c .take-rest .ensures .walks (c .before .before .before .before .before .before .before .before .take-puts .ensures .keeps _ _ (c .before .before .before .before .before .before .before .before .before .before .loop .inv))
+
+pub take-all-spec : {M : Type 1} → statement M
+take-all-spec =
+    tie.close
+    (tie.spec
+    Inv-loop
+    μ-loop
+    kept-length-requires
+    loop-holds
+    take-puts-requires
+    next-in-log-requires
+    enum-told
+    returns
+    enum-told-2
+    returns-2
+    enum-known-next
+    add-is-kept
+    is-kept-requires
+    take-requires
+    loop-less
+    loop-again
+    take-rest-requires
+    returns-3)
