@@ -16,8 +16,8 @@ use Rattle.theory_log.proofs.Contents.{none-of}
 use Rattle.theory_log.proofs.Keys.{mem-known, known-mem, keys-fewer}
 use Rattle.index.specs.declared.Info.{Info}
 use Rattle.index.specs.Index.{infoAt, stopOf, get, insert, putAt, capacity as tableRoom}
-use Rattle.index.specs.Laws.{insert-length}
-use Rattle.index.specs.Answers.{look-in, put-insert}
+use Rattle.index.proofs.Laws.{insert-length}
+use Rattle.index.proofs.Answers.{look-in, put-insert}
 use Rattle.index.specs.Packed.{unpackOf}
 use Rattle.blocks.specs.Bits.{hasBit}
 use Rattle.blocks.proofs.Laws.{kept-all}

@@ -10,7 +10,7 @@ use lib.Seq.{take-all}
 use Rattle.spec.specs.Basics.{both}
 use Rattle.spec.specs.Words.{packed}
 use Rattle.words.specs.Overlay.{overlay, length-overlay, getD-overlay-outside, getD-overlay-inside}
-use Rattle.words.specs.Values.{length-packed}
+use Rattle.words.proofs.Values.{length-packed}
 use Rattle.blocks.specs.Bits.{wordOf, hasBit}
 use Rattle.session.specs.State.{bufferPart}
 use Rattle.session.specs.State.{heldCount, heldWords}

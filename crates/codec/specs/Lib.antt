@@ -1,5 +1,2 @@
-pub mod Table
-pub mod Sizes
-pub mod Roles
 pub mod Firsts
 pub mod Headers

@@ -27,7 +27,7 @@ use Rattle.log.specs.Stands.{entryIn}
 use Rattle.log.specs.Cursor.{cursorAt, Advanced}
 use Rattle.index.specs.declared.Info.{Info}
 use Rattle.index.specs.Index.{get, insert, room, used, zeros, Probed}
-use Rattle.index.specs.Laws.{has-room, insert-same, insert-length, insert-old, insert-new, insert-probed, insert-other, empty-get, empty-probed, empty-used}
+use Rattle.index.proofs.Laws.{has-room, insert-same, insert-length, insert-old, insert-new, insert-probed, insert-other, empty-get, empty-probed, empty-used}
 use Rattle.index.specs.Packed.{unpackOf}
 use Rattle.volatile.specs.Known.{entryCount}
 use Rattle.volatile.proofs.Info.{said, info-says}

@@ -20,7 +20,7 @@ use Rattle.theory_base.proofs.Lists.{Once, not-both, isIn-mem, distinct-once}
 use Rattle.theory_log.proofs.Keys.{keyList, keys-known}
 use Rattle.theory_crash.specs.Accepted.{Ok}
 use Rattle.index.specs.Index.{slots, keyAt, infoAt, stopOf, get, Probed}
-use Rattle.index.specs.Slots.{get-stored, get-at}
+use Rattle.index.proofs.Slots.{get-stored, get-at}
 use Rattle.volatile.specs.Known.{Indexed}
 use Rattle.order.specs.Order.{inOrder, Least, Arranging}
 use Rattle.order.proofs.Rising.{Rising, order-length, order-member, member-order, order-rising, same-order}

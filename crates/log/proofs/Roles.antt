@@ -11,8 +11,8 @@ use Rattle.spec.specs.Places.{chunkLines, chunkWords, base, directoryWord}
 use Rattle.spec.specs.Directory.{roleOf, linesIn, sizeIn, roleAt, linesOf, sizeOf}
 use Rattle.spec.specs.Log.{Entries, chunkEntries}
 use Rattle.theory_log.proofs.Directory.{word-lines, lines-is, size-is}
-use Rattle.codec.specs.Roles.{data-role}
-use Rattle.codec.specs.Sizes.{isSize-low}
+use Rattle.codec.proofs.Roles.{data-role}
+use Rattle.codec.proofs.Sizes.{isSize-low}
 
 pub base-is : (c : ℕ) → base 12 c ≡ 512 * c
 unfolding base chunkWords

@@ -14,8 +14,8 @@ use Rattle.spec.specs.Blocks.{pointed}
 use Rattle.theory_base.proofs.Lists.{not-both, both-l, both-r}
 use Rattle.theory_log.proofs.Parse.{cons-inv}
 use Rattle.index.specs.Index.{infoAt, stopOf, get, insert, putAt, zeros, capacity as tableRoom}
-use Rattle.index.specs.Laws.{insert-length}
-use Rattle.index.specs.Answers.{look-in, put-insert}
+use Rattle.index.proofs.Laws.{insert-length}
+use Rattle.index.proofs.Answers.{look-in, put-insert}
 use Rattle.volatile.specs.Known.{extentOf, infoOf, alone, ownOf, noted, FillInv}
 use Rattle.volatile.proofs.Info.{bounded-front}
 use Rattle.volatile.proofs.Grow.{capacity-same}

@@ -26,7 +26,7 @@ use Rattle.spec.specs.declared.Refusal.{Refusal}
 use Rattle.spec.specs.declared.Refusal.the-variants as N
 use Rattle.spec.specs.declared.Report.{Report}
 use Rattle.spec.specs.declared.Report.the-variants as R
-use Rattle.words.specs.Values.{length-packed, packed-filled, filled-test}
+use Rattle.words.proofs.Values.{length-packed, packed-filled, filled-test}
 use Rattle.theory_log.specs.Batch.{put, delete, Right}
 use Rattle.theory_crash.specs.Accepted.{Ok}
 use Rattle.theory_crash.proofs.Opening.{opens-ok}

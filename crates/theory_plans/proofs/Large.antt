@@ -20,7 +20,7 @@ use Rattle.spec.specs.Contents.{Held, Value, keysOf, capacity, meaning}
 use Rattle.spec.specs.Actions.{takeOf, blockOf}
 use Rattle.spec.specs.Plans.{entry, InData, InFree, slotFor}
 use Rattle.spec.specs.Book.{Item}
-use Rattle.words.specs.Values.{length-packed, packed-filled, bytes-packed}
+use Rattle.words.proofs.Values.{length-packed, packed-filled, bytes-packed}
 use Rattle.theory_base.proofs.Through.{Through, through-map}
 use Rattle.theory_base.proofs.Places.{units-least, unit-at}
 use Rattle.theory_base.proofs.Sizes as Z

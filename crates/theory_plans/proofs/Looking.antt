@@ -24,7 +24,7 @@ use Rattle.spec.specs.History.{shows}
 use Rattle.spec.specs.declared.Refusal.the-variants as N
 use Rattle.spec.specs.declared.Report.the-variants as R
 use Rattle.words.specs.Image.{length-wordsOf}
-use Rattle.words.specs.Parts.{value-part}
+use Rattle.words.proofs.Parts.{value-part}
 use Rattle.theory_base.proofs.Lists.{both-l, not-both}
 use Rattle.theory_log.specs.Batch.{Kind, put, block, delete, Right}
 use Rattle.theory_log.proofs.Contents.{chosen-is}

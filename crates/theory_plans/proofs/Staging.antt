@@ -21,7 +21,7 @@ use Rattle.spec.specs.Plans.{Task, Staging, Plan, Begin, need, nextVersion, pre
 use Rattle.spec.specs.Book.{Item}
 use Rattle.spec.specs.declared.Refusal.{Refusal}
 use Rattle.spec.specs.declared.Refusal.the-variants as N
-use Rattle.words.specs.Values.{length-packed, packed-filled, bytes-packed}
+use Rattle.words.proofs.Values.{length-packed, packed-filled, bytes-packed}
 use Rattle.theory_base.proofs.Sizes as Z
 use Rattle.theory_log.specs.Batch.{put, block, delete, Right}
 use Rattle.theory_plans.specs.Standing.{Standing, Going}

@@ -14,7 +14,7 @@ use Rattle.theory_base.proofs.Lists.{not-both}
 use Rattle.theory_log.proofs.Contents.{chosen-none}
 use Rattle.theory_log.proofs.Keys.{keys-fewer, known-append}
 use Rattle.index.specs.Index.{get, insert, zeros}
-use Rattle.index.specs.Laws.{empty-get, empty-probed, empty-used}
+use Rattle.index.proofs.Laws.{empty-get, empty-probed, empty-used}
 use Rattle.volatile.specs.Known.{ownOf, noted, Bounded, Indexed, FillInv}
 use Rattle.volatile.proofs.Info.{info-none}
 use Rattle.volatile.proofs.Grow.{Grows, grows-last, was-unknown, same-length, indexed-old, indexed-new}

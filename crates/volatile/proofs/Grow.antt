@@ -19,7 +19,7 @@ use Rattle.theory_log.specs.Contents.{Mem}
 use Rattle.theory_log.proofs.Contents.{mem-l, mem-r, mem-cases}
 use Rattle.theory_log.proofs.Keys.{keyList, mem-known, keys-known, keys-equal, known-append}
 use Rattle.index.specs.Index.{get, room, insert, used, capacity as tableRoom}
-use Rattle.index.specs.Laws.{capacity-room, room-stored, insert-same, insert-other, insert-probed, insert-old, insert-new, insert-length}
+use Rattle.index.proofs.Laws.{capacity-room, room-stored, insert-same, insert-other, insert-probed, insert-old, insert-new, insert-length}
 use Rattle.index.specs.Packed.{unpackOf}
 use Rattle.volatile.specs.Known.{infoOf, ownOf, noted, Bounded, Indexed}
 use Rattle.volatile.proofs.Info.{said, info-other, info-above, info-next, nonzero-chosen, zero-chosen, zero-unknown, unknown-zero}

@@ -1,5 +1,3 @@
 pub mod Overlay
 pub mod Store
 pub mod Image
-pub mod Values
-pub mod Parts

@@ -2,7 +2,7 @@
 -- Assumes nothing.
 use native.Mathlib.Omega.{arith}
 use Rattle.spec.specs.Words.{packed}
-use Rattle.words.specs.Values.{length-packed}
+use Rattle.words.proofs.Values.{length-packed}
 use Rattle.batch.proofs.Add.{add-none, add-more}
 use borrow.Author.Needs.{needs}
 use Rattle.batch.proofs.add_entry.Statement.{statement}

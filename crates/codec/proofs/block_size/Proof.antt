@@ -2,7 +2,7 @@
 -- Assumes nothing.
 use native.Mathlib.Omega.{arith}
 use mathlib.Core.Path.{refl}
-use Rattle.codec.specs.Sizes.{length-inside, length-outside}
+use Rattle.codec.proofs.Sizes.{length-inside, length-outside}
 use borrow.Author.Needs.{needs}
 use Rattle.codec.proofs.block_size.Statement.{statement}
 use Rattle.codec.proofs.block_size.Tie as tie

@@ -5,7 +5,7 @@ use Prim.Native.Nat.{_≤_, _<_}
 use native.Mathlib.Decide.{decLe}
 use native.Mathlib.Omega.{arith}
 use borrow.Author.Tests.{le-leb, lt-leb}
-use Rattle.codec.specs.Sizes.{entry-inside, entry-past}
+use Rattle.codec.proofs.Sizes.{entry-inside, entry-past}
 use borrow.Author.Needs.{needs}
 use Rattle.codec.proofs.block_size_for_units.Statement.{statement}
 use Rattle.codec.proofs.block_size_for_units.Tie as tie

@@ -6,7 +6,7 @@ use native.Mathlib.Omega.{arith}
 use borrow.Author.Tests.{ne-eqb, le-leb, lt-leb}
 use Rattle.spec.specs.Places.{chunkLines}
 use Rattle.spec.specs.Directory.{roleOf}
-use Rattle.codec.specs.Sizes.{isSize-test}
+use Rattle.codec.proofs.Sizes.{isSize-test}
 use Rattle.codec.proofs.role_of.Statement.{statement}
 use Rattle.codec.proofs.role_of.Tie as tie
 

@@ -8,7 +8,7 @@ use borrow.Author.Needs.{needs}
 use denote.Ref.{now}
 use Rattle.spec.specs.Words.{packed}
 use Rattle.words.specs.Overlay.{overlay, overlay-turn, overlay-end}
-use Rattle.words.specs.Values.{length-packed, getD-packed}
+use Rattle.words.proofs.Values.{length-packed, getD-packed}
 use Rattle.words.proofs.pack_into.Statement.{statement}
 use Rattle.words.proofs.pack_into.Tie as tie
 

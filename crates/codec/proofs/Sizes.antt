@@ -13,7 +13,7 @@ use Rattle.spec.specs.Basics.{pick, both, either, all, upFrom}
 use Rattle.spec.specs.Places.{chunkUnits}
 use Rattle.spec.specs.Directory.{sizeFor, isSize}
 use Rattle.spec.specs.Blocks.{unitsFor, blockSize}
-use Rattle.codec.specs.Table.{eachFrom, at, below, both-left, both-right}
+use Rattle.codec.proofs.Table.{eachFrom, at, below, both-left, both-right}
 
 -- the block size for so many units, 0 to 16
 abbrev pub blockSizes : List ℕ

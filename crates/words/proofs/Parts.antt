@@ -8,7 +8,7 @@ use native.Mathlib.Nat.{zero-add}
 use lib.ListN.{length, getD, take, drop, length-drop}
 use lib.Seq.{slice, take-add, take-take, drop-drop, getD-drop}
 use Rattle.spec.specs.Words.{AreBytes, wordAt, wordsFrom, wordsOf, eightBytes, bytesOf, valueBytes}
-use Rattle.words.specs.Values.{bytes-joined}
+use Rattle.words.proofs.Values.{bytes-joined}
 
 -- eight bytes at the head
 eight-from : (l : List ℕ) → 8 ≤ length l → take 8 l ≡ getD l 0 0 ∷ getD l 1 0 ∷ getD l 2 0 ∷ getD l 3 0 ∷ getD l 4 0 ∷ getD l 5 0 ∷ getD l 6 0 ∷ getD l 7 0 ∷ []
