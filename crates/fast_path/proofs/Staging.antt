@@ -27,9 +27,9 @@ use Rattle.block_acts.proofs.Filling as B
 use Rattle.stepping.proofs.Shows.{staging-acts, staging-ends, stored}
 use Rattle.fast_path.specs.Run.{toNext, Runs, isStore, RunsOn}
 use Rattle.fast_path.specs.Stores.{areaWord, Filled, Before}
-use Rattle.fast_path.specs.Fast.{InStaging, takeCount, BlockStores}
+use Rattle.fast_path.specs.Fast.{InStaging, takeCount, BlockStores, StagingRun}
 use Rattle.fast_path.proofs.Run.{stored-first, store-is, unchanged}
-use Rattle.fast_path.proofs.Stores.{area-held, before-none, filled-length, filled-runs}
+use Rattle.fast_path.proofs.Stores.{before-none, filled-length, filled-runs}
 use Rattle.session.specs.Promise.{Does}
 
 -- THE ACTIONS, by number
@@ -111,43 +111,65 @@ module _ (c : Control) (k : Setup) (b bytes : List ℕ) where
 
   -- the words held, from the next one on
   module _ (first held start from : ℕ) (ef : first ≡ takeCount k) (eh : held ≡ heldCount b) (es : start ≡ 32 * unitOf k) (em : c .next ≡ first + from) where
-    stepped : (table : List ℕ) → InStaging c k (length bytes) (length table) → (j : ℕ) → j < held → (bytes₁ bytes₂ : List ℕ) → length bytes₁ ≡ length bytes → Saved bytes₁ bytes₂ (start + j) (areaWord b held j)
-        → Does Step (record { control = toNext (first + j) c; setup = k; buffer = b }) (record { control = toNext (first + suc j) c; setup = k; buffer = b }) bytes₁ bytes₂ table table (R.Store (start + j) (areaWord b held j))
+    stepped : (table : List ℕ) → InStaging c k (length bytes) (length table) → (j : ℕ) → j < held → (bytes₁ bytes₂ : List ℕ) → length bytes₁ ≡ length bytes → Saved bytes₁ bytes₂ (start + j) (areaWord b j)
+        → Does Step (record { control = toNext (first + j) c; setup = k; buffer = b }) (record { control = toNext (first + suc j) c; setup = k; buffer = b }) bytes₁ bytes₂ table table (R.Store (start + j) (areaWord b j))
     stepped table h j l bytes₁ bytes₂ el saved =
-        let e : R.Store (start + j) (areaWord b held j) ≡ nthReport (blockActions k b) (first + j) = ap (R.Store (start + j)) (sym (area-held b held j (few held eh j l))) ∙ fills-store k b (first + j) j (start + j) (omega arith) (omega arith) (omega arith) in
+        let e : R.Store (start + j) (areaWord b j) ≡ nthReport (blockActions k b) (first + j) = fills-store k b (first + j) j (start + j) (omega arith) (omega arith) (omega arith) in
         let n : first + j + 1 ≡ first + suc j = omega arith in
-        subst (λ (x : ℕ). Does Step (record { control = toNext (first + j) c; setup = k; buffer = b }) (record { control = toNext x c; setup = k; buffer = b }) bytes₁ bytes₂ table table (R.Store (start + j) (areaWord b held j))) n
+        subst (λ (x : ℕ). Does Step (record { control = toNext (first + j) c; setup = k; buffer = b }) (record { control = toNext x c; setup = k; buffer = b }) bytes₁ bytes₂ table table (R.Store (start + j) (areaWord b j))) n
         (acts-once (toNext (first + j) c) k b bytes₁ bytes₂ table (h .0, (h .1 .0 ∙ sym el, h .1 .1)) _ (inside first held ef eh (first + j) (omega arith)) e (changed-store _ bytes₁ bytes₂ _ _ refl saved))
       where
-        few : (held : ℕ) → held ≡ heldCount b → (j : ℕ) → j < held → j < min held 512
-        few held eh j l = omega arith
-
         inside : (first held : ℕ) → first ≡ takeCount k → held ≡ heldCount b → (n : ℕ) → n < first + held → n < length (blockActions k b)
         inside first held ef eh n l = by-cases (ℕ-discrete (k .fields) 0)
             (λ z. let t = take-none k z in let q = B.count-plain k b held eh z in omega arith)
             (λ z. let t = take-two k z in let q = B.count-taking k b held eh z in omega arith)
 
-    pub all-stored : from ≤ held → (bytes′ : List ℕ) → Filled (areaWord b held) start from (held - from) bytes bytes′ → BlockStores c k b bytes bytes′ (first + held)
+    pub all-stored : from ≤ held → (bytes′ : List ℕ) → Filled (areaWord b) start from (held - from) bytes bytes′ → BlockStores c k b bytes bytes′ (first + held)
     all-stored l bytes′ f = record {
       made = record {
-        sized = filled-length (areaWord b held) start (held - from) from bytes bytes′ f;
+        sized = filled-length (areaWord b) start (held - from) from bytes bytes′ f;
         run = λ table h s′ bytes″ table″ r q.
             let e : first + from ≡ c .next = omega arith in
             subst (λ (x : ℕ). Runs (record { control = toNext x c; setup = k; buffer = b }) s′ bytes bytes″ table table″ r) e
-            (filled-runs (λ j. toNext (first + j) c) k b table (areaWord b held) start (length bytes) (held - from) from held bytes bytes′ f (omega arith) (λ j a d. stepped table h j d) refl s′ bytes″ table″ r q);
+            (filled-runs (λ j. toNext (first + j) c) k b table (areaWord b) start (length bytes) (held - from) from held bytes bytes′ f (omega arith) (λ j a d. stepped table h j d) refl s′ bytes″ table″ r q);
       };
       behind = no-store k b (first + held) (omega arith);
     }
 
   -- THE ACTION BEHIND THEM, which is told; or the end
-  module _ (bytes₁ : List ℕ) (n : ℕ) (so-far : BlockStores c k b bytes bytes₁ n) (table : List ℕ) (h : InStaging c k (length bytes) (length table)) where
-    still : InStaging (toNext n c) k (length bytes₁) (length table)
-    still = (h .0, (h .1 .0 ∙ sym (so-far .made .sized), h .1 .1))
+  module _ (bytes₁ : List ℕ) (n : ℕ) (so-far : BlockStores c k b bytes bytes₁ n) where
+    still : (table : List ℕ) → InStaging c k (length bytes) (length table) → InStaging (toNext n c) k (length bytes₁) (length table)
+    still table h = (h .0, (h .1 .0 ∙ sym (so-far .made .sized), h .1 .1))
 
-    pub run-acts : (r : Report) → n < acts → r ≡ nthReport (blockActions k b) n → RunsOn (record { control = c; setup = k; buffer = b }) (record { control = toNext (n + 1) c; setup = k; buffer = b }) bytes bytes₁ table table r
-    run-acts r l e =
+    pub run-acts : (table : List ℕ) → InStaging c k (length bytes) (length table) → (r : Report) → n < acts → r ≡ nthReport (blockActions k b) n → RunsOn (record { control = c; setup = k; buffer = b }) (record { control = toNext (n + 1) c; setup = k; buffer = b }) bytes bytes₁ table table r
+    run-acts table h r l e =
         let t : isStore r ≡ false = ap isStore e ∙ so-far .behind in
-        (so-far .made .run table h _ bytes₁ table r (zero, acts-once (toNext n c) k b bytes₁ bytes₁ table still r l e (unchanged r bytes₁ t)), t)
+        (so-far .made .run table h _ bytes₁ table r (zero, acts-once (toNext n c) k b bytes₁ bytes₁ table (still table h) r l e (unchanged r bytes₁ t)), t)
 
-    pub run-ends : acts ≤ n → RunsOn (record { control = c; setup = k; buffer = b }) (record { control = staged c; setup = k; buffer = b }) bytes bytes₁ table table (R.End 0)
-    run-ends l = (so-far .made .run table h _ bytes₁ table (R.End 0) (zero, staging-ends (toNext n c) k b bytes₁ table (still .1 .0) (still .1 .1) (still .0) l), refl)
+    pub run-ends : (table : List ℕ) → InStaging c k (length bytes) (length table) → acts ≤ n → RunsOn (record { control = c; setup = k; buffer = b }) (record { control = staged c; setup = k; buffer = b }) bytes bytes₁ table table (R.End 0)
+    run-ends table h l = (so-far .made .run table h _ bytes₁ table (R.End 0) (zero, staging-ends (toNext n c) k b bytes₁ table (still table h .1 .0) (still table h .1 .1) (still table h .0) l), refl)
+
+    -- the same for any table
+    pub store-acts : (r : Report) → n < acts → r ≡ nthReport (blockActions k b) n → StagingRun c k b bytes bytes₁ (toNext (n + 1) c) r
+    store-acts r l e = record { sized = so-far .made .sized; runs = λ table h. run-acts table h r l e }
+
+    pub store-ends : (c′ : Control) (r : Report) → c′ ≡ staged c → r ≡ R.End 0 → acts ≤ n → StagingRun c k b bytes bytes₁ c′ r
+    store-ends c′ r ec er l = record { sized = so-far .made .sized; runs = λ table h. rw (ec, er) (run-ends table h l) }
+
+  -- A FLUSH, or the end, where all words are stored
+  module _ (first held : ℕ) (ef : first ≡ takeCount k) (eh : held ≡ heldCount b) (past : first + held ≤ c .next) (table : List ℕ) (h : InStaging c k (length bytes) (length table)) where
+    all : acts ≡ first + held + linesFor held
+    all = by-cases (ℕ-discrete (k .fields) 0)
+        (λ z. let t = take-none k z in let q = B.count-plain k b held eh z in omega arith)
+        (λ z. let t = take-two k z in let q = B.count-taking k b held eh z in omega arith)
+
+    pub flush-acts : (line : ℕ) → c .next < first + held + linesFor held → line ≡ 4 * unitOf k + (c .next - (first + held))
+        → RunsOn (record { control = c; setup = k; buffer = b }) (record { control = toNext (c .next + 1) c; setup = k; buffer = b }) bytes bytes table table (R.Flush line)
+    flush-acts line l el =
+        let a = all in
+        run-acts bytes (c .next) (behind-all first held ef eh past) table h (R.Flush line) (omega arith)
+        (fills k b (R.Flush line) (c .next) (c .next - first) (omega arith) (B.shows-flush (unitOf k) b held (c .next - first) eh line (omega arith) (omega arith) (omega arith)))
+
+    pub flush-ends : (c′ : Control) (r : Report) → c′ ≡ staged c → r ≡ R.End 0 → first + held + linesFor held ≤ c .next
+        → RunsOn (record { control = c; setup = k; buffer = b }) (record { control = c′; setup = k; buffer = b }) bytes bytes table table r
+    flush-ends c′ r ec er l = let a = all in rw (ec, er) (run-ends bytes (c .next) (behind-all first held ef eh past) table h (omega arith))

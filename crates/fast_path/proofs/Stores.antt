@@ -2,32 +2,20 @@
 -- Assumes nothing.
 use mathlib.Core.Path.{_≡_, refl, sym, _∙_, ap, subst}
 use mathlib.Core.List.{List}
-use Prim.Native.Nat.{ℕ, zero, suc, _+_, _-_, _≤_, _<_, min}
+use Prim.Native.Nat.{ℕ, zero, suc, _+_, _-_, _≤_, _<_}
 use native.Mathlib.Omega.{arith}
-use native.Mathlib.Nat.{add-zero}
-use lib.Dec.{ltb}
-use lib.ListN.{length, getD}
-use borrow.Author.Tests.{lt-ltb, le-ltb}
+use lib.ListN.{length}
 use Rattle.spec.specs.Machine.{Step}
-use Rattle.spec.specs.Contract.{Changed}
 use Rattle.session.specs.declared.Control.{Control}
 use Rattle.session.specs.declared.Setup.{Setup}
 use Rattle.session.specs.declared.Session.{Session}
 use Rattle.spec.specs.declared.Report.{Report}
 use Rattle.spec.specs.declared.Report.the-variants as R
 use Rattle.words.specs.Image.{Saved}
-use Rattle.session.specs.State.{areaStart, batchRoom}
 use Rattle.fast_path.specs.Run.{toNext, Runs}
-use Rattle.fast_path.specs.Stores.{areaWord, Filled, Before}
+use Rattle.fast_path.specs.Stores.{Filled, Before}
 use Rattle.fast_path.proofs.Run.{stored-first}
 use Rattle.session.specs.Promise.{Does}
-
--- A WORD OF THE AREA, as the code reads it
-pub area-held : (b : List ℕ) (held i : ℕ) → i < min held batchRoom → getD b (areaStart + i) 0 ≡ areaWord b held i
-area-held b held i h = sym (rw (lt-ltb i (min held batchRoom) h))
-
-pub area-behind : (b : List ℕ) (held i : ℕ) → min held batchRoom ≤ i → 0 ≡ areaWord b held i
-area-behind b held i h = sym (rw (le-ltb i (min held batchRoom) h))
 
 -- THE LOOP: what is saved so far, with whatever is saved behind it, is one row
 module _ (value : ℕ → ℕ) (start : ℕ) where

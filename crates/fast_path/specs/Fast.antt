@@ -15,7 +15,7 @@ use Rattle.spec.specs.declared.Report.{Report}
 use Rattle.spec.specs.declared.Report.the-variants as R
 use Rattle.session.specs.State.{batchRoom, blockActions}
 use Rattle.actions.specs.Nth.{nthReport, commitCount}
-use Rattle.fast_path.specs.Run.{toNext, isStore}
+use Rattle.fast_path.specs.Run.{toNext, isStore, RunsOn}
 use Rattle.fast_path.specs.Stores.{Before}
 
 -- The next action is one of a commit's but not its last, and the lent lengths are those at its begin.
@@ -57,3 +57,9 @@ takeCount k = pick (eqb (k .fields) 0) 0 2
 pub record BlockStores (c : Control) (k : Setup) (b bytes bytes′ : List ℕ) (n : ℕ) : Type 0 where
   pub made : Before InStaging c k b bytes bytes′ n
   pub behind : isStore (nthReport (blockActions k b) n) ≡ false
+
+-- what a run of a staging comes to, whatever the table holds
+pub record StagingRun (c : Control) (k : Setup) (b bytes bytes′ : List ℕ) (c′ : Control) (r : Report) : Type 0 where
+  pub sized : length bytes′ ≡ length bytes
+  pub runs : (table : List ℕ) → InStaging c k (length bytes) (length table)
+      → RunsOn (record { control = c; setup = k; buffer = b }) (record { control = c′; setup = k; buffer = b }) bytes bytes′ table table r

@@ -2,21 +2,19 @@
 -- Assumes nothing.
 use mathlib.Core.Path.{_≡_}
 use mathlib.Core.List.{List}
-use Prim.Native.Nat.{ℕ, zero, suc, _+_, min}
-use lib.Dec.{ltb}
+use Prim.Native.Nat.{ℕ, zero, suc, _+_}
 use lib.ListN.{length, getD}
-use Rattle.spec.specs.Basics.{pick}
 use Rattle.session.specs.declared.Control.{Control}
 use Rattle.session.specs.declared.Setup.{Setup}
 use Rattle.session.specs.declared.Session.{Session}
 use Rattle.spec.specs.declared.Report.{Report}
 use Rattle.words.specs.Image.{Saved}
-use Rattle.session.specs.State.{areaStart, batchRoom}
+use Rattle.session.specs.State.{areaStart}
 use Rattle.fast_path.specs.Run.{toNext, Runs}
 
--- word i of those held in the second area, 0 behind them
-abbrev pub areaWord : (b : List ℕ) (held i : ℕ) → ℕ
-areaWord b held i = pick (ltb i (min held batchRoom)) (getD b (areaStart + i) 0) 0
+-- word i of the second area
+abbrev pub areaWord : (b : List ℕ) (i : ℕ) → ℕ
+areaWord b i = getD b (areaStart + i) 0
 
 -- m words saved, from number i on: word start + i is `value i`, and so on
 abbrev pub Filled : (ℕ → ℕ) → (start i m : ℕ) → (bytes bytes′ : List ℕ) → Type 0

@@ -6,7 +6,9 @@ ghost use Prim.Native.Nat.{_-_, _^_, _≤_, _<_};
 ghost use Rattle.spec.specs.Machine.{Step};
 ghost use Rattle.fast_path.specs.Run.{RunsOn};
 ghost use Rattle.fast_path.specs.Stores.{areaWord, Filled};
-ghost use Rattle.fast_path.specs.Fast.{FastStep, InStaging, OnFastPath, FastPath, Stores, takeCount, BlockStores};
+ghost use Rattle.fast_path.specs.Fast.{FastStep, InStaging, OnFastPath, FastPath, Stores, takeCount, BlockStores, StagingRun};
+ghost use Rattle.session.proofs.Kept.{staged};
+ghost use Rattle.spec.specs.declared.Report.the-variants.{End};
 ghost use Rattle.session.specs.Promise.{Does};
 use session::Control;
 use spec::Report;
@@ -117,31 +119,14 @@ pub fn fast_run(
 }
 
 // WORDS OF THE SECOND AREA
-// Word i of those held there, 0 behind them.
-fn area_word(buffer: &[u64; 1152], held: usize, i: usize) -> u64
-    ensures { λ r. ⌜ r ≡ areaWord (now (buffer .entry)) held i ⌝ }
-{
-    if i < actions::at_most(held, 512) {
-        return buffer[512 + i];
-    }
-    0
-}
-
 // Those numbered `from` up to `end` into the image, counted from its word `start`.
-pub fn store_area(
-    buffer: &[u64; 1152],
-    image: &mut [u8],
-    start: usize,
-    held: usize,
-    from: usize,
-    end: usize,
-)
-    requires { ⌜ (start < 2 ^ 32) × (from ≤ end) × (end < 2 ^ 32) ⌝ }
-    ensures { λ _. ⌜ Filled (areaWord (now (buffer .entry)) held) start from (end - from) (now (image .entry)) (now (image .exit)) ⌝ }
+pub fn store_area(buffer: &[u64; 1152], image: &mut [u8], start: usize, from: usize, end: usize)
+    requires { ⌜ (start < 2 ^ 32) × (from ≤ end) × (end ≤ 512) ⌝ }
+    ensures { λ _. ⌜ Filled (areaWord (now (buffer .entry))) start from (end - from) (now (image .entry)) (now (image .exit)) ⌝ }
 {
     let mut i = from;
     while i < end {
-        let value = area_word(buffer, held, i);
+        let value = buffer[512 + i];
         words::save(image, start + i, value);
         i += 1;
     }
@@ -188,7 +173,7 @@ fn store_block(control: Control, setup: Setup, buffer: &[u64; 1152], image: &mut
         let unit = block_acts::unit_of(setup);
         let start = unit.word_offset();
         let from = at - first;
-        store_area(buffer, image, start, held, from, held);
+        store_area(buffer, image, start, from, held);
         return behind;
     }
     if at == 0 {
@@ -199,7 +184,49 @@ fn store_block(control: Control, setup: Setup, buffer: &[u64; 1152], image: &mut
     at
 }
 
-// The stores that come next, and then the flush behind them, or the end. Elsewhere nothing is done.
+// The stores that come next, and then the flush behind them.
+fn store_run(control: Control, setup: Setup, buffer: &[u64; 1152], image: &mut [u8]) -> Stepped
+    ensures { λ r. ⌜ StagingRun control setup (now (buffer .entry)) (now (image .entry)) (now (image .exit)) (r .control) (r .report) ⌝ }
+{
+    let at = store_block(control, setup, buffer, image);
+    if stepping::is_stored(setup, buffer, at) {
+        return staged(control);
+    }
+    let action = block_acts::block_action(setup, buffer, at);
+    let next = at + 1;
+    let moved = Control {
+        phase: control.phase,
+        next,
+        items: control.items,
+        words: control.words,
+        keys: control.keys,
+        fresh: control.fresh,
+    };
+    Stepped {
+        control: moved,
+        report: action,
+    }
+}
+
+// The end of a staging.
+fn staged(control: Control) -> Stepped
+    ensures { λ r. ⌜ (r .control ≡ staged control) × (r .report ≡ End 0) ⌝ }
+{
+    let staged = Control {
+        phase: 1,
+        next: 0,
+        items: control.items,
+        words: control.words,
+        keys: control.keys,
+        fresh: control.fresh,
+    };
+    Stepped {
+        control: staged,
+        report: Report::End(0),
+    }
+}
+
+// The stores that come next, and then the flush behind them, or the end. Elsewhere nothing is done. A flush comes by few comparisons.
 pub fn staging_run(
     control: Control,
     setup: Setup,
@@ -210,26 +237,20 @@ pub fn staging_run(
     ensures { λ r. ⌜ OnFastPath InStaging RunsOn (record { control = control; setup = setup; buffer = now (buffer .entry) }) (record { control = r .control; setup = setup; buffer = now (buffer .entry) }) (now (image .entry)) (now (image .exit)) (now (table .entry)) (now (table .exit)) (r .report) ⌝ }
 {
     if is_staging(control, setup, image.len(), table.len()) {
-        let at = store_block(control, setup, buffer, image);
-        if stepping::is_stored(setup, buffer, at) {
-            let staged = Control {
-                phase: 1,
-                next: 0,
-                items: control.items,
-                words: control.words,
-                keys: control.keys,
-                fresh: control.fresh,
-            };
-            return Stepped {
-                control: staged,
-                report: Report::End(0),
-            };
+        let at = control.next;
+        let held = block_acts::held_words(buffer);
+        let behind = take_count(setup) + held;
+        if at < behind {
+            return store_run(control, setup, buffer, image);
         }
-        let action = block_acts::block_action(setup, buffer, at);
-        let next = at + 1;
+        if behind + (held + 7) / 8 <= at {
+            return staged(control);
+        }
+        let unit = block_acts::unit_of(setup);
+        let line = unit.word_offset() / 8 + (at - behind);
         let moved = Control {
             phase: control.phase,
-            next,
+            next: at + 1,
             items: control.items,
             words: control.words,
             keys: control.keys,
@@ -237,7 +258,7 @@ pub fn staging_run(
         };
         return Stepped {
             control: moved,
-            report: action,
+            report: Report::Flush(line),
         };
     }
     Stepped {

@@ -4,7 +4,7 @@ use mathlib.Core.Path.{_≡_, refl, sym, _∙_, ap, subst}
 use mathlib.Core.Logic.{by-cases}
 use mathlib.Core.Bool.{Bool, true, false}
 use mathlib.Core.List.{List}
-use Prim.Native.Nat.{ℕ, zero, suc, _+_, _-_, _≤_, _<_}
+use Prim.Native.Nat.{ℕ, zero, suc, _+_, _-_, _*_, _≤_, _<_, min}
 use native.Mathlib.Omega.{arith}
 use native.Mathlib.Decide.{ℕ-discrete}
 use lib.ListN.{length}
@@ -18,17 +18,20 @@ use Rattle.session.specs.declared.Session.{Session}
 use Rattle.spec.specs.declared.Report.{Report}
 use Rattle.spec.specs.declared.Report.the-variants as R
 use Rattle.theory_base.proofs.Lists.{not-both}
-use Rattle.session.specs.State.{cleanActions, stateOf}
+use Rattle.words.specs.Image.{Saved}
+use Rattle.session.specs.State.{chunkIn, linesIn, cleanActions, stateOf}
 use Rattle.actions.specs.Nth.{nthReport}
-use Rattle.actions.proofs.Performed.{changed-length}
-use Rattle.cleaning.specs.Record.{cleanCount}
-use Rattle.cleaning.proofs.Acting.{clean-flush}
+use Rattle.actions.proofs.Performed.{changed-length, changed-store}
+use Rattle.cleaning.specs.Record.{copyCount, cleanCount}
+use Rattle.cleaning.proofs.Acting.{kept-inside, count-some, shows-store, shows-copy, clean-flush}
 use Rattle.cleaning.proofs.Keeping.{acted}
 use Rattle.cleaning_step.proofs.Shows.{shows-acts}
 use Rattle.fast_path.specs.Run.{toNext, Runs, RunsOn, isStore}
 use Rattle.stepping.proofs.Cleaning.{cleans}
+use Rattle.fast_path.specs.Stores.{areaWord, Filled}
 use Rattle.fast_path.proofs.Run.{stored-first, store-is}
-use Rattle.running.specs.Run.{Copying, CleaningRun}
+use Rattle.fast_path.proofs.Stores.{before-none, filled-length, filled-runs}
+use Rattle.running.specs.Run.{Copying, CleaningRun, KeptStores}
 use Rattle.session.specs.Promise.{Does}
 
 -- the record after an action
@@ -97,6 +100,52 @@ module _ (c : Control) (k : Setup) (b bytes : List ℕ) where
         not-both (isStore (nthReport acts (cleanCount (k .source .words) - 2)))
         (so-far .stores (cleanCount (k .source .words) - 2) (omega arith) (omega arith))
         (ap (λ (x : Action). isStore (asReport x)) (clean-flush k (k .source) b (cleanCount (k .source .words) - 2) (omega arith))));
+  }
+
+-- THE KEPT WORDS first
+module _ (c : Control) (k : Setup) (b bytes : List ℕ) where
+  pub kept-none : KeptStores c k b bytes bytes (c .next)
+  kept-none = record { made = before-none Copying c k b bytes; before-last = λ h. h }
+
+  -- action number j stores word j of those kept
+  kept-store : (j w : ℕ) → j < min (k .source .words) 512 → w ≡ 512 * chunkIn k + 8 * linesIn k + j → R.Store w (areaWord b j) ≡ nthReport (cleanActions k (k .source) b) j
+  kept-store j w l e =
+      let some : k .source .words ≡ 0 → ⊥ = λ z. omega arith in
+      let n = count-some (k .source .words) some in
+      shows-copy k (k .source) b (R.Store w (areaWord b j)) j (copyCount (k .source .words)) refl (omega arith)
+      (shows-store k (k .source .words) b j (min (k .source .words) 512) refl w (areaWord b j) (omega arith) e (kept-inside b (k .source .words) j (512 + j) l refl))
+
+  module _ (start kept : ℕ) (es : start ≡ 512 * chunkIn k + 8 * linesIn k) (ek : kept ≡ min (k .source .words) 512) (l : c .next < kept) where
+    inside : (j : ℕ) → j < kept → j + 1 < cleanCount (k .source .words)
+    inside j h = let some : k .source .words ≡ 0 → ⊥ = λ z. omega arith in let n = count-some (k .source .words) some in omega arith
+
+    stepped-kept : (table : List ℕ) → Copying c k (length bytes) (length table) → (j : ℕ) → j < kept → (bytes₁ bytes₂ : List ℕ) → length bytes₁ ≡ length bytes → Saved bytes₁ bytes₂ (start + j) (areaWord b j)
+        → Does Step (record { control = toNext j c; setup = k; buffer = b }) (record { control = toNext (suc j) c; setup = k; buffer = b }) bytes₁ bytes₂ table table (R.Store (start + j) (areaWord b j))
+    stepped-kept table h j u bytes₁ bytes₂ el saved =
+        let n : j + 1 ≡ suc j = omega arith in
+        subst (λ (x : ℕ). Does Step (record { control = toNext j c; setup = k; buffer = b }) (record { control = toNext x c; setup = k; buffer = b }) bytes₁ bytes₂ table table (R.Store (start + j) (areaWord b j))) n
+        (acts-once (toNext j c) k b bytes₁ bytes₂ table (h .0, (h .1 .0 ∙ sym el, (h .1 .1 .0, inside j u))) _ (kept-store j (start + j) (omega arith) (omega arith)) (changed-store _ bytes₁ bytes₂ _ _ refl saved))
+
+    pub kept-stored : (bytes′ : List ℕ) → Filled (areaWord b) start (c .next) (kept - c .next) bytes bytes′ → KeptStores c k b bytes bytes′ kept
+    kept-stored bytes′ f = record {
+      made = record {
+        sized = filled-length (areaWord b) start (kept - c .next) (c .next) bytes bytes′ f;
+        run = λ table h s′ bytes″ table″ r q.
+            filled-runs (λ j. toNext j c) k b table (areaWord b) start (length bytes) (kept - c .next) (c .next) kept bytes bytes′ f (omega arith) (λ j a d. stepped-kept table h j d) refl s′ bytes″ table″ r q;
+      };
+      before-last = λ h. last;
+    }
+      where
+        last : kept + 1 < cleanCount (k .source .words)
+        last = let some : k .source .words ≡ 0 → ⊥ = λ z. omega arith in let n = count-some (k .source .words) some in omega arith
+
+  -- and then the run of what is left
+  pub copies : (bytes₁ bytes₂ : List ℕ) (n next : ℕ) (r : Report) → KeptStores c k b bytes bytes₁ n → CleaningRun (toNext n c) k b bytes₁ bytes₂ next r → CleaningRun c k b bytes bytes₂ next r
+  copies bytes₁ bytes₂ n next r kept more = record {
+    sized = more .sized ∙ kept .made .sized;
+    runs = λ table h.
+        let q = more .runs table (h .0, (h .1 .0 ∙ sym (kept .made .sized), (h .1 .1 .0, kept .before-last (h .1 .1 .1)))) in
+        (kept .made .run table h _ bytes₂ table r (q .0), q .1);
   }
 
 -- ANY STEPS: those made so far each stored a word, so that with whatever run follows they are one

@@ -14,6 +14,7 @@ use Rattle.session.specs.State.{stateOf, limit}
 use Rattle.session.specs.Fits.{Fits}
 use Rattle.cleaning.specs.Record.{cleanCount}
 use Rattle.fast_path.specs.Run.{toNext, RunsOn}
+use Rattle.fast_path.specs.Stores.{Before}
 
 -- The next action is one of a cleaning's but not its last, and the lent lengths are those at its begin.
 abbrev pub Copying : Control → Setup → (bytes words : ℕ) → Type 0
@@ -24,3 +25,8 @@ pub record CleaningRun (c : Control) (k : Setup) (b bytes bytes′ : List ℕ) (
   pub sized : length bytes′ ≡ length bytes
   pub runs : (table : List ℕ) → Copying c k (length bytes) (length table)
       → RunsOn (record { control = c; setup = k; buffer = b }) (record { control = toNext next c; setup = k; buffer = b }) bytes bytes′ table table r
+
+-- Stores of a cleaning up to action n are made; and the last action is still to come if it was.
+pub record KeptStores (c : Control) (k : Setup) (b bytes bytes′ : List ℕ) (n : ℕ) : Type 0 where
+  pub made : Before Copying c k b bytes bytes′ n
+  pub before-last : c .next + 1 < cleanCount (k .source .words) → n + 1 < cleanCount (k .source .words)

@@ -2,7 +2,7 @@
 ghost use mathlib.Core.Path.{_≡_};
 ghost use mathlib.Core.Bool.{true, false};
 ghost use Rattle.fast_path.specs.Run.{isStore, RunsOn};
-ghost use Rattle.running.specs.Run.{Copying, CleaningRun};
+ghost use Rattle.running.specs.Run.{Copying, CleaningRun, KeptStores};
 use fast_path::Advanced;
 use session::Control;
 use spec::Report;
@@ -71,6 +71,37 @@ fn run_cleaning(control: Control, setup: Setup, buffer: &[u64; 1152], image: &mu
     }
 }
 
+// The kept words that are still to be stored, in a short loop: the number of the action behind them.
+fn store_kept(control: Control, setup: Setup, buffer: &[u64; 1152], image: &mut [u8]) -> usize
+    ensures { λ r. ⌜ KeptStores control setup (now (buffer .entry)) (now (image .entry)) (now (image .exit)) r ⌝ }
+{
+    let source = setup.source;
+    let kept = actions::at_most(source.words, 512);
+    let at = control.next;
+    if kept <= at {
+        return at;
+    }
+    let start = actions::batch_start(setup);
+    fast_path::store_area(buffer, image, start, at, kept);
+    kept
+}
+
+// The same run, with the kept words stored first.
+fn run_copying(control: Control, setup: Setup, buffer: &[u64; 1152], image: &mut [u8]) -> Advanced
+    ensures { λ r. ⌜ CleaningRun control setup (now (buffer .entry)) (now (image .entry)) (now (image .exit)) (r .next) (r .report) ⌝ }
+{
+    let at = store_kept(control, setup, buffer, image);
+    let stored = Control {
+        phase: control.phase,
+        next: at,
+        items: control.items,
+        words: control.words,
+        keys: control.keys,
+        fresh: control.fresh,
+    };
+    run_cleaning(stored, setup, buffer, image)
+}
+
 // Steps up to one that stores nothing, whatever is begun.
 fn run_steps(
     control: Control,
@@ -106,7 +137,7 @@ pub fn run_core(
     ensures { λ r. ⌜ RunsOn (record { control = control; setup = setup; buffer = now (buffer .entry) }) (record { control = r .control; setup = setup; buffer = now (buffer .exit) }) (now (image .entry)) (now (image .exit)) (now (table .entry)) (now (table .exit)) (r .report) ⌝ }
 {
     if is_copying(control, setup, image.len(), table.len()) {
-        let run = run_cleaning(control, setup, buffer, image);
+        let run = run_copying(control, setup, buffer, image);
         let report = run.report;
         let moved = Control {
             phase: control.phase,

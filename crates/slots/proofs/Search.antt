@@ -1,30 +1,37 @@
 -- The search over chunks and blocks: the first spare block of all is the first of those still to be looked at.
 -- Assumes nothing.
 use mathlib.Core.Path.{_≡_, refl, sym, _∙_, ap}
+use mathlib.Core.Logic.{by-cases}
 use mathlib.Core.Bool.{Bool, true, false}
 use mathlib.Core.Option.{Option, none, some}
 use mathlib.Core.List.{List, [], _∷_, _++_}
-use Prim.Native.Nat.{ℕ, zero, suc, _+_, _-_, _*_, _/_, _≤_, _<_, min}
+use Prim.Native.Nat.{ℕ, zero, suc, _+_, _-_, _*_, _/_, _%_, _^_, _≤_, _<_, min}
 use native.Mathlib.Nat.{mul-comm, mul-suc, mul-zero, add-zero, mul-le-mul-left, div-mul-le-self, div-zero, zero-mul, div-le-self}
 use native.Mathlib.Omega.{arith}
-use borrow.Author.Tests.{eq-eqb, ne-eqb, eqb-true}
-use lib.Dec.{eqb}
-use lib.ListN.{length}
-use Rattle.spec.specs.Basics.{pick, negate, filter, first, isIn, upFrom}
+use native.Mathlib.Decide.{ℕ-discrete}
+use borrow.Author.Tests.{eq-eqb, ne-eqb, eqb-true, leb-true}
+use lib.Dec.{eqb, leb}
+use lib.ListN.{length, getD}
+use Rattle.spec.specs.Basics.{pick, both, negate, filter, first, isIn, upFrom}
 use Rattle.spec.specs.Words.{wordsOf}
-use Rattle.spec.specs.Places.{chunkUnits, firstUnit, unitChunk}
-use Rattle.spec.specs.Directory.{sizeOf}
+use Rattle.spec.specs.Places.{chunkUnits, chunkLines, firstUnit, unitChunk, directoryWord}
+use Rattle.spec.specs.Directory.{isSize, roleOf, sizeIn, sizeOf, sizeFor}
+use Rattle.spec.specs.declared.Role.the-variants as R
 use Rattle.spec.specs.Log.{Entry}
 use Rattle.spec.specs.Plans.{blocksOf, blocksFrom}
-use Rattle.theory_base.proofs.Lists.{pick-same}
+use Rattle.theory_base.proofs.Lists.{pick-same, both-l, both-r}
+use Rattle.theory_log.proofs.Directory.{size-is}
 use Rattle.slots.specs.Blocks.{Says, spare, Spare, firstSpare, InImage}
 
 -- how many blocks of s units chunk c has
 abbrev pub blockCount : List ℕ → ℕ → ℕ → ℕ
 blockCount ws s c = pick (eqb (sizeOf 12 ws c) s) (16 / s) 0
 
+pub none-of : (b : Bool) (s : ℕ) → s ≡ 0 → 0 ≡ pick b (16 / s) 0
+none-of b s e = sym (rw (e, div-zero 16) (pick-same b 0))
+
 pub count-none : (ws : List ℕ) (s c : ℕ) → s ≡ 0 → 0 ≡ blockCount ws s c
-count-none ws s c e = sym (rw (e, div-zero 16) (pick-same (eqb (sizeOf 12 ws c) 0) 0))
+count-none ws s c e = none-of (eqb (sizeOf 12 ws c) s) s e
 
 pub count-some : (ws : List ℕ) (s c : ℕ) → sizeOf 12 ws c ≡ s → 16 / s ≡ blockCount ws s c
 count-some ws s c e = sym (rw (eq-eqb (sizeOf 12 ws c) s e))
@@ -34,6 +41,63 @@ count-other ws s c n = sym (rw (ne-eqb (sizeOf 12 ws c) s n))
 
 pub all-fit : (s : ℕ) → s * (16 / s) ≤ 16
 all-fit s = rw (mul-comm s (16 / s)) (div-mul-le-self 16 s)
+
+-- the directory word of a data chunk, by its block size
+size-word : (w : ℕ) → 1 ≤ sizeIn (roleOf 12 w) → (w ≡ 2 + 256 * sizeIn (roleOf 12 w)) × (sizeIn (roleOf 12 w) ≤ 16)
+unfolding roleOf isSize chunkUnits
+size-word w h = go (eqb (w % 256) 0) (eqb (w / 256) 0) (eqb (w % 256) 1) (both (leb 1 (w / 256)) (leb (w / 256) (chunkLines 12))) (eqb (w % 256) 2) (isSize 12 (w / 256)) (eqb-true (w % 256) 2) (size-most (w / 256)) h
+  where
+    size-most : (s : ℕ) → isSize 12 s ≡ true → s ≤ 16
+    size-most s e = leb-true s 16 (both-l (leb s 16) (eqb (sizeFor 12 s) s) (both-r (leb 2 s) (both (leb s 16) (eqb (sizeFor 12 s) s)) e))
+
+    go : (b0 b1 b2 b3 b4 b5 : Bool) → (b4 ≡ true → w % 256 ≡ 2) → (b5 ≡ true → w / 256 ≤ 16)
+        → 1 ≤ sizeIn (pick b0 (pick b1 R.Free R.Wrong) (pick b2 (pick b3 (R.Log (w / 256)) R.Wrong) (pick b4 (pick b5 (R.Data (w / 256)) R.Wrong) R.Wrong)))
+        → (w ≡ 2 + 256 * sizeIn (pick b0 (pick b1 R.Free R.Wrong) (pick b2 (pick b3 (R.Log (w / 256)) R.Wrong) (pick b4 (pick b5 (R.Data (w / 256)) R.Wrong) R.Wrong))))
+        × (sizeIn (pick b0 (pick b1 R.Free R.Wrong) (pick b2 (pick b3 (R.Log (w / 256)) R.Wrong) (pick b4 (pick b5 (R.Data (w / 256)) R.Wrong) R.Wrong))) ≤ 16)
+    go true true b2 b3 b4 b5 e f u = absurd (omega arith)
+    go true false b2 b3 b4 b5 e f u = absurd (omega arith)
+    go false b1 true true b4 b5 e f u = absurd (omega arith)
+    go false b1 true false b4 b5 e f u = absurd (omega arith)
+    go false b1 false b3 true true e f u = (let q = e refl in omega arith, f refl)
+    go false b1 false b3 true false e f u = absurd (omega arith)
+    go false b1 false b3 false b5 e f u = absurd (omega arith)
+
+-- how many blocks the code counts in chunk c
+pub record Counts (ws : List ℕ) (s c k : ℕ) : Type 0 where
+  pub is : k ≡ blockCount ws s c
+  pub fits : s * k ≤ 16
+  pub few : k ≤ 16
+  pub some′ : 1 ≤ k → (sizeOf 12 ws c ≡ s) × (1 ≤ s)
+
+pub counted : (ws : List ℕ) (s c word most k : ℕ) → word ≡ 2 + 256 * (s % 2 ^ 56) → most ≡ pick (eqb (sizeIn (roleOf 12 word)) s) (16 / s) 0
+    → k ≡ pick (eqb (getD ws (directoryWord c) 0) word) most 0 → Counts ws s c k
+counted ws s c word most k ew em ek = by-cases (ℕ-discrete (getD ws (directoryWord c) 0) word) same other
+  where
+    none′ : k ≡ 0 → 0 ≡ blockCount ws s c → Counts ws s c k
+    none′ z e = record { is = z ∙ e; fits = rw z (let q = mul-zero s in omega arith); few = omega arith; some′ = λ h. absurd (omega arith) }
+
+    same : getD ws (directoryWord c) 0 ≡ word → Counts ws s c k
+    same e =
+        let q : sizeIn (roleOf 12 word) ≡ sizeOf 12 ws c = ap (λ (x : ℕ). sizeIn (roleOf 12 x)) (sym e) ∙ sym (size-is 12 ws c) in
+        let z : k ≡ blockCount ws s c = ek ∙ rw (eq-eqb (getD ws (directoryWord c) 0) word e) (em ∙ rw q) in
+        by-cases (ℕ-discrete (sizeOf 12 ws c) s)
+        (λ y. by-cases (ℕ-discrete s 0)
+        (λ x. none′ (z ∙ sym (count-none ws s c x)) (count-none ws s c x))
+        (λ x. let m : k ≡ 16 / s = z ∙ sym (count-some ws s c y) in
+        record { is = z; fits = rw m (all-fit s); few = rw m (div-le-self 16 s); some′ = λ h. (y, omega (arith, x)) }))
+        (λ n. none′ (z ∙ sym (count-other ws s c n)) (count-other ws s c n))
+
+    other : (getD ws (directoryWord c) 0 ≡ word → ⊥) → Counts ws s c k
+    other n =
+        let z : k ≡ 0 = ek ∙ rw (ne-eqb (getD ws (directoryWord c) 0) word n) in
+        by-cases (ℕ-discrete s 0)
+        (λ x. none′ z (count-none ws s c x))
+        (λ x. none′ z (count-other ws s c (λ y.
+        let q : sizeIn (roleOf 12 (getD ws (directoryWord c) 0)) ≡ s = sym (size-is 12 ws c) ∙ y in
+        let w = size-word (getD ws (directoryWord c) 0) (omega (arith, x)) in
+        let w0 = w .0 in
+        let w1 = w .1 in
+        n (omega arith))))
 
 -- block j of k blocks of s units that fit into a chunk ends there
 pub block-ends : (s j k : ℕ) → j < k → s * k ≤ 16 → s * j + s ≤ 16

@@ -5,17 +5,21 @@ ghost use lib.Dec.{eqb};
 ghost use lib.ListN.{length, getD};
 ghost use Rattle.spec.specs.Basics.{pick, both};
 ghost use Rattle.spec.specs.Words.{wordsOf};
-ghost use Rattle.spec.specs.Directory.{sizeOf};
+ghost use Rattle.spec.specs.Places.{directoryWord};
+ghost use Rattle.spec.specs.Directory.{roleOf, sizeIn};
 ghost use Rattle.spec.specs.Log.{firstOf};
 ghost use Rattle.slots.specs.Blocks.{metBy, StagedBlock, Spare, BlockFound, SlotFound};
 use blocks::has_bit;
 use codec::Unit;
+use codec::data_word;
 use codec::first_of;
-use log::size_of;
+use codec::role_of;
 use log::words_for;
 use space::Found;
+use space::directory_word;
 use space::free_chunk;
 use spec::FirstWord;
+use spec::Role;
 
 // A block that was looked for, by its first unit.
 pub enum Block {
@@ -112,15 +116,38 @@ pub fn is_spare(buffer: &[u64; 1152], words: usize, u: usize) -> bool
 }
 
 // THE SEARCH
-// How many blocks of that size chunk c has.
-fn blocks_in(image: &[u8], c: usize, size: usize) -> usize
-    ensures { λ r. ⌜ (r ≡ pick (eqb (sizeOf 12 (wordsOf (now (image .entry))) c) size) (16 / size) 0) × (size * r ≤ 16) × (1 ≤ r → (sizeOf 12 (wordsOf (now (image .entry))) c ≡ size) × (1 ≤ size)) × (r ≤ 16) ⌝ }
+// The block size that a directory word says, 0 unless it is a data chunk's.
+fn size_said(word: u64) -> usize
+    ensures { λ r. ⌜ r ≡ sizeIn (roleOf 12 word) ⌝ }
+{
+    let role = role_of(word);
+    match role {
+        Role::Free => 0,
+        Role::Log(_) => 0,
+        Role::Data(size) => size as usize,
+        Role::Wrong => 0,
+    }
+}
+
+// How many blocks of that size a data chunk of that block size has, whose directory word is `word`.
+fn blocks_of(word: u64, size: usize) -> usize
+    ensures { λ r. ⌜ r ≡ pick (eqb (sizeIn (roleOf 12 word)) size) (16 / size) 0 ⌝ }
 {
     if size == 0 {
         return 0;
     }
-    if size_of(image, c) == size {
+    if size_said(word) == size {
         return 16 / size;
+    }
+    0
+}
+
+// How many of them chunk c has: all where its directory word is that one.
+fn blocks_in(image: &[u8], c: usize, word: u64, blocks: usize) -> usize
+    ensures { λ r. ⌜ r ≡ pick (eqb (getD (wordsOf (now (image .entry))) (directoryWord c) 0) word) blocks 0 ⌝ }
+{
+    if directory_word(image, c) == word {
+        return blocks;
     }
     0
 }
@@ -136,9 +163,11 @@ pub fn find_block(
     ensures { λ r. ⌜ BlockFound (now (image .entry)) count size (now (buffer .entry)) words r ⌝ }
 {
     let chunks = lesser(count, image.len() / 4096);
+    let word = data_word(0, size as u64);
+    let most = blocks_of(word, size);
     let mut found = Block::Nothing;
     'chunks: for c in 1..chunks {
-        let blocks = blocks_in(image, c, size);
+        let blocks = blocks_in(image, c, word, most);
         for j in 0..blocks {
             let u = 16 * c + size * j;
             if is_spare(buffer, words, u) {

@@ -2,59 +2,80 @@
 -- Assumes nothing.
 use mathlib.Core.Path.{refl, sym, _∙_}
 use native.Mathlib.Omega.{arith}
-use borrow.Author.Tests.{leb-true, leb-false}
-use lib.ListN.{length}
-use Rattle.session.specs.State.{blockActions, behindAll}
-use Rattle.block_acts.proofs.Filling.{none-left}
-use Rattle.fast_path.proofs.Staging.{run-acts, run-ends}
 use borrow.Author.Needs.{needs}
+use Rattle.fast_path.proofs.Staging.{flush-acts, flush-ends}
 use Rattle.fast_path.proofs.staging_run.Statement.{statement}
 use Rattle.fast_path.proofs.staging_run.Tie as tie
 
 is-staging-requires : tie.Need-is-staging-requires
 is-staging-requires c κs = search needs
 
-store-block-requires : tie.Need-store-block-requires
-store-block-requires c κs = search needs
+held-words-requires : tie.Need-held-words-requires
+held-words-requires c κs = search needs
 
-is-stored-requires : tie.Need-is-stored-requires
-is-stored-requires c κs = search needs
+take-count-requires : tie.Need-take-count-requires
+take-count-requires c κs = search needs
+
+add-behind : tie.Need-add-behind
+add-behind c = search needs
+
+store-run-requires : tie.Need-store-run-requires
+store-run-requires c κs = search needs
 
 same-length : tie.Need-same-length
 same-length c = search needs
 
 returns : tie.Need-returns
-returns c = record { within = λ h. run-ends _ _ _ _ _ _ (c .before .before .before .before .store-block .ensures) _ h (leb-true _ _ (sym (c .before .is-stored .ensures) ∙ c .if2 .taken)); without = λ no. absurd (no (c .before .before .before .before .before .before .before .is-staging .ensures .0 (c .before .before .before .before .before .before .if1 .taken))) }
+returns c = record { within = λ h. c .before .before .store-run .ensures .runs _ h; without = λ no. absurd (no (c .before .before .before .before .before .before .before .before .is-staging .ensures .0 (c .before .before .before .before .before .before .before .if1 .taken))) }
 
-block-action-requires : tie.Need-block-action-requires
-block-action-requires c κs = search needs
+add-if3 : tie.Need-add-if3
+add-if3 c = search needs
 
-add-next : tie.Need-add-next
-add-next c = let a = c .before .before .before .before .before .before .before .before .before .before .before .args in
-    let l = leb-false (length (blockActions (a .setup) (a .buffer .now))) (c .before .before .before .before .before .store-block .result) (sym (c .before .before .is-stored .ensures) ∙ c .before .if2 .left) in
-    let m = none-left (a .setup) (a .buffer .now) behindAll (omega arith) in
-    omega arith
+add-if3-2 : tie.Need-add-if3-2
+add-if3-2 c = search needs
 
-same-length-2 : tie.Need-same-length-2
-same-length-2 c = search needs
+staged-requires : tie.Need-staged-requires
+staged-requires c κs = search needs
 
 returns-2 : tie.Need-returns-2
-returns-2 c = record { within = λ h. run-acts _ _ _ _ _ _ (c .before .before .before .before .before .store-block .ensures) _ h _ (leb-false _ _ (sym (c .before .before .is-stored .ensures) ∙ c .before .if2 .left)) (c .block-action .ensures); without = λ no. absurd (no (c .before .before .before .before .before .before .before .before .is-staging .ensures .0 (c .before .before .before .before .before .before .before .if1 .taken))) }
+returns-2 c = record { within = λ h. flush-ends _ _ _ _ _ _ (c .before .before .before .take-count .ensures .0) (c .before .before .before .before .held-words .ensures) (omega arith) _ h _ _ (c .staged .ensures .0) (c .staged .ensures .1) (omega arith); without = λ no. absurd (no (c .before .before .before .before .before .before .is-staging .ensures .0 (c .before .before .before .before .before .if1 .taken))) }
+
+unit-of-requires : tie.Need-unit-of-requires
+unit-of-requires c κs = search needs
+
+word-offset-requires : tie.Need-word-offset-requires
+word-offset-requires c κs = search needs
+
+add-line : tie.Need-add-line
+add-line c = search needs
+
+add-t15 : tie.Need-add-t15
+add-t15 c = search needs
 
 returns-3 : tie.Need-returns-3
-returns-3 c = record { within = λ h. absurd (c .before .is-staging .ensures .1 (c .if1 .left) h); without = λ no. (refl, (refl, (refl, refl))) }
+returns-3 c = record { within = λ h. flush-acts _ _ _ _ _ _ (c .before .before .before .before .take-count .ensures .0) (c .before .before .before .before .before .held-words .ensures) (omega arith) _ h _ (omega arith) (let u = c .before .unit-of .ensures .0 in let l = c .before .unit-of .ensures .1 in let w = c .word-offset .ensures in omega arith); without = λ no. absurd (no (c .before .before .before .before .before .before .before .is-staging .ensures .0 (c .before .before .before .before .before .before .if1 .taken))) }
+
+returns-4 : tie.Need-returns-4
+returns-4 c = record { within = λ h. absurd (c .before .is-staging .ensures .1 (c .if1 .left) h); without = λ no. (refl, (refl, (refl, refl))) }
 
 pub staging-run-spec : {M : Type 1} → statement M
 staging-run-spec =
     tie.close
     (tie.spec
     is-staging-requires
-    store-block-requires
-    is-stored-requires
+    held-words-requires
+    take-count-requires
+    add-behind
+    store-run-requires
     same-length
     returns
-    block-action-requires
-    add-next
-    same-length-2
+    add-if3
+    add-if3-2
+    staged-requires
     returns-2
-    returns-3)
+    unit-of-requires
+    word-offset-requires
+    add-line
+    add-t15
+    returns-3
+    returns-4)

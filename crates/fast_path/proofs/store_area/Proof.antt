@@ -1,5 +1,6 @@
 -- `fast_path::store_area` meets its contract. The loop's invariant: what is saved so far, with whatever is saved behind it, is one row.
 -- Assumes nothing.
+use mathlib.Core.Path.{refl}
 use Prim.Native.Nat.{_-_, _≤_}
 use native.Mathlib.Omega.{arith}
 use borrow.Author.Needs.{needs}
@@ -9,16 +10,22 @@ use Rattle.fast_path.proofs.store_area.Statement.{statement}
 use Rattle.fast_path.proofs.store_area.Tie as tie
 
 abbrev Inv-loop : tie.InvT-loop
-Inv-loop buffer image₀ start held from end i₀ image i = SoFar (areaWord buffer held) start i₀ i image₀ image × (i ≤ end)
+Inv-loop buffer image₀ start from end i₀ image i = SoFar (areaWord buffer) start i₀ i image₀ image × (i ≤ end)
 
 abbrev μ-loop : tie.MeasureT-loop
-μ-loop buffer image₀ start held from end i₀ image i = end - i
+μ-loop buffer image₀ start from end i₀ image i = end - i
 
 loop-holds : tie.Need-loop-holds Inv-loop μ-loop
 loop-holds c = (none-saved _ _ _ _, omega arith)
 
-area-word-requires : tie.Need-area-word-requires Inv-loop μ-loop
-area-word-requires c κs = search needs
+add-value : tie.Need-add-value Inv-loop μ-loop
+add-value c = search needs
+
+mul-value : tie.Need-mul-value Inv-loop μ-loop
+mul-value c = search needs
+
+element-copy-out-value : tie.Need-element-copy-out-value Inv-loop μ-loop
+element-copy-out-value c = search needs
 
 add-save : tie.Need-add-save Inv-loop μ-loop
 add-save c = search needs
@@ -33,7 +40,7 @@ loop-less : tie.Need-loop-less Inv-loop μ-loop
 loop-less c = search needs
 
 loop-again : tie.Need-loop-again Inv-loop μ-loop
-loop-again c = (one-saved _ _ _ _ _ _ _ _ (c .before .before .before .before .before .before .loop .inv .0) (c .before .before .before .before .area-word .ensures) (c .before .before .save .ensures), omega arith)
+loop-again c = (one-saved _ _ _ _ _ _ _ _ (c .before .before .before .before .before .before .loop .inv .0) refl (c .before .before .save .ensures), omega arith)
 
 same-length : tie.Need-same-length Inv-loop μ-loop
 same-length c = so-far-length _ _ _ _ _ _ (c .before .loop .inv .0)
@@ -48,7 +55,9 @@ store-area-spec =
     Inv-loop
     μ-loop
     loop-holds
-    area-word-requires
+    add-value
+    mul-value
+    element-copy-out-value
     add-save
     save-requires
     add-i

@@ -7,14 +7,14 @@ use Rattle.running.proofs.run_core.Tie as tie
 is-copying-requires : tie.Need-is-copying-requires
 is-copying-requires c κs = search needs
 
-run-cleaning-requires : tie.Need-run-cleaning-requires
-run-cleaning-requires c κs = search needs
+run-copying-requires : tie.Need-run-copying-requires
+run-copying-requires c κs = search needs
 
 same-length : tie.Need-same-length
 same-length c = search needs
 
 returns : tie.Need-returns
-returns c = c .before .before .run-cleaning .ensures .runs _ (c .before .before .before .before .before .before .is-copying .ensures .0 (c .before .before .before .before .before .if1 .taken))
+returns c = c .before .before .run-copying .ensures .runs _ (c .before .before .before .before .before .before .is-copying .ensures .0 (c .before .before .before .before .before .if1 .taken))
 
 run-steps-requires : tie.Need-run-steps-requires
 run-steps-requires c κs = search needs
@@ -33,7 +33,7 @@ run-core-spec =
     tie.close
     (tie.spec
     is-copying-requires
-    run-cleaning-requires
+    run-copying-requires
     same-length
     returns
     run-steps-requires
