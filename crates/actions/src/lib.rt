@@ -6,6 +6,7 @@ ghost use Rattle.spec.specs.Actions.{linesFor, padded, firstWordOf};
 ghost use Rattle.spec.specs.Contract.{Changed};
 ghost use Rattle.session.specs.State.{bufferPart, batchRoom, chunkIn, linesIn, commitActions, givenBy, formatActions};
 ghost use Rattle.actions.specs.Nth.{nthReport, commitCount, formatCount, registerWord};
+use blocks::Buffer;
 use session::Control;
 use spec::Given;
 use spec::Report;
@@ -42,7 +43,7 @@ pub fn batch_start(setup: Setup) -> usize
 }
 
 // Word i of the batch padded to whole lines: 0 behind the staged words.
-pub fn batch_word(buffer: &[u64; 1152], words: usize, i: usize) -> u64
+pub fn batch_word(buffer: &Buffer, words: usize, i: usize) -> u64
     ensures { λ r. ⌜ r ≡ getD (padded (bufferPart (now (buffer .entry)) 0 (min words batchRoom))) i 0 ⌝ }
 {
     let staged = at_most(words, 512);
@@ -53,7 +54,7 @@ pub fn batch_word(buffer: &[u64; 1152], words: usize, i: usize) -> u64
 }
 
 // The action number `at` of a commit: the batch's words, their lines, a fence; the directory word, its line, a fence.
-pub fn commit_action(control: Control, setup: Setup, buffer: &[u64; 1152], at: usize) -> Report
+pub fn commit_action(control: Control, setup: Setup, buffer: &Buffer, at: usize) -> Report
     ensures { λ r. ⌜ r ≡ nthReport (commitActions control setup (now (buffer .entry))) at ⌝ }
 {
     let words = control.words;

@@ -3,8 +3,9 @@ ghost use Prim.Native.Nat.{_≤_};
 ghost use Rattle.spec.specs.Words.{wordsOf};
 ghost use Rattle.spec.specs.Log.{firstOf};
 ghost use lib.ListN.{getD};
-ghost use Rattle.apply.specs.Blocks.{blockAt, namedBy, twinBlock, Freed, Claimed};
-ghost use Rattle.apply.specs.Joining.{Scanned, Superseded, OneJoined, Staged, Joining};
+ghost use Rattle.apply.specs.Blocks.{blockAt, namedBy, Freed, Claimed};
+ghost use Rattle.apply.specs.Joining.{Superseded, OneJoined, Staged, Joining};
+use blocks::Buffer;
 use index::Info;
 use log::Next;
 use session::Control;
@@ -13,7 +14,7 @@ use session::Setup;
 
 // THE BLOCKS OF SUPERSEDED ENTRIES
 // The block of an entry with these parts, if it is a put in one, leaves the bits.
-fn release(buffer: &mut [u64; 1152], op: u64, placement: u64, field: u64)
+fn release(buffer: &mut Buffer, op: u64, placement: u64, field: u64)
     ensures { λ _. ⌜ Freed (now (buffer .entry)) (now (buffer .exit)) (blockAt op placement field) ⌝ }
 {
     blocks::buffer_length(buffer);
@@ -25,7 +26,7 @@ fn release(buffer: &mut [u64; 1152], op: u64, placement: u64, field: u64)
 }
 
 // The block of the entry that stands at word `place`.
-fn release_at(buffer: &mut [u64; 1152], image: &[u8], place: usize)
+fn release_at(buffer: &mut Buffer, image: &[u8], place: usize)
     ensures { λ _. ⌜ Freed (now (buffer .entry)) (now (buffer .exit)) (namedBy (firstOf (getD (wordsOf (now (image .entry))) place 0))) ⌝ }
 {
     blocks::buffer_length(buffer);
@@ -44,18 +45,9 @@ fn release_at(buffer: &mut [u64; 1152], image: &[u8], place: usize)
     }
 }
 
-// An entry of the log, if it is of this key and version.
-fn release_twin(
-    buffer: &mut [u64; 1152],
-    key: u64,
-    version: u64,
-    k: u64,
-    v: u64,
-    op: u64,
-    placement: u64,
-    field: u64,
-)
-    ensures { λ _. ⌜ Freed (now (buffer .entry)) (now (buffer .exit)) (twinBlock key version k v op placement field) ⌝ }
+// The block of a key's top entries, of which the table says so much: the chosen one's, since all of them are equal in every word.
+fn release_tops(buffer: &mut Buffer, image: &[u8], info: Info)
+    ensures { λ _. ⌜ Superseded (wordsOf (now (image .entry))) (now (buffer .entry)) (now (buffer .exit)) info ⌝ }
 {
     blocks::buffer_length(buffer);
     if k == key {
@@ -114,7 +106,7 @@ fn release_tops(buffer: &mut [u64; 1152], image: &[u8], count: usize, key: u64, 
 
 // ONE ITEM
 // The block of an entry with these parts, if it is a put in one, joins the bits.
-fn claim(buffer: &mut [u64; 1152], op: u64, placement: u64, field: u64)
+fn claim(buffer: &mut Buffer, op: u64, placement: u64, field: u64)
     ensures { λ _. ⌜ Claimed (now (buffer .entry)) (now (buffer .exit)) (blockAt op placement field) ⌝ }
 {
     blocks::buffer_length(buffer);
@@ -129,8 +121,7 @@ fn claim(buffer: &mut [u64; 1152], op: u64, placement: u64, field: u64)
 // The blocks that it supersedes leave the bits; its own is not yet there.
 fn join_one(
     image: &[u8],
-    count: usize,
-    buffer: &mut [u64; 1152],
+    buffer: &mut Buffer,
     table: &mut [u64],
     keys: usize,
     key: u64,
@@ -167,7 +158,7 @@ enum Item {
     },
 }
 
-fn item_at(buffer: &[u64; 1152], at: usize, end: usize) -> Item
+fn item_at(buffer: &Buffer, at: usize, end: usize) -> Item
     requires { ⌜ end ≤ 512 ⌝ }
     ensures { λ r. ⌜ Staged (now (buffer .entry)) at end r ⌝ }
 {
@@ -204,7 +195,7 @@ fn item_at(buffer: &[u64; 1152], at: usize, end: usize) -> Item
 pub fn join(
     control: Control,
     setup: Setup,
-    buffer: &mut [u64; 1152],
+    buffer: &mut Buffer,
     image: &[u8],
     table: &mut [u64],
 ) -> usize

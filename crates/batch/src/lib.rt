@@ -8,6 +8,7 @@ ghost use Rattle.spec.specs.Plans.{entry};
 ghost use Rattle.session.specs.State.{batchRoom};
 ghost use Rattle.batch.specs.Items.{itemBy, laterOf, LastStaged, OnlyDeletes};
 ghost use Rattle.batch.specs.Added.{Added};
+use blocks::Buffer;
 use blocks::buffer_length;
 use codec::first_of;
 use codec::first_word;
@@ -36,7 +37,7 @@ fn batch_end(words: usize) -> usize
     if words < 512 { words } else { 512 }
 }
 
-fn item_at(buffer: &[u64; 1152], at: usize) -> Item
+fn item_at(buffer: &Buffer, at: usize) -> Item
     requires { ⌜ at < 512 ⌝ }
     ensures { λ r. ⌜ (r ≡ itemBy (firstOf (getD (now (buffer .entry)) at 0)) (getD (now (buffer .entry)) (at + 1) 0)) × (1 ≤ r .size) × (r .size < 2 ^ 62) ⌝ }
 {
@@ -85,7 +86,7 @@ fn later(latest: Latest, key: u64, item: Item) -> Latest
 }
 
 // The last staged item of a key.
-pub fn last_staged(buffer: &[u64; 1152], words: usize, key: u64) -> Latest
+pub fn last_staged(buffer: &Buffer, words: usize, key: u64) -> Latest
     ensures { λ r. ⌜ LastStaged (now (buffer .entry)) words key r ⌝ }
 {
     let end = batch_end(words);
@@ -100,7 +101,7 @@ pub fn last_staged(buffer: &[u64; 1152], words: usize, key: u64) -> Latest
 }
 
 // Whether all staged items are deletes.
-pub fn only_deletes(buffer: &[u64; 1152], words: usize) -> bool
+pub fn only_deletes(buffer: &Buffer, words: usize) -> bool
     ensures { λ r. ⌜ OnlyDeletes (now (buffer .entry)) words r ⌝ }
 {
     let end = batch_end(words);
@@ -118,7 +119,7 @@ pub fn only_deletes(buffer: &[u64; 1152], words: usize) -> bool
 
 // One more staged item, if it fits: its words behind the others. The answer is the number of words then.
 pub fn add_entry(
-    buffer: &mut [u64; 1152],
+    buffer: &mut Buffer,
     words: usize,
     op: u64,
     placement: u64,

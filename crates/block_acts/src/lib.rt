@@ -8,6 +8,7 @@ ghost use Rattle.actions.specs.Nth.{nthReport};
 ghost use Rattle.session.specs.State.{heldCount, heldWords, unitOf, blockActions};
 ghost use Rattle.block_acts.specs.Staging.{Kept};
 use actions::at_most;
+use blocks::Buffer;
 use blocks::buffer_length;
 use codec::Unit;
 use spec::Report;
@@ -16,7 +17,7 @@ use words::pack_into;
 
 // THE VALUE
 // A value's length and its words into the second area; a value too long for a block changes nothing.
-pub fn hold_value(buffer: &mut [u64; 1152], value: &[u8])
+pub fn hold_value(buffer: &mut Buffer, value: &[u8])
     ensures { λ _. ⌜ Kept (now (buffer .entry)) (now (buffer .exit)) (now (value .entry)) ⌝ }
 {
     buffer_length(buffer);
@@ -28,7 +29,7 @@ pub fn hold_value(buffer: &mut [u64; 1152], value: &[u8])
 }
 
 // How many words are held there: the length word, and those of the value.
-pub fn held_words(buffer: &[u64; 1152]) -> usize
+pub fn held_words(buffer: &Buffer) -> usize
     ensures { λ r. ⌜ r ≡ heldCount (now (buffer .entry)) ⌝ }
 {
     let bytes = at_most(buffer[512] as usize, 4088);
@@ -45,7 +46,7 @@ pub fn unit_of(setup: Setup) -> Unit
 }
 
 // How many actions the staging has.
-pub fn block_count(setup: Setup, buffer: &[u64; 1152]) -> usize
+pub fn block_count(setup: Setup, buffer: &Buffer) -> usize
     ensures { λ r. ⌜ r ≡ length (blockActions setup (now (buffer .entry))) ⌝ }
 {
     let words = held_words(buffer);
@@ -74,7 +75,7 @@ fn take_action(chunk: usize, old: u64, size: u64, at: usize) -> Report
 }
 
 // The action number `at` of those that fill the block: the words held, then a flush for each line stored to.
-fn fill_action(unit: Unit, buffer: &[u64; 1152], at: usize) -> Report
+fn fill_action(unit: Unit, buffer: &Buffer, at: usize) -> Report
     requires { ⌜ unit .0 < 8192 ⌝ }
     ensures { λ r. ⌜ r ≡ nthReport (blockOf (unit .0) (heldWords (now (buffer .entry)))) at ⌝ }
 {
@@ -94,7 +95,7 @@ fn fill_action(unit: Unit, buffer: &[u64; 1152], at: usize) -> Report
 }
 
 // The action number `at` of a staging of a large value.
-pub fn block_action(setup: Setup, buffer: &[u64; 1152], at: usize) -> Report
+pub fn block_action(setup: Setup, buffer: &Buffer, at: usize) -> Report
     ensures { λ r. ⌜ r ≡ nthReport (blockActions setup (now (buffer .entry))) at ⌝ }
 {
     let unit = unit_of(setup);

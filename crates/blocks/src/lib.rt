@@ -4,6 +4,11 @@ ghost use mathlib.Core.Bool.{true, false};
 ghost use lib.ListN.{length};
 ghost use Rattle.blocks.specs.Bits.{hasBit, BitWritten, BitsCleared};
 
+// The station record's buffer: so many words. `session` says which of them hold what.
+pub const BUFFER_WORDS: usize = 1152;
+
+pub type Buffer = [u64; BUFFER_WORDS];
+
 fn count(words: &[u64]) -> usize
     ensures { λ r. ⌜ r ≡ length (now (words .entry)) ⌝ }
 {
@@ -11,13 +16,13 @@ fn count(words: &[u64]) -> usize
 }
 
 // The number of words of the buffer: a call tells its caller that the list behind the reference has that length.
-pub fn buffer_length(buffer: &[u64; 1152]) -> usize
+pub fn buffer_length(buffer: &Buffer) -> usize
     ensures { λ r. ⌜ (r ≡ 1152) × (length (now (buffer .entry)) ≡ 1152) ⌝ }
 {
     count(buffer)
 }
 
-pub fn has_bit(buffer: &[u64; 1152], u: usize) -> bool
+pub fn has_bit(buffer: &Buffer, u: usize) -> bool
     ensures { λ r. ⌜ r ≡ hasBit (now (buffer .entry)) u ⌝ }
 {
     if u < 8064 {
@@ -29,7 +34,7 @@ pub fn has_bit(buffer: &[u64; 1152], u: usize) -> bool
 }
 
 // Past the last unit a change does nothing.
-pub fn set_bit(buffer: &mut [u64; 1152], u: usize)
+pub fn set_bit(buffer: &mut Buffer, u: usize)
     ensures { λ _. ⌜ BitWritten (now (buffer .entry)) (now (buffer .exit)) u true ⌝ }
 {
     buffer_length(buffer);
@@ -40,7 +45,7 @@ pub fn set_bit(buffer: &mut [u64; 1152], u: usize)
     }
 }
 
-pub fn unset_bit(buffer: &mut [u64; 1152], u: usize)
+pub fn unset_bit(buffer: &mut Buffer, u: usize)
     ensures { λ _. ⌜ BitWritten (now (buffer .entry)) (now (buffer .exit)) u false ⌝ }
 {
     buffer_length(buffer);
@@ -51,7 +56,7 @@ pub fn unset_bit(buffer: &mut [u64; 1152], u: usize)
     }
 }
 
-pub fn clear_bits(buffer: &mut [u64; 1152])
+pub fn clear_bits(buffer: &mut Buffer)
     ensures { λ _. ⌜ BitsCleared (now (buffer .entry)) (now (buffer .exit)) ⌝ }
 {
     buffer_length(buffer);

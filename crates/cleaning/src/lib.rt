@@ -6,7 +6,7 @@ ghost use Rattle.spec.specs.Actions.{padded, freeOf};
 ghost use Rattle.actions.specs.Nth.{nthReport};
 ghost use Rattle.session.specs.State.{sourceIn, keptWords, appendActions, cleanActions};
 ghost use Rattle.cleaning.specs.Record.{copyCount, cleanCount};
-use spec::Report;
+use blocks::Buffer;
 use session::Setup;
 use session::Source;
 
@@ -31,7 +31,7 @@ pub fn clean_count(words: usize) -> usize
 }
 
 // Word i of the kept words padded to whole lines: 0 behind them.
-fn kept_word(buffer: &[u64; 1152], words: usize, i: usize) -> u64
+fn kept_word(buffer: &Buffer, words: usize, i: usize) -> u64
     ensures { λ r. ⌜ r ≡ getD (padded (keptWords words (now (buffer .entry)))) i 0 ⌝ }
 {
     let kept = actions::at_most(words, 512);
@@ -42,7 +42,7 @@ fn kept_word(buffer: &[u64; 1152], words: usize, i: usize) -> u64
 }
 
 // The action number `at` of the copying: the kept words, their lines, a fence; the directory word, its line, a fence.
-fn copy_action(setup: Setup, buffer: &[u64; 1152], words: usize, at: usize) -> Report
+fn copy_action(setup: Setup, buffer: &Buffer, words: usize, at: usize) -> Report
     ensures { λ r. ⌜ r ≡ nthReport (appendActions setup words (now (buffer .entry))) at ⌝ }
 {
     let lines = (actions::at_most(words, 512) + 7) / 8;
@@ -94,7 +94,7 @@ fn free_action(source: Source, at: usize) -> Report
 }
 
 // The action number `at` of a cleaning: the copying's, then the freeing's.
-pub fn clean_action(setup: Setup, source: Source, buffer: &[u64; 1152], at: usize) -> Report
+pub fn clean_action(setup: Setup, source: Source, buffer: &Buffer, at: usize) -> Report
     ensures { λ r. ⌜ r ≡ nthReport (cleanActions setup source (now (buffer .entry))) at ⌝ }
 {
     let words = source.words;

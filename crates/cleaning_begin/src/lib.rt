@@ -2,6 +2,7 @@
 ghost use Rattle.spec.specs.Machine.{Clean};
 ghost use Rattle.cleaning_begin.specs.Outsets.{KeptStored, Outsets};
 ghost use Rattle.session.specs.Promise.{Does};
+use blocks::Buffer;
 use planning::CleanPlan;
 use session::Control;
 use session::Gated;
@@ -11,7 +12,7 @@ use session::Source;
 use spec::Report;
 
 // The kept words go to the buffer's second area, if there are any.
-fn store_kept(source: Source, buffer: &mut [u64; 1152], kept: &[u64; 512])
+fn store_kept(source: Source, buffer: &mut Buffer, kept: &[u64; 512])
     ensures { λ _. ⌜ KeptStored source (now (kept .entry)) (now (buffer .entry)) (now (buffer .exit)) ⌝ }
 {
     blocks::buffer_length(buffer);
@@ -27,7 +28,7 @@ fn store_kept(source: Source, buffer: &mut [u64; 1152], kept: &[u64; 512])
 fn begin_clean(
     control: Control,
     setup: Setup,
-    buffer: &mut [u64; 1152],
+    buffer: &mut Buffer,
     image: &[u8],
     table: &[u64],
     number: usize,
@@ -85,7 +86,7 @@ fn begin_clean(
 pub fn clean_core(
     control: Control,
     setup: Setup,
-    buffer: &mut [u64; 1152],
+    buffer: &mut Buffer,
     image: &[u8],
     table: &[u64],
     number: usize,

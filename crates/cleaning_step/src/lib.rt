@@ -2,6 +2,7 @@
 ghost use Prim.Native.Nat.{_/_};
 ghost use Rattle.spec.specs.Words.{wordsOf};
 ghost use Rattle.cleaning_step.specs.Moves.{ChunkLeft, CleanStepped};
+use blocks::Buffer;
 use session::Control;
 use session::Setup;
 use session::Source;
@@ -13,7 +14,7 @@ fn leave_chunk(
     keys: usize,
     setup: Setup,
     source: Source,
-    buffer: &mut [u64; 1152],
+    buffer: &mut Buffer,
     image: &[u8],
     table: &mut [u64],
 ) -> usize
@@ -32,7 +33,7 @@ pub fn clean_step(
     control: Control,
     setup: Setup,
     source: Source,
-    buffer: &mut [u64; 1152],
+    buffer: &mut Buffer,
     image: &mut [u8],
     table: &mut [u64],
 ) -> Stepped

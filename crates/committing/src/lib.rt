@@ -7,6 +7,7 @@ ghost use Rattle.spec.specs.Machine.{Commit};
 ghost use Rattle.session.specs.State.{batchRoom};
 ghost use Rattle.committing.specs.Planned.{PlaceFor, CommitPlanned};
 ghost use Rattle.session.specs.Promise.{Does};
+use blocks::Buffer;
 use session::Control;
 use session::Gated;
 use session::Outcome;
@@ -48,13 +49,7 @@ fn free_needed(deletes: bool) -> usize
 }
 
 // The place for the staged items, looked for from the hint on.
-fn commit_place(
-    buffer: &[u64; 1152],
-    words: usize,
-    first: usize,
-    least: usize,
-    image: &[u8],
-) -> Placed
+fn commit_place(buffer: &Buffer, words: usize, first: usize, least: usize, image: &[u8]) -> Placed
     ensures { λ r. ⌜ PlaceFor (now (buffer .entry)) words (now (image .entry)) first least r ⌝ }
 {
     let count = image.len() / 4096;
@@ -68,7 +63,7 @@ fn commit_place(
 pub fn plan_commit(
     control: Control,
     setup: Setup,
-    buffer: &[u64; 1152],
+    buffer: &Buffer,
     image: &[u8],
     table: &[u64],
 ) -> CommitPlan
@@ -103,7 +98,7 @@ pub fn plan_commit(
 pub fn commit_core(
     control: Control,
     setup: Setup,
-    buffer: &[u64; 1152],
+    buffer: &Buffer,
     image: &[u8],
     table: &[u64],
 ) -> Outcome

@@ -6,8 +6,9 @@ ghost use mathlib.Core.Bool.{true};
 ghost use Rattle.spec.specs.Basics.{pick, every};
 ghost use Rattle.spec.specs.Words.{wordsOf};
 ghost use Rattle.spec.specs.Blocks.{startTests, lengthTests, blockRight};
-ghost use Rattle.consistency.specs.Spans.{spanIn, sameSpan, sameFrom, points, pointsTo};
-ghost use Rattle.consistency.specs.Pass.{AgreesWith, TopIs, ClashingIs, ClashIs, PointsAt, AgreedIs, SkippedIs, StillIs, MarkedIs, VisitedIs, CheckedAs, Examined};
+ghost use Rattle.consistency.specs.Heads.{sameFrom, points};
+ghost use Rattle.consistency.specs.Pass.{AgreesWith, TopIs, AgreedIs, MarkedIs, VisitedIs, CheckedAs, Examined};
+use blocks::Buffer;
 use blocks::clear_bits;
 use blocks::has_bit;
 use blocks::set_bit;
@@ -217,8 +218,10 @@ fn points(op: u64, placement: u64) -> bool
     false
 }
 
-fn points_to(op: u64, placement: u64, field: u64, unit: u64) -> bool
-    ensures { λ r. ⌜ r ≡ pointsTo op placement field unit ⌝ }
+// A top entry's block is marked if it is the chosen one of its key, which stands at word `place`: the others have the same block, or
+// disagree. The answer is whether no two keys share a block: one that is marked already is another key's.
+fn marked(buffer: &mut Buffer, apart: bool, e: Head, place: usize) -> bool
+    ensures { λ r. ⌜ MarkedIs apart e place (now (buffer .entry)) (now (buffer .exit)) r ⌝ }
 {
     if points(op, placement) {
         return field == unit;
@@ -395,7 +398,7 @@ fn visit(
     count: usize,
     table: &[u64],
     fits: bool,
-    buffer: &mut [u64; 1152],
+    buffer: &mut Buffer,
     s: Checked,
     e: Head,
 ) -> Checked
@@ -422,13 +425,7 @@ fn visit(
 }
 
 // The pass over the log of an image of `count` chunks. The table holds the keys where `fits`; the bits become the blocks in use.
-pub fn check(
-    image: &[u8],
-    count: usize,
-    table: &[u64],
-    fits: bool,
-    buffer: &mut [u64; 1152],
-) -> Checked
+pub fn check(image: &[u8], count: usize, table: &[u64], fits: bool, buffer: &mut Buffer) -> Checked
     ensures { λ r. ⌜ CheckedAs count (wordsOf (now (image .entry))) (now (table .entry)) fits (now (buffer .entry)) (now (buffer .exit)) r ⌝ }
 {
     clear_bits(buffer);
@@ -483,7 +480,7 @@ pub fn examine(
     table: &[u64],
     fits: bool,
     plain: bool,
-    buffer: &mut [u64; 1152],
+    buffer: &mut Buffer,
 ) -> Checked
     ensures { λ r. ⌜ Examined count (wordsOf (now (image .entry))) (now (table .entry)) fits plain (now (buffer .entry)) (now (buffer .exit)) r ⌝ }
 {

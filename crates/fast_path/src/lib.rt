@@ -10,6 +10,7 @@ ghost use Rattle.fast_path.specs.Fast.{FastStep, InStaging, OnFastPath, 
 ghost use Rattle.session.proofs.Kept.{staged};
 ghost use Rattle.spec.specs.declared.Report.the-variants.{End};
 ghost use Rattle.session.specs.Promise.{Does};
+use blocks::Buffer;
 use session::Control;
 use spec::Report;
 use session::Setup;
@@ -42,7 +43,7 @@ pub fn is_fast_step(control: Control, setup: Setup, bytes: usize, words: usize) 
 pub fn fast_step(
     control: Control,
     setup: Setup,
-    buffer: &[u64; 1152],
+    buffer: &Buffer,
     image: &mut [u8],
     table: &mut [u64],
 ) -> Advanced
@@ -65,7 +66,7 @@ pub fn fast_step(
 }
 
 // The batch's stores from the next one on: the number of the action behind them.
-fn store_batch(control: Control, setup: Setup, buffer: &[u64; 1152], image: &mut [u8]) -> usize
+fn store_batch(control: Control, setup: Setup, buffer: &Buffer, image: &mut [u8]) -> usize
     ensures { λ r. ⌜ Stores control setup (now (buffer .entry)) (now (image .entry)) (now (image .exit)) r ⌝ }
 {
     let stores = actions::commit_stores(control.words);
@@ -83,7 +84,7 @@ fn store_batch(control: Control, setup: Setup, buffer: &[u64; 1152], image: &mut
 pub fn fast_run(
     control: Control,
     setup: Setup,
-    buffer: &[u64; 1152],
+    buffer: &Buffer,
     image: &mut [u8],
     table: &mut [u64],
 ) -> Advanced
@@ -120,7 +121,7 @@ pub fn fast_run(
 
 // WORDS OF THE SECOND AREA
 // Those numbered `from` up to `end` into the image, counted from its word `start`.
-pub fn store_area(buffer: &[u64; 1152], image: &mut [u8], start: usize, from: usize, end: usize)
+pub fn store_area(buffer: &Buffer, image: &mut [u8], start: usize, from: usize, end: usize)
     requires { ⌜ (start < 2 ^ 32) × (from ≤ end) × (end ≤ 512) ⌝ }
     ensures { λ _. ⌜ Filled (areaWord (now (buffer .entry))) start from (end - from) (now (image .entry)) (now (image .exit)) ⌝ }
 {
@@ -159,7 +160,7 @@ fn take_count(setup: Setup) -> usize
 
 // The stores of a large value's staging that come next: the directory word of a chunk that is taken, or the words held. The number of the
 // action behind them.
-fn store_block(control: Control, setup: Setup, buffer: &[u64; 1152], image: &mut [u8]) -> usize
+fn store_block(control: Control, setup: Setup, buffer: &Buffer, image: &mut [u8]) -> usize
     ensures { λ r. ⌜ BlockStores control setup (now (buffer .entry)) (now (image .entry)) (now (image .exit)) r ⌝ }
 {
     let at = control.next;
@@ -185,7 +186,7 @@ fn store_block(control: Control, setup: Setup, buffer: &[u64; 1152], image: &mut
 }
 
 // The stores that come next, and then the flush behind them.
-fn store_run(control: Control, setup: Setup, buffer: &[u64; 1152], image: &mut [u8]) -> Stepped
+fn store_run(control: Control, setup: Setup, buffer: &Buffer, image: &mut [u8]) -> Stepped
     ensures { λ r. ⌜ StagingRun control setup (now (buffer .entry)) (now (image .entry)) (now (image .exit)) (r .control) (r .report) ⌝ }
 {
     let at = store_block(control, setup, buffer, image);
@@ -230,7 +231,7 @@ fn staged(control: Control) -> Stepped
 pub fn staging_run(
     control: Control,
     setup: Setup,
-    buffer: &[u64; 1152],
+    buffer: &Buffer,
     image: &mut [u8],
     table: &mut [u64],
 ) -> Stepped

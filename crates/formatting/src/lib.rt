@@ -5,6 +5,7 @@ ghost use Rattle.spec.specs.Header.{bitOf, headerMap};
 ghost use Rattle.spec.specs.Machine.{Format};
 ghost use Rattle.formatting.specs.Begun.{given, numberIn, unfinishedAt, formattingAt};
 ghost use Rattle.session.specs.Promise.{Does};
+use blocks::Buffer;
 use session::Control;
 use session::Outcome;
 use session::Setup;
@@ -61,7 +62,7 @@ fn formatting_phase(phase: u64) -> u64
 pub fn format_core(
     control: Control,
     setup: Setup,
-    buffer: &[u64; 1152],
+    buffer: &Buffer,
     image: &[u8],
     table: &[u64],
     station: Given,
@@ -129,7 +130,7 @@ fn told(is_given: bool, number: u64) -> Given
 pub fn format_told(
     control: Control,
     setup: Setup,
-    buffer: &[u64; 1152],
+    buffer: &Buffer,
     image: &[u8],
     table: &[u64],
     station_given: bool,

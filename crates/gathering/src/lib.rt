@@ -6,6 +6,7 @@ ghost use lib.ListN.{length};
 ghost use Rattle.spec.specs.Words.{wordsOf};
 ghost use Rattle.gathering.specs.Gathering.{Counting, CountedOnce, KeptTest, Copied, Room, OneWeighed, Hastened, Measured};
 ghost use Rattle.gathering.specs.Reading.{ChunkRead, OneTaken, PutsTaken, RestTaken, Walked, Collected};
+use blocks::Buffer;
 use log::Cursor;
 use log::Next;
 use log::Short;
@@ -446,7 +447,7 @@ pub fn gather(image: &[u8], table: &[u64], kept: &mut [u64; 512], at: usize, end
 }
 
 // The words that are kept go to the second area of the record's buffer.
-pub fn store_kept(buffer: &mut [u64; 1152], kept: &[u64; 512], n: usize)
+pub fn store_kept(buffer: &mut Buffer, kept: &[u64; 512], n: usize)
     requires { ⌜ n ≤ 512 ⌝ }
     ensures { λ _. ⌜ Copied (now (kept .entry)) (now (buffer .entry)) (now (buffer .exit)) 0 512 n ⌝ }
 {

@@ -4,6 +4,7 @@ ghost use Rattle.large.specs.Large.{BlockBegun, LargeStaged};
 use batch::add_entry;
 use block_acts::block_count;
 use block_acts::hold_value;
+use blocks::Buffer;
 use codec::Unit;
 use codec::block_size;
 use space::directory_word;
@@ -22,7 +23,7 @@ pub struct Large {
 // The value goes to the block at this unit; `size` is 0 if its chunk is a data chunk, else the chunk is taken for blocks of that size.
 fn begin_block(
     setup: Setup,
-    buffer: &mut [u64; 1152],
+    buffer: &mut Buffer,
     words: usize,
     version: u64,
     key: u64,
@@ -62,7 +63,7 @@ fn begin_block(
 // A put of a large value, where the batch has room for its item.
 pub fn stage_large(
     setup: Setup,
-    buffer: &mut [u64; 1152],
+    buffer: &mut Buffer,
     words: usize,
     image: &[u8],
     version: u64,

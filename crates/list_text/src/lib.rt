@@ -1,5 +1,6 @@
 // The text that the program `list` prints of an image: its present keys with what is listed of each, or its refusal.
 ghost use Rattle.list_text.specs.Print.{Key, Keys, Register, Image};
+use blocks::Buffer;
 use listing::Counted;
 use listing::Listed;
 use session::Control;
@@ -107,7 +108,7 @@ fn no_setup() -> Setup {
 pub fn list_image(
     image: &[u8],
     table: &mut [u64],
-    buffer: &mut [u64; 1152],
+    buffer: &mut Buffer,
     keys: &mut [u64],
     out: &mut [u8],
 ) -> usize

@@ -16,6 +16,7 @@ ghost use Rattle.index.specs.Index.{zeros};
 ghost use Rattle.opening.specs.Pass.{Entering, Hastened, Filling};
 ghost use Rattle.opening.specs.Judged.{firstRefusal, JudgingLog, Judging};
 ghost use Rattle.session.specs.Promise.{Does};
+use blocks::Buffer;
 use log::Short;
 use session::Control;
 use session::Outcome;
@@ -324,7 +325,7 @@ fn first_refusal(first: bool, a: Refusal, second: bool, b: Refusal, keys: usize)
 }
 
 // 4 to 7, of an image of `count` chunks: key table and block bits are built anew.
-pub fn judge_log(image: &[u8], count: usize, table: &mut [u64], buffer: &mut [u64; 1152]) -> Verdict
+pub fn judge_log(image: &[u8], count: usize, table: &mut [u64], buffer: &mut Buffer) -> Verdict
     ensures { λ r. ⌜ JudgingLog count (wordsOf (now (image .entry))) (now (table .entry)) (now (table .exit)) (now (buffer .entry)) (now (buffer .exit)) r ⌝ }
 {
     let filled = fill(image, count, table);
@@ -348,7 +349,7 @@ pub fn judge_log(image: &[u8], count: usize, table: &mut [u64], buffer: &mut [u6
 }
 
 // 1 to 7.
-fn judge(image: &[u8], table: &mut [u64], buffer: &mut [u64; 1152]) -> Verdict
+fn judge(image: &[u8], table: &mut [u64], buffer: &mut Buffer) -> Verdict
     ensures { λ r. ⌜ Judging (now (image .entry)) (now (table .entry)) (now (table .exit)) (now (buffer .entry)) (now (buffer .exit)) r ⌝ }
 {
     let bytes = image.len();
@@ -376,7 +377,7 @@ fn empty(lent: &mut [u64])
 pub fn open_core(
     control: Control,
     setup: Setup,
-    buffer: &mut [u64; 1152],
+    buffer: &mut Buffer,
     image: &[u8],
     table: &mut [u64],
 ) -> Outcome

@@ -6,6 +6,7 @@ ghost use Rattle.spec.specs.Words.{wordsOf};
 ghost use Rattle.spec.specs.Plans.{hasSpace, logPlace};
 ghost use Rattle.space.specs.Found.{placeOf, Stops};
 ghost use Rattle.planning.specs.Plans.{anyBit, LogPlanned, DataPlanned, CleanPlanned};
+use blocks::Buffer;
 use log::lines_of;
 use space::Found;
 use space::Place;
@@ -82,7 +83,7 @@ fn copy_place(image: &[u8], count: usize, lines: usize, x: usize) -> Place
 }
 
 // Whether a block of the chunk is in use.
-fn has_live(buffer: &[u64; 1152], chunk: usize) -> bool
+fn has_live(buffer: &Buffer, chunk: usize) -> bool
     ensures { λ r. ⌜ r ≡ anyBit (now (buffer .entry)) (16 * (chunk % 512)) 16 ⌝ }
 {
     let unit = 16 * (chunk % 512);
@@ -148,7 +149,7 @@ fn plan_log(
 }
 
 // of a chunk that is no log chunk: it is only freed
-fn plan_data(buffer: &[u64; 1152], image: &[u8], chunk: usize, first: usize) -> CleanPlan
+fn plan_data(buffer: &Buffer, image: &[u8], chunk: usize, first: usize) -> CleanPlan
     ensures { λ r. ⌜ DataPlanned (wordsOf (now (image .entry))) (now (buffer .entry)) chunk first r ⌝ }
 {
     if has_live(buffer, chunk) {
@@ -177,7 +178,7 @@ fn plan_data(buffer: &[u64; 1152], image: &[u8], chunk: usize, first: usize) -> 
 pub fn plan_clean(
     control: Control,
     setup: Setup,
-    buffer: &[u64; 1152],
+    buffer: &Buffer,
     image: &[u8],
     table: &[u64],
     kept: &mut [u64; 512],

@@ -5,6 +5,8 @@ mod memory;
 mod show;
 mod sums;
 
+use blocks::BUFFER_WORDS;
+use blocks::Buffer;
 use script::Line;
 use script::Token;
 use session::Control;
@@ -129,13 +131,7 @@ struct Answer {
     report: Report,
 }
 
-fn opening(
-    c: Control,
-    s: Setup,
-    buffer: &mut [u64; 1152],
-    image: &[u8],
-    table: &mut [u64],
-) -> Answer {
+fn opening(c: Control, s: Setup, buffer: &mut Buffer, image: &[u8], table: &mut [u64]) -> Answer {
     let o = opening::open_core(c, s, buffer, image, table);
     let control = o.control;
     let setup = o.setup;
@@ -200,7 +196,7 @@ fn given(t: Token) -> Given {
 fn put_part(
     c: Control,
     s: Setup,
-    buffer: &mut [u64; 1152],
+    buffer: &mut Buffer,
     image: &[u8],
     table: &[u64],
     key: u64,
@@ -215,14 +211,7 @@ fn put_part(
 }
 
 // A put of so many bytes, counted up from one; at most 4,096.
-fn put(
-    c: Control,
-    s: Setup,
-    buffer: &mut [u64; 1152],
-    image: &[u8],
-    table: &[u64],
-    l: Line,
-) -> Answer {
+fn put(c: Control, s: Setup, buffer: &mut Buffer, image: &[u8], table: &[u64], l: Line) -> Answer {
     let key = l.first;
     let length = l.second;
     let first = l.third;
@@ -243,7 +232,7 @@ fn put(
 fn delete(
     c: Control,
     s: Setup,
-    buffer: &mut [u64; 1152],
+    buffer: &mut Buffer,
     image: &[u8],
     table: &[u64],
     l: Line,
@@ -252,14 +241,7 @@ fn delete(
     staged(s, staging::delete_core(c, s, buffer, image, table, key.value))
 }
 
-fn format(
-    c: Control,
-    s: Setup,
-    buffer: &[u64; 1152],
-    image: &[u8],
-    table: &[u64],
-    l: Line,
-) -> Answer {
+fn format(c: Control, s: Setup, buffer: &Buffer, image: &[u8], table: &[u64], l: Line) -> Answer {
     let station = l.first;
     let centre = l.second;
     begun(formatting::format_core(c, s, buffer, image, table, given(station), given(centre)))
@@ -289,7 +271,7 @@ fn cleaned(m: session::Outcome) -> Answer {
 fn clean(
     c: Control,
     s: Setup,
-    buffer: &mut [u64; 1152],
+    buffer: &mut Buffer,
     image: &[u8],
     table: &[u64],
     l: Line,
@@ -318,7 +300,7 @@ fn is_last(report: Report) -> bool {
 fn run(
     c: Control,
     setup: Setup,
-    buffer: &mut [u64; 1152],
+    buffer: &mut Buffer,
     image: &mut [u8],
     table: &mut [u64],
 ) -> Answer {
@@ -351,7 +333,7 @@ fn run(
 fn asked(
     c: Control,
     s: Setup,
-    buffer: &mut [u64; 1152],
+    buffer: &mut Buffer,
     image: &mut [u8],
     table: &mut [u64],
     command: Command,
@@ -374,7 +356,7 @@ fn asked(
 // A call on the lent parts of image and table.
 fn lent(
     state: State,
-    buffer: &mut [u64; 1152],
+    buffer: &mut Buffer,
     image: &mut [u8],
     table: &mut [u64],
     command: Command,
@@ -410,8 +392,8 @@ fn same_record(
     old_c: Control,
     s: Setup,
     old_s: Setup,
-    buffer: &[u64; 1152],
-    old_buffer: &[u64; 1152],
+    buffer: &Buffer,
+    old_buffer: &Buffer,
 ) -> bool {
     if memory::same_control(c, old_c) {
         if memory::same_setup(s, old_s) {
@@ -461,7 +443,7 @@ fn answered(report: Report, cleaning: bool, kept: bool) {
 
 fn call(
     state: State,
-    buffer: &mut [u64; 1152],
+    buffer: &mut Buffer,
     image: &mut [u8],
     table: &mut [u64],
     command: Command,
@@ -549,8 +531,8 @@ fn lend_line(state: State, image: &mut [u8], bytes: Token, words: Token) -> Stat
 }
 
 // A record with nothing open.
-fn record_line(state: State, buffer: &mut [u64; 1152]) -> State {
-    *buffer = [0; 1152];
+fn record_line(state: State, buffer: &mut Buffer) -> State {
+    *buffer = [0; BUFFER_WORDS];
     show::text(b"record\n");
     State {
         control: closed(),
@@ -730,7 +712,7 @@ fn read_aloud(state: State) -> State {
 
 fn turn(
     state: State,
-    buffer: &mut [u64; 1152],
+    buffer: &mut Buffer,
     image: &mut [u8],
     table: &mut [u64],
     text: &[u8],
@@ -793,7 +775,7 @@ fn turn(
 }
 
 // Every line of a script, on a station with nothing open and nothing lent.
-fn play_lines(text: &[u8], buffer: &mut [u64; 1152], image: &mut [u8], table: &mut [u64]) {
+fn play_lines(text: &[u8], buffer: &mut Buffer, image: &mut [u8], table: &mut [u64]) {
     let mut state = new_state();
     let mut at = 0;
     while at < text.len() {
@@ -807,6 +789,6 @@ fn play_lines(text: &[u8], buffer: &mut [u64; 1152], image: &mut [u8], table: &m
 pub fn play(text: &[u8]) {
     let mut image: [u8; 65536] = [0; 65536];
     let mut table: [u64; 8192] = [0; 8192];
-    let mut buffer: [u64; 1152] = [0; 1152];
+    let mut buffer: Buffer = [0; BUFFER_WORDS];
     play_lines(text, &mut buffer, &mut image, &mut table);
 }

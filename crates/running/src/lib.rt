@@ -3,6 +3,7 @@ ghost use mathlib.Core.Path.{_≡_};
 ghost use mathlib.Core.Bool.{true, false};
 ghost use Rattle.fast_path.specs.Run.{isStore, RunsOn};
 ghost use Rattle.running.specs.Run.{Copying, CleaningRun, KeptStores};
+use blocks::Buffer;
 use fast_path::Advanced;
 use session::Control;
 use spec::Report;
@@ -48,7 +49,7 @@ fn is_copying(control: Control, setup: Setup, bytes: usize, words: usize) -> boo
 }
 
 // The stores that come next, and the action behind them, whose report is told. The action before the last is a flush, so the loop is left from inside.
-fn run_cleaning(control: Control, setup: Setup, buffer: &[u64; 1152], image: &mut [u8]) -> Advanced
+fn run_cleaning(control: Control, setup: Setup, buffer: &Buffer, image: &mut [u8]) -> Advanced
     ensures { λ r. ⌜ CleaningRun control setup (now (buffer .entry)) (now (image .entry)) (now (image .exit)) (r .next) (r .report) ⌝ }
 {
     let source = setup.source;
@@ -72,7 +73,7 @@ fn run_cleaning(control: Control, setup: Setup, buffer: &[u64; 1152], image: &mu
 }
 
 // The kept words that are still to be stored, in a short loop: the number of the action behind them.
-fn store_kept(control: Control, setup: Setup, buffer: &[u64; 1152], image: &mut [u8]) -> usize
+fn store_kept(control: Control, setup: Setup, buffer: &Buffer, image: &mut [u8]) -> usize
     ensures { λ r. ⌜ KeptStores control setup (now (buffer .entry)) (now (image .entry)) (now (image .exit)) r ⌝ }
 {
     let source = setup.source;
@@ -87,7 +88,7 @@ fn store_kept(control: Control, setup: Setup, buffer: &[u64; 1152], image: &mut 
 }
 
 // The same run, with the kept words stored first.
-fn run_copying(control: Control, setup: Setup, buffer: &[u64; 1152], image: &mut [u8]) -> Advanced
+fn run_copying(control: Control, setup: Setup, buffer: &Buffer, image: &mut [u8]) -> Advanced
     ensures { λ r. ⌜ CleaningRun control setup (now (buffer .entry)) (now (image .entry)) (now (image .exit)) (r .next) (r .report) ⌝ }
 {
     let at = store_kept(control, setup, buffer, image);
@@ -106,7 +107,7 @@ fn run_copying(control: Control, setup: Setup, buffer: &[u64; 1152], image: &mut
 fn run_steps(
     control: Control,
     setup: Setup,
-    buffer: &mut [u64; 1152],
+    buffer: &mut Buffer,
     image: &mut [u8],
     table: &mut [u64],
 ) -> Stepped
@@ -130,7 +131,7 @@ fn run_steps(
 pub fn run_core(
     control: Control,
     setup: Setup,
-    buffer: &mut [u64; 1152],
+    buffer: &mut Buffer,
     image: &mut [u8],
     table: &mut [u64],
 ) -> Stepped

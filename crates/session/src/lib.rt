@@ -4,6 +4,7 @@ ghost use mathlib.Core.Path.{_≡_};
 ghost use Rattle.session.specs.State.{noSource};
 ghost use Rattle.spec.specs.Reports.{number};
 ghost use Rattle.session.specs.Asks.{closedOr, Asking};
+use blocks::Buffer;
 use spec::Refusal;
 use spec::Report;
 
@@ -58,7 +59,7 @@ pub struct Setup {
 pub struct Session {
     pub control: Control,
     pub setup: Setup,
-    pub buffer: [u64; 1152],
+    pub buffer: Buffer,
 }
 
 // No cleaning begun.

@@ -9,6 +9,7 @@ ghost use Rattle.spec.specs.Places.{directoryWord};
 ghost use Rattle.spec.specs.Directory.{roleOf, sizeIn};
 ghost use Rattle.spec.specs.Log.{firstOf};
 ghost use Rattle.slots.specs.Blocks.{metBy, StagedBlock, Spare, BlockFound, SlotFound};
+use blocks::Buffer;
 use blocks::has_bit;
 use codec::Unit;
 use codec::data_word;
@@ -59,7 +60,7 @@ fn points_to(op: u64, placement: u64, field: u64, u: usize) -> bool
     false
 }
 
-fn met_at(buffer: &[u64; 1152], at: usize, u: usize) -> Met
+fn met_at(buffer: &Buffer, at: usize, u: usize) -> Met
     requires { ⌜ at < 512 ⌝ }
     ensures { λ r. ⌜ (r ≡ metBy u (firstOf (getD (now (buffer .entry)) at 0))) × (1 ≤ r .size) × (r .size < 2 ^ 62) ⌝ }
 {
@@ -87,7 +88,7 @@ fn met_at(buffer: &[u64; 1152], at: usize, u: usize) -> Met
 }
 
 // Whether a staged item points to the block at unit u: a pass over the staged entries.
-pub fn is_staged(buffer: &[u64; 1152], words: usize, u: usize) -> bool
+pub fn is_staged(buffer: &Buffer, words: usize, u: usize) -> bool
     ensures { λ r. ⌜ StagedBlock (now (buffer .entry)) words u r ⌝ }
 {
     let end = lesser(words, 512);
@@ -103,7 +104,7 @@ pub fn is_staged(buffer: &[u64; 1152], words: usize, u: usize) -> bool
 }
 
 // Whether the block at unit u is neither live nor staged.
-pub fn is_spare(buffer: &[u64; 1152], words: usize, u: usize) -> bool
+pub fn is_spare(buffer: &Buffer, words: usize, u: usize) -> bool
     ensures { λ r. ⌜ Spare (now (buffer .entry)) words u r ⌝ }
 {
     if has_bit(buffer, u) {
@@ -153,13 +154,7 @@ fn blocks_in(image: &[u8], c: usize, word: u64, blocks: usize) -> usize
 }
 
 // The first unit of the first data chunk of that block size with a block neither live nor staged, lowest block, of an image of `count` chunks.
-pub fn find_block(
-    image: &[u8],
-    count: usize,
-    size: usize,
-    buffer: &[u64; 1152],
-    words: usize,
-) -> Block
+pub fn find_block(image: &[u8], count: usize, size: usize, buffer: &Buffer, words: usize) -> Block
     ensures { λ r. ⌜ BlockFound (now (image .entry)) count size (now (buffer .entry)) words r ⌝ }
 {
     let chunks = lesser(count, image.len() / 4096);
@@ -180,7 +175,7 @@ pub fn find_block(
 }
 
 // Where a value that needs blocks of that size goes.
-pub fn slot_for(image: &[u8], count: usize, size: usize, buffer: &[u64; 1152], words: usize) -> Slot
+pub fn slot_for(image: &[u8], count: usize, size: usize, buffer: &Buffer, words: usize) -> Slot
     ensures { λ r. ⌜ SlotFound (now (image .entry)) count size (now (buffer .entry)) words r ⌝ }
 {
     let block = find_block(image, count, size, buffer, words);

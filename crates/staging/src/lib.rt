@@ -7,6 +7,7 @@ ghost use Rattle.spec.specs.Log.{firstOf};
 ghost use Rattle.spec.specs.Machine.{Put, Delete, Abandon};
 ghost use Rattle.staging.specs.Staging.{NewestOf, VersionOf, putIn, presentBy, newKeys, admitOf, refusedWith, oneMore};
 ghost use Rattle.session.specs.Promise.{Does};
+use blocks::Buffer;
 use session::Control;
 use session::Gated;
 use session::Outcome;
@@ -21,7 +22,7 @@ use spec::Report;
 pub fn abandon_core(
     control: Control,
     setup: Setup,
-    buffer: &[u64; 1152],
+    buffer: &Buffer,
     image: &[u8],
     table: &[u64],
 ) -> Outcome
@@ -69,7 +70,7 @@ pub struct Newest {
     pub place: usize,
 }
 
-fn known_of(buffer: &[u64; 1152], words: usize, table: &[u64], key: u64) -> Newest
+fn known_of(buffer: &Buffer, words: usize, table: &[u64], key: u64) -> Newest
     ensures { λ r. ⌜ NewestOf (now (buffer .entry)) words (now (table .entry)) key r ⌝ }
 {
     let last = batch::last_staged(buffer, words, key);
@@ -100,7 +101,7 @@ fn known_of(buffer: &[u64; 1152], words: usize, table: &[u64], key: u64) -> Newe
 }
 
 // The highest version of a key, staged items counted, 0 where it has none.
-fn version_of(buffer: &[u64; 1152], words: usize, table: &[u64], key: u64) -> u64
+fn version_of(buffer: &Buffer, words: usize, table: &[u64], key: u64) -> u64
     ensures { λ r. ⌜ VersionOf (now (buffer .entry)) words (now (table .entry)) key r ⌝ }
 {
     let latest = batch::last_staged(buffer, words, key);
@@ -217,7 +218,7 @@ fn one_more(control: Control, words: usize, fresh: usize) -> Stepped
 fn put_in_log(
     control: Control,
     setup: Setup,
-    buffer: &mut [u64; 1152],
+    buffer: &mut Buffer,
     image: &[u8],
     table: &[u64],
     key: u64,
@@ -251,7 +252,7 @@ fn put_in_log(
 fn put_in_block(
     control: Control,
     setup: Setup,
-    buffer: &mut [u64; 1152],
+    buffer: &mut Buffer,
     image: &[u8],
     table: &[u64],
     key: u64,
@@ -325,7 +326,7 @@ fn put_in_block(
 pub fn put_core(
     control: Control,
     setup: Setup,
-    buffer: &mut [u64; 1152],
+    buffer: &mut Buffer,
     image: &[u8],
     table: &[u64],
     key: u64,
@@ -350,7 +351,7 @@ pub fn put_core(
 pub fn delete_core(
     control: Control,
     setup: Setup,
-    buffer: &mut [u64; 1152],
+    buffer: &mut Buffer,
     image: &[u8],
     table: &[u64],
     key: u64,

@@ -6,6 +6,7 @@ ghost use lib.ListN.{length};
 ghost use Rattle.spec.specs.Machine.{Step};
 ghost use Rattle.session.specs.State.{blockActions};
 ghost use Rattle.session.specs.Promise.{Does};
+use blocks::Buffer;
 use session::Control;
 use session::Setup;
 use session::Stepped;
@@ -16,7 +17,7 @@ use spec::Report;
 fn commit_step(
     control: Control,
     setup: Setup,
-    buffer: &mut [u64; 1152],
+    buffer: &mut Buffer,
     image: &mut [u8],
     table: &mut [u64],
 ) -> Stepped
@@ -73,7 +74,7 @@ fn commit_step(
 }
 
 // Whether a staging has no action from number `at` on.
-pub fn is_stored(setup: Setup, buffer: &[u64; 1152], at: usize) -> bool
+pub fn is_stored(setup: Setup, buffer: &Buffer, at: usize) -> bool
     ensures { λ r. ⌜ r ≡ leb (length (blockActions setup (now (buffer .entry)))) at ⌝ }
 {
     if 1024 <= at {
@@ -86,7 +87,7 @@ pub fn is_stored(setup: Setup, buffer: &[u64; 1152], at: usize) -> bool
 fn stage_step(
     control: Control,
     setup: Setup,
-    buffer: &[u64; 1152],
+    buffer: &Buffer,
     image: &mut [u8],
     table: &[u64],
 ) -> Stepped
@@ -129,7 +130,7 @@ fn stage_step(
 fn format_step(
     control: Control,
     setup: Setup,
-    buffer: &[u64; 1152],
+    buffer: &Buffer,
     image: &mut [u8],
     table: &[u64],
 ) -> Stepped
@@ -172,7 +173,7 @@ fn format_step(
 fn clean_step(
     control: Control,
     setup: Setup,
-    buffer: &mut [u64; 1152],
+    buffer: &mut Buffer,
     image: &mut [u8],
     table: &mut [u64],
 ) -> Stepped
@@ -193,7 +194,7 @@ fn clean_step(
 pub fn step_core(
     control: Control,
     setup: Setup,
-    buffer: &mut [u64; 1152],
+    buffer: &mut Buffer,
     image: &mut [u8],
     table: &mut [u64],
 ) -> Stepped
