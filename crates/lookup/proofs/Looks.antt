@@ -5,7 +5,7 @@ use mathlib.Core.Logic.{inl, inr}
 use mathlib.Core.Bool.{Bool, true, false}
 use mathlib.Core.Option.{none, some}
 use mathlib.Core.List.{List, []}
-use Prim.Native.Nat.{ℕ, _+_, _-_, _*_, _/_, _%_, _≤_, _<_}
+use Prim.Native.Nat.{ℕ, _+_, _-_, _*_, _/_, _%_, _^_, _≤_, _<_, min}
 use native.Mathlib.Omega.{arith}
 use lib.Dec.{eqb, leb}
 use lib.ListN.{length, getD, take, drop}
@@ -181,6 +181,24 @@ module _ (bytes a n : ℕ) where
 
   pub within-all : a + n ≤ bytes → L.Part a n ≡ within bytes a n
   within-all h = sym (rw (le-leb (a + n) bytes h))
+
+-- the block at unit u, from its first byte and its first word
+module _ (bytes : ℕ) (ws : List ℕ) (u start w : ℕ) (small : u < 2 ^ 40) (es : start ≡ min (256 * u) (2 ^ 64 - 1)) (ew : w ≡ min (unitWord u) (2 ^ 61 - 1)) where
+  pub block-any : (r : Located) (v : ℕ) → v ≡ getD ws w 0 → r ≡ within bytes (start + 8) v → r ≡ blockPart bytes ws u
+  block-any r v ev h =
+      let a : start + 8 ≡ 8 * (unitWord u + 1) = omega arith in
+      let e : w ≡ unitWord u = omega arith in
+      h ∙ ap (λ (x : ℕ). within bytes x v) a ∙ ap (within bytes (8 * (unitWord u + 1))) (ev ∙ ap (λ (x : ℕ). getD ws x 0) e)
+
+  module _ (n : ℕ) (has : start + 16 ≤ bytes) (en : n ≡ firstWord bytes ws w) where
+    read : n ≡ getD ws w 0
+    read = en ∙ rw (le-leb (8 * (w + 2)) bytes (omega arith))
+
+    pub block-yes : n ≤ bytes - (start + 8) → L.Part (start + 8) n ≡ blockPart bytes ws u
+    block-yes h = block-any (L.Part (start + 8) n) n read (within-yes bytes (start + 8) n (omega arith) h)
+
+    pub block-no : bytes - (start + 8) < n → L.Refused N.KeyAbsent ≡ blockPart bytes ws u
+    block-no h = block-any (L.Refused N.KeyAbsent) n read (within-no bytes (start + 8) n (omega arith))
 
 module _ (bytes : ℕ) (ws : List ℕ) (place word : ℕ) (is-word : word ≡ firstWord bytes ws place) where
   pub part-log : (r : Located) → word % 16 ≡ 1 → r ≡ within bytes (8 * (place + 2)) (word / 16777216) → r ≡ partAt bytes ws place

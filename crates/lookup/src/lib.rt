@@ -4,6 +4,7 @@ ghost use Prim.Native.Nat.{_+_, _*_, _^_, _<_};
 ghost use lib.ListN.{length};
 ghost use Rattle.spec.specs.Words.{wordsOf};
 ghost use Rattle.lookup.specs.Look.{within, blockPart, firstWord, partAt, Looking, Locating, Reporting, Showing};
+use codec::Unit;
 use session::Control;
 use session::Gated;
 use session::Setup;
@@ -29,13 +30,27 @@ fn within(bytes: usize, start: usize, length: u64) -> Located
     Located::Refused(Refusal::KeyAbsent)
 }
 
-// The part that holds the value of the block at a unit.
-fn block_part(image: &[u8], unit: u64) -> Located
-    requires { ⌜ unit < 2 ^ 40 ⌝ }
-    ensures { λ r. ⌜ r ≡ blockPart (length (now (image .entry))) (wordsOf (now (image .entry))) unit ⌝ }
+// The part that holds the value of the block at a unit. Where the image has the word behind the block's length word too, as every right image
+// has, two comparisons are enough.
+fn block_part(image: &[u8], unit: Unit) -> Located
+    requires { ⌜ unit .0 < 2 ^ 40 ⌝ }
+    ensures { λ r. ⌜ r ≡ blockPart (length (now (image .entry))) (wordsOf (now (image .entry))) (unit .0) ⌝ }
 {
-    let start = 32 * unit as usize;
-    within(image.len(), 8 * (start + 1), words::load(image, start))
+    let bytes = image.len();
+    let start = unit.byte_offset();
+    let word = unit.word_offset();
+    if start + 16 <= bytes {
+        let length = words::load_leading(image, word);
+        let n = length as usize;
+        if n <= bytes - (start + 8) {
+            return Located::Part {
+                start: start + 8,
+                length: n,
+            };
+        }
+        return Located::Refused(Refusal::KeyAbsent);
+    }
+    within(bytes, start + 8, words::load(image, word))
 }
 
 // The part that holds a value in the log of an entry at word `place`.
@@ -66,11 +81,11 @@ fn part_at(image: &[u8], place: usize) -> Located
     let word = first_word(image, place);
     let kind = word % 16;
     let field = word / 16777216;
+    if kind == 5 {
+        return block_part(image, Unit(field));
+    }
     if kind == 1 {
         return log_part(image.len(), place, field);
-    }
-    if kind == 5 {
-        return block_part(image, field);
     }
     Located::Refused(Refusal::KeyAbsent)
 }
