@@ -1,5 +1,6 @@
--- `capi::run_any` meets its contract: a walk of its MIR, made by walk_calls.py. Its references are given for good to the functions that it calls, at their own lifetimes, shares and names.
--- All that the proof knows of a function that it calls (`run_rest`, `told`) is that it meets its contract.
+-- `capi::run_any` meets its contract: a walk of its MIR, made by walk_calls.py. Its references are given for good to
+-- the functions that it calls, at their own lifetimes, shares and names. All that the proof knows of a function that it
+-- calls (`run_rest`, `told`) is that it meets its contract.
 -- Assumes nothing.
 use mathlib.Core.Path.{_≡_}
 use Rattle.fast_path.specs.Run.{RunsOn}

@@ -6,6 +6,7 @@ use mathlib.Core.Path.{_≡_}
 use Rattle.spec.specs.Machine.{Format}
 use Rattle.formatting.specs.Begun.{given}
 use Rattle.capi.specs.Answers.{answerOf, isGiven}
+use Rattle.session.specs.Promise.{Does}
 use mathlib.Core.Path.{refl}
 use mathlib.Core.Bool.{Bool}
 use Prim.Native.Nat.{ℕ, _<_, _^_}
@@ -70,7 +71,6 @@ use Rattle.capi.proofs.zkv_format.Key.{name as #self}
 use Rattle.capi.proofs.zkv_format as self
 use Rattle.capi.proofs.zkv_format.Statement as stated
 use Rattle.capi.proofs.zkv_format.Code as code
-use Rattle.session.specs.Promise.{Does}
 
 abbrev stayed : Stays (self.ended .signature .params) (self.ended .kept)
 stayed = (gave-ref (0 ∷ []) tt (plain (λ _. T-Session.the-row)), (stay-dropped (shrSliceOf {n = 3} (1 ∷ []) tt (plain (λ _. u8))) yes, (stay-dropped (shrSliceOf {n = 3} (2 ∷ []) tt (plain (λ _. u64))) yes, (stay-dropped (plain {n = 3} (λ _. u64)) yes, (stay-dropped (plain {n = 3} (λ _. u64)) yes, (stay-dropped (plain {n = 3} (λ _. u64)) yes, (stay-dropped (plain {n = 3} (λ _. u64)) yes, tt)))))))

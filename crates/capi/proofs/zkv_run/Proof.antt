@@ -1,5 +1,6 @@
--- `capi::zkv_run` meets its contract: a walk of its MIR, made by walk_calls.py. Its references are given for good to the functions that it calls, at their own lifetimes, shares and names.
--- All that the proof knows of a function that it calls (`is_fast_step`, `run_fast`, `told`, `run_whole`, `same`) is that it meets its contract.
+-- `capi::zkv_run` meets its contract: a walk of its MIR, made by walk_calls.py. Its references are given for good to
+-- the functions that it calls, at their own lifetimes, shares and names. All that the proof knows of a function that it
+-- calls (`is_fast_step`, `run_fast`, `told`, `run_whole`, `same`) is that it meets its contract.
 -- Assumes nothing.
 use mathlib.Core.Path.{_≡_}
 use Rattle.fast_path.specs.Run.{RunsOn}

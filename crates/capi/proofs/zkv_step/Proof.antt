@@ -1,9 +1,11 @@
--- `capi::zkv_step` meets its contract: a walk of its MIR, made by walk_calls.py. Its references are given for good to the functions that it calls, at their own lifetimes, shares and names.
--- All that the proof knows of a function that it calls (`is_fast_step`, `step_fast`, `told`, `step_whole`, `same`) is that it meets its contract.
+-- `capi::zkv_step` meets its contract: a walk of its MIR, made by walk_calls.py. Its references are given for good to
+-- the functions that it calls, at their own lifetimes, shares and names. All that the proof knows of a function that it
+-- calls (`is_fast_step`, `step_fast`, `told`, `step_whole`, `same`) is that it meets its contract.
 -- Assumes nothing.
 use mathlib.Core.Path.{_≡_}
 use Rattle.spec.specs.Machine.{Step}
 use Rattle.capi.specs.Answers.{answerOf, Told}
+use Rattle.session.specs.Promise.{Does}
 use Rattle.fast_path.specs.Fast.{FastStep, OnFastPath}
 use mathlib.Core.Bool.{true, false}
 use mathlib.Core.Path.{refl, ap, sym, subst}
@@ -90,7 +92,6 @@ use Rattle.capi.proofs.zkv_step.Key.{name as #self}
 use Rattle.capi.proofs.zkv_step as self
 use Rattle.capi.proofs.zkv_step.Statement as stated
 use Rattle.capi.proofs.zkv_step.Code as code
-use Rattle.session.specs.Promise.{Does}
 
 abbrev stayed : Stays (self.ended .signature .params) (self.ended .kept)
 stayed = (gave-ref (0 ∷ []) tt (plain (λ _. T-Session.the-row)), (gave-slice (1 ∷ []) tt (plain (λ _. u8)), (gave-slice (2 ∷ []) tt (plain (λ _. u64)), tt)))

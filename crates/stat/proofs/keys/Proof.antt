@@ -1,7 +1,8 @@
--- `stat::keys` meets its contract: a walk of its MIR, made by walk_read.py. The borrow of the record is looked into, `control` copied out, and shut again; all other references are given to `known_keys` for good, and what it returns is the result.
--- All that the proof knows of `known_keys` is that it meets its contract.
+-- `stat::keys` meets its contract: a walk of its MIR, made by walk_read.py. The borrow of the record is looked into,
+-- `control` copied out, and shut again; all other references are given to `known_keys` for good, and what it returns is
+-- the result. All that the proof knows of `known_keys` is that it meets its contract.
 -- Assumes nothing.
-use Rattle.stat.specs.Counts.{Known, KnownBy}
+use Rattle.stat.specs.Counts.{KnownBy}
 use mathlib.Core.Path.{_≡_, refl}
 use mathlib.Core.Bool.{Bool}
 use Prim.Native.Nat.{ℕ, _<_, _^_}

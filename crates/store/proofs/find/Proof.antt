@@ -1,8 +1,7 @@
 -- `store::find` meets its contract: a walk of its MIR, made by walk_read.py. The borrow of the record is looked into,
--- `control` and `setup` copied out, and shut again; all other references are given to `recovery::find` for good, and
--- what it returns is the result. All that the proof knows of `recovery::find` is that it meets its contract.
+-- `control` and `setup` copied out, and shut again; all other references are given to `find` for good, and what it
+-- returns is the result. All that the proof knows of `find` is that it meets its contract.
 -- Assumes nothing.
-use Rattle.store.specs.Look.{Reported}
 use Rattle.lookup.specs.Look.{Reporting}
 use mathlib.Core.Path.{_≡_, refl}
 use mathlib.Core.Bool.{Bool}

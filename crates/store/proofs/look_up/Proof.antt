@@ -2,7 +2,6 @@
 -- into, `control` and `setup` copied out, and shut again; all other references are given to `look_up_core` for good,
 -- and what it returns is the result. All that the proof knows of `look_up_core` is that it meets its contract.
 -- Assumes nothing.
-use Rattle.store.specs.Look.{Shown}
 use Rattle.lookup.specs.Look.{Showing}
 use mathlib.Core.Path.{_≡_, refl}
 use mathlib.Core.Bool.{Bool}

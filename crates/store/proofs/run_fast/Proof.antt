@@ -1,13 +1,11 @@
--- `store::run_fast` meets its contract: a walk of its MIR, made by walk_thin.py. The borrow of the record is opened and its control copied out; `buffer` is lent where it lies, for a lifetime made for the call; the other references are given to `fast_run` for good; what it returns is taken apart, the control stored back, and the borrow closed.
--- All that the proof knows of `fast_run` is that it meets its contract.
+-- `store::run_fast` meets its contract: a walk of its MIR, made by walk_thin.py. The borrow of the record is opened and
+-- its control copied out; `buffer` is lent where it lies, for a lifetime made for the call; the other references are
+-- given to `fast_run` for good; what it returns is taken apart, the control stored back, and the borrow closed. All
+-- that the proof knows of `fast_run` is that it meets its contract.
 -- Assumes nothing.
 use mathlib.Core.Path.{_≡_}
-use Rattle.spec.specs.Machine.{Open, Put, Delete, Commit, Abandon, Clean, Step, Format}
-use Rattle.spec.specs.Contract.{Called}
-use Rattle.session.specs.State.{stateOf, limit}
-use Rattle.session.specs.Fits.{Fits}
 use Rattle.fast_path.specs.Run.{RunsOn}
-use Rattle.fast_path.specs.Fast.{FastPath, Stores}
+use Rattle.fast_path.specs.Fast.{FastPath}
 use mathlib.Core.Bool.{true, false}
 use Prim.Native.Nat.{_-_, _^_, _≤_, _<_}
 use mathlib.Core.Path.{refl, ap}
@@ -29,7 +27,7 @@ use ghost.Atoms.{Atoms, sem}
 use contract.Monad.{Fun, fact}
 use contract.Running.{givenOf, tables, tablesOf}
 use contract.Lifetimes.{AllOutlive}
-use types.Kit.{Given, ‵, raw, some, given, later, _⊛_, ⋆, _$_, _∵_, !, qed, by, move, keep, drop, use1, use2, use3, split, join, pick, learn, rewrite, fsplit, fsplit3, fjoin, fjoin3, feqL, feqI, suffices, frame, await, done}
+use types.Kit.{Given, ‵, raw, some, given as knowing, later, _⊛_, ⋆, _$_, _∵_, !, qed, by, move, keep, drop, use1, use2, use3, split, join, pick, learn, rewrite, fsplit, fsplit3, fjoin, fjoin3, feqL, feqI, suffices, frame, await, done}
 use types.Tokens.{lft-new, lft-end, lent-back}
 use types.Run.{look, look-raw, init, store-raw, forget, stop, hop, fld, from, load, addr, of-opd, and-then, no-more, assigns, land, returns, enter, alloc1, alloc0, params1, pass1, pass0, free1, free0}
 use types.Part.{agg, whole, sub, look-in, store-in}
@@ -181,7 +179,7 @@ module _ {M : Type 1} (𝓤 : URA M) (H : Heap 𝓤) (A : Atoms 𝓤) (W : Given
         land ! (from ! (stop !)) (init ! 27 refl (LL.lawful S.the-type S′.the-laws 𝓤 H A W .typed r _ is .0)) $ rewrite ! 27 (λ (u : Val). ‵ (fat fullShare S′.mir l-6 0 u)) (ap only (LL.tells S.the-type S′.the-laws r _ is)) refl $
         -- the loans end, and the arrays go back into the record
         move ! (3 ∷ []) $ lft-end ! tt $ move ! (0 ∷ 10 ∷ []) $ lent-back ! tt $ move ! (0 ∷ 10 ∷ []) $ join ! $
-        use1 W (given ((Is Lent.Row-buffer (h .buffer) (Lent.val-buffer (h .buffer) ∷ []))) (‵ (fat fullShare T′.mir b o (Lent.parts (h .control) (h .setup) (h .buffer))))) (Lent.back 𝓤 H A W b o (h .control) (h .setup) (h .buffer)) $ learn ! (λ j.
+        use1 W (knowing ((Is Lent.Row-buffer (h .buffer) (Lent.val-buffer (h .buffer) ∷ []))) (‵ (fat fullShare T′.mir b o (Lent.parts (h .control) (h .setup) (h .buffer))))) (Lent.back 𝓤 H A W b o (h .control) (h .setup) (h .buffer)) $ learn ! (λ j.
         -- the control is stored back, and the report is the result
         assigns ! (of-opd ! (load ! (from ! (fld ! refl (stop !))) (look-in ! 25 (sub ! 0 refl (whole !))))) (from ! (hop ! (look ! 35 refl) (fld ! refl (fld ! refl (stop !))))) (store-in ! 0 (sub ! 1 refl (sub ! 0 refl (whole !))) (tt, record { fits = LL.owed S.the-type S′.the-laws r _ is .0 .1 })) $
 
