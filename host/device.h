@@ -1,8 +1,6 @@
-/* The device under an image, for host programs on x86-64: write-back of a line, fence, and images in files.
+/* The device under an image, for host programs on x86-64: write-back of a line, and fence.
  *
- * A line is written back by clwb where the processor has it, else by clflushopt, else by clflush. A fence is sfence.
- * Where the image's file is not on persistent memory (a mapping with MAP_SYNC is tried first), a fence also syncs the
- * pages whose lines were flushed since the fence before. */
+ * A line is written back by clwb where the processor has it, else by clflushopt, else by clflush. A fence is sfence. */
 #ifndef ZKV_DEVICE_H
 #define ZKV_DEVICE_H
 
@@ -13,13 +11,6 @@
 #include <sys/mman.h>
 
 #include "zitskvoze.h"
-
-#ifndef MAP_SHARED_VALIDATE
-#define MAP_SHARED_VALIDATE 0x03
-#endif
-#ifndef MAP_SYNC
-#define MAP_SYNC 0x80000
-#endif
 
 enum write_back { BY_CLFLUSH, BY_CLFLUSHOPT, BY_CLWB };
 
@@ -61,39 +52,6 @@ static inline void write_back_line(enum write_back how, const void *line)
 static inline void store_fence(void)
 {
     __asm__ volatile("sfence" : : : "memory");
-}
-
-/* An image in memory. Where fences sync pages (`by_pages`), `page` tells those with a line flushed since the fence before. */
-struct device {
-    uint8_t *image;
-    size_t bytes;
-    enum write_back how;
-    bool by_pages;
-    bool page[ZKV_CHUNKS_MAX];
-};
-
-static inline void device_flush(struct device *d, uint64_t line)
-{
-    write_back_line(d->how, d->image + ZKV_LINE_BYTES * line);
-    if (d->by_pages) {
-        d->page[ZKV_LINE_BYTES * line / ZKV_CHUNK_BYTES] = true;
-    }
-}
-
-/* Answers whether all that was flushed before is durable. */
-static inline bool device_fence(struct device *d)
-{
-    store_fence();
-    if (!d->by_pages) {
-        return true;
-    }
-    for (size_t p = 0; p < d->bytes / ZKV_CHUNK_BYTES; p++) {
-        if (d->page[p] && msync(d->image + p * ZKV_CHUNK_BYTES, ZKV_CHUNK_BYTES, MS_SYNC) != 0) {
-            return false;
-        }
-        d->page[p] = false;
-    }
-    return true;
 }
 
 #endif

@@ -5,7 +5,6 @@
 #include <stdio.h>
 #include <stdlib.h>
 
-#include "device.h"
 #include "zitskvoze.h"
 
 static _Alignas(64) uint8_t image[16 * ZKV_CHUNK_BYTES];       /* a real host maps persistent memory here */
@@ -15,16 +14,10 @@ static zkv_record record;
 #define LENT &record, image, sizeof image, table, 4096
 
 /* Carries a begun call out to its end. A refusal is never passed over: what was refused is not in the register. */
-static void run(zkv_report r)
+static void run(zkv_report begun)
 {
-    enum write_back how = best_write_back();
-    for (; r.kind >= ZKV_BEGUN && r.kind <= ZKV_FENCE; r = zkv_run(LENT)) {
-        if (r.kind == ZKV_FLUSH) {
-            write_back_line(how, image + ZKV_LINE_BYTES * r.first);
-        } else if (r.kind == ZKV_FENCE) {
-            store_fence();
-        }
-    }
+    int best = zkv_best_write_back();
+    zkv_report r = zkv_finish(LENT, begun, zkv_write_back, zkv_store_fence, &best);
     if (r.kind == ZKV_REFUSED) {
         fprintf(stderr, "refused %" PRIu64 ": %s\n", r.first, zkv_sentence(r.first));
         exit(1);

@@ -1,10 +1,11 @@
-/* The file under an image: see image_file.h. */
+/* The file under an image: see zitskvoze_file.h. */
 #define _GNU_SOURCE
-#include "image_file.h"
+#include "zitskvoze_file.h"
 
 #include <errno.h>
 #include <fcntl.h>
 #include <libgen.h>
+#include <limits.h>
 #include <signal.h>
 #include <stdarg.h>
 #include <stdint.h>
@@ -12,15 +13,28 @@
 #include <stdlib.h>
 #include <string.h>
 #include <sys/file.h>
+#include <sys/mman.h>
+#include <sys/stat.h>
 #include <sys/time.h>
 #include <time.h>
 #include <unistd.h>
+
+#include "device.h"
+
+#ifndef MAP_SHARED_VALIDATE
+#define MAP_SHARED_VALIDATE 0x03
+#endif
+#ifndef MAP_SYNC
+#define MAP_SYNC 0x80000
+#endif
+
+_Static_assert(sizeof ((zkv_file *)NULL)->made == PATH_MAX, "the names of a new file have the length that the system allows");
 
 static uint8_t no_bytes[ZKV_LINE_BYTES];
 
 __attribute__((format(printf, 1, 2))) static const char *wrong(const char *format, ...)
 {
-    static char text[PATH_MAX + 256];
+    static _Thread_local char text[PATH_MAX + 256];
     va_list arguments;
     va_start(arguments, format);
     vsnprintf(text, sizeof text, format, arguments);
@@ -51,12 +65,12 @@ static void name_in_bus_message(const char *program, const char *name)
              the_program != NULL ? the_program : "host", name);
 }
 
-bool image_file_guard(const char *program)
+int zkv_file_guard(const char *program)
 {
     for (int d = 0; d <= 2; d++) {
         /* The lowest free number is d: reading fails where writing is meant, and writing where reading is. */
         if (fcntl(d, F_GETFD) < 0 && (errno != EBADF || open("/dev/null", d == 0 ? O_WRONLY : O_RDONLY) != d)) {
-            return false;
+            return 0;
         }
     }
     struct sigaction bus = {.sa_handler = on_bus_error}, ignored = {.sa_handler = SIG_IGN};
@@ -84,7 +98,7 @@ static double seconds_now(void)
 }
 
 /* Waits in the kernel's queue; a tick each second gets out of it, to say so and to look at the bound. */
-static const char *lock(int descriptor, int kind, const char *name, struct image_file_wait wait, double begin)
+static const char *lock(int descriptor, int kind, const char *name, zkv_file_wait wait, double begin)
 {
     if (flock(descriptor, kind | LOCK_NB) == 0) {
         return NULL;
@@ -117,27 +131,26 @@ static const char *lock(int descriptor, int kind, const char *name, struct image
 
 /* ---- mapping */
 
-static bool length_allowed(off_t bytes)
+static bool length_allowed(int64_t bytes)
 {
     return bytes % ZKV_CHUNK_BYTES == 0 && bytes >= ZKV_CHUNKS_MIN * ZKV_CHUNK_BYTES && bytes <= ZKV_CHUNKS_MAX * ZKV_CHUNK_BYTES;
 }
 
 /* With MAP_SYNC, so that a line written back is durable; else its pages are synced at each fence. */
-static const char *map(struct image_file *f, size_t bytes, bool writing)
+static const char *map(zkv_file *f, size_t bytes, bool writing)
 {
-    struct device *d = &f->device;
     int protection = writing ? PROT_READ | PROT_WRITE : PROT_READ;
     void *at = mmap(NULL, bytes, protection, MAP_SHARED_VALIDATE | MAP_SYNC, f->descriptor, 0);
-    d->by_pages = at == MAP_FAILED;
-    if (d->by_pages) {
+    f->by_pages = at == MAP_FAILED;
+    if (f->by_pages) {
         at = mmap(NULL, bytes, protection, MAP_SHARED, f->descriptor, 0);
     }
     if (at == MAP_FAILED) {
         return wrong("cannot be mapped: %s", strerror(errno));
     }
-    d->image = at;
-    d->bytes = bytes;
-    d->how = best_write_back();
+    f->image = at;
+    f->bytes = bytes;
+    f->how = best_write_back();
     name_in_bus_message(NULL, f->name);
     return NULL;
 }
@@ -149,87 +162,122 @@ static const char *reserve(int descriptor, size_t bytes)
     return number == 0 ? NULL : wrong("cannot get its %zu bytes: %s", bytes, strerror(number));
 }
 
-static const char *settle(const struct image_file *f)
+static const char *settle(const zkv_file *f)
 {
-    for (size_t at = 0; at < f->device.bytes; at += ZKV_LINE_BYTES) {
-        write_back_line(f->device.how, f->device.image + at);
+    for (size_t at = 0; at < f->bytes; at += ZKV_LINE_BYTES) {
+        write_back_line((enum write_back)f->how, f->image + at);
     }
     store_fence();
-    return !f->device.by_pages || fsync(f->descriptor) == 0 ? NULL : wrong("cannot be made durable: %s", strerror(errno));
+    return !f->by_pages || fsync(f->descriptor) == 0 ? NULL : wrong("cannot be made durable: %s", strerror(errno));
+}
+
+void zkv_file_flush(void *file, const uint8_t *line)
+{
+    zkv_file *f = file;
+    write_back_line((enum write_back)f->how, line);
+    f->page[(size_t)(line - f->image) / ZKV_CHUNK_BYTES] = 1;
+}
+
+int zkv_file_fence(void *file)
+{
+    zkv_file *f = file;
+    store_fence();
+    for (size_t p = 0; f->by_pages && p < f->bytes / ZKV_CHUNK_BYTES; p++) {
+        if (f->page[p] && msync(f->image + p * ZKV_CHUNK_BYTES, ZKV_CHUNK_BYTES, MS_SYNC) != 0) {
+            return -1;
+        }
+        f->page[p] = 0;
+    }
+    return 0;
 }
 
 /* ---- opening */
 
-static void nothing_mapped(struct image_file *f, const char *name, enum image_file_use use)
+static void nothing_mapped(zkv_file *f, const char *name, enum zkv_file_use use)
 {
     memset(f, 0, sizeof *f);
     f->name = name;
     f->descriptor = -1;
     f->use = use;
-    f->device.image = no_bytes;
+    f->image = no_bytes;
 }
 
-static bool same_file(const struct stat *a, const struct stat *b)
+static bool is_file(const zkv_file *f, const struct stat *about)
 {
-    return a->st_dev == b->st_dev && a->st_ino == b->st_ino;
+    return about->st_dev == f->device && about->st_ino == f->inode;
+}
+
+/* Notes what the open file is. */
+static bool look_at(zkv_file *f, struct stat *about)
+{
+    if (fstat(f->descriptor, about) != 0) {
+        return false;
+    }
+    f->length = about->st_size;
+    f->device = about->st_dev;
+    f->inode = about->st_ino;
+    f->owner = about->st_uid;
+    f->group = about->st_gid;
+    f->mode = about->st_mode & 07777;
+    return true;
 }
 
 /* Opens and locks the file that has the name, both then and when the lock is got. */
-static const char *open_locked(struct image_file *f, struct image_file_wait wait)
+static const char *open_locked(zkv_file *f, zkv_file_wait wait)
 {
     double begin = seconds_now();
     for (;;) {
-        struct stat named;
+        struct stat about;
         /* Without waiting: a FIFO would wait for its other end. */
-        f->descriptor = open(f->name, (f->use == IMAGE_READ ? O_RDONLY : O_RDWR) | O_CLOEXEC | O_NONBLOCK | O_NOCTTY);
-        if (f->descriptor < 0 || fstat(f->descriptor, &f->about) != 0) {
+        f->descriptor = open(f->name, (f->use == ZKV_FILE_READ ? O_RDONLY : O_RDWR) | O_CLOEXEC | O_NONBLOCK | O_NOCTTY);
+        if (f->descriptor < 0 || !look_at(f, &about)) {
             return errno == EISDIR ? "is a folder, no regular file" : wrong("cannot be opened: %s", strerror(errno));
         }
-        if (!S_ISREG(f->about.st_mode)) {
+        if (!S_ISREG(about.st_mode)) {
             return "is no regular file";
         }
-        const char *text = lock(f->descriptor, f->use == IMAGE_READ ? LOCK_SH : LOCK_EX, f->name, wait, begin);
+        const char *text = lock(f->descriptor, f->use == ZKV_FILE_READ ? LOCK_SH : LOCK_EX, f->name, wait, begin);
         if (text != NULL) {
             return text;
         }
-        if (fstat(f->descriptor, &f->about) != 0) {
+        if (!look_at(f, &about)) {
             return wrong("cannot be looked at: %s", strerror(errno));
         }
-        if (stat(f->name, &named) == 0 && same_file(&f->about, &named)) {
+        if (stat(f->name, &about) == 0 && is_file(f, &about)) {
             return NULL;
         }
         close(f->descriptor);
     }
 }
 
-const char *image_file_open(struct image_file *f, const char *name, enum image_file_use use, struct image_file_wait wait)
+const char *zkv_file_open(zkv_file *f, const char *name, enum zkv_file_use use, zkv_file_wait wait)
 {
     nothing_mapped(f, name, use);
     const char *text = open_locked(f, wait);
-    if (text != NULL || !length_allowed(f->about.st_size)) {
+    if (text != NULL || !length_allowed(f->length)) {
         return text;
     }
-    size_t bytes = (size_t)f->about.st_size;
-    if (use == IMAGE_WRITE) {
+    size_t bytes = (size_t)f->length;
+    if (use == ZKV_FILE_WRITE) {
         text = reserve(f->descriptor, bytes);
     }
     if (text == NULL) {
-        text = map(f, bytes, use == IMAGE_WRITE);
+        text = map(f, bytes, use == ZKV_FILE_WRITE);
     }
     return text != NULL ? text : settle(f);
 }
 
-const char *image_file_confirm(const struct image_file *f)
+const char *zkv_file_confirm(const zkv_file *f)
 {
     struct stat now;
     if (fstat(f->descriptor, &now) != 0) {
         return wrong("cannot be looked at: %s", strerror(errno));
     }
-    if (now.st_size != f->about.st_size) {
-        return wrong("was %jd bytes long and is %jd now: it was cut or stretched while it was in use", (intmax_t)f->about.st_size,
+    if (now.st_size != f->length) {
+        return wrong("was %jd bytes long and is %jd now: it was cut or stretched while it was in use", (intmax_t)f->length,
                      (intmax_t)now.st_size);
     }
-    if (f->use == IMAGE_WRITE && (stat(f->name, &now) != 0 || !same_file(&f->about, &now))) {
+    if (f->use == ZKV_FILE_WRITE && (stat(f->name, &now) != 0 || !is_file(f, &now))) {
         return "was exchanged for another file, or removed, while it was in use: what was written went to the file before";
     }
     return NULL;
@@ -278,9 +326,9 @@ static const char *sync_folder(const char *name)
     return text;
 }
 
-const char *image_file_new(struct image_file *f, const char *name, size_t bytes)
+const char *zkv_file_new(zkv_file *f, const char *name, size_t bytes)
 {
-    nothing_mapped(f, name, IMAGE_WRITE);
+    nothing_mapped(f, name, ZKV_FILE_WRITE);
     if (!behind_links(name, f->wanted)) {
         return wrong("its place cannot be found: %s", strerror(errno));
     }
@@ -295,7 +343,8 @@ const char *image_file_new(struct image_file *f, const char *name, size_t bytes)
         return wrong("no file can be made beside it: %s", strerror(number));
     }
     const char *text = reserve(f->descriptor, bytes);
-    if (text == NULL && fstat(f->descriptor, &f->about) != 0) {
+    struct stat about;
+    if (text == NULL && !look_at(f, &about)) {
         text = wrong("cannot be looked at: %s", strerror(errno));
     }
     return text != NULL ? text : map(f, bytes, true);
@@ -314,10 +363,9 @@ static int rename_to_nobodys(const char *from, const char *to)
     return status;
 }
 
-const char *image_file_take_name(struct image_file *f, const struct image_file *old)
+const char *zkv_file_take_name(zkv_file *f, const zkv_file *old)
 {
-    if (old != NULL && (fchown(f->descriptor, old->about.st_uid, old->about.st_gid) != 0 ||
-                        fchmod(f->descriptor, old->about.st_mode & 07777) != 0)) {
+    if (old != NULL && (fchown(f->descriptor, old->owner, old->group) != 0 || fchmod(f->descriptor, old->mode) != 0)) {
         return wrong("the new file cannot get the old one's owner and mode: %s", strerror(errno));
     }
     const char *text = settle(f);
@@ -328,7 +376,7 @@ const char *image_file_take_name(struct image_file *f, const struct image_file *
         return wrong("cannot be made durable: %s", strerror(errno));
     }
     struct stat named;
-    if (old != NULL && (stat(old->name, &named) != 0 || !same_file(&old->about, &named))) {
+    if (old != NULL && (stat(old->name, &named) != 0 || !is_file(old, &named))) {
         return "was exchanged for another file, or removed, meanwhile; that is left as it is";
     }
     if ((old != NULL ? rename(f->made, f->wanted) : rename_to_nobodys(f->made, f->wanted)) != 0) {
@@ -339,10 +387,10 @@ const char *image_file_take_name(struct image_file *f, const struct image_file *
     return sync_folder(f->wanted);
 }
 
-void image_file_close(struct image_file *f)
+void zkv_file_close(zkv_file *f)
 {
-    if (f->device.bytes > 0) {
-        munmap(f->device.image, f->device.bytes);
+    if (f->bytes > 0) {
+        munmap(f->image, f->bytes);
     }
     if (f->made[0] != 0) {
         unlink(f->made);
@@ -351,7 +399,7 @@ void image_file_close(struct image_file *f)
         close(f->descriptor);
     }
     f->descriptor = -1;
-    f->device.image = no_bytes;
-    f->device.bytes = 0;
+    f->image = no_bytes;
+    f->bytes = 0;
     f->made[0] = 0;
 }

@@ -1,8 +1,9 @@
 /* zkv: a label register in a file, from the command line. See host/zkv.1 for what each command does.
  *
  * Here: the command line. The commands are in zkv_write.c (format, put, delete, clean) and zkv_read.c (get, scan, stat,
- * check), list in zkv_list.c, what they share in zkv_register.c, and the file under the image in image_file.c. All that
- * is said of the image's inside comes from the library's calls, but the header's station and centre number. */
+ * check), list in zkv_list.c, what they share in zkv_register.c. The file under the image is the library's
+ * (zitskvoze_file.h). All that is said of the image's inside comes from the library's calls, but the header's station
+ * and centre number. */
 #define _GNU_SOURCE
 #include <errno.h>
 #include <inttypes.h>
@@ -169,7 +170,7 @@ static int command(int count, char **argument)
         return DONE;
     }
     if (count == 2 && version) {
-        puts("zkv " ZKV_VERSION ", centre level");
+        printf("zkv %s\n", zkv_version());
         return DONE;
     }
     for (size_t i = 0; i < COMMANDS; i++) {
@@ -184,7 +185,7 @@ static int command(int count, char **argument)
 
 int main(int count, char **argument)
 {
-    if (!image_file_guard("zkv")) {
+    if (!zkv_file_guard("zkv")) {
         return TROUBLE;
     }
     int status = command(count, argument);

@@ -2,7 +2,9 @@
 #ifndef ZKV_PROGRAM_H
 #define ZKV_PROGRAM_H
 
-#include "image_file.h"
+#include <stdbool.h>
+
+#include "zitskvoze_file.h"
 
 /* Exit statuses. */
 enum { DONE = 0, ABSENT = 1, TROUBLE = 2, REFUSED = 3, PUT_ASIDE = 4 };
@@ -18,14 +20,14 @@ struct options {
 
 /* A register in a file, with all that is lent to the calls. */
 struct station {
-    struct image_file file;
+    zkv_file file;
     zkv_record record;
     uint64_t *table;
     long pause_us;
 };
 
 /* What every call is lent. */
-#define LENT(s) &(s)->record, (s)->file.device.image, (s)->file.device.bytes, (s)->table, ZKV_TABLE_WORDS_MAX
+#define LENT(s) &(s)->record, (s)->file.image, (s)->file.bytes, (s)->table, ZKV_TABLE_WORDS_MAX
 
 /* zkv_register.c: messages, one form for all: `zkv: FILE: what it is about: what is wrong`. Each answers the exit status. */
 __attribute__((format(printf, 2, 3))) int trouble(const char *file, const char *format, ...);
@@ -33,8 +35,8 @@ __attribute__((format(printf, 3, 4))) int refused(const char *file, uint64_t num
 
 /* zkv_register.c: opening, and carrying a begun call out. */
 int lend(struct station *s, const struct options *o);                      /* memory for record and table */
-int open_image(struct station *s, const char *name, enum image_file_use use, const struct options *o, uint64_t *number);
-int need_register(struct station *s, const char *name, enum image_file_use use, const struct options *o);
+int open_image(struct station *s, const char *name, enum zkv_file_use use, const struct options *o, uint64_t *number);
+int need_register(struct station *s, const char *name, enum zkv_file_use use, const struct options *o);
 int carry_out(struct station *s, zkv_report *report);                       /* to its end, or a refusal, left in *report */
 int confirmed(const struct station *s);                                    /* before a command says that it is done */
 int read_value(const char *from, bool empty_meant, const uint8_t **value, size_t *length);

@@ -45,7 +45,7 @@ static int print_labels(struct station *s, const uint64_t *keys, uint64_t count,
         if (number != 0) {
             return refused(s->file.name, number, "key %" PRIu64 ": ", keys[i]);
         }
-        const uint8_t *value = s->file.device.image + start;
+        const uint8_t *value = s->file.image + start;
         uint64_t version, bytes, block;
         number = zkv_list_key(LENT(s), keys[i], &version, &bytes, &block);
         if (number != 0) {
@@ -68,7 +68,7 @@ int command_list(const char *file, char **word, const struct options *o)
     char *text = NULL;
     size_t bytes = 0;
     (void)word;
-    int status = need_register(&s, file, IMAGE_READ, o);
+    int status = need_register(&s, file, ZKV_FILE_READ, o);
     if (status == DONE) {
         status = keys_of(&s, &keys, &count);
     }

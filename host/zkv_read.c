@@ -15,7 +15,7 @@ static int label_of(const char *file, const char *given_key, const struct option
     if (!number_of(given_key, key)) {
         return trouble(file, "%s is no key: a key is a decimal number below 2^64", given_key);
     }
-    int status = need_register(&s, file, IMAGE_READ, o);
+    int status = need_register(&s, file, ZKV_FILE_READ, o);
     if (status != DONE) {
         return status;
     }
@@ -27,7 +27,7 @@ static int label_of(const char *file, const char *given_key, const struct option
     if (*label == NULL) {
         return trouble(file, "no memory for the label");
     }
-    memcpy(*label, s.file.device.image + start, *length);
+    memcpy(*label, s.file.image + start, *length);
     return confirmed(&s);
 }
 
@@ -79,12 +79,12 @@ int command_stat(const char *file, char **word, const struct options *o)
     static struct station s;
     uint64_t n;
     (void)word;
-    int status = need_register(&s, file, IMAGE_READ, o);
+    int status = need_register(&s, file, ZKV_FILE_READ, o);
     if (status != DONE) {
         return status;
     }
-    const uint8_t *image = s.file.device.image;
-    size_t bytes = s.file.device.bytes;
+    const uint8_t *image = s.file.image;
+    size_t bytes = s.file.bytes;
     uint64_t labels = labels_in(&s), keys = zkv_keys(&s.record), free_chunks = zkv_free_chunks(image, bytes), lines = zkv_lines_used(image, bytes);
     bool station = header_number(&s, STATION_BIT, &n);
     status = confirmed(&s);
@@ -110,7 +110,7 @@ int command_check(const char *file, char **word, const struct options *o)
     static struct station s;
     uint64_t number = 0;
     (void)word;
-    int status = open_image(&s, file, IMAGE_READ, o, &number);
+    int status = open_image(&s, file, ZKV_FILE_READ, o, &number);
     if (status == DONE) {
         status = confirmed(&s);
     }

@@ -49,9 +49,9 @@ int lend(struct station *s, const struct options *o)
 }
 
 /* *number is the refusal's, 0 where the register is open. */
-int open_image(struct station *s, const char *name, enum image_file_use use, const struct options *o, uint64_t *number)
+int open_image(struct station *s, const char *name, enum zkv_file_use use, const struct options *o, uint64_t *number)
 {
-    const char *text = image_file_open(&s->file, name, use, (struct image_file_wait){o->wait, waiting});
+    const char *text = zkv_file_open(&s->file, name, use, (zkv_file_wait){o->wait, waiting});
     if (text != NULL) {
         return trouble(name, "%s", text);
     }
@@ -63,51 +63,47 @@ int open_image(struct station *s, const char *name, enum image_file_use use, con
     return status;
 }
 
-int need_register(struct station *s, const char *name, enum image_file_use use, const struct options *o)
+int need_register(struct station *s, const char *name, enum zkv_file_use use, const struct options *o)
 {
     uint64_t number = 0;
     int status = open_image(s, name, use, o, &number);
     if (status == DONE && number != 0) {
-        return refused(name, number, "%jd bytes: ", (intmax_t)s->file.about.st_size);
+        return refused(name, number, "%jd bytes: ", (intmax_t)s->file.length);
     }
     return status;
 }
 
-/* By steps where there is to be a pause between them, else by runs. */
+/* As zkv_finish does, but by steps and with a pause between them. */
+static zkv_report finish_slowly(struct station *s, zkv_report r)
+{
+    struct timespec pause = {s->pause_us / 1000000, s->pause_us % 1000000 * 1000};
+    for (;; r = zkv_step(LENT(s))) {
+        if (r.kind == ZKV_FLUSH) {
+            zkv_file_flush(&s->file, s->file.image + ZKV_LINE_BYTES * r.first);
+        } else if (r.kind == ZKV_FENCE ? zkv_file_fence(&s->file) != 0 : r.kind != ZKV_BEGUN && r.kind != ZKV_STORE) {
+            return r;
+        }
+        nanosleep(&pause, NULL);
+    }
+}
+
 int carry_out(struct station *s, zkv_report *report)
 {
-    zkv_report r = *report;
-    for (;;) {
-        switch (r.kind) {
-        case ZKV_BEGUN:
-        case ZKV_STORE:
-            break;
-        case ZKV_FLUSH:
-            device_flush(&s->file.device, r.first);
-            break;
-        case ZKV_FENCE:
-            if (!device_fence(&s->file.device)) {
-                return trouble(s->file.name, "cannot be made durable: %s", strerror(errno));
-            }
-            break;
-        case ZKV_END:
-        case ZKV_REFUSED:
-            *report = r;
-            return DONE;
-        default:
-            return trouble(s->file.name, "a step answered %" PRIu64 " %" PRIu64, r.kind, r.first);
-        }
-        if (s->pause_us > 0) {
-            struct timespec t = {s->pause_us / 1000000, s->pause_us % 1000000 * 1000};
-            nanosleep(&t, NULL);
-        }
-        r = s->pause_us > 0 ? zkv_step(LENT(s)) : zkv_run(LENT(s));
+    *report = s->pause_us > 0 ? finish_slowly(s, *report) : zkv_finish(LENT(s), *report, zkv_file_flush, zkv_file_fence, &s->file);
+    switch (report->kind) {
+    case ZKV_END:
+    case ZKV_REFUSED:
+        return DONE;
+    case ZKV_FENCE:
+        return trouble(s->file.name, "cannot be made durable: %s", strerror(errno));
+    default:
+        return trouble(s->file.name, "a step answered %" PRIu64 " %" PRIu64, report->kind, report->first);
     }
 }
 
 int confirmed(const struct station *s)
 {
-    const char *text = image_file_confirm(&s->file);
+    const char *text = zkv_file_confirm(&s->file);
     return text == NULL ? DONE : trouble(s->file.name, "%s", text);
 }
 
@@ -138,7 +134,7 @@ int read_value(const char *from, bool empty_meant, const uint8_t **value, size_t
 bool header_number(const struct station *s, unsigned bit, uint64_t *number)
 {
     uint64_t word[4];
-    memcpy(word, s->file.device.image, sizeof word);
+    memcpy(word, s->file.image, sizeof word);
     if (!(word[0] >> bit & 1)) {
         return false;
     }

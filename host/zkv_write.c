@@ -5,6 +5,7 @@
 #include <stdio.h>
 #include <stdlib.h>
 #include <string.h>
+#include <sys/stat.h>
 #include <unistd.h>
 
 #include "zkv.h"
@@ -18,7 +19,7 @@ static int is_taken(struct station *old, uint64_t number)
     uint64_t n;
     if (number != 0) {
         return trouble(old->file.name, "exists: %jd bytes, no register: refused %" PRIu64 ": %s; --force formats it, and they are lost",
-                       (intmax_t)old->file.about.st_size, number, zkv_sentence(number));
+                       (intmax_t)old->file.length, number, zkv_sentence(number));
     }
     if (header_number(old, STATION_BIT, &n)) {
         snprintf(station, sizeof station, ", station %" PRIu64, n);
@@ -28,14 +29,14 @@ static int is_taken(struct station *old, uint64_t number)
 }
 
 /* The register is made in a new file, which takes the name at the end: until then the name's file is as it was. */
-static int make_register(const char *file, size_t bytes, const struct options *o, const struct image_file *old)
+static int make_register(const char *file, size_t bytes, const struct options *o, const zkv_file *old)
 {
     struct station s = {0};
     int status = lend(&s, o);
     if (status != DONE) {
         return status;
     }
-    const char *text = image_file_new(&s.file, file, bytes);
+    const char *text = zkv_file_new(&s.file, file, bytes);
     if (text == NULL) {
         zkv_report r = zkv_format(LENT(&s), o->station_given, o->station, o->centre_given, o->centre);
         status = carry_out(&s, &r);
@@ -43,16 +44,16 @@ static int make_register(const char *file, size_t bytes, const struct options *o
             status = refused(file, r.first, "%zu bytes: ", bytes);
         }
         if (status == DONE) {
-            text = image_file_take_name(&s.file, old);
+            text = zkv_file_take_name(&s.file, old);
         }
         if (status == DONE && text == NULL) {
-            text = image_file_confirm(&s.file);
+            text = zkv_file_confirm(&s.file);
         }
     }
     if (text != NULL) {
         status = trouble(file, "%s", text);
     }
-    image_file_close(&s.file);
+    zkv_file_close(&s.file);
     return status;
 }
 
@@ -72,8 +73,8 @@ int command_format(const char *file, char **word, const struct options *o)
     }
     struct station old = {0};
     uint64_t number = 0;
-    int status = open_image(&old, file, IMAGE_REPLACE, o, &number);
-    if (status == DONE && old.file.about.st_size > 0 && !o->force) {
+    int status = open_image(&old, file, ZKV_FILE_REPLACE, o, &number);
+    if (status == DONE && old.file.length > 0 && !o->force) {
         status = is_taken(&old, number);
     }
     return status == DONE ? make_register(file, bytes, o, &old.file) : status;
@@ -115,7 +116,7 @@ int command_clean(const char *file, char **word, const struct options *o)
     if (word[0] != NULL && !number_of(word[0], &chunk)) {
         return trouble(file, "%s is no chunk: a decimal number below 2^64", word[0]);
     }
-    int status = need_register(&s, file, IMAGE_WRITE, o);
+    int status = need_register(&s, file, ZKV_FILE_WRITE, o);
     if (status != DONE) {
         return status;
     }
@@ -131,7 +132,7 @@ int command_clean(const char *file, char **word, const struct options *o)
     if (r.kind == ZKV_REFUSED && r.first != ZKV_NOT_CLEANABLE) {
         return refused(file, r.first, "%" PRIu64 " chunks cleaned, then: ", done.chunks);
     }
-    uint64_t free_chunks = zkv_free_chunks(s.file.device.image, s.file.device.bytes);
+    uint64_t free_chunks = zkv_free_chunks(s.file.image, s.file.bytes);
     status = confirmed(&s);
     if (status == DONE) {
         printf("chunks cleaned %" PRIu64 "\nentries copied %" PRIu64 "\nfree chunks %" PRIu64 "\n", done.chunks, done.entries, free_chunks);
@@ -188,7 +189,7 @@ static int change_key(const char *file, const char *given_key, const uint8_t *va
     if (!number_of(given_key, &key)) {
         return trouble(file, "%s is no key: a key is a decimal number below 2^64", given_key);
     }
-    int status = need_register(&s, file, IMAGE_WRITE, o);
+    int status = need_register(&s, file, ZKV_FILE_WRITE, o);
     if (status == DONE) {
         status = o->no_clean ? change(&s, key, value, length, &r) : change_with_cleaning(&s, key, value, length, &r);
     }

@@ -1,4 +1,5 @@
-/* The calls of the label register for hosts in C and C++: a proved key-value store in one module of persistent memory.
+/* The calls of the label register for hosts in C (C99 on) and C++ (C++11 on): a proved key-value store in one module of
+ * persistent memory.
  *
  * The library keeps, under each 64-bit key, the exact bytes of a value (0 to 4,088 of them), and survives a power cut
  * at any moment. It has no heap, no thread, no file and no state of its own: the host lends it everything, and carries
@@ -165,8 +166,8 @@ enum zkv_refusal {
     ZKV_NOT_CLEANABLE = 16
 };
 
-/* The sentence of a refusal's number. */
-static inline const char *zkv_sentence(uint64_t number)
+/* The sentence of a refusal's number. It is in the archive too, for hosts in other languages. */
+inline const char *zkv_sentence(uint64_t number)
 {
     switch (number) {
     case ZKV_IMAGE_LENGTH:
@@ -292,6 +293,30 @@ uint64_t zkv_free_chunks(const uint8_t *image, size_t bytes);
 
 /* The committed lines of all log chunks of an image. */
 uint64_t zkv_lines_used(const uint8_t *image, size_t bytes);
+
+/* Beside the proved calls, in plain C over them (host/library.c). Images in files: zitskvoze_file.h. */
+
+/* The version of the library that is linked: the ZKV_VERSION of its header. A host that was built with another header
+ * may lend a record of another size. */
+const char *zkv_version(void);
+
+/* Carries a begun call out to its end, by zkv_run, and answers the last report: ZKV_END or a refusal. `report` is what
+ * the begin answered; one that asks for nothing (a refusal, ZKV_OPENED) is answered at once, so that every call may
+ * stand there:
+ *     r = zkv_finish(LENT, zkv_put(LENT, key, value, length), flush, fence, context);
+ * `flush` starts the write-back of the 64 bytes at `line`. `fence` waits until all that was started is durable and
+ * answers 0, or another number where it could not. Then that ZKV_FENCE is answered: the call is unfinished, and nothing
+ * may be acknowledged. zkv_finish with this report tries the fence again and goes on; but where a sync of a file failed
+ * the pages may be lost (fsync(2)): open the file again and look at what is there. */
+zkv_report zkv_finish(zkv_record *record, uint8_t *image, size_t bytes, uint64_t *table, size_t words, zkv_report report,
+                      void (*flush)(void *context, const uint8_t *line), int (*fence)(void *context), void *context);
+
+/* The two functions for zkv_finish where the image is memory, persistent or ordinary: write-back by clwb, clflushopt or
+ * clflush, whichever the processor has, and sfence. Their context is the address of an int that zkv_best_write_back
+ * answered. */
+int zkv_best_write_back(void);
+void zkv_write_back(void *best, const uint8_t *line);
+int zkv_store_fence(void *unused);
 
 #ifdef __cplusplus
 }

@@ -1,0 +1,106 @@
+/* A host in C99 that makes every call of the headers, built by tests/hosts.sh with all warnings.
+ *
+ * host FILE        FILE must not exist: a register is made in it; exit status 1 and a message at the first thing that is
+ *                  not as the headers say */
+#include <stdio.h>
+#include <stdlib.h>
+#include <string.h>
+
+#include "zitskvoze.h"
+#include "zitskvoze_file.h"
+
+enum { CHUNKS = 4, WORDS = 1024 };
+
+static uint64_t table[WORDS];
+static zkv_record record;
+static zkv_file file;
+static int fences_to_fail;
+
+#define LENT &record, file.image, file.bytes, table, WORDS
+#define HOLD(what)                                                                      \
+    do {                                                                                \
+        if (!(what)) {                                                                  \
+            fprintf(stderr, "host: line %d: not so: %s\n", __LINE__, #what);            \
+            exit(1);                                                                    \
+        }                                                                               \
+    } while (0)
+
+static int fence(void *context)
+{
+    return fences_to_fail-- > 0 ? -1 : zkv_file_fence(context);
+}
+
+static zkv_report finish(zkv_report begun)
+{
+    return zkv_finish(LENT, begun, zkv_file_flush, fence, &file);
+}
+
+static int ends(zkv_report begun)
+{
+    return finish(begun).kind == ZKV_END;
+}
+
+static void make(const char *name)
+{
+    HOLD(zkv_file_new(&file, name, CHUNKS * ZKV_CHUNK_BYTES) == NULL);
+    HOLD(ends(zkv_format(LENT, 1, 7, 0, 0)));
+    HOLD(zkv_file_take_name(&file, NULL) == NULL);
+    zkv_file_close(&file);
+}
+
+static void write_labels(void)
+{
+    const uint8_t label[] = "A+ 450 ml";
+    uint64_t start, length, count, version, block, keys[2] = {0, 0};
+    HOLD(finish(zkv_open(LENT)).kind == ZKV_OPENED);
+    HOLD(finish(zkv_commit(LENT)).first == ZKV_NOTHING_STAGED);
+    HOLD(ends(zkv_put(LENT, 4711, label, 9)) && zkv_abandon(LENT).kind == ZKV_ABANDONED);
+    HOLD(ends(zkv_put(LENT, 4711, label, 9)) && ends(zkv_put(LENT, 5, label, 0)) && ends(zkv_commit(LENT)));
+    HOLD(zkv_look_up(LENT, 4711, &start, &length) == 0 && length == 9 && memcmp(file.image + start, label, 9) == 0);
+    HOLD(zkv_list_keys(LENT, keys, 2, &count) == 0 && count == 2 && keys[0] == 5 && keys[1] == 4711);
+    HOLD(zkv_list_key(LENT, 4711, &version, &length, &block) == 0 && version == 1 && length == 9 && block == 0);
+    HOLD(ends(zkv_delete(LENT, 5)) && ends(zkv_commit(LENT)) && zkv_look_up(LENT, 5, &start, &length) == ZKV_KEY_ABSENT);
+    HOLD(zkv_keys(&record) == 2 && zkv_free_chunks(file.image, file.bytes) == 2 && zkv_lines_used(file.image, file.bytes) == 2);
+}
+
+/* A fence that failed leaves the call unfinished; with its report it goes on. */
+static void write_with_trouble(void)
+{
+    uint64_t start, length;
+    HOLD(ends(zkv_put(LENT, 6, (const uint8_t *)"B", 1)));
+    fences_to_fail = 1;
+    zkv_report stopped = finish(zkv_commit(LENT));
+    HOLD(stopped.kind == ZKV_FENCE && zkv_look_up(LENT, 6, &start, &length) == ZKV_UNFINISHED);
+    HOLD(ends(stopped) && zkv_look_up(LENT, 6, &start, &length) == 0 && length == 1);
+}
+
+/* By steps and by runs, as a host does it that needs more than zkv_finish; then by the two functions for memory. */
+static void clean(void)
+{
+    int best = zkv_best_write_back(), steps = 0;
+    zkv_report chosen = zkv_choose(LENT), r;
+    HOLD(chosen.kind == ZKV_CHOSEN);
+    for (r = zkv_clean(LENT, (size_t)chosen.first); r.kind != ZKV_END && steps < 4; steps++) {
+        r = steps < 2 ? zkv_step(LENT) : zkv_run(LENT);
+        HOLD(r.kind == ZKV_STORE || r.kind == ZKV_FLUSH || r.kind == ZKV_FENCE);
+    }
+    HOLD(zkv_finish(LENT, r, zkv_write_back, zkv_store_fence, &best).kind == ZKV_END && zkv_run(LENT).kind == ZKV_IDLE);
+}
+
+int main(int count, char **argument)
+{
+    zkv_file_wait at_once = {0, NULL};
+    HOLD(count == 2 && zkv_file_guard("host"));
+    HOLD(strcmp(zkv_version(), ZKV_VERSION) == 0 && strcmp(zkv_sentence(ZKV_KEY_ABSENT), "the key is absent") == 0);
+    make(argument[1]);
+    HOLD(zkv_file_new(&file, argument[1], CHUNKS * ZKV_CHUNK_BYTES) == NULL && zkv_file_take_name(&file, NULL) != NULL);
+    zkv_file_close(&file);
+    HOLD(zkv_file_open(&file, argument[1], ZKV_FILE_WRITE, at_once) == NULL);
+    HOLD(file.bytes == CHUNKS * ZKV_CHUNK_BYTES && file.length == CHUNKS * ZKV_CHUNK_BYTES);
+    write_labels();
+    write_with_trouble();
+    clean();
+    HOLD(zkv_file_confirm(&file) == NULL);
+    zkv_file_close(&file);
+    return 0;
+}
