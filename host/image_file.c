@@ -45,12 +45,16 @@ __attribute__((format(printf, 1, 2))) static const char *wrong(const char *forma
 /* ---- signals and descriptors */
 
 static char bus_message[PATH_MAX + 256];
+static const char *volatile nameless;       /* a new file that has not got its name, and is to be removed if it never does */
 
 static void on_bus_error(int signal)
 {
     (void)signal;
     ssize_t written = write(STDERR_FILENO, bus_message, strlen(bus_message));
     (void)written;
+    if (nameless != NULL) {
+        unlink(nameless);
+    }
     _exit(2);
 }
 
@@ -342,6 +346,7 @@ const char *zkv_file_new(zkv_file *f, const char *name, size_t bytes)
         f->made[0] = 0;
         return wrong("no file can be made beside it: %s", strerror(number));
     }
+    nameless = f->made;
     const char *text = reserve(f->descriptor, bytes);
     struct stat about;
     if (text == NULL && !look_at(f, &about)) {
@@ -383,6 +388,7 @@ const char *zkv_file_take_name(zkv_file *f, const zkv_file *old)
         return errno == EEXIST ? "has been made by another program meanwhile; it is left as it is"
                                : wrong("the new file cannot get its name: %s", strerror(errno));
     }
+    nameless = NULL;
     f->made[0] = 0;
     return sync_folder(f->wanted);
 }
@@ -394,6 +400,7 @@ void zkv_file_close(zkv_file *f)
     }
     if (f->made[0] != 0) {
         unlink(f->made);
+        nameless = NULL;
     }
     if (f->descriptor >= 0) {
         close(f->descriptor);

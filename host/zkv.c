@@ -1,9 +1,9 @@
 /* zkv: a label register in a file, from the command line. See host/zkv.1 for what each command does.
  *
- * Here: the command line. The commands are in zkv_write.c (format, put, delete, clean) and zkv_read.c (get, scan, stat,
- * check), list in zkv_list.c, what they share in zkv_register.c. The file under the image is the library's
- * (zitskvoze_file.h). All that is said of the image's inside comes from the library's calls, but the header's station
- * and centre number. */
+ * Here: the command line. The commands are in zkv_write.c (format, put, delete, clean), zkv_load.c, zkv_copy.c, zkv_read.c
+ * (get, scan, check), zkv_stat.c and zkv_list.c (list, dump, digest); what they share in zkv_register.c and zkv_labels.c.
+ * The file under the image is the library's (zitskvoze_file.h). All that is said of the image's inside comes from the
+ * library's calls, but the header's station and centre number. */
 #define _GNU_SOURCE
 #include <errno.h>
 #include <inttypes.h>
@@ -15,13 +15,13 @@
 
 /* ---- options, by the commands that have them */
 
-enum { FORCE = 1, STATION = 2, CENTRE = 4, EMPTY = 8, NO_CLEAN = 16, PAUSE = 32, WAIT = 64 };
+enum { FORCE = 1, STATION = 2, CENTRE = 4, EMPTY = 8, NO_CLEAN = 16, PAUSE = 32, WAIT = 64, JSON = 128, AGAINST = 256 };
 
 static const struct option {
     const char *name;
     unsigned bit;
-    const char *number;         /* what the number behind it is; NULL: it has none */
-    uint64_t most;
+    const char *behind;         /* what the word behind it is; NULL: it has none */
+    uint64_t most;              /* of a number; 0: it is a digest */
 } options[] = {
     {"--force", FORCE, NULL, 0},
     {"--station", STATION, "a station number: decimal, below 2^64", UINT64_MAX},
@@ -30,6 +30,8 @@ static const struct option {
     {"--no-clean", NO_CLEAN, NULL, 0},
     {"--pause", PAUSE, "microseconds, at most 60000000", 60000000},
     {"--wait", WAIT, "seconds, at most 1000000", 1000000},
+    {"--json", JSON, NULL, 0},
+    {"--against", AGAINST, "a digest: 64 hexadecimal digits", 0},
 };
 
 static const struct command {
@@ -47,9 +49,14 @@ static const struct command {
     {"scan", 2, 0, EMPTY | WAIT, command_scan, "FILE KEY SCANFILE|- [--empty] [--wait SECONDS]"},
     {"delete", 1, 0, NO_CLEAN | PAUSE | WAIT, command_delete, "FILE KEY [--no-clean] [--pause MICROSECONDS] [--wait SECONDS]"},
     {"clean", 0, 1, PAUSE | WAIT, command_clean, "FILE [CHUNK] [--pause MICROSECONDS] [--wait SECONDS]"},
-    {"list", 0, 0, WAIT, command_list, "FILE [--wait SECONDS]"},
-    {"stat", 0, 0, WAIT, command_stat, "FILE [--wait SECONDS]"},
-    {"check", 0, 0, WAIT, command_check, "FILE [--wait SECONDS]"},
+    {"list", 0, 0, JSON | WAIT, command_list, "FILE [--json] [--wait SECONDS]"},
+    {"stat", 0, 0, JSON | WAIT, command_stat, "FILE [--json] [--wait SECONDS]"},
+    {"check", 0, 0, AGAINST | JSON | WAIT, command_check, "FILE [--against SUM] [--json] [--wait SECONDS]"},
+    {"digest", 0, 0, WAIT, command_digest, "FILE [--wait SECONDS]"},
+    {"dump", 0, 0, WAIT, command_dump, "FILE [--wait SECONDS]"},
+    {"load", 1, 0, EMPTY | NO_CLEAN | PAUSE | WAIT, command_load,
+     "FILE LIST|- [--empty] [--no-clean] [--pause MICROSECONDS] [--wait SECONDS]"},
+    {"copy", 1, 1, PAUSE | WAIT, command_copy, "FILE NEW [CHUNKS] [--pause MICROSECONDS] [--wait SECONDS]"},
 };
 
 enum { OPTIONS = sizeof options / sizeof *options, COMMANDS = sizeof commands / sizeof *commands, WORDS_MAX = 3 };
@@ -60,7 +67,7 @@ static void print_usage(FILE *to)
         fprintf(to, "%s zkv %s %s\n", i == 0 ? "usage:" : "      ", commands[i].name, commands[i].usage);
     }
     fputs("       zkv --help | --version\n"
-          "exit status: 0 done (of scan: a match), 1 the key is absent, 2 usage or system, 3 refused, 4 put aside\n", to);
+          "exit status: 0 done (of scan and check: a match), 1 the key is absent, 2 usage or system, 3 refused, 4 put aside\n", to);
 }
 
 /* What is wrong with the command line, and how the command is used. */
@@ -82,7 +89,7 @@ bool number_of(const char *s, uint64_t *n)
     return errno == 0 && *end == 0;
 }
 
-static void set_option(struct options *o, unsigned bit, uint64_t n)
+static void set_option(struct options *o, unsigned bit, uint64_t n, const char *given)
 {
     switch (bit) {
     case FORCE:
@@ -105,6 +112,12 @@ static void set_option(struct options *o, unsigned bit, uint64_t n)
     case PAUSE:
         o->pause_us = (long)n;
         break;
+    case JSON:
+        o->json = true;
+        break;
+    case AGAINST:
+        o->against = given;
+        break;
     default:
         o->wait = (long)n;
     }
@@ -118,6 +131,15 @@ static const struct option *option_named(const char *name)
         }
     }
     return NULL;
+}
+
+/* Whether the word behind an option is what it needs; where that is a number, in *n. */
+static bool fits(const struct option *p, const char *given, uint64_t *n)
+{
+    if (p->most == 0) {
+        return strlen(given) == 64 && strspn(given, "0123456789abcdefABCDEF") == 64;
+    }
+    return number_of(given, n) && *n <= p->most;
 }
 
 /* The words and options behind the command's name. */
@@ -145,12 +167,12 @@ static int play(const struct command *c, int count, char **argument)
         if (p == NULL || !(c->options & p->bit)) {
             return misused(c, "it has no such option", a);
         }
-        if (p->number != NULL && (++i == count || !number_of(argument[i], &n) || n > p->most)) {
+        if (p->behind != NULL && (++i == count || !fits(p, argument[i], &n))) {
             char what[100];
-            snprintf(what, sizeof what, "%s needs %s", a, p->number);
+            snprintf(what, sizeof what, "%s needs %s", a, p->behind);
             return misused(c, what, i < count ? argument[i] : NULL);
         }
-        set_option(&o, p->bit, n);
+        set_option(&o, p->bit, n, argument[i]);
     }
     if (words < 1 + c->words) {
         return misused(c, words == 0 ? "FILE is missing" : "a word is missing behind", words == 0 ? NULL : word[words - 1]);

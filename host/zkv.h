@@ -3,6 +3,7 @@
 #define ZKV_PROGRAM_H
 
 #include <stdbool.h>
+#include <stdio.h>
 
 #include "zitskvoze_file.h"
 
@@ -11,11 +12,12 @@ enum { DONE = 0, ABSENT = 1, TROUBLE = 2, REFUSED = 3, PUT_ASIDE = 4 };
 
 /* What the command line says besides the command, its file and its words. */
 struct options {
-    bool force, empty, no_clean;
+    bool force, empty, no_clean, json;
     bool station_given, centre_given;
     uint64_t station, centre;
     long pause_us;              /* between steps */
     long wait;                  /* seconds for the lock; -1: as long as it takes */
+    const char *against;        /* a digest; NULL: none is given */
 };
 
 /* A register in a file, with all that is lent to the calls. */
@@ -24,6 +26,22 @@ struct station {
     zkv_record record;
     uint64_t *table;
     long pause_us;
+    bool in_memory;             /* no file: a copy that is thrown away */
+};
+
+/* A label of an open register (its value lies in the image), or of a list. */
+struct label {
+    uint64_t key, length;
+    const uint8_t *value;
+};
+
+struct cleaned {
+    uint64_t chunks, entries;
+};
+
+/* Of labels that are put by batches: those that are in the register, the batches, and how many more all or none are in it. */
+struct put_so_far {
+    size_t labels, batches, unknown;
 };
 
 /* What every call is lent. */
@@ -43,21 +61,42 @@ int read_value(const char *from, bool empty_meant, const uint8_t **value, size_t
 bool header_number(const struct station *s, unsigned bit, uint64_t *number);
 
 enum { STATION_BIT = 1, CENTRE_BIT = 2 };
+enum { DIGEST_ROOM = 65 };      /* 64 digits and the end */
 enum { VALUE_ROOM = 65537 };    /* more than any value's limit, so that the library sees what is too long */
 
-/* The commands; `word` are the words behind FILE. zkv_write.c: */
+/* zkv_labels.c: how many keys are present; the labels by rising key, until `take` answers no DONE; their digest; and what
+ * `print` prints, printed once the file is known to be whole. */
+uint64_t labels_in(struct station *s);
+int each_label(struct station *s, int (*take)(struct station *s, const struct label *l, void *to), void *to);
+int digest_of(struct station *s, char digest[DIGEST_ROOM]);
+int print_whole(struct station *s, int (*print)(struct station *s, FILE *to));
+
+/* zkv_write.c: each leaves a refusal, if there is one, in *report. Cleans the chunk that is named, else the one that is
+ * chosen, and counts it. Stages and commits a put or, where value is NULL, a delete; a refused commit leaves nothing
+ * staged. */
+int clean_one(struct station *s, const uint64_t *named, struct cleaned *done, zkv_report *report);
+int change(struct station *s, uint64_t key, const uint8_t *value, size_t length, zkv_report *report);
+
+/* zkv_load.c: puts labels by batches, in their order; where one is refused, it is the first behind those that are in. */
+int put_labels(struct station *s, const struct label *label, size_t count, bool cleaning, struct put_so_far *p, zkv_report *report);
+
+/* The commands; `word` are the words behind FILE, NULL where one may be left out and is. zkv_write.c: */
 int command_format(const char *file, char **word, const struct options *o);
 int command_put(const char *file, char **word, const struct options *o);
 int command_delete(const char *file, char **word, const struct options *o);
-int command_clean(const char *file, char **word, const struct options *o);     /* word[0] is NULL where no chunk is named */
-/* zkv_read.c: */
+int command_clean(const char *file, char **word, const struct options *o);
+/* zkv_load.c, zkv_copy.c: */
+int command_load(const char *file, char **word, const struct options *o);
+int command_copy(const char *file, char **word, const struct options *o);
+/* zkv_read.c, zkv_stat.c: */
 int command_get(const char *file, char **word, const struct options *o);
 int command_scan(const char *file, char **word, const struct options *o);
-int command_stat(const char *file, char **word, const struct options *o);
 int command_check(const char *file, char **word, const struct options *o);
+int command_stat(const char *file, char **word, const struct options *o);
 /* zkv_list.c: */
 int command_list(const char *file, char **word, const struct options *o);
-uint64_t labels_in(struct station *s);      /* how many keys are present in the open register */
+int command_dump(const char *file, char **word, const struct options *o);
+int command_digest(const char *file, char **word, const struct options *o);
 
 /* zkv.c: a decimal number below 2^64. */
 bool number_of(const char *s, uint64_t *n);

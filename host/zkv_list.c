@@ -1,95 +1,145 @@
-/* zkv: the command list. */
+/* zkv: the commands that print every label, list, dump and digest. */
 #define _GNU_SOURCE
 #include <inttypes.h>
 #include <stdio.h>
-#include <stdlib.h>
 
 #include "zkv.h"
 
-/* The register's present keys, rising, in memory of their own. */
-static int keys_of(struct station *s, uint64_t **keys, uint64_t *count)
-{
-    *keys = malloc(ZKV_KEYS_MAX * sizeof **keys);
-    if (*keys == NULL) {
-        return trouble(s->file.name, "no memory for the keys");
-    }
-    uint64_t number = zkv_list_keys(LENT(s), *keys, ZKV_KEYS_MAX, count);
-    return number == 0 ? DONE : refused(s->file.name, number, "keys: ");
-}
-
-uint64_t labels_in(struct station *s)
-{
-    uint64_t *keys, count = 0;
-    if (keys_of(s, &keys, &count) == DONE) {
-        free(keys);
-    }
-    return count;
-}
-
 /* A value is shown only where it cannot be mistaken: no byte of it moves the cursor or is shown as another. */
-static bool printable(const uint8_t *value, uint64_t length)
+static bool printable(const struct label *l)
 {
-    for (uint64_t i = 0; i < length; i++) {
-        if (value[i] < ' ' || value[i] > '~') {
+    for (uint64_t i = 0; i < l->length; i++) {
+        if (l->value[i] < ' ' || l->value[i] > '~') {
             return false;
         }
     }
-    return length > 0;
+    return l->length > 0;
 }
 
-static int print_labels(struct station *s, const uint64_t *keys, uint64_t count, FILE *to)
+/* ---- list */
+
+static int list_label(struct station *s, const struct label *l, void *to)
 {
-    fprintf(to, "keys %" PRIu64 "\n", count);
-    for (uint64_t i = 0; i < count; i++) {
-        uint64_t start, length, number = zkv_look_up(LENT(s), keys[i], &start, &length);
-        if (number != 0) {
-            return refused(s->file.name, number, "key %" PRIu64 ": ", keys[i]);
-        }
-        const uint8_t *value = s->file.image + start;
-        uint64_t version, bytes, block;
-        number = zkv_list_key(LENT(s), keys[i], &version, &bytes, &block);
-        if (number != 0) {
-            return refused(s->file.name, number, "key %" PRIu64 ": ", keys[i]);
-        }
-        fprintf(to, "%" PRIu64 " %" PRIu64 " %" PRIu64 " %c", keys[i], version, bytes, block ? 'B' : 'L');
-        if (printable(value, length)) {
-            fprintf(to, " %.*s", (int)length, (const char *)value);
-        }
-        fputc('\n', to);
+    uint64_t version, length, block, number = zkv_list_key(LENT(s), l->key, &version, &length, &block);
+    if (number != 0) {
+        return refused(s->file.name, number, "key %" PRIu64 ": ", l->key);
     }
+    fprintf(to, "%" PRIu64 " %" PRIu64 " %" PRIu64 " %c", l->key, version, length, block ? 'B' : 'L');
+    if (printable(l)) {
+        fprintf(to, " %.*s", (int)l->length, (const char *)l->value);
+    }
+    fputc('\n', to);
     return DONE;
 }
 
-/* All is gathered first and printed when the file is known to have been whole. */
+static int list_text(struct station *s, FILE *to)
+{
+    fprintf(to, "keys %" PRIu64 "\n", labels_in(s));
+    return each_label(s, list_label, to);
+}
+
+static void print_json_text(const struct label *l, FILE *to)
+{
+    fputs(",\"text\":\"", to);
+    for (uint64_t i = 0; i < l->length; i++) {
+        fprintf(to, l->value[i] == '"' || l->value[i] == '\\' ? "\\%c" : "%c", l->value[i]);
+    }
+    fputc('"', to);
+}
+
+struct json_list {
+    FILE *to;
+    bool begun;             /* a label stands in it */
+};
+
+/* A key is a text there: many readers of JSON round numbers above 2^53. */
+static int list_label_json(struct station *s, const struct label *l, void *list)
+{
+    struct json_list *j = list;
+    FILE *to = j->to;
+    uint64_t version, length, block, number = zkv_list_key(LENT(s), l->key, &version, &length, &block);
+    if (number != 0) {
+        return refused(s->file.name, number, "key %" PRIu64 ": ", l->key);
+    }
+    fprintf(to, "%s\n{\"key\":\"%" PRIu64 "\",\"version\":%" PRIu64 ",\"bytes\":%" PRIu64 ",\"place\":\"%s\",\"hex\":\"", j->begun ? "," : "",
+            l->key, version, length, block ? "block" : "log");
+    for (uint64_t i = 0; i < l->length; i++) {
+        fprintf(to, "%02x", l->value[i]);
+    }
+    fputc('"', to);
+    if (printable(l)) {
+        print_json_text(l, to);
+    }
+    fputc('}', to);
+    j->begun = true;
+    return DONE;
+}
+
+static int list_json(struct station *s, FILE *to)
+{
+    struct json_list list = {to, false};
+    fprintf(to, "{\"keys\":%" PRIu64 ",\"labels\":[", labels_in(s));
+    int status = each_label(s, list_label_json, &list);
+    fputs("\n]}\n", to);
+    return status;
+}
+
 int command_list(const char *file, char **word, const struct options *o)
 {
     static struct station s;
-    uint64_t *keys, count = 0;
-    char *text = NULL;
-    size_t bytes = 0;
     (void)word;
     int status = need_register(&s, file, ZKV_FILE_READ, o);
-    if (status == DONE) {
-        status = keys_of(&s, &keys, &count);
+    return status == DONE ? print_whole(&s, o->json ? list_json : list_text) : status;
+}
+
+/* ---- dump: a line a label, the form that load reads */
+
+/* A blank at the end is escaped, as editors and letters lose it. */
+static int dump_label(struct station *s, const struct label *l, void *to)
+{
+    (void)s;
+    fprintf(to, "%" PRIu64 "\t", l->key);
+    for (uint64_t i = 0; i < l->length; i++) {
+        uint8_t byte = l->value[i];
+        if (byte == '\\') {
+            fputs("\\\\", to);
+        } else if (byte < ' ' || byte > '~' || (byte == ' ' && i + 1 == l->length)) {
+            fprintf(to, "\\x%02x", byte);
+        } else {
+            fputc(byte, to);
+        }
     }
-    if (status != DONE) {
-        return status;
-    }
-    FILE *to = open_memstream(&text, &bytes);
-    if (to == NULL) {
-        return trouble(file, "no memory for the list");
-    }
-    status = print_labels(&s, keys, count, to);
-    if (fclose(to) != 0 && status == DONE) {
-        status = trouble(file, "no memory for the list");
-    }
-    if (status == DONE) {
-        status = confirmed(&s);
-    }
-    if (status == DONE) {
-        fwrite(text, 1, bytes, stdout);
-    }
-    free(text);
-    free(keys);
+    fputc('\n', to);
+    return DONE;
+}
+
+static int dump_text(struct station *s, FILE *to)
+{
+    return each_label(s, dump_label, to);
+}
+
+int command_dump(const char *file, char **word, const struct options *o)
+{
+    static struct station s;
+    (void)word;
+    int status = need_register(&s, file, ZKV_FILE_READ, o);
+    return status == DONE ? print_whole(&s, dump_text) : status;
+}
+
+/* ---- digest */
+
+static int digest_text(struct station *s, FILE *to)
+{
+    char digest[DIGEST_ROOM];
+    int status = digest_of(s, digest);
+    fprintf(to, "%s\n", digest);
     return status;
+}
+
+int command_digest(const char *file, char **word, const struct options *o)
+{
+    static struct station s;
+    (void)word;
+    int status = need_register(&s, file, ZKV_FILE_READ, o);
+    return status == DONE ? print_whole(&s, digest_text) : status;
 }

@@ -1,9 +1,10 @@
-/* zkv: the commands that only read, get, scan, stat and check. */
+/* zkv: the commands that only read, get, scan and check. */
 #define _GNU_SOURCE
 #include <inttypes.h>
 #include <stdio.h>
 #include <stdlib.h>
 #include <string.h>
+#include <strings.h>
 
 #include "zkv.h"
 
@@ -74,43 +75,46 @@ int command_scan(const char *file, char **word, const struct options *o)
     return PUT_ASIDE;
 }
 
-int command_stat(const char *file, char **word, const struct options *o)
+/* A digest in hexadecimal digits, small or capital. */
+static bool same_digest(const char *given, const char *digest)
 {
-    static struct station s;
-    uint64_t n;
-    (void)word;
-    int status = need_register(&s, file, ZKV_FILE_READ, o);
-    if (status != DONE) {
-        return status;
+    return strlen(given) == strlen(digest) && strcasecmp(given, digest) == 0;
+}
+
+static void print_refusal(uint64_t number, bool json)
+{
+    printf(json ? "{\"accepted\":false,\"refusal\":%" PRIu64 ",\"sentence\":\"%s\"}\n" : "refused %" PRIu64 ": %s\n", number,
+           zkv_sentence(number));
+}
+
+static void print_accepted(const char *digest, bool same, bool json)
+{
+    if (json) {
+        printf("{\"accepted\":true");
+        if (digest[0] != 0) {
+            printf(",\"digest\":\"%s\",\"same\":%s", digest, same ? "true" : "false");
+        }
+        puts("}");
+        return;
     }
-    const uint8_t *image = s.file.image;
-    size_t bytes = s.file.bytes;
-    uint64_t labels = labels_in(&s), keys = zkv_keys(&s.record), free_chunks = zkv_free_chunks(image, bytes), lines = zkv_lines_used(image, bytes);
-    bool station = header_number(&s, STATION_BIT, &n);
-    status = confirmed(&s);
-    if (status != DONE) {
-        return status;
+    puts("accepted");
+    if (digest[0] != 0 && same) {
+        puts("digest as given");
+    } else if (digest[0] != 0) {
+        printf("PUT ASIDE: the digest is %s, and not as given\n", digest);
     }
-    printf("chunks %zu\n", bytes / ZKV_CHUNK_BYTES);
-    printf("labels %" PRIu64 "\n", labels);
-    printf("known keys %" PRIu64 "\n", keys);
-    printf("free chunks %" PRIu64 "\n", free_chunks);
-    printf("lines used %" PRIu64 "\n", lines);
-    if (station) {
-        printf("station %" PRIu64 "\n", n);
-    }
-    if (header_number(&s, CENTRE_BIT, &n)) {
-        printf("centre %" PRIu64 "\n", n);
-    }
-    return DONE;
 }
 
 int command_check(const char *file, char **word, const struct options *o)
 {
     static struct station s;
     uint64_t number = 0;
+    char digest[DIGEST_ROOM] = "";
     (void)word;
     int status = open_image(&s, file, ZKV_FILE_READ, o, &number);
+    if (status == DONE && number == 0 && o->against != NULL) {
+        status = digest_of(&s, digest);
+    }
     if (status == DONE) {
         status = confirmed(&s);
     }
@@ -118,9 +122,10 @@ int command_check(const char *file, char **word, const struct options *o)
         return status;
     }
     if (number != 0) {
-        printf("refused %" PRIu64 ": %s\n", number, zkv_sentence(number));
+        print_refusal(number, o->json);
         return REFUSED;
     }
-    puts("accepted");
-    return DONE;
+    bool same = o->against == NULL || same_digest(o->against, digest);
+    print_accepted(digest, same, o->json);
+    return same ? DONE : PUT_ASIDE;
 }

@@ -87,9 +87,28 @@ static zkv_report finish_slowly(struct station *s, zkv_report r)
     }
 }
 
+/* In memory that is thrown away nothing is to be durable. */
+static void no_flush(void *unused, const uint8_t *line)
+{
+    (void)unused;
+    (void)line;
+}
+
+static int no_fence(void *unused)
+{
+    (void)unused;
+    return 0;
+}
+
 int carry_out(struct station *s, zkv_report *report)
 {
-    *report = s->pause_us > 0 ? finish_slowly(s, *report) : zkv_finish(LENT(s), *report, zkv_file_flush, zkv_file_fence, &s->file);
+    if (s->in_memory) {
+        *report = zkv_finish(LENT(s), *report, no_flush, no_fence, NULL);
+    } else if (s->pause_us > 0) {
+        *report = finish_slowly(s, *report);
+    } else {
+        *report = zkv_finish(LENT(s), *report, zkv_file_flush, zkv_file_fence, &s->file);
+    }
     switch (report->kind) {
     case ZKV_END:
     case ZKV_REFUSED:

@@ -82,12 +82,7 @@ int command_format(const char *file, char **word, const struct options *o)
 
 /* ---- clean */
 
-struct cleaned {
-    uint64_t chunks, entries;
-};
-
-/* Cleans the chunk that is named, else the one that is chosen, and counts it; the refusal, if there is one, in *report. */
-static int clean_one(struct station *s, const uint64_t *named, struct cleaned *done, zkv_report *report)
+int clean_one(struct station *s, const uint64_t *named, struct cleaned *done, zkv_report *report)
 {
     *report = named != NULL ? (zkv_report){ZKV_CHOSEN, *named, 0} : zkv_choose(LENT(s));
     if (report->kind != ZKV_CHOSEN) {
@@ -148,8 +143,7 @@ static zkv_report stage(struct station *s, uint64_t key, const uint8_t *value, s
     return value != NULL ? zkv_put(LENT(s), key, value, length) : zkv_delete(LENT(s), key);
 }
 
-/* Stages and commits; the refusal, if there is one, in *report. A refused commit leaves nothing staged. */
-static int change(struct station *s, uint64_t key, const uint8_t *value, size_t length, zkv_report *report)
+int change(struct station *s, uint64_t key, const uint8_t *value, size_t length, zkv_report *report)
 {
     *report = stage(s, key, value, length);
     int status = carry_out(s, report);

@@ -1,6 +1,7 @@
 #!/usr/bin/env bash
 # The program zkv in bad company: closed descriptors, files exchanged or cut under it, full disks, locks held by others,
-# FIFOs, links, limits, empty input, wrong usage; what its exit statuses and messages say; scans and lists.
+# FIFOs, links, limits, empty input, wrong lists and usage; what its exit statuses and messages say; scans, lists, digests,
+# loads and copies.
 #
 # tests/zkv.sh [PROGRAM]        host/build/zkv; says every check that does not hold, and ends with 1 if there is one
 set -uo pipefail
@@ -44,10 +45,12 @@ fresh() {
 fresh
 cp l.img before
 for closed in '' '0<&-' '1>&-' '2>&-' '0<&- 1>&-' '0<&- 2>&-' '1>&- 2>&-' '0<&- 1>&- 2>&-'; do
-    for command in 'delete l.img 77' 'put l.img 77 -' 'put l.img 77 nofile' 'format l.img 16' 'get l.img 4711' 'get l.img 77' 'scan l.img 77 value'; do
+    for command in 'delete l.img 77' 'put l.img 77 -' 'put l.img 77 nofile' 'format l.img 16' 'get l.img 4711' 'get l.img 77' 'scan l.img 77 value' \
+        'dump l.img' 'load l.img -' 'load l.img nofile' 'digest l.img' 'check l.img --json' 'copy l.img l.img' 'copy l.img c.img 5'; do
         ( eval "exec $closed"; exec "$zkv" $command ) > /dev/null 2>&1 < /dev/null
         untouched l.img before
         cp before l.img
+        rm -f c.img
     done
 done
 ( exec 1>&-; exec "$zkv" get l.img 4711 2> /dev/null )
@@ -111,12 +114,14 @@ mkdir disk
 if mount -t tmpfs -o size=96k none disk 2> /dev/null; then
     mounted=$work/disk
     cp --sparse=always l.img disk/holes.img
+    printf '5\tB-\n' > list
     head -c 81920 /dev/urandom > disk/filler 2> /dev/null
-    for command in 'put disk/holes.img 5 value' 'check disk/holes.img' 'format disk/other.img 16'; do
+    for command in 'put disk/holes.img 5 value' 'check disk/holes.img' 'format disk/other.img 16' 'load disk/holes.img list' \
+        'copy l.img disk/other.img'; do
         ends 2 $command
         hold "a message names the file: $(cat err)" grep -q '^zkv: disk/' err
     done
-    hold "a format that found no space leaves nothing behind: $(ls -A disk)" [ "$(ls -A disk | tr '\n' ' ')" = 'filler holes.img ' ]
+    hold "a format or copy that found no space leaves nothing behind: $(ls -A disk)" [ "$(ls -A disk | tr '\n' ' ')" = 'filler holes.img ' ]
     rm disk/filler
     ends 0 put disk/holes.img 5 value
     ends 0 get disk/holes.img 4711
@@ -176,7 +181,8 @@ hold "nothing is left beside the files: $(ls -A)" [ -z "$(ls -A | grep new-)" ]
 
 # 5. FIFOs and folders.
 mkfifo fifo
-for command in 'check fifo' 'get fifo 1' 'stat fifo' 'scan fifo 1 value' 'put fifo 1 value' 'format fifo 4'; do
+for command in 'check fifo' 'get fifo 1' 'stat fifo' 'scan fifo 1 value' 'put fifo 1 value' 'format fifo 4' 'dump fifo' 'digest fifo' \
+    'load fifo list' 'copy fifo new.img'; do
     ends 2 $command
     says 'fifo: is no regular file'
 done
@@ -188,7 +194,9 @@ fresh
 cp l.img before
 for command in 'put l.img 5 --version' 'put l.img 5 --help' 'delete l.img 4711 --help' '--version put l.img 5 value' \
     'put l.img 5 value --force' 'get l.img 4711 --pause 5' 'put l.img 5' 'put l.img 5 value more' 'put' 'pat l.img 5 value' \
-    'put l.img 5 value --pause' 'put l.img 5 value --pause x' 'put l.img 5 value --wait -1' 'format l.img' 'stat l.img --station 4'; do
+    'put l.img 5 value --pause' 'put l.img 5 value --pause x' 'put l.img 5 value --wait -1' 'format l.img' 'stat l.img --station 4' \
+    'get l.img 4711 --json' 'check l.img --against' 'check l.img --against 12' 'list l.img --against 12' 'load l.img' 'copy l.img' \
+    'copy l.img c.img 16 more' 'dump l.img more' 'digest l.img --json' 'copy l.img c.img --force'; do
     ends 2 $command
     hold "zkv $command says what is wrong, not '$(head -n 1 err)'" grep -Eq '^zkv: [a-z-]+: .' err
     hold "zkv $command shows how it is used" grep -q '^usage: zkv' err
@@ -370,6 +378,234 @@ ends 0 list l.img
 hold "a large value is listed as in a block: $(sed -n 3p out | cut -c 1-20)" grep -qx "5 1 1000 B $(cat large)" out
 ends 0 get l.img 5
 hold 'a large value comes back to the byte' cmp -s out large
+
+# JSON, digests, and checks against them.
+fresh
+printf 'A"\\' > value
+ends 0 put l.img 18446744073709551615 value
+ends 0 put l.img 5 nothing --empty
+ends 0 list l.img --json
+prints '{"keys":3,"labels":[
+{"key":"5","version":1,"bytes":0,"place":"log","hex":""},
+{"key":"4711","version":1,"bytes":9,"place":"log","hex":"412b20343530206d6c","text":"A+ 450 ml"},
+{"key":"18446744073709551615","version":1,"bytes":3,"place":"log","hex":"41225c","text":"A\"\\"}
+]}'
+ends 0 delete l.img 5
+ends 0 stat l.img --json
+prints '{"chunks":16,"labels":2,"deleted_keys":1,"known_keys":3,"free_chunks":14,"lines_used":4,"lines_left":828,"labels_of_16_left":828,'\
+'"labels_of_64_left":414,"labels_of_256_left":156,"station":"7","centre":null}'
+ends 0 stat l.img
+prints 'chunks 16
+labels 2
+deleted keys 1
+known keys 3
+free chunks 14
+lines used 4
+lines left 828
+labels of 16 bytes left 828
+labels of 64 bytes left 414
+labels of 256 bytes left 156
+station 7'
+ends 0 check l.img --json
+prints '{"accepted":true}'
+ends 0 digest l.img
+# The two labels in the form that the manual page states.
+sum=$({ printf '\147\022\0\0\0\0\0\0\011\0\0\0\0\0\0\0A+ 450 ml'
+    printf '\377\377\377\377\377\377\377\377\003\0\0\0\0\0\0\0A"\\'; } | sha256sum | cut -c 1-64)
+prints "$sum"
+ends 0 check l.img --against "$sum"
+prints $'accepted\ndigest as given'
+ends 0 check l.img --against "$sum" --json
+prints '{"accepted":true,"digest":"'"$sum"'","same":true}'
+other=$(printf x | sha256sum | cut -c 1-64)
+ends 4 check l.img --against "$other"
+prints $'accepted\nPUT ASIDE: the digest is '"$sum, and not as given"
+ends 4 check l.img --against "$other" --json
+prints '{"accepted":true,"digest":"'"$sum"'","same":false}'
+ends 3 check letter --json
+prints '{"accepted":false,"refusal":1,"sentence":"the image'\''s length is not 4 to 504 times 4,096 bytes, or a lent length is unlike that at the opening"}'
+ends 3 check letter --against "$sum"
+ends 2 check l.img --against "${sum}0"
+says 'zkv: check: --against needs a digest: 64 hexadecimal digits'
+ends 0 put l.img 4711 nothing --empty
+ends 4 check l.img --against "$sum"
+rm -f none.img
+ends 0 format none.img 4
+ends 0 digest none.img
+prints "$(sha256sum < /dev/null | cut -c 1-64)"
+ends 0 list none.img --json
+prints $'{"keys":0,"labels":[\n]}'
+ends 0 dump none.img
+prints ''
+
+# Lists that are wrong change nothing, and the message says the line; standard output that is full or closed.
+fresh
+cp l.img before
+while IFS='|' read -r list status message; do
+    printf -- "$list" > list
+    ends "$status" load l.img list
+    says "$message"
+    untouched l.img before
+done <<'END'
+5\tA+\n6\tB-|2|zkv: list: line 2: has no end: the list was cut
+5|2|zkv: list: line 1: has no end: the list was cut
+5\tA+\n\n|2|zkv: list: line 2: has no tab
+5 A+\n|2|zkv: list: line 1: has no tab
+x\tA+\n|2|zkv: list: line 1: does not begin with a key
+\tA+\n|2|zkv: list: line 1: does not begin with a key
+ 5\tA+\n|2|zkv: list: line 1: does not begin with a key
+-5\tA+\n|2|zkv: list: line 1: does not begin with a key
+5\0006\tA+\n|2|zkv: list: line 1: does not begin with a key
+18446744073709551616\tA+\n|2|zkv: list: line 1: does not begin with a key
+5\tA+\r\n|2|zkv: list: line 1: key 5: a byte 0x0d: lines end with a line feed alone
+5\tA\tB\n|2|zkv: list: line 1: key 5: a byte that is not printable ASCII
+5\tA\0B\n|2|zkv: list: line 1: key 5: a byte that is not printable ASCII
+5\tA\377\n|2|zkv: list: line 1: key 5: a byte that is not printable ASCII
+5\tA\\n\n|2|zkv: list: line 1: key 5: a backslash is followed by
+5\tA\\\n|2|zkv: list: line 1: key 5: a backslash is followed by
+5\tA\\x\n|2|zkv: list: line 1: key 5: a backslash is followed by
+5\tA\\x4\n|2|zkv: list: line 1: key 5: a backslash is followed by
+5\tA\\x4g\n|2|zkv: list: line 1: key 5: a backslash is followed by
+5\tA+\n6\tA+\n05\tB-\n|2|zkv: list: line 3: key 5 stands in line 1 already
+|2|zkv: list: gave 0 bytes; if that is meant, say --empty
+END
+{ printf '6\tB-\n5\t'; head -c 4089 /dev/zero | tr '\0' x; echo; } > list
+ends 3 load l.img list
+says 'zkv: list: line 2: key 5: 4089 bytes: refused 9: the value is too long (at most 4088 bytes)'
+untouched l.img before
+ends 2 load l.img nofile
+says 'zkv: nofile: No such file'
+ends 2 load l.img disk
+says 'zkv: disk: cannot be read'
+: > list
+ends 0 load l.img list --empty
+prints $'labels 0\nbatches 0'
+untouched l.img before
+printf '5\tA\\\\\\x5C\n4711\t\n' > list
+input=list ends 0 load l.img -
+prints $'labels 2\nbatches 1'
+ends 0 get l.img 5
+prints 'A\\'
+ends 0 dump l.img
+prints $'5\tA\\\\\\\\\n4711\t'
+for command in 'dump l.img' 'digest l.img' 'list l.img --json' 'stat l.img --json'; do
+    status=0
+    "$zkv" $command > /dev/full 2> err || status=$?
+    hold "zkv $command on a full device ends with 2, not $status" [ "$status" -eq 2 ]
+    says 'standard output'
+done
+rm -f wide.img
+ends 0 format wide.img 100
+for key in $(seq 20); do printf '%d\t%04000d\n' "$key" "$key"; done > list
+ends 0 load wide.img list
+prints $'labels 20\nbatches 2'
+status=$( (trap '' PIPE; "$zkv" dump wide.img 2> err; echo $? > status) | true; cat status)
+hold "a dump into a closed pipe ends with 2, not $status" [ "$status" -eq 2 ]
+says 'standard output: Broken pipe'
+chmod 400 l.img
+cp l.img before
+for command in 'dump l.img' 'digest l.img' 'copy l.img read.img' 'list l.img --json'; do
+    ends 0 $command
+done
+untouched l.img before
+chmod 600 l.img
+
+# Loads into a file that is exchanged or cut meanwhile.
+printf '5\tB-\n' > list
+for how in exchange cut; do
+    fresh
+    cp l.img new.img
+    "$zkv" load l.img list --pause 100000 > out 2> err &
+    load=$!
+    until_locked l.img
+    sleep 0.3
+    [ $how = exchange ] && mv new.img l.img || truncate -s 32768 l.img
+    wait "$load"
+    status=$?
+    hold "a load into a file that is exchanged or cut meanwhile ends with 2, not $status" [ "$status" -eq 2 ]
+    says 'was '
+    prints ''
+done
+
+# Copies: never over a file, nothing left of one that fails.
+fresh
+cp l.img before
+cp value c.img
+ends 2 copy l.img c.img
+says 'zkv: c.img: exists, and is left as it is'
+untouched c.img value
+ends 2 copy l.img l.img
+says 'zkv: l.img: exists'
+ends 2 copy l.img fifo
+says 'zkv: fifo: exists'
+ends 2 copy l.img nowhere/c.img
+says 'zkv: nowhere/c.img: no file can be made beside it'
+ends 2 copy nofile d.img
+says 'zkv: nofile: cannot be opened'
+ends 3 copy letter d.img
+says 'zkv: letter: 8 bytes: refused 1'
+ends 2 copy l.img d.img 1x
+says 'zkv: d.img: 1x is no number of chunks'
+ends 3 copy l.img d.img 505
+says 'zkv: d.img: 505 chunks: refused 1'
+ends 3 copy wide.img d.img 9
+says 'zkv: d.img: 9 chunks, after '
+says ' of 20 labels: refused 13: there is no space left in the image'
+untouched l.img before
+ln -s away/copied.img to.img
+ends 0 copy l.img to.img 4
+hold "a copy through a link is where the link says" [ -f away/copied.img ]
+hold "the link is still one" [ -L to.img ]
+hold "a copy is its owner's alone, mode $(stat -c %a away/copied.img)" [ "$(stat -c %a away/copied.img)" = 600 ]
+ends 0 stat to.img
+hold "the copy has 4 chunks and the station: $(cat out)" [ "$(sed -n '1p;$p' out | tr '\n' ' ')" = 'chunks 4 station 7 ' ]
+( ulimit -f 8; exec "$zkv" copy l.img d.img 2> err )
+status=$?
+hold "a copy over the limit of a file's length ends with 2, not $status" [ "$status" -eq 2 ]
+says 'd.img: cannot get its 65536 bytes'
+# While it runs: the new name is taken by another, the old file is cut, it is killed.
+"$zkv" copy l.img d.img --pause 1000 2> err &
+copy=$!
+sleep 0.3
+cp value d.img
+wait "$copy"
+status=$?
+hold "a copy to a name that was taken meanwhile ends with 2, not $status" [ "$status" -eq 2 ]
+says 'd.img: has been made by another program meanwhile; it is left as it is'
+untouched d.img value
+rm d.img
+"$zkv" copy l.img d.img --pause 1000 2> err &
+copy=$!
+sleep 0.3
+truncate -s 0 l.img
+wait "$copy" 2> /dev/null
+status=$?
+hold "a copy of a file that is cut to nothing ends with 2, not $status" [ "$status" -eq 2 ]
+says 'the system has no page'
+fresh
+"$zkv" copy l.img d.img --pause 1000 2> err &
+copy=$!
+sleep 0.3
+truncate -s 61440 l.img
+wait "$copy" 2> /dev/null
+status=$?
+hold "a copy of a file that is cut meanwhile ends with 2, not $status" [ "$status" -eq 2 ]
+says 'l.img: was 65536 bytes long and is 61440 now'
+hold "nothing is left of the copies that failed: $(ls -A)" [ -z "$(ls -A | grep -e '^d.img' -e new-)" ]
+fresh
+"$zkv" copy l.img d.img --pause 1000 2> err &
+copy=$!
+sleep 0.3
+kill -9 "$copy"
+wait "$copy" 2> /dev/null
+hold "a killed copy leaves no file under the name" [ ! -e d.img ]
+rm -f d.img.new-*
+if command -v script > /dev/null; then      # a terminal is told how far it is, a pipe is not
+    ends 0 copy wide.img far.img
+    hold "without a terminal no progress is told: $(cat err)" [ ! -s err ]
+    script -qec "$zkv copy wide.img farther.img" /dev/null > terminal < /dev/null
+    hold "a terminal is told how far it is: $(cat terminal)" grep -q 'zkv: farther.img: 20 of 20 labels' terminal
+fi
 
 if [ "$failures" -gt 0 ]; then
     echo "zkv: $failures of $checks checks do not hold" >&2

@@ -1,0 +1,115 @@
+/* zkv: the labels of an open register, one by one; their digest; and text that is printed only once it is whole. */
+#define _GNU_SOURCE
+#include <inttypes.h>
+#include <stdio.h>
+#include <stdlib.h>
+#include <string.h>
+
+#include "sha256.h"
+#include "zkv.h"
+
+/* The present keys, rising, in memory that the caller frees. */
+static int keys_of(struct station *s, uint64_t **keys, uint64_t *count)
+{
+    *count = 0;
+    *keys = malloc(ZKV_KEYS_MAX * sizeof **keys);
+    if (*keys == NULL) {
+        return trouble(s->file.name, "no memory for the keys");
+    }
+    uint64_t number = zkv_list_keys(LENT(s), *keys, ZKV_KEYS_MAX, count);
+    if (number != 0) {
+        free(*keys);
+        *keys = NULL;
+        return refused(s->file.name, number, "keys: ");
+    }
+    return DONE;
+}
+
+uint64_t labels_in(struct station *s)
+{
+    uint64_t *keys, count;
+    if (keys_of(s, &keys, &count) == DONE) {
+        free(keys);
+    }
+    return count;
+}
+
+static int label_of_key(struct station *s, uint64_t key, struct label *l)
+{
+    uint64_t start, number = zkv_look_up(LENT(s), key, &start, &l->length);
+    l->key = key;
+    l->value = s->file.image + start;
+    return number == 0 ? DONE : refused(s->file.name, number, "key %" PRIu64 ": ", key);
+}
+
+int each_label(struct station *s, int (*take)(struct station *s, const struct label *l, void *to), void *to)
+{
+    uint64_t *keys, count;
+    int status = keys_of(s, &keys, &count);
+    for (uint64_t i = 0; status == DONE && i < count; i++) {
+        struct label l;
+        status = label_of_key(s, keys[i], &l);
+        if (status == DONE) {
+            status = take(s, &l, to);
+        }
+    }
+    free(keys);
+    return status;
+}
+
+int print_whole(struct station *s, int (*print)(struct station *s, FILE *to))
+{
+    char *text = NULL;
+    size_t bytes = 0;
+    FILE *to = open_memstream(&text, &bytes);
+    if (to == NULL) {
+        return trouble(s->file.name, "no memory for the text");
+    }
+    int status = print(s, to);
+    bool whole = !ferror(to);
+    if ((fclose(to) != 0 || !whole) && status == DONE) {
+        status = trouble(s->file.name, "no memory for the text");
+    }
+    if (status == DONE) {
+        status = confirmed(s);
+    }
+    if (status == DONE) {
+        fwrite(text, 1, bytes, stdout);
+    }
+    free(text);
+    return status;
+}
+
+/* ---- the digest */
+
+/* Eight bytes, the lowest first. */
+static void add_number(struct sha256 *h, uint64_t n)
+{
+    uint8_t byte[8];
+    for (int i = 0; i < 8; i++) {
+        byte[i] = (uint8_t)(n >> 8 * i);
+    }
+    sha256_add(h, byte, sizeof byte);
+}
+
+static int add_label(struct station *s, const struct label *l, void *hash)
+{
+    (void)s;
+    add_number(hash, l->key);
+    add_number(hash, l->length);
+    sha256_add(hash, l->value, l->length);
+    return DONE;
+}
+
+int digest_of(struct station *s, char digest[DIGEST_ROOM])
+{
+    struct sha256 hash;
+    uint8_t byte[32];
+    sha256_begin(&hash);
+    int status = each_label(s, add_label, &hash);
+    sha256_end(&hash, byte);
+    for (int i = 0; i < 32; i++) {
+        snprintf(digest + 2 * i, 3, "%02x", byte[i]);
+    }
+    return status;
+}
