@@ -1,5 +1,5 @@
-/* What the library has beside the proved calls, in plain C over them: its version, the words of the refusals, a begun call
- * carried out to its end, and the write-back of lines on this processor. See the end of zitskvoze.h. */
+/* What the library has beside the proved calls, in plain C over them: its version, the words of the refusals, a
+ * begun call carried out to its end, and the write-back of lines on this processor. See the end of zitskvoze.h. */
 #include "device.h"
 
 extern inline const char *zkv_sentence(uint64_t number);

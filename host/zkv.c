@@ -1,9 +1,9 @@
 /* zkv: a label register in a file, from the command line. See host/zkv.1 for what each command does.
  *
- * Here: the command line. The commands are in zkv_write.c (format, put, delete, clean), zkv_load.c, zkv_copy.c, zkv_read.c
- * (get, scan, check), zkv_stat.c and zkv_list.c (list, dump, digest); what they share in zkv_register.c and zkv_labels.c.
- * The file under the image is the library's (zitskvoze_file.h). All that is said of the image's inside comes from the
- * library's calls, but the header's station and centre number. */
+ * Here: the command line. The commands are in zkv_write.c (format, put, delete, clean), zkv_load.c, zkv_copy.c,
+ * zkv_read.c (get, scan, check), zkv_stat.c and zkv_list.c (list, dump, digest); what they share in zkv_register.c
+ * and zkv_labels.c. The file under the image is the library's (zitskvoze_file.h). All that is said of the image's
+ * inside comes from the library's calls, but the header's station and centre number. */
 #define _GNU_SOURCE
 #include <errno.h>
 #include <inttypes.h>

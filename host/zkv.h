@@ -39,7 +39,8 @@ struct cleaned {
     uint64_t chunks, entries;
 };
 
-/* Of labels that are put by batches: those that are in the register, the batches, and how many more all or none are in it. */
+/* Of labels that are put by batches: those that are in the register, the batches, and how many more all or none are
+ * in it. */
 struct put_so_far {
     size_t labels, batches, unknown;
 };
@@ -47,7 +48,8 @@ struct put_so_far {
 /* What every call is lent. */
 #define LENT(s) &(s)->record, (s)->file.image, (s)->file.bytes, (s)->table, ZKV_TABLE_WORDS_MAX
 
-/* zkv_register.c: messages, one form for all: `zkv: FILE: what it is about: what is wrong`. Each answers the exit status. */
+/* zkv_register.c: messages, one form for all: `zkv: FILE: what it is about: what is wrong`. Each answers the exit
+ * status. */
 __attribute__((format(printf, 2, 3))) int trouble(const char *file, const char *format, ...);
 __attribute__((format(printf, 3, 4))) int refused(const char *file, uint64_t number, const char *about, ...);
 
@@ -64,8 +66,8 @@ enum { STATION_BIT = 1, CENTRE_BIT = 2 };
 enum { DIGEST_ROOM = 65 };      /* 64 digits and the end */
 enum { VALUE_ROOM = 65537 };    /* more than any value's limit, so that the library sees what is too long */
 
-/* zkv_labels.c: how many keys are present; the labels by rising key, until `take` answers no DONE; their digest; and what
- * `print` prints, printed once the file is known to be whole. */
+/* zkv_labels.c: how many keys are present; the labels by rising key, until `take` answers no DONE; their digest; and
+ * what `print` prints, printed once the file is known to be whole. */
 uint64_t labels_in(struct station *s);
 int each_label(struct station *s, int (*take)(struct station *s, const struct label *l, void *to), void *to);
 int digest_of(struct station *s, char digest[DIGEST_ROOM]);
@@ -77,7 +79,8 @@ int print_whole(struct station *s, int (*print)(struct station *s, FILE *to));
 int clean_one(struct station *s, const uint64_t *named, struct cleaned *done, zkv_report *report);
 int change(struct station *s, uint64_t key, const uint8_t *value, size_t length, zkv_report *report);
 
-/* zkv_load.c: puts labels by batches, in their order; where one is refused, it is the first behind those that are in. */
+/* zkv_load.c: puts labels by batches, in their order; where one is refused, it is the first behind those that are
+ * in. */
 int put_labels(struct station *s, const struct label *label, size_t count, bool cleaning, struct put_so_far *p, zkv_report *report);
 
 /* The commands; `word` are the words behind FILE, NULL where one may be left out and is. zkv_write.c: */

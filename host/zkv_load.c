@@ -173,8 +173,8 @@ static void forget_list(struct list *l)
 
 /* ---- batches */
 
-/* Stages labels, as many as batch and space take but at most so many, and commits them; *done is how many, also where the commit
- * ended in trouble. A refusal, left in *report, leaves nothing staged. */
+/* Stages labels, as many as batch and space take but at most so many, and commits them; *done is how many, also
+ * where the commit ended in trouble. A refusal, left in *report, leaves nothing staged. */
 static int put_batch(struct station *s, const struct label *label, size_t most, size_t *done, zkv_report *report)
 {
     size_t staged = 0;
@@ -226,7 +226,8 @@ static void show_progress(const struct station *s, size_t before, size_t now, si
     }
 }
 
-/* A batch that is refused is tried again by halves: a label alone finds space where a batch has none, and is refused by itself. */
+/* A batch that is refused is tried again by halves: a label alone finds space where a batch has none, and is refused
+ * by itself. */
 int put_labels(struct station *s, const struct label *label, size_t count, bool cleaning, struct put_so_far *p, zkv_report *report)
 {
     size_t most = ZKV_BATCH_ITEMS;

@@ -43,7 +43,8 @@ int command_get(const char *file, char **word, const struct options *o)
     return status;
 }
 
-/* Compares what was scanned from a printed label with what the register says was printed. Bytes count from 1, as cmp(1) counts. */
+/* Compares what was scanned from a printed label with what the register says was printed. Bytes count from 1, as
+ * cmp(1) counts. */
 int command_scan(const char *file, char **word, const struct options *o)
 {
     uint64_t key, length, same = 0;

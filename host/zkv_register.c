@@ -126,8 +126,8 @@ int confirmed(const struct station *s)
     return text == NULL ? DONE : trouble(s->file.name, "%s", text);
 }
 
-/* The bytes of a file, of standard input where the name is `-`; VALUE_ROOM of them if there are so many or more. No bytes at all
- * are what a program leaves that failed before us, so that they must be meant. */
+/* The bytes of a file, of standard input where the name is `-`; VALUE_ROOM of them if there are so many or more. No
+ * bytes at all are what a program leaves that failed before us, so that they must be meant. */
 int read_value(const char *from, bool empty_meant, const uint8_t **value, size_t *length)
 {
     static uint8_t room[VALUE_ROOM];
@@ -148,8 +148,8 @@ int read_value(const char *from, bool empty_meant, const uint8_t **value, size_t
     return *length > 0 || empty_meant ? DONE : trouble(name, "gave 0 bytes; if that is meant, say --empty");
 }
 
-/* A number in the header of a register that is open: its word 0 tells the fields by bits, from bit 0 (the chunk count) on, and
- * those that are there follow. */
+/* A number in the header of a register that is open: its word 0 tells the fields by bits, from bit 0 (the chunk
+ * count) on, and those that are there follow. */
 bool header_number(const struct station *s, unsigned bit, uint64_t *number)
 {
     uint64_t word[4];

@@ -101,7 +101,8 @@ int clean_one(struct station *s, const uint64_t *named, struct cleaned *done, zk
     return status;
 }
 
-/* A chunk that is named, or one after the other until none is worth it: each leaves fewer lines in use, so that this ends. */
+/* A chunk that is named, or one after the other until none is worth it: each leaves fewer lines in use, so that this
+ * ends. */
 int command_clean(const char *file, char **word, const struct options *o)
 {
     static struct station s;
@@ -158,7 +159,8 @@ int change(struct station *s, uint64_t key, const uint8_t *value, size_t length,
     return status;
 }
 
-/* The same; where no space is left, chunks are cleaned and it is tried again, until it is done or no cleaning is left. */
+/* The same; where no space is left, chunks are cleaned and it is tried again, until it is done or no cleaning is
+ * left. */
 static int change_with_cleaning(struct station *s, uint64_t key, const uint8_t *value, size_t length, zkv_report *report)
 {
     struct cleaned done = {0, 0};

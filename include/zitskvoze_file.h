@@ -55,9 +55,10 @@ typedef struct zkv_file_wait {
     void (*notice)(const char *name);
 } zkv_file_wait;
 
-/* From here on a store or load that the system has no page for (a full disk, a file that was cut) ends the program with
- * a message and status 2 (a new file without its name is removed), and a file that may not grow is an error and no signal. Descriptors 0 to 2 that are closed
- * become ones that cannot be used, so that no file gets their number. Answers 1, or 0 where it could not. */
+/* From here on a store or load that the system has no page for (a full disk, a file that was cut) ends the program
+ * with a message and status 2 (a new file without its name is removed), and a file that may not grow is an error and
+ * no signal. Descriptors 0 to 2 that are closed become ones that cannot be used, so that no file gets their number.
+ * Answers 1, or 0 where it could not. */
 int zkv_file_guard(const char *program);
 
 /* Opens a regular file, waits for its lock, opens again if the name meanwhile is another file's, maps it, and makes all

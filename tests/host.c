@@ -1,7 +1,7 @@
 /* A host in C99 that makes every call of the headers, built by tests/hosts.sh with all warnings.
  *
- * host FILE        FILE must not exist: a register is made in it; exit status 1 and a message at the first thing that is
- *                  not as the headers say */
+ * host FILE        FILE must not exist: a register is made in it; exit status 1 and a message at the first thing
+ *                  that is not as the headers say */
 #include <stdio.h>
 #include <stdlib.h>
 #include <string.h>

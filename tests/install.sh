@@ -1,6 +1,7 @@
 #!/usr/bin/env bash
-# The library as a package: `make -C host install` into a temporary DESTDIR puts every file where PREFIX says and nothing
-# elsewhere; host/hello.c builds against it by pkg-config alone, static and shared, and runs; uninstall leaves nothing.
+# The library as a package: `make -C host install` into a temporary DESTDIR puts every file where PREFIX says and
+# nothing elsewhere; host/hello.c builds against it by pkg-config alone, static and shared, and runs; uninstall leaves
+# nothing.
 #
 # tests/install.sh [ARCHIVE]        target/staticlib/libcapi.a; needs gcc, make, pkg-config
 set -euo pipefail
