@@ -1,0 +1,387 @@
+//! The label register for hosts in Rust: under each 64-bit key the exact bytes of a value of 0 to 4,088 bytes, in a
+//! file or a file on persistent memory, which survive a power cut at any moment.
+//!
+//! ```no_run
+//! use zitskvoze::{Change, Register};
+//! # fn main() -> Result<(), zitskvoze::Error> {
+//! let mut labels = Register::open("labels.img")?;
+//! labels.put(4711, b"A+ 450 ml")?;                              // durable when it returns
+//! labels.batch(&[Change::Put(4712, b"B- 450 ml"), Change::Delete(4711)])?;      // all or none
+//! assert_eq!(labels.get(4712)?.as_deref(), Some(&b"B- 450 ml"[..]));
+//! # Ok(()) }
+//! ```
+//!
+//! It stands on the C archive: the proved calls of zitskvoze.h, and the file, in plain C, of zitskvoze_file.h. This crate
+//! itself is not proved. A register is one writer's: the file is locked while it is open. No reference into the file is
+//! handed out: values are copied.
+mod error;
+mod file;
+mod sys;
+
+pub use error::{Error, Refusal};
+
+use std::ffi::{c_void, CStr};
+use std::path::Path;
+use std::time::Duration;
+
+use error::refused;
+use file::File;
+
+/// The longest value, in bytes.
+pub const VALUE_MAX: usize = 4088;
+/// How many puts and deletes a batch may have.
+pub const BATCH_ITEMS: usize = 16;
+
+/// One item of a batch.
+#[derive(Clone, Copy, Debug)]
+pub enum Change<'a> {
+    Put(u64, &'a [u8]),
+    Delete(u64),
+}
+
+/// How a register is opened.
+#[derive(Clone, Copy, Debug, PartialEq, Eq)]
+pub enum Access {
+    /// With a lock that other readers share.
+    Read,
+    /// With a lock of its own.
+    Write,
+}
+
+/// What is listed of a present key.
+#[derive(Clone, Copy, Debug, PartialEq, Eq)]
+pub struct Listed {
+    pub version: u64,
+    pub length: usize,
+    /// The value stands in a block, and not in the log.
+    pub block: bool,
+}
+
+/// What a cleaning did.
+#[derive(Clone, Copy, Debug, Default, PartialEq, Eq)]
+pub struct Cleaned {
+    pub chunks: u64,
+    pub entries: u64,
+}
+
+/// An open register. Dropping it closes the file and gives the lock back.
+pub struct Register {
+    file: File,
+    record: Box<sys::Record>,
+    table: Box<[u64]>,
+    access: Access,
+}
+
+// Safety: the pointers in it are to memory that it owns or has mapped, and no thread has a part in what the calls do;
+// those that take &self only read.
+unsafe impl Send for Register {}
+unsafe impl Sync for Register {}
+
+/// The version of the library that is linked.
+pub fn version() -> String {
+    // Safety: the library answers a text that lasts.
+    unsafe { CStr::from_ptr(sys::zkv_version()) }.to_string_lossy().into_owned()
+}
+
+/// From here on a file that is cut while it is in use, or a disk that is full, ends the program with a message and
+/// status 2 instead of a signal. Answers whether it could.
+pub fn guard(program: &'static CStr) -> bool {
+    // Safety: the text lasts, as the library keeps its address.
+    unsafe { sys::zkv_file_guard(program.as_ptr()) != 0 }
+}
+
+impl Register {
+    /// Makes an empty register of so many chunks (4 to 504) of 4,096 bytes and opens it to be written. A file that
+    /// exists is left as it is, and the name is taken only once all is durable.
+    pub fn create(path: impl AsRef<Path>, chunks: usize, station: Option<u64>, centre: Option<u64>) -> Result<Register, Error> {
+        right_version()?;
+        if !sys::CHUNKS.contains(&chunks) {
+            return Err(Refusal::ImageLength.into());
+        }
+        let file = File::new(path.as_ref(), chunks * sys::CHUNK_BYTES)?;
+        let mut register = Register::over(file, Access::Write);
+        let (at, bytes, words) = register.lent();
+        let (s, c) = (station.unwrap_or(0), centre.unwrap_or(0));
+        // Safety: what is lent is this register's, of these lengths.
+        let begun = unsafe {
+            sys::zkv_format(&mut *register.record, at, bytes, register.table.as_ptr(), words,
+                station.is_some().into(), s, centre.is_some().into(), c)
+        };
+        register.finish(begun)?;
+        register.file.take_name()?;
+        drop(register);
+        Register::open(path)
+    }
+
+    /// Opens a register to be written, and waits for its lock as long as it takes.
+    pub fn open(path: impl AsRef<Path>) -> Result<Register, Error> {
+        Register::open_with(path, Access::Write, None)
+    }
+
+    /// Opens a register, and waits for its lock at most so long (in whole seconds, rounded down).
+    pub fn open_with(path: impl AsRef<Path>, access: Access, wait: Option<Duration>) -> Result<Register, Error> {
+        right_version()?;
+        let file = File::open(path.as_ref(), access, wait)?;
+        let mut register = Register::over(file, access);
+        let (at, bytes, words) = register.lent();
+        // Safety: as above.
+        let report = unsafe { sys::zkv_open(&mut *register.record, at, bytes, register.table.as_mut_ptr(), words) };
+        match report.kind {
+            sys::OPENED => Ok(register),
+            sys::REFUSED => Err(refused(report.first)),
+            _ => Err(Error::Odd(format!("an opening answered {report:?}"))),
+        }
+    }
+
+    fn over(file: File, access: Access) -> Register {
+        let record = Box::new(sys::Record { word: [0; 1173] });
+        Register { file, record, table: vec![0; sys::TABLE_WORDS].into_boxed_slice(), access }
+    }
+
+    fn lent(&self) -> (*mut u8, usize, usize) {
+        (self.file.image(), self.file.bytes(), self.table.len())
+    }
+
+    /// The bytes of a key, or None where it is absent.
+    pub fn get(&self, key: u64) -> Result<Option<Vec<u8>>, Error> {
+        let (at, bytes, words) = self.lent();
+        let (mut start, mut length) = (0, 0);
+        // Safety: as above; the two numbers are this frame's.
+        match unsafe { sys::zkv_look_up(&*self.record, at, bytes, self.table.as_ptr(), words, key, &mut start, &mut length) } {
+            0 => Ok(Some(self.file.copy(start, length)?)),
+            number if number == Refusal::KeyAbsent.number() => Ok(None),
+            number => Err(refused(number)),
+        }
+    }
+
+    /// Puts a value under a key; it lasts when this returns. Where no space is left, chunks are cleaned until there is.
+    pub fn put(&mut self, key: u64, value: &[u8]) -> Result<(), Error> {
+        self.batch(&[Change::Put(key, value)])
+    }
+
+    /// Makes a key absent; answers whether it was present.
+    pub fn delete(&mut self, key: u64) -> Result<bool, Error> {
+        match self.batch(&[Change::Delete(key)]) {
+            Err(Error::Refused(Refusal::KeyAbsent)) => Ok(false),
+            other => other.map(|()| true),
+        }
+    }
+
+    /// Makes up to 16 changes (4,096 bytes of entries: 16 and the value for each) in their order, all or none of them,
+    /// also where the power is cut. They last when this returns. Where no space is left, chunks are cleaned.
+    pub fn batch(&mut self, changes: &[Change<'_>]) -> Result<(), Error> {
+        if self.access == Access::Read {
+            return Err(Error::ReadOnly);
+        }
+        if changes.is_empty() {
+            return Ok(());
+        }
+        while let Err(error) = self.commit(changes) {
+            if error != Error::Refused(Refusal::NoSpace) || self.clean_one()?.is_none() {
+                return Err(error);
+            }
+        }
+        self.file.confirm()
+    }
+
+    /// Stages and commits; a refusal leaves nothing staged.
+    fn commit(&mut self, changes: &[Change<'_>]) -> Result<(), Error> {
+        let (at, bytes, words) = self.lent();
+        let mut done = Ok(());
+        let mut staged = false;
+        for change in changes {
+            // Safety: as above; a value is no part of the image, as no reference into it is handed out.
+            let begun = unsafe {
+                match *change {
+                    Change::Put(key, value) => sys::zkv_put(&mut *self.record, at, bytes, self.table.as_ptr(), words,
+                        key, value.as_ptr(), value.len()),
+                    Change::Delete(key) => sys::zkv_delete(&mut *self.record, at, bytes, self.table.as_ptr(), words, key),
+                }
+            };
+            done = self.finish(begun).map(|_| ());
+            if done.is_err() {
+                break;
+            }
+            staged = true;
+        }
+        if done.is_ok() {
+            // Safety: as above.
+            let begun = unsafe { sys::zkv_commit(&mut *self.record, at, bytes, self.table.as_ptr(), words) };
+            done = self.finish(begun).map(|_| ());
+        }
+        if done.is_err() && staged {
+            // Safety: as above. It is refused where a fence failed, and then nothing is to be forgotten.
+            unsafe { sys::zkv_abandon(&mut *self.record, at, bytes, self.table.as_ptr(), words) };
+        }
+        done
+    }
+
+    /// Carries a begun call out to its end; answers the number that the end reports.
+    fn finish(&mut self, begun: sys::Report) -> Result<u64, Error> {
+        let (at, bytes, words) = self.lent();
+        // Safety: as above; the context of the two functions is the file that is open.
+        let report = unsafe {
+            sys::zkv_finish(&mut *self.record, at, bytes, self.table.as_mut_ptr(), words, begun,
+                sys::zkv_file_flush, sys::zkv_file_fence, self.file.raw().cast::<c_void>())
+        };
+        match report.kind {
+            sys::END => Ok(report.first),
+            sys::REFUSED => Err(refused(report.first)),
+            sys::FENCE => Err(Error::NotDurable),
+            _ => Err(Error::Odd(format!("a call ended with {report:?}"))),
+        }
+    }
+
+    /// Cleans the chunk that is worth it most; None where none is.
+    fn clean_one(&mut self) -> Result<Option<u64>, Error> {
+        let (at, bytes, words) = self.lent();
+        // Safety: as above.
+        let chosen = unsafe { sys::zkv_choose(&*self.record, at, bytes, self.table.as_ptr(), words) };
+        if chosen.kind != sys::CHOSEN {
+            return if chosen.first == Refusal::NotCleanable.number() { Ok(None) } else { Err(refused(chosen.first)) };
+        }
+        // Safety: as above.
+        let begun = unsafe { sys::zkv_clean(&mut *self.record, at, bytes, self.table.as_ptr(), words, chosen.first as usize) };
+        match self.finish(begun) {
+            Err(Error::Refused(Refusal::NoSpace)) => Ok(None),
+            other => other.map(Some),
+        }
+    }
+
+    /// Frees the space of superseded and deleted labels, chunk by chunk, until no cleaning is worth it.
+    pub fn clean(&mut self) -> Result<Cleaned, Error> {
+        if self.access == Access::Read {
+            return Err(Error::ReadOnly);
+        }
+        let mut done = Cleaned::default();
+        while let Some(entries) = self.clean_one()? {
+            done.chunks += 1;
+            done.entries += entries;
+        }
+        self.file.confirm()?;
+        Ok(done)
+    }
+
+    /// The present keys, rising.
+    pub fn keys(&self) -> Result<Vec<u64>, Error> {
+        let mut keys = Vec::new();
+        loop {
+            let (at, bytes, words) = self.lent();
+            let mut count = 0;
+            // Safety: as above; the list has the room that is told.
+            let number = unsafe {
+                sys::zkv_list_keys(&*self.record, at, bytes, self.table.as_ptr(), words, keys.as_mut_ptr(), keys.len(), &mut count)
+            };
+            if number != 0 {
+                return Err(refused(number));
+            }
+            if count as usize == keys.len() {
+                return Ok(keys);
+            }
+            keys = vec![0; count as usize];
+        }
+    }
+
+    /// Every label, by rising key.
+    pub fn iter(&self) -> Result<Labels<'_>, Error> {
+        Ok(Labels { register: self, keys: self.keys()?.into_iter() })
+    }
+
+    /// Version, length and place of a key's value, or None where it is absent.
+    pub fn listed(&self, key: u64) -> Result<Option<Listed>, Error> {
+        let (at, bytes, words) = self.lent();
+        let (mut version, mut length, mut block) = (0, 0, 0);
+        // Safety: as above.
+        let number = unsafe {
+            sys::zkv_list_key(&*self.record, at, bytes, self.table.as_ptr(), words, key, &mut version, &mut length, &mut block)
+        };
+        match number {
+            0 => Ok(Some(Listed { version, length: length as usize, block: block != 0 })),
+            number if number == Refusal::KeyAbsent.number() => Ok(None),
+            number => Err(refused(number)),
+        }
+    }
+
+    /// The known keys, deleted ones that still have an entry included.
+    pub fn known_keys(&self) -> u64 {
+        // Safety: as above.
+        unsafe { sys::zkv_keys(&*self.record) }
+    }
+
+    pub fn chunks(&self) -> usize {
+        self.file.bytes() / sys::CHUNK_BYTES
+    }
+
+    pub fn free_chunks(&self) -> u64 {
+        // Safety: as above.
+        unsafe { sys::zkv_free_chunks(self.file.image(), self.file.bytes()) }
+    }
+
+    /// The committed lines (64 bytes) of the log.
+    pub fn lines_used(&self) -> u64 {
+        // Safety: as above.
+        unsafe { sys::zkv_lines_used(self.file.image(), self.file.bytes()) }
+    }
+
+    /// Whether the file is as long as it was and, where it is written, still the name's. Every write asks it itself.
+    pub fn confirm(&self) -> Result<(), Error> {
+        self.file.confirm()
+    }
+}
+
+/// The labels of a register, by rising key.
+pub struct Labels<'a> {
+    register: &'a Register,
+    keys: std::vec::IntoIter<u64>,
+}
+
+impl Iterator for Labels<'_> {
+    type Item = Result<(u64, Vec<u8>), Error>;
+
+    fn next(&mut self) -> Option<Self::Item> {
+        let key = self.keys.next()?;
+        Some(self.register.get(key).and_then(|value| match value {
+            Some(value) => Ok((key, value)),
+            None => Err(Refusal::KeyAbsent.into()),
+        }))
+    }
+
+    fn size_hint(&self) -> (usize, Option<usize>) {
+        self.keys.size_hint()
+    }
+}
+
+impl ExactSizeIterator for Labels<'_> {}
+
+fn right_version() -> Result<(), Error> {
+    match version() {
+        v if v == sys::VERSION => Ok(()),
+        v => Err(Error::Version(v)),
+    }
+}
+
+#[cfg(test)]
+mod tests {
+    /// The C compiler's sizes and places, as tests/rust.sh finds them, are those of sys.rs.
+    #[test]
+    fn layout() {
+        use crate::sys::{File, Record, Report, Wait};
+        use std::mem::{offset_of, size_of};
+        let Ok(wanted) = std::env::var("ZKV_LAYOUT") else { return };
+        let found = [
+            size_of::<Record>(),
+            size_of::<Report>(),
+            size_of::<Wait>(),
+            size_of::<File>(),
+            offset_of!(File, bytes),
+            offset_of!(File, name),
+            offset_of!(File, length),
+            offset_of!(File, usage),
+            offset_of!(File, page),
+            offset_of!(File, device),
+            offset_of!(File, made),
+            offset_of!(File, wanted),
+        ];
+        assert_eq!(wanted, found.map(|n| n.to_string()).join(" "));
+    }
+}
