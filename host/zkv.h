@@ -37,6 +37,7 @@ struct label {
 
 struct cleaned {
     uint64_t chunks, entries;
+    uint64_t looked;            /* the last chunk that was looked at because it may hold no label */
 };
 
 /* Of labels that are put by batches: those that are in the register, the batches, and how many more all or none are
@@ -74,7 +75,7 @@ int digest_of(struct station *s, char digest[DIGEST_ROOM]);
 int print_whole(struct station *s, int (*print)(struct station *s, FILE *to));
 
 /* zkv_write.c: each leaves a refusal, if there is one, in *report. Cleans the chunk that is named, else the one that is
- * chosen, and counts it. Stages and commits a put or, where value is NULL, a delete; a refused commit leaves nothing
+ * chosen, else one that holds no label, and counts it. Stages and commits a put or, where value is NULL, a delete; a refused commit leaves nothing
  * staged. */
 int clean_one(struct station *s, const uint64_t *named, struct cleaned *done, zkv_report *report);
 int change(struct station *s, uint64_t key, const uint8_t *value, size_t length, zkv_report *report);

@@ -87,6 +87,30 @@ done
 "$zkv" delete full 7
 printf 'label 65' | "$zkv" put full 65 - || fail "a put after a delete"
 
+# Chunks that held large labels, all of them deleted: a put takes them when it must, and clean frees them.
+head -c 4088 /dev/urandom > large
+"$zkv" format archive 12
+for ((key = 1; key <= 8; key++)); do
+    "$zkv" put archive "$key" large || fail "a large label $key"
+done
+for ((key = 1; key <= 8; key++)); do
+    "$zkv" delete archive "$key"
+done
+cp archive cleaned
+for ((key = 101; key <= 190; key++)); do
+    printf 'label %-250d' "$key" | "$zkv" put archive "$key" - || fail "label $key after large ones that were deleted"
+done
+for ((key = 101; key <= 190; key++)); do printf '%d\tlabel %-249d\\x20\n' "$key" "$key"; done > labels
+"$zkv" dump archive | cmp -s - labels || fail "labels are lost among freed chunks"
+"$zkv" put cleaned 1 large
+"$zkv" clean cleaned > out
+grep -qx 'free chunks 9' out || fail "of 12 chunks with one large label 9 are free, and clean says: $(cat out)"
+"$zkv" get cleaned 1 | cmp -s - large || fail "the large label is lost"
+# A refused large label takes no space from the small ones.
+"$zkv" format small 4
+[ "$(status "$zkv" put small 1 large)" -eq 3 ] || fail "a large label in 4 chunks does not end with 3"
+printf 'label' | "$zkv" put small 2 - || fail "a small label after a large one that was refused"
+
 # Puts and cleanings that are killed. Before each the register is nearly full, so that a put has to clean.
 killed=0 cleaning=0
 for ((n = 1; n <= kills; n++)); do

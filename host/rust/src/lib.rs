@@ -176,8 +176,9 @@ impl Register {
         if changes.is_empty() {
             return Ok(());
         }
+        let mut looked = 0;
         while let Err(error) = self.commit(changes) {
-            if error != Error::Refused(Refusal::NoSpace) || self.clean_one()?.is_none() {
+            if error != Error::Refused(Refusal::NoSpace) || self.clean_one(&mut looked)?.is_none() {
                 return Err(error);
             }
         }
@@ -232,20 +233,41 @@ impl Register {
         }
     }
 
-    /// Cleans the chunk that is worth it most; None where none is.
-    fn clean_one(&mut self) -> Result<Option<u64>, Error> {
+    fn begin_cleaning(&mut self, chunk: u64) -> sys::Report {
+        let (at, bytes, words) = self.lent();
+        // Safety: as above.
+        unsafe { sys::zkv_clean(&mut *self.record, at, bytes, self.table.as_ptr(), words, chunk as usize) }
+    }
+
+    /// Cleans the chunk that is worth it most, else one behind `looked` that holds no label; None where there is none.
+    fn clean_one(&mut self, looked: &mut u64) -> Result<Option<u64>, Error> {
         let (at, bytes, words) = self.lent();
         // Safety: as above.
         let chosen = unsafe { sys::zkv_choose(&*self.record, at, bytes, self.table.as_ptr(), words) };
-        if chosen.kind != sys::CHOSEN {
-            return if chosen.first == Refusal::NotCleanable.number() { Ok(None) } else { Err(refused(chosen.first)) };
+        let begun = if chosen.kind == sys::CHOSEN { self.begin_cleaning(chosen.first) } else { chosen };
+        if begun.kind == sys::BEGUN {
+            return self.finish(begun).map(Some);
         }
-        // Safety: as above.
-        let begun = unsafe { sys::zkv_clean(&mut *self.record, at, bytes, self.table.as_ptr(), words, chosen.first as usize) };
-        match self.finish(begun) {
-            Err(Error::Refused(Refusal::NoSpace)) => Ok(None),
-            other => other.map(Some),
+        match refused(begun.first) {
+            Error::Refused(Refusal::NotCleanable | Refusal::NoSpace) => self.free_one(looked),
+            error => Err(error),
         }
+    }
+
+    /// Frees a chunk of blocks of which none is in use, as choosing names log chunks alone. A begin changes the record
+    /// and nothing else, so that one that would copy something is taken back with it. Each chunk is looked at once.
+    fn free_one(&mut self, looked: &mut u64) -> Result<Option<u64>, Error> {
+        const FREEING: u64 = 3; // the actions of a cleaning that copies nothing
+        let before = self.record.clone();
+        while *looked + 1 < self.chunks() as u64 {
+            *looked += 1;
+            let begun = self.begin_cleaning(*looked);
+            if begun.kind == sys::BEGUN && begun.first == FREEING {
+                return self.finish(begun).map(Some);
+            }
+            self.record.clone_from(&before);
+        }
+        Ok(None)
     }
 
     /// Frees the space of superseded and deleted labels, chunk by chunk, until no cleaning is worth it.
@@ -254,7 +276,8 @@ impl Register {
             return Err(Error::ReadOnly);
         }
         let mut done = Cleaned::default();
-        while let Some(entries) = self.clean_one()? {
+        let mut looked = 0;
+        while let Some(entries) = self.clean_one(&mut looked)? {
             done.chunks += 1;
             done.entries += entries;
         }

@@ -7,6 +7,7 @@ pub const CHUNKS: std::ops::RangeInclusive<usize> = 4..=504;
 pub const TABLE_WORDS: usize = 262_144;
 
 pub const REFUSED: u64 = 0;
+pub const BEGUN: u64 = 1;
 pub const FENCE: u64 = 4;
 pub const END: u64 = 5;
 pub const OPENED: u64 = 7;
@@ -16,6 +17,7 @@ pub const FILE_READ: c_int = 0;
 pub const FILE_WRITE: c_int = 1;
 
 #[repr(C)]
+#[derive(Clone)]
 pub struct Record {
     pub word: [u64; 1173],
 }

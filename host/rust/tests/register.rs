@@ -130,6 +130,27 @@ fn a_full_register_cleans_and_then_refuses() {
 }
 
 #[test]
+fn chunks_of_large_labels_are_freed() {
+    let folder = Folder::new("large");
+    let mut register = Register::create(folder.file(), 12, None, None).unwrap();
+    for key in 0..8 {
+        register.put(key, &[key as u8; VALUE_MAX]).unwrap();
+    }
+    for key in 0..8 {
+        assert_eq!(register.delete(key), Ok(true));
+    }
+    for key in 0..90 {
+        register.put(key, &[key as u8; 256]).unwrap();
+    }
+    assert!(all(&register).into_iter().eq((0..90).map(|key| (key, vec![key as u8; 256]))));
+    for key in 0..90 {
+        assert_eq!(register.delete(key), Ok(true));
+    }
+    register.clean().unwrap();
+    assert_eq!(register.free_chunks(), 11);
+}
+
+#[test]
 fn files_and_locks() {
     let folder = Folder::new("files");
     let at_once = Some(Duration::ZERO);
