@@ -73,6 +73,7 @@ uint64_t labels_in(struct station *s);
 int each_label(struct station *s, int (*take)(struct station *s, const struct label *l, void *to), void *to);
 int digest_of(struct station *s, char digest[DIGEST_ROOM]);
 int print_whole(struct station *s, int (*print)(struct station *s, FILE *to));
+void print_json(FILE *to, const char *text, size_t length);     /* printable text in quotes */
 
 /* zkv_write.c: each leaves a refusal, if there is one, in *report. Cleans the chunk that is named, else the one that is
  * chosen, else one that holds no label, and counts it. Stages and commits a put or, where value is NULL, a delete; a refused commit leaves nothing

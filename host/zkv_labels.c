@@ -80,6 +80,15 @@ int print_whole(struct station *s, int (*print)(struct station *s, FILE *to))
     return status;
 }
 
+void print_json(FILE *to, const char *text, size_t length)
+{
+    fputc('"', to);
+    for (size_t i = 0; i < length; i++) {
+        fprintf(to, text[i] == '"' || text[i] == '\\' ? "\\%c" : "%c", text[i]);
+    }
+    fputc('"', to);
+}
+
 /* ---- the digest */
 
 /* Eight bytes, the lowest first. */

@@ -38,15 +38,6 @@ static int list_text(struct station *s, FILE *to)
     return each_label(s, list_label, to);
 }
 
-static void print_json_text(const struct label *l, FILE *to)
-{
-    fputs(",\"text\":\"", to);
-    for (uint64_t i = 0; i < l->length; i++) {
-        fprintf(to, l->value[i] == '"' || l->value[i] == '\\' ? "\\%c" : "%c", l->value[i]);
-    }
-    fputc('"', to);
-}
-
 struct json_list {
     FILE *to;
     bool begun;             /* a label stands in it */
@@ -68,7 +59,8 @@ static int list_label_json(struct station *s, const struct label *l, void *list)
     }
     fputc('"', to);
     if (printable(l)) {
-        print_json_text(l, to);
+        fputs(",\"text\":", to);
+        print_json(to, (const char *)l->value, l->length);
     }
     fputc('}', to);
     j->begun = true;

@@ -258,16 +258,17 @@ int put_labels(struct station *s, const struct label *label, size_t count, bool 
 /* ---- load */
 
 /* How far it came, when it did not come to the end. */
-static void tell_how_far(const char *file, const struct list *l, const struct put_so_far *p)
+static void tell_how_far(const char *file, const char *list, const struct put_so_far *p)
 {
-    char loaded[80] = "no line", unknown[80] = "";
+    char loaded[60] = "", unknown[80] = "";
     if (p->labels > 0) {
-        snprintf(loaded, sizeof loaded, "of %zu lines the first %zu", l->labels, p->labels);
+        snprintf(loaded, sizeof loaded, "lines 1 to %zu", p->labels);
     }
     if (p->unknown > 0) {
-        snprintf(unknown, sizeof unknown, ", and of the %zu behind them all or none", p->unknown);
+        snprintf(unknown, sizeof unknown, "of lines %zu to %zu all or none", p->labels + 1, p->labels + p->unknown);
     }
-    trouble(file, "%s: in the register: %s%s", l->name, loaded, unknown);
+    bool both = p->labels > 0 && p->unknown > 0, neither = p->labels == 0 && p->unknown == 0;
+    trouble(file, "%s: in the register: %s%s%s%s", list, loaded, both ? ", and " : "", unknown, neither ? "no line" : "");
 }
 
 int command_load(const char *file, char **word, const struct options *o)
@@ -288,7 +289,7 @@ int command_load(const char *file, char **word, const struct options *o)
                              stopped->length);
         }
         if (status != DONE) {
-            tell_how_far(file, &l, &p);
+            tell_how_far(file, l.name, &p);
         }
     }
     if (status == DONE) {

@@ -84,8 +84,14 @@ static bool same_digest(const char *given, const char *digest)
 
 static void print_refusal(uint64_t number, bool json)
 {
-    printf(json ? "{\"accepted\":false,\"refusal\":%" PRIu64 ",\"sentence\":\"%s\"}\n" : "refused %" PRIu64 ": %s\n", number,
-           zkv_sentence(number));
+    const char *sentence = zkv_sentence(number);
+    if (!json) {
+        printf("refused %" PRIu64 ": %s\n", number, sentence);
+        return;
+    }
+    printf("{\"accepted\":false,\"refusal\":%" PRIu64 ",\"sentence\":", number);
+    print_json(stdout, sentence, strlen(sentence));
+    puts("}");
 }
 
 static void print_accepted(const char *digest, bool same, bool json)

@@ -173,7 +173,7 @@ def full(rng):
     given = encoded(labels, rng)
     told = zkv('load', 'full.img', '-', given=given, status=3)
     m = re.search(r'full.img: standard input: line (\d+): key (\d+): 200 bytes: refused 13: .*\n'
-                  r'zkv: full.img: standard input: in the register: of 200 lines the first (\d+)\n', told)
+                  r'zkv: full.img: standard input: in the register: lines 1 to (\d+)\n', told)
     if not m or not int(m[1]) - 1 == int(m[2]) == int(m[3]) or int(m[3]) < 45:
         fail(f'a load that does not fit says: {told}')
     holds('full.img', dict(labels[:int(m[3])]), 'a load that did not fit')

@@ -42,6 +42,11 @@ labels=host/build/rust/debug/examples/labels
 [ "$("$labels" "$work/labels.img" 4711 'A+ 450 ml')" = '4711 A+ 450 ml' ] || fail "the example's label does not come back"
 [ "$("$labels" "$work/labels.img" 5 'B- "')" = $'5 B- \\"\n4711 A+ 450 ml' ] || fail "the example's labels do not come back"
 [ "$(host/build/zkv get "$work/labels.img" 4711)" = 'A+ 450 ml' ] || fail "zkv does not read what the example put"
+gcc -O2 -shared -fPIC -o "$work/failing.so" tests/failing_sync.c
+status=0
+SYNCS=1 LD_PRELOAD=$work/failing.so "$labels" "$work/labels.img" 6 'O+' > "$work/out" 2> "$work/err" || status=$?
+[ "$status" -eq 2 ] && [ ! -s "$work/out" ] && grep -q 'a fence failed' "$work/err" ||
+    fail "where a sync fails the example ends with $status: $(cat "$work/out" "$work/err")"
 status=0
 "$labels" "$work/labels.img" x y 2> /dev/null || status=$?
 [ "$status" -eq 2 ] || fail "the example takes x for a key"

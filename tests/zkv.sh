@@ -7,6 +7,7 @@
 set -uo pipefail
 cd "$(dirname "$0")/.."
 zkv=$(realpath "${1:-host/build/zkv}")
+tests=$PWD/tests
 [ -x "$zkv" ] || { echo "$zkv is missing: run make -C host" >&2; exit 2; }
 work=$(mktemp -d)
 mounted=
@@ -526,6 +527,40 @@ for how in exchange cut; do
     says 'was '
     prints ''
 done
+
+# A disk that breaks in the middle: a sync fails, and what is not known to last is not said to.
+if command -v gcc > /dev/null && gcc -O2 -shared -fPIC -o failing.so "$tests/failing_sync.c"; then
+    # fails SYNCS COMMAND...
+    fails() {
+        local syncs=$1 status=0
+        shift
+        SYNCS=$syncs LD_PRELOAD="${LD_PRELOAD:+$LD_PRELOAD }$work/failing.so" timeout 20 "$zkv" "$@" > out 2> err < /dev/null || status=$?
+        hold "zkv $* ends with 2 where a sync fails, not $status" [ "$status" -eq 2 ]
+        says 'cannot be made durable: Input/output error'
+        prints ''
+    }
+    for key in $(seq 40); do printf '%d\tlabel %d\n' "$key" "$key"; done > list
+    for syncs in 0 1 2 3 4 5; do                # two of each batch
+        fresh
+        fails $syncs load l.img list
+        in=$((syncs / 2 * 16)) next=$((syncs < 4 ? 16 : 8))
+        if [ $in -eq 0 ]; then
+            says "zkv: l.img: list: in the register: of lines 1 to $next all or none"
+        else
+            says "zkv: l.img: list: in the register: lines 1 to $in, and of lines $((in + 1)) to $((in + next)) all or none"
+        fi
+        ends 0 dump l.img
+        found=$(grep -c label out)
+        hold "after $syncs syncs $found labels are there" [ "$found" -eq $in -o "$found" -eq $((in + next)) ]
+    done
+    fresh
+    fails 1 put l.img 5 value
+    rm -f d.img
+    fails 0 copy l.img d.img
+    hold "nothing is left of a copy that could not be synced: $(ls -A)" [ -z "$(ls -A | grep -e '^d.img' -e new-)" ]
+else
+    echo "zkv: not tried, as there is no gcc here: a disk that breaks"
+fi
 
 # Copies: never over a file, nothing left of one that fails.
 fresh
