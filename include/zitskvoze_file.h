@@ -28,7 +28,7 @@ extern "C" {
 
 enum zkv_file_use {
     ZKV_FILE_READ,          /* a shared lock; the image is mapped to be read */
-    ZKV_FILE_WRITE,         /* an exclusive lock; space is reserved for all of the file, and it is mapped to be written */
+    ZKV_FILE_WRITE,         /* an exclusive lock; space is reserved for all of the file; mapped to be written */
     ZKV_FILE_REPLACE        /* an exclusive lock; the image is mapped to be read: another file is to take its name */
 };
 

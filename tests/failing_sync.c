@@ -1,5 +1,5 @@
-/* A shared object for LD_PRELOAD: of the process's calls of msync the one behind so many (the environment's SYNCS) fails
- * with an input/output error, as on a disk that breaks. */
+/* A shared object for LD_PRELOAD: of the process's calls of msync the one behind so many (the environment's SYNCS)
+ * fails with an input/output error, as on a disk that breaks. */
 #define _GNU_SOURCE
 #include <errno.h>
 #include <stdlib.h>

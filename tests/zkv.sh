@@ -1,7 +1,7 @@
 #!/usr/bin/env bash
 # The program zkv in bad company: closed descriptors, files exchanged or cut under it, full disks, locks held by others,
-# FIFOs, links, limits, empty input, wrong lists and usage; what its exit statuses and messages say; scans, lists, digests,
-# loads and copies.
+# FIFOs, links, limits, empty input, wrong lists and usage, a disk that breaks; what its exit statuses and messages say;
+# scans, lists, digests, loads and copies.
 #
 # tests/zkv.sh [PROGRAM]        host/build/zkv; says every check that does not hold, and ends with 1 if there is one
 set -uo pipefail
