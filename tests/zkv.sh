@@ -599,9 +599,10 @@ status=$?
 hold "a copy over the limit of a file's length ends with 2, not $status" [ "$status" -eq 2 ]
 says 'd.img: cannot get its 65536 bytes'
 # While it runs: the new name is taken by another, the old file is cut, it is killed.
-"$zkv" copy l.img d.img --pause 1000 2> err &
+"$zkv" copy l.img d.img --pause 2000 2> err &
 copy=$!
-sleep 0.3
+until_locked l.img
+sleep 0.2
 cp value d.img
 wait "$copy"
 status=$?
@@ -609,18 +610,20 @@ hold "a copy to a name that was taken meanwhile ends with 2, not $status" [ "$st
 says 'd.img: has been made by another program meanwhile; it is left as it is'
 untouched d.img value
 rm d.img
-"$zkv" copy l.img d.img --pause 1000 2> err &
+"$zkv" copy l.img d.img --pause 2000 2> err &
 copy=$!
-sleep 0.3
+until_locked l.img
+sleep 0.2
 truncate -s 0 l.img
 wait "$copy" 2> /dev/null
 status=$?
 hold "a copy of a file that is cut to nothing ends with 2, not $status" [ "$status" -eq 2 ]
 says 'the system has no page'
 fresh
-"$zkv" copy l.img d.img --pause 1000 2> err &
+"$zkv" copy l.img d.img --pause 2000 2> err &
 copy=$!
-sleep 0.3
+until_locked l.img
+sleep 0.2
 truncate -s 61440 l.img
 wait "$copy" 2> /dev/null
 status=$?
@@ -628,9 +631,10 @@ hold "a copy of a file that is cut meanwhile ends with 2, not $status" [ "$statu
 says 'l.img: was 65536 bytes long and is 61440 now'
 hold "nothing is left of the copies that failed: $(ls -A)" [ -z "$(ls -A | grep -e '^d.img' -e new-)" ]
 fresh
-"$zkv" copy l.img d.img --pause 1000 2> err &
+"$zkv" copy l.img d.img --pause 2000 2> err &
 copy=$!
-sleep 0.3
+until_locked l.img
+sleep 0.2
 kill -9 "$copy"
 wait "$copy" 2> /dev/null
 hold "a killed copy leaves no file under the name" [ ! -e d.img ]
