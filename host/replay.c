@@ -115,32 +115,35 @@ static zkv_report step(void)
     return zkv_step(&now.record, now.image, bytes, now.table, words);
 }
 
-static void run(void)
+/* Steps until one reports no action, and at most so many. */
+static void run(uint64_t most)
 {
     uint64_t count = 0, sum = 0;
-    for (;;) {
-        zkv_report r = step();
+    bool more = true;
+    zkv_report r;
+    do {
+        r = step();
         count++;
         switch (r.kind) {
         case ZKV_STORE:
             sum = 3 * sum + 5 * r.first + r.second + 1;
-            continue;
+            break;
         case ZKV_FLUSH:
             sum = 3 * sum + 7 * r.first + 2;
-            continue;
+            break;
         case ZKV_FENCE:
             sum = 3 * sum + 3;
-            continue;
+            break;
         case ZKV_END:
             sum = 3 * sum + 4 + r.first;
+            more = false;
             break;
         default:
-            break;
+            more = false;
         }
-        printf("ran %" PRIu64 " %" PRIu64 "\n", count, sum);
-        answer(r);
-        return;
-    }
+    } while (more && count < most);
+    printf("ran %" PRIu64 " %" PRIu64 "\n", count, sum);
+    answer(r);
 }
 
 static void look(uint64_t key)
@@ -285,7 +288,9 @@ static bool play(char *line)
     } else if (COMMAND("step", 0)) {
         answer(step());
     } else if (COMMAND("run", 0)) {
-        run();
+        run(UINT64_MAX);
+    } else if (COMMAND("steps", 1) && n[0] >= 1) {
+        run(n[0]);
     } else if (COMMAND("sum", 0)) {
         sum_words();
     } else {

@@ -1,7 +1,7 @@
 #!/usr/bin/env python3
 """The names and paths that the documents cite are in the tree.
 
-tests/doc_names.py [FILE..]     README.md, HACKING.md and docs/*.md; says each that is missing, and ends with 1
+tests/doc_names.py [FILE..]     README.md, HACKING.md, docs/*.md and docs/landings/*.md; says each that is missing, and ends with 1
 
 Looked up, in backquotes: `crate::function` in crates/crate/src; `Module.name` in crates/spec/specs; `crate.Module` and
 `crate.Module.name` in the specs or proofs of that crate; paths below crates, tests, docs, host, include, tools, bench, .ci.
@@ -85,4 +85,4 @@ def main(files):
     return 1 if bad else 0
 
 
-sys.exit(main(sys.argv[1:] or [f for f in ['README.md', 'HACKING.md'] if os.path.exists(f)] + sorted(glob.glob('docs/*.md'))))
+sys.exit(main(sys.argv[1:] or [f for f in ['README.md', 'HACKING.md'] if os.path.exists(f)] + sorted(glob.glob('docs/*.md') + glob.glob('docs/landings/*.md'))))

@@ -14,7 +14,8 @@ import sys
 sys.dont_write_bytecode = True
 import make_images as images
 from make_images import Made, Numbers, WORD, at, changed, log, pattern, small
-from register_model import SIZES, Refused, bytes_of, first_word, header_words, list_output, words_of
+from landed import list_output
+from register_model import SIZES, Refused, bytes_of, first_word, header_words, words_of
 
 
 def four_chunks():

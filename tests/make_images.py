@@ -9,7 +9,8 @@ damaged image stands the number that the table of refusals gives for its clause,
 import sys
 
 from scripts import keep
-from register_model import (Station, View, Refused, SIZES, UNITS, first_word, header_words, words_of)
+from landed import Station, View
+from register_model import Refused, SIZES, UNITS, first_word, header_words, words_of
 
 WORD = 1 << 64
 

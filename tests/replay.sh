@@ -1,6 +1,9 @@
 #!/bin/sh
 # Compares the library with the model: scripts of calls, refusals, damaged images and power cuts are played on both, and
-# the answers must be equal line by line.
+# the answers must be equal line by line. Twins run along (replay --twin): wherever nothing is staged or unfinished, the
+# image is opened anew beside the station, and from then on both must answer and write alike. That comparison is first
+# shown to find twins whose record has a wrong hint (replay_wrong).
+# The model plays the changes that have landed (tests/landed.py).
 #
 # tests/replay.sh [FIRST [COUNT [TURNS [LEVEL...]]]]   seeds FIRST .. FIRST + COUNT - 1 (1, 100), scripts of TURNS turns
 #                                                      (60), for each level: counter, centre, archive (all, if none is
@@ -19,15 +22,16 @@ work=$(mktemp -d)
 trap 'rm -rf "$work"' EXIT
 [ -x host/build/replay ] || { echo "host/build/replay is missing: run make -C host" >&2; exit 2; }
 python="$(python3 -c 'import sys; print(sys.executable)') -S -B"     # the interpreter itself, started quickly
-export python turns work
+cards=$($python tests/landed.py)
+export python turns work cards
 
 # One seed at the level $level; status 255 stops xargs.
 cat > "$work/one" <<'END'
 set -eu
 at="$work/$1"
 stopped() { echo "replay: $level, seed $1: $2" >&2; exit 255; }
-$python tests/model/make_script.py "$1" "$turns" --level "$level" > "$at.script" || stopped "$1" "no script could be made"
-$python tests/model/replay_model.py < "$at.script" > "$at.model" || stopped "$1" "the model stopped"
+$python tests/model/make_script.py "$1" "$turns" --level "$level" --cards "$cards" > "$at.script" || stopped "$1" "no script could be made"
+$python tests/model/replay_model.py --cards "$cards" < "$at.script" > "$at.model" || stopped "$1" "the model stopped"
 status=0
 host/build/replay < "$at.script" > "$at.replay" || status=$?
 if [ "$status" -ne 0 ] || ! cmp -s "$at.model" "$at.replay"; then

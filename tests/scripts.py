@@ -18,7 +18,7 @@ import sys
 
 sys.dont_write_bytecode = True
 TESTS = os.path.dirname(os.path.abspath(__file__))
-sys.path[:0] = [os.path.join(TESTS, 'model')]
+from landed import CARDS                                                        # noqa: E402
 import replay_model                                                             # noqa: E402
 from register_model import Image, Refused                                       # noqa: E402
 
@@ -28,7 +28,7 @@ CALLS = ('format', 'open', 'put', 'delete', 'commit', 'abandon', 'choose', 'clea
 class Model(replay_model.Player):
     """The station on which a script is played. A line's answer is None where it has none."""
     def __init__(self):
-        super().__init__()
+        super().__init__(CARDS)
         self.kept, self.aloud = True, False
 
     def memory(self):

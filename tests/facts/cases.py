@@ -1,8 +1,8 @@
 """Facts: what the model says of images, calls, histories of calls, media and desk books."""
 import random
 
-from register_model import (BASE, Book, Image, Item, MAX_VERSION, Medium, Refused, SIZES, Station, View, WORD, block_size, capacity, first_word,
-                            format_actions, header_words, length_allowed, words_of)
+from landed import RULES, Station, View
+from register_model import Book, Image, Item, MAX_VERSION, Medium, Refused, SIZES, WORD, block_size, capacity, first_word, format_actions, header_words, words_of
 
 from facts.codes import (Fact, actions_code, actions_text, call_text, entries_code, given_text, held_code, items_text, listed, of_entry, of_item, opening_code,
                          poked_text, refused, report_code, report_text, sum_of, words_text)
@@ -689,7 +689,7 @@ def order_sheet():
 
 def header_right(words, count):
     try:
-        BASE.header(words, count * 4096)
+        RULES.header(words, count * 4096)
         return 1
     except Refused:
         return 0
@@ -706,10 +706,10 @@ def number_sheet(seed):
     xs = [0, 1, 3, 4, 7, 8, 15, 16, 262143, 262144, 262147, 2 ** 40] + [rng.randrange(300000) for _ in range(5)]
     s.add('capacity', f'map capacity {listed(xs)}', [capacity(x) for x in xs])
     xs = [0, 1, 4095, 4096, 12288, 16383, 16384, 16385, 16392, 20480, 504 * 4096, 504 * 4096 + 1, 505 * 4096, 2 ** 40] + [4096 * rng.randrange(600) for _ in range(5)]
-    s.add('lengths', f'map (λ b. bit (lengthAllowed 12 b)) {listed(xs)}', [int(length_allowed(x)) for x in xs])
+    s.add('lengths', f'map (λ b. bit (lengthAllowed 12 b)) {listed(xs)}', [int(RULES.length_allowed(x)) for x in xs])
     xs = [0, 1, 2, 3, 257, 256, 513, 514, 770, 1 | 64 << 8, 1 | 65 << 8, 2 | 16 << 8, 2 | 17 << 8, WORD - 1, 1 << 63]
     xs += [rng.choice([0, 1, 2, 3, 5, 6, 130, rng.randrange(256)]) | rng.choice([*range(10), 16, 63, 64, 65, rng.randrange(100)]) << 8 for _ in range(40)]
-    s.add_parts('roles', f'each (λ w. roleCode (roleOf 12 w)) {listed(xs)}', [(f'word {x}', BASE.role(x, CHUNKS) or (3, 0)) for x in xs])
+    s.add_parts('roles', f'each (λ w. roleCode (roleOf 12 w)) {listed(xs)}', [(f'word {x}', RULES.role(x, CHUNKS) or (3, 0)) for x in xs])
     text, parts = [], []
     for _ in range(30):
         n = rng.choice([4, 16, 504])

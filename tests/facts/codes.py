@@ -1,5 +1,6 @@
 """What the definitions give, as lists of numbers: a module in antt (CODES), the same in Python, and how facts are written in antt."""
-from register_model import Refused, View, WORD
+from landed import View
+from register_model import Refused, WORD
 
 CODES = '''-- Numbers for what the definitions give, so that they can be compared.
 -- Assumes nothing.

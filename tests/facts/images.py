@@ -1,5 +1,6 @@
 """Images: as formatting leaves them, made by calls, after power cuts, foreign; and damage to them, a clause at a time."""
-from register_model import GEOMETRY, MAX_VERSION, Medium, Refused, SIZES, Station, UNITS, View, WORD, first_word, header_words, words_of
+from landed import Station, View
+from register_model import GEOMETRY, MAX_VERSION, Medium, Refused, SIZES, UNITS, WORD, first_word, header_words, words_of
 
 CHUNKS = GEOMETRY[12]           # chunks of 4,096 bytes; its limit is the level's largest value
 LENGTHS = [0, 1, 7, 8, 9, 16, 30, 100, 255, 256]
