@@ -105,6 +105,10 @@
  *   until a commit finds space. Commits leave a free chunk to clean into (they take one only where three are free, two
  *   for deletes alone), so that cleaning a chosen chunk gets 13 only in an image that was filled in another way.
  * - A cleaning changes no value, and the parts that zkv_look_up answered before it are no longer the values' places.
+ * - Each put or delete of a key has a version, one above the key's highest. The last one, 1,048,575, is kept for a
+ *   delete: a key at 1,048,574 gets 12 for a put and can be deleted. When its entries are cleaned away it begins at 1
+ *   again. A put at the last version, which images from before this rule may hold, is opened and read, and gets 12 for
+ *   both.
  */
 #ifndef ZITSKVOZE_H
 #define ZITSKVOZE_H
@@ -193,7 +197,7 @@ inline const char *zkv_sentence(uint64_t number)
     case ZKV_KEY_ABSENT:
         return "the key is absent";
     case ZKV_VERSION_SPENT:
-        return "the key's versions are used up";
+        return "the key's versions are used up: a put has at most 1,048,574, a delete 1,048,575";
     case ZKV_NO_SPACE:
         return "there is no space left in the image";
     case ZKV_NOTHING_STAGED:

@@ -1,5 +1,5 @@
-"""The changes asked for later that have landed, by their numbers in tests/model/CARDS-READING.md: with them the model plays the rules in
-force, and every test that compares with the model takes its parts from here.
+"""The changes asked for later that have landed, by their numbers in tests/model/CARDS-READING.md: with them the model
+plays the rules in force, and every test that compares with the model takes its parts from here.
 
 python3 tests/landed.py    prints the numbers as the programs of tests/model take them (--cards)
 """
@@ -10,7 +10,7 @@ sys.dont_write_bytecode = True
 sys.path[:0] = [os.path.join(os.path.dirname(os.path.abspath(__file__)), 'model')]
 import register_model                                                           # noqa: E402
 
-CARDS = set()
+CARDS = {1}
 
 RULES = register_model.Model(CARDS)
 

@@ -644,7 +644,10 @@ def example_sheet():
     calls('refusal-9', [0, 9], ('put', 7, 1, 4089))
     calls('refusal-10', [0, 10], put, [Item(7, 1, v, b'') for v in range(1, 17)])
     calls('refusal-11', [0, 11], ('delete', 5))
-    calls('refusal-12', [0, 12], put, pokes=[log, (512, first_word(1, 0, MAX_VERSION, 0)), (513, 7)])
+    calls('refusal-12', [0, 12], put, pokes=[log, (512, first_word(1, 0, 1_048_574, 0)), (513, 7)])
+    calls('put-before-12', [1, 0], put, pokes=[log, (512, first_word(1, 0, 1_048_573, 0)), (513, 7)])
+    calls('refusal-12-delete', [0, 12], ('delete', 7), pokes=[log, (512, first_word(1, 0, 1_048_575, 0)), (513, 7)])
+    calls('delete-before-12', [1, 0], ('delete', 7), pokes=[log, (512, first_word(1, 0, 1_048_574, 0)), (513, 7)])
     calls('refusal-13', [0, 13], ('put', 7, 1, 257), pokes=[log])
     calls('refusal-14', [0, 14], ('commit',))
     calls('refusal-15', [0, 15], ('clean', 1), one, [log])
@@ -668,22 +671,22 @@ def example_sheet():
 
 
 def order_sheet():
-    """Calls that several numbers would fit, for the order in which they are asked: a key at the last version, one deleted there, a full table,
-    no space in the log, two chunks free; nothing staged, one item, a full batch."""
-    spent, gone, there, new = 5, 6, 7, 8
-    log = put_words(spent, MAX_VERSION, b'') + [first_word(2, 0, MAX_VERSION, 0), gone] + put_words(there, 1, b'abc')
+    """Calls that several numbers would fit, for the order in which they are asked: a key at the last version, one before it, one deleted there,
+    a full table, no space in the log, two chunks free; nothing staged, one item, a full batch."""
+    spent, gone, there, new, worn = 5, 6, 7, 8, 9
+    log = put_words(spent, MAX_VERSION, b'') + put_words(worn, MAX_VERSION - 1, b'') + [first_word(2, 0, MAX_VERSION, 0), gone] + put_words(there, 1, b'abc')
     ws = header_words(4) + [0] * 2040
     ws[9], ws[512:512 + len(log)] = 1 | 64 << 8, log
     s = Sheet('order', 'The order of refusals', ws)
     batches = {'none': [], 'delete': [Item(there, 2, 2)], 'full': [Item(there, 1, v, b'') for v in range(2, 18)]}
-    calls = [('put', k, 1, n) for k in (spent, there, new) for n in (3, 257, 4089)] + [('delete', k) for k in (spent, gone, there, new)]
+    calls = [('put', k, 1, n) for k in (spent, worn, there, new) for n in (3, 257, 4089)] + [('delete', k) for k in (spent, worn, gone, there, new)]
     calls += [('commit',), ('abandon',), ('clean', 0), ('clean', 1), ('look', gone), ('format', None, None)]
     for name, items in batches.items():
         for c in calls:
             st = Station()
-            st.open(ws, 12)
+            st.open(ws, 16)
             st.staged = list(items)
-            call_fact(s, f'{name}-{"-".join(str(x) for x in c)}', Machine(ws, 12, 256 if c[0] == 'delete' else 4088, st), c)
+            call_fact(s, f'{name}-{"-".join(str(x) for x in c)}', Machine(ws, 16, 256 if c[0] == 'delete' else 4088, st), c)
     return s
 
 

@@ -98,12 +98,25 @@ rows =
     ∷ on [] [] (LookUp 5) is Refused 11
     ∷ on (put 3 5 ∷ delete 2 7 ∷ []) [] (LookUp 5) is Refused 11
     ∷ on (put 3 5 ∷ delete 2 7 ∷ []) [] (LookUp 7) is Words (4112 ∷ 5 ∷ [])
-    -- 12: version would pass 1,048,575, staged ones counted
-    ∷ on [] (512 becomes first 1 0 1048575 5 ∷ []) (Put 7 []) is Refused 12
-    ∷ on [] (512 becomes first 1 0 1048574 5 ∷ []) (Put 7 []) is Begun 0
-    ∷ on (put 1048575 7 ∷ []) (512 becomes first 1 0 1048574 5 ∷ []) (Put 7 []) is Refused 12
-    ∷ on [] (512 becomes first 1 0 1048575 5 ∷ []) (Delete 7) is Refused 12
+    -- 12: a put's version would pass 1,048,574, a delete's 1,048,575; staged ones counted
+    ∷ on [] (512 becomes first 1 0 1048574 5 ∷ []) (Put 7 []) is Refused 12
+    ∷ on [] (512 becomes first 1 0 1048573 5 ∷ []) (Put 7 []) is Begun 0
+    ∷ on [] (512 becomes first 1 0 1048574 5 ∷ []) (Put 7 (large 505)) is Refused 12
+    ∷ on [] (512 becomes first 1 0 1048573 5 ∷ []) (Put 7 (large 505)) is Begun 74
+    ∷ on (put 1048574 7 ∷ []) (512 becomes first 1 0 1048573 5 ∷ []) (Put 7 []) is Refused 12
+    ∷ on (delete 1048573 7 ∷ []) (512 becomes first 1 0 1048572 5 ∷ []) (Put 7 []) is Begun 0
     ∷ on [] (512 becomes first 1 0 1048574 5 ∷ []) (Delete 7) is Begun 0
+    ∷ on (put 1048574 7 ∷ []) (512 becomes first 1 0 1048573 5 ∷ []) (Delete 7) is Begun 0
+    -- 12: an older image has a put at the last version: it is read, and neither put nor deleted
+    ∷ on [] (512 becomes first 1 0 1048575 5 ∷ []) (Put 7 []) is Refused 12
+    ∷ on [] (512 becomes first 1 0 1048575 5 ∷ []) (Delete 7) is Refused 12
+    ∷ on [] (512 becomes first 1 0 1048575 5 ∷ []) (LookUp 7) is Words (4112 ∷ 5 ∷ [])
+    ∷ on [] (512 becomes first 1 0 1048575 5 ∷ []) Open is Accepted
+    -- 12: deleted at the last version: a delete gets 11
+    ∷ on [] (517 becomes first 2 0 1048575 0 ∷ []) (Put 5 []) is Refused 12
+    ∷ on [] (517 becomes first 2 0 1048575 0 ∷ []) (Delete 5) is Refused 11
+    ∷ on (delete 1048575 7 ∷ []) (512 becomes first 1 0 1048574 5 ∷ []) (Put 7 []) is Refused 12
+    ∷ on (delete 1048575 7 ∷ []) (512 becomes first 1 0 1048574 5 ∷ []) (Delete 7) is Refused 11
     -- 7: known and staged keys exceed the table: of three words, and of 16 or 20 with four known
     ∷ ask (Put 7 []) (Rest 16384 3 []) empty 16384 3 is Refused 7
     ∷ ask (Put 7 []) (Rest 16384 4 []) empty 16384 4 is Begun 0
@@ -158,9 +171,11 @@ rows =
     ∷ ask (Put 7 (large 4089)) committing image 16384 64 is Refused 8
     ∷ ask (Clean 0) committing image 16384 64 is Refused 8
     ∷ on (puts 1) [] (Clean 0) is Refused 15
-    ∷ on (puts 16) (512 becomes first 1 0 1048575 5 ∷ []) (Put 7 (large 4089)) is Refused 9
+    ∷ on (puts 16) (512 becomes first 1 0 1048574 5 ∷ []) (Put 7 (large 4089)) is Refused 9
     ∷ on (puts 16) [] (Delete 25) is Refused 11
-    ∷ on (put 1048575 5 ∷ puts 15) [] (Put 5 []) is Refused 12
+    ∷ on (put 1048574 5 ∷ puts 15) [] (Put 5 []) is Refused 12
+    ∷ on (put 1048574 5 ∷ puts 15) [] (Delete 5) is Refused 10
+    ∷ on (put 1048575 5 ∷ puts 15) [] (Delete 5) is Refused 12
     ∷ ask (Put 25 []) (Rest 16384 64 (puts 16)) empty 16384 64 is Refused 10
     ∷ ask (Put 25 (large 257)) (Rest 16384 3 []) image 16384 3 is Refused 7
     ∷ onEmpty [] (9 becomes log 64 ∷ 10 becomes log 64 ∷ 11 becomes log 64 ∷ []) Commit is Refused 14

@@ -44,12 +44,12 @@ maxItems = 16
 abbrev pub maxBatchBytes : ℕ
 maxBatchBytes = 4096
 
--- the largest version of a put, and of a delete
+-- the largest version of a delete, and of a put: the last is kept for a delete
 abbrev pub maxVersion : ℕ
 maxVersion = 1048575
 
 abbrev pub maxPutVersion : ℕ
-maxPutVersion = maxVersion
+maxPutVersion = maxVersion - 1
 
 abbrev pub isPut : Option Entry → Bool
 isPut none = false

@@ -11,7 +11,7 @@ use borrow.Author.Tests.{leb-true, ltb-true, le-leb, lt-leb, lt-ltb, le-ltb}
 use Rattle.spec.specs.Basics.{pick, both, negate}
 use Rattle.spec.specs.Log.{Entry}
 use Rattle.spec.specs.Contents.{highest, capacity}
-use Rattle.spec.specs.Plans.{Plan, Refuse, need, nextVersion, fitsBatch, fitsKeys, maxItems, maxVersion}
+use Rattle.spec.specs.Plans.{Plan, Refuse, need, nextVersion, fitsBatch, fitsKeys, maxItems}
 use Rattle.session.specs.declared.Control.{Control}
 use Rattle.spec.specs.declared.Refusal.{Refusal}
 use Rattle.spec.specs.declared.Refusal.the-variants as N
@@ -33,16 +33,16 @@ planBy (A.Admitted f) q = q
 
 -- ## What an answer says
 
-module _ (c : Control) (version more room : ℕ) where
+module _ (c : Control) (most version more room : ℕ) where
   pub record Admitting (fresh : ℕ) : Type 0 where
-    pub unspent : suc version ≤ maxVersion
+    pub unspent : suc version ≤ most
     pub few : c .items < maxItems
     pub fits : c .words + more ≤ batchRoom
     pub counted : fresh ≡ c .fresh + newKeys version
     pub keys : c .keys + fresh ≤ room
 
   abbrev versions : Bool
-  versions = leb (suc version) maxVersion
+  versions = leb (suc version) most
 
   abbrev batches : Bool
   batches = both (ltb (c .items) maxItems) (leb (c .words + more) batchRoom)
@@ -53,7 +53,7 @@ module _ (c : Control) (version more room : ℕ) where
   abbrev admission : Bool → Bool → Bool → Admission
   admission v b t = pick v (pick b (pick t (A.Admitted (c .fresh + newKeys version)) (A.Refused N.TableFull)) (A.Refused N.BatchFull)) (A.Refused N.VersionSpent)
 
-  pub admitted : (fresh : ℕ) → admitOf c version more room ≡ A.Admitted fresh → Admitting fresh
+  pub admitted : (fresh : ℕ) → admitOf c most version more room ≡ A.Admitted fresh → Admitting fresh
   unfolding admitOf
   admitted fresh h = go versions refl batches refl tables refl h
     where
@@ -62,7 +62,7 @@ module _ (c : Control) (version more room : ℕ) where
           let q : c .fresh + newKeys version ≡ fresh = cc in
           let k = leb-true (c .keys + (c .fresh + newKeys version)) room z in
           record {
-            unspent = leb-true (suc version) maxVersion x;
+            unspent = leb-true (suc version) most x;
             few = ltb-true (c .items) maxItems (both-l (ltb (c .items) maxItems) (leb (c .words + more) batchRoom) y);
             fits = leb-true (c .words + more) batchRoom (both-r (ltb (c .items) maxItems) (leb (c .words + more) batchRoom) y);
             counted = sym q;
@@ -73,7 +73,7 @@ module _ (c : Control) (version more room : ℕ) where
       go false x b y t z e = absurd (let o : _≡_ {A = ℕ} 0 1 = cc in omega arith)
 
   -- it is one of these three numbers
-  pub turned : {T : Type 0} (n : Refusal) → admitOf c version more room ≡ A.Refused n → (n ≡ N.VersionSpent) ⊎ ((n ≡ N.BatchFull) ⊎ ((n ≡ N.TableFull) ⊎ T))
+  pub turned : {T : Type 0} (n : Refusal) → admitOf c most version more room ≡ A.Refused n → (n ≡ N.VersionSpent) ⊎ ((n ≡ N.BatchFull) ⊎ ((n ≡ N.TableFull) ⊎ T))
   unfolding admitOf
   turned {T} n h = go versions batches tables h
     where
@@ -84,25 +84,25 @@ module _ (c : Control) (version more room : ℕ) where
       go false b t e = inl cc
 
   -- the table's own capacity is that of the definitions
-  pub told-room : (words : ℕ) (a : Admission) → room ≡ tableRoom words → a ≡ admitOf c version more room → a ≡ admitOf c version more (capacity words)
-  told-room words a r e = e ∙ ap (admitOf c version more) (r ∙ sym (capacity-same words))
+  pub told-room : (words : ℕ) (a : Admission) → room ≡ tableRoom words → a ≡ admitOf c most version more room → a ≡ admitOf c most version more (capacity words)
+  told-room words a r e = e ∙ ap (admitOf c most version more) (r ∙ sym (capacity-same words))
 
   -- ## What the code shows
 
-  pub admit-spent : 1048575 ≤ version → A.Refused N.VersionSpent ≡ admitOf c version more room
+  pub admit-spent : most ≤ version → A.Refused N.VersionSpent ≡ admitOf c most version more room
   unfolding admitOf
-  admit-spent h = sym (rw (lt-leb (suc version) maxVersion (omega arith)))
+  admit-spent h = sym (rw (lt-leb (suc version) most (omega arith)))
 
-  module _ (x : version < 1048575) where
+  module _ (x : version < most) where
     yes-version : versions ≡ true
-    yes-version = le-leb (suc version) maxVersion (omega arith)
+    yes-version = le-leb (suc version) most (omega arith)
 
-    pub admit-many : 16 ≤ c .items → A.Refused N.BatchFull ≡ admitOf c version more room
+    pub admit-many : 16 ≤ c .items → A.Refused N.BatchFull ≡ admitOf c most version more room
     unfolding admitOf
     admit-many h = sym (rw (yes-version, le-ltb (c .items) maxItems h))
 
     module _ (y : c .items < 16) where
-      pub admit-full : batchRoom < c .words + more → A.Refused N.BatchFull ≡ admitOf c version more room
+      pub admit-full : batchRoom < c .words + more → A.Refused N.BatchFull ≡ admitOf c most version more room
       unfolding admitOf
       admit-full h = sym (rw (yes-version, lt-ltb (c .items) maxItems y, lt-leb (c .words + more) batchRoom h))
 
@@ -110,11 +110,11 @@ module _ (c : Control) (version more room : ℕ) where
         yes-batch : batches ≡ true
         yes-batch = rw (lt-ltb (c .items) maxItems y, le-leb (c .words + more) batchRoom z)
 
-        pub admit-keys : (new : ℕ) → new ≡ newKeys version → room < c .keys + (c .fresh + new) → A.Refused N.TableFull ≡ admitOf c version more room
+        pub admit-keys : (new : ℕ) → new ≡ newKeys version → room < c .keys + (c .fresh + new) → A.Refused N.TableFull ≡ admitOf c most version more room
         unfolding admitOf
         admit-keys new e h = sym (rw (yes-version, yes-batch, lt-leb (c .keys + (c .fresh + newKeys version)) room (rw e at h)))
 
-        pub admit-all : (new : ℕ) → new ≡ newKeys version → c .keys + (c .fresh + new) ≤ room → A.Admitted (c .fresh + new) ≡ admitOf c version more room
+        pub admit-all : (new : ℕ) → new ≡ newKeys version → c .keys + (c .fresh + new) ≤ room → A.Admitted (c .fresh + new) ≡ admitOf c most version more room
         unfolding admitOf
         admit-all new e h = sym (rw (yes-version, yes-batch, le-leb (c .keys + (c .fresh + newKeys version)) room (rw e at h), e))
 
@@ -128,23 +128,23 @@ fresh-then old version fresh h = rw h (go (eqb version 0))
     go true = refl
     go false = omega arith
 
-module _ (c : Control) (b : List ℕ) (n : ℕ) (ws : List ℕ) (es items : List Entry) (fits : BatchFits c b n ws es items) (key version more table : ℕ)
+module _ (c : Control) (b : List ℕ) (n : ℕ) (ws : List ℕ) (es items : List Entry) (fits : BatchFits c b n ws es items) (most key version more table : ℕ)
     (highest-is : version ≡ highest key (es ++ items)) (old-is : isOld key es items ≡ negate (eqb version 0)) where
   keys-fit : fitsKeys table es items key ≡ leb (c .keys + (c .fresh + newKeys version)) (capacity table)
   keys-fit = fits-keys (c .keys) (c .fresh) es items (fits .keys) table key ∙ rw (fresh-then (isOld key es items) version (c .fresh) old-is)
 
-  version-fits : leb (nextVersion key es items) maxVersion ≡ leb (suc version) maxVersion
+  version-fits : leb (nextVersion key es items) most ≡ leb (suc version) most
   version-fits = rw highest-is
 
   pub plan-admits : (q : Plan)
-      → need (leb (nextVersion key es items) maxVersion) N.VersionSpent (need (fitsBatch items more) N.BatchFull (need (fitsKeys table es items key) N.TableFull q))
-      ≡ planBy (admitOf c version more (capacity table)) q
+      → need (leb (nextVersion key es items) most) N.VersionSpent (need (fitsBatch items more) N.BatchFull (need (fitsKeys table es items key) N.TableFull q))
+      ≡ planBy (admitOf c most version more (capacity table)) q
   unfolding admitOf
   plan-admits q =
       rw (version-fits, fits-batch c b n ws es items fits more, keys-fit)
-      (go (leb (suc version) maxVersion) (both (ltb (c .items) maxItems) (leb (c .words + more) batchRoom)) (leb (c .keys + (c .fresh + newKeys version)) (capacity table)))
+      (go (leb (suc version) most) (both (ltb (c .items) maxItems) (leb (c .words + more) batchRoom)) (leb (c .keys + (c .fresh + newKeys version)) (capacity table)))
     where
-      go : (v w t : Bool) → need v N.VersionSpent (need w N.BatchFull (need t N.TableFull q)) ≡ planBy (admission c version more (capacity table) v w t) q
+      go : (v w t : Bool) → need v N.VersionSpent (need w N.BatchFull (need t N.TableFull q)) ≡ planBy (admission c most version more (capacity table) v w t) q
       go true true true = refl
       go true true false = refl
       go true false t = refl

@@ -16,7 +16,7 @@ use Rattle.spec.specs.Medium.{Action}
 use Rattle.spec.specs.Log.{Entry, encodeAll}
 use Rattle.spec.specs.Blocks.{blockLimit, blockSize}
 use Rattle.spec.specs.Contents.{highest, capacity, entriesIn}
-use Rattle.spec.specs.Plans.{Staging, Plan, Begin, Refuse, entry, maxItems, slotFor, stageLarge, planPut}
+use Rattle.spec.specs.Plans.{Staging, Plan, Begin, Refuse, entry, maxItems, maxPutVersion, slotFor, stageLarge, planPut}
 use Rattle.spec.specs.Machine.{Put, Busy, itemsOf, stepsLeft, next}
 use Rattle.spec.specs.Contract.{StagesIn}
 use Rattle.session.specs.declared.Control.{Control}
@@ -61,7 +61,7 @@ beyond h = omega arith
 
 module _ (c : Control) (k : Setup) (b bytes table : List ℕ) (g : Gated) (asks : Asking c k (length bytes) (length table) g) (passes : g ≡ G.Open)
     (key last : ℕ) (is : VersionOf b (c .words) table key last) (v : List ℕ) (low : 256 < length v) (high : length v ≤ limit)
-    (a : Admission) (told : a ≡ admitOf c last 2 (capacity (length table))) where
+    (a : Admission) (told : a ≡ admitOf c maxPutVersion last 2 (capacity (length table))) where
   abbrev s : Session
   s = record { control = c; setup = k; buffer = b }
 
@@ -93,24 +93,24 @@ module _ (c : Control) (k : Setup) (b bytes table : List ℕ) (g : Gated) (asks 
   abbrev placing : ℕ → ℕ → Fits s ws table → Plan
   placing m version f = stageLarge 12 ws (items f) version key v (slotFor 12 m ws (es f) (items f) size)
 
-  block-plan : (f : Fits s ws table) → planPut 12 limit chunks ws (length table) (entriesIn 12 chunks ws) (itemsOf (stateOf s)) key v ≡ planBy (admitOf c last 2 room) (placing chunks (suc last) f)
+  block-plan : (f : Fits s ws table) → planPut 12 limit chunks ws (length table) (entriesIn 12 chunks ws) (itemsOf (stateOf s)) key v ≡ planBy (admitOf c maxPutVersion last 2 room) (placing chunks (suc last) f)
   unfolding planPut
   block-plan f =
       let y = S.numbered c k b bytes table g asks passes f key last is in
       rw (S.parsed c k b bytes table g asks passes f, rests f .state, le-leb (length v) limit high, lt-leb (length v) 256 low)
-      (plan-admits c b n ws (es f) (items f) (rests f .fits .batch) key last 2 (length table) (y .version) (y .old) _
-      ∙ ap (λ (h : ℕ). planBy (admitOf c last 2 room) (placing chunks (suc h) f)) (sym (y .version)))
+      (plan-admits c b n ws (es f) (items f) (rests f .fits .batch) maxPutVersion key last 2 (length table) (y .version) (y .old) _
+      ∙ ap (λ (h : ℕ). planBy (admitOf c maxPutVersion last 2 room) (placing chunks (suc h) f)) (sym (y .version)))
 
   -- 12, 10, 7
   pub block-refused : (x : Refusal) → a ≡ A.Refused x → Does (Put key v) s s bytes bytes table table (R.Refused x)
   block-refused x e =
       refused 12 limit s bytes table x (Put key v) refl (λ f. f) (λ f. sym (rw (S.opened c k b bytes table g asks passes, block-plan f, sym told ∙ e)))
-      (S.barred c k b bytes table g asks passes (R.Refused x)) (inr (inr (inr (inr (turned c last 2 room x (sym told ∙ e)))))) (refl, refl) (inl (x, refl))
+      (S.barred c k b bytes table g asks passes (R.Refused x)) (inr (inr (inr (inr (turned c maxPutVersion last 2 room x (sym told ∙ e)))))) (refl, refl) (inl (x, refl))
 
   -- ADMITTED, and its block looked for
   module _ (fresh : ℕ) (e : a ≡ A.Admitted fresh) (are : AreBytes v) (after : List ℕ) (r : Large) (staged : LargeStaged bytes b after k (c .words) (last + 1) key v r) where
-    adm : Admitting c last 2 room fresh
-    adm = admitted c last 2 room fresh (sym told ∙ e)
+    adm : Admitting c maxPutVersion last 2 room fresh
+    adm = admitted c maxPutVersion last 2 room fresh (sym told ∙ e)
 
     next-is : last + 1 ≡ suc last
     next-is = omega arith

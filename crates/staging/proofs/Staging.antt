@@ -16,7 +16,7 @@ use Rattle.spec.specs.Medium.{Action}
 use Rattle.spec.specs.Log.{Entry, Entries, filled, maxInLog, imageEntries}
 use Rattle.spec.specs.Blocks.{blockLimit}
 use Rattle.spec.specs.Contents.{highest, capacity, entriesIn}
-use Rattle.spec.specs.Plans.{Staging, Begin, entry, maxVersion, planPut, planDelete}
+use Rattle.spec.specs.Plans.{Staging, Begin, entry, maxVersion, maxPutVersion, planPut, planDelete}
 use Rattle.spec.specs.Machine.{Call, Put, Delete, Busy, itemsOf, stepsLeft, gate, refusedBy, answer, next}
 use Rattle.spec.specs.Contract.{StagesIn, Anyway, Again, Ready, Barred}
 use Rattle.session.specs.declared.Control.{Control}
@@ -134,7 +134,7 @@ module _ (c : Control) (k : Setup) (b bytes table : List ℕ) where
     module _ (key last : ℕ) (is : VersionOf b (c .words) table key last) where
       -- ## One more item
 
-      module _ (e : Entry) (fresh : ℕ) (adm : Admitting c last (2 + length (e .value)) room fresh) (after : List ℕ) (words : ℕ) (added : Added b after (c .words) words e) where
+      module _ (e : Entry) (most fresh : ℕ) (adm : Admitting c most last (2 + length (e .value)) room fresh) (after : List ℕ) (words : ℕ) (added : Added b after (c .words) words e) where
         abbrev s′ : Session
         s′ = record { control = record { phase = 2; next = behindAll; items = c .items + 1; words = words; keys = c .keys; fresh = fresh }; setup = k; buffer = after }
 
@@ -230,27 +230,27 @@ module _ (c : Control) (k : Setup) (b bytes table : List ℕ) where
 
         put-plan : (l : length v ≤ 256) (f : Fits s ws table)
             → planPut 12 limit chunks ws (length table) (entriesIn 12 chunks ws) (itemsOf (stateOf s)) key v
-            ≡ planBy (admitOf c last need-words room) (Begin (items f ++ (entry 1 0 (suc last) (length v) key (packed v) ∷ [])) Staging [])
+            ≡ planBy (admitOf c maxPutVersion last need-words room) (Begin (items f ++ (entry 1 0 (suc last) (length v) key (packed v) ∷ [])) Staging [])
         unfolding planPut
         put-plan l f =
             let y = numbered f key last is in
             rw (parsed f, rests f .state, le-leb (length v) limit (within l), le-leb (length v) 256 l)
-            (plan-admits c b (chunksIn 12 (k .image)) ws (es f) (items f) (batch f) key last need-words (length table) (y .version) (y .old) _
-            ∙ ap (λ (h : ℕ). planBy (admitOf c last need-words room) (Begin (items f ++ (entry 1 0 (suc h) (length v) key (packed v) ∷ [])) Staging [])) (sym (y .version)))
+            (plan-admits c b (chunksIn 12 (k .image)) ws (es f) (items f) (batch f) maxPutVersion key last need-words (length table) (y .version) (y .old) _
+            ∙ ap (λ (h : ℕ). planBy (admitOf c maxPutVersion last need-words room) (Begin (items f ++ (entry 1 0 (suc h) (length v) key (packed v) ∷ [])) Staging [])) (sym (y .version)))
 
-        module _ (l : length v ≤ 256) (a : Admission) (told : a ≡ admitOf c last need-words room) where
+        module _ (l : length v ≤ 256) (a : Admission) (told : a ≡ admitOf c maxPutVersion last need-words room) where
           pub put-refused : (x : Refusal) → a ≡ A.Refused x → Does (Put key v) s s bytes bytes table table (R.Refused x)
           put-refused x e =
               refused 12 limit s bytes table x (Put key v) refl (λ f. f) (λ f. sym (rw (opened, put-plan l f, sym told ∙ e)))
-              (barred (R.Refused x)) (inr (inr (inr (inr (turned c last need-words room x (sym told ∙ e)))))) (refl, refl) (inl (x, refl))
+              (barred (R.Refused x)) (inr (inr (inr (inr (turned c maxPutVersion last need-words room x (sym told ∙ e)))))) (refl, refl) (inl (x, refl))
 
           pub put-done : (small : AreBytes v) (fresh : ℕ) → a ≡ A.Admitted fresh → (after : List ℕ) (words : ℕ)
               → Added b after (c .words) words (entry 1 0 (last + 1) (length v) key (packed v)) → (r : Stepped) → r ≡ oneMore c words fresh
               → Does (Put key v) s (record { control = r .control; setup = k; buffer = after }) bytes bytes table table (r .report)
           unfolding next
           put-done small fresh e after words added r is-r = rw is-r
-              (staged item fresh adm after words added (Put key v) (λ f. f) (λ Fit f. f) (barred (R.Begun 0)) right refl refl next-is refl
-              (λ f. (rw (opened, plan f), rw (opened, plan f, rests f .state))) (inr ([], (stages item fresh adm after words added, refl))))
+              (staged item maxPutVersion fresh adm after words added (Put key v) (λ f. f) (λ Fit f. f) (barred (R.Begun 0)) right refl refl next-is refl
+              (λ f. (rw (opened, plan f), rw (opened, plan f, rests f .state))) (inr ([], (stages item maxPutVersion fresh adm after words added, refl))))
             where
               next-is : last + 1 ≡ suc last
               next-is = omega arith
@@ -258,8 +258,8 @@ module _ (c : Control) (k : Setup) (b bytes table : List ℕ) where
               item : Entry
               item = entry 1 0 (last + 1) (length v) key (packed v)
 
-              adm : Admitting c last (2 + length (packed v)) room fresh
-              adm = rw (length-packed v) (admitted c last need-words room fresh (sym told ∙ e))
+              adm : Admitting c maxPutVersion last (2 + length (packed v)) room fresh
+              adm = rw (length-packed v) (admitted c maxPutVersion last need-words room fresh (sym told ∙ e))
 
               right : Right item
               right = let u = adm .unspent in put-right v small (last + 1) key (omega arith) (omega arith) l
@@ -275,14 +275,14 @@ module _ (c : Control) (k : Setup) (b bytes table : List ℕ) where
 
       delete-plan : presentBy ws n ≡ true → (f : Fits s ws table)
           → planDelete (length table) (entriesIn 12 chunks ws) (itemsOf (stateOf s)) key
-          ≡ planBy (admitOf c (n .version) 2 room) (Begin (items f ++ (entry 2 0 (suc (n .version)) 0 key [] ∷ [])) Staging [])
+          ≡ planBy (admitOf c maxVersion (n .version) 2 room) (Begin (items f ++ (entry 2 0 (suc (n .version)) 0 key [] ∷ [])) Staging [])
       unfolding planDelete
       delete-plan h f =
           let x = says f key n is in
           let y = x .numbered in
           rw (parsed f, rests f .state, sym (x .shown) ∙ h)
-          (plan-admits c b (chunksIn 12 (k .image)) ws (es f) (items f) (batch f) key (n .version) 2 (length table) (y .version) (y .old) _
-          ∙ ap (λ (h′ : ℕ). planBy (admitOf c (n .version) 2 room) (Begin (items f ++ (entry 2 0 (suc h′) 0 key [] ∷ [])) Staging [])) (sym (y .version)))
+          (plan-admits c b (chunksIn 12 (k .image)) ws (es f) (items f) (batch f) maxVersion key (n .version) 2 (length table) (y .version) (y .old) _
+          ∙ ap (λ (h′ : ℕ). planBy (admitOf c maxVersion (n .version) 2 room) (Begin (items f ++ (entry 2 0 (suc h′) 0 key [] ∷ [])) Staging [])) (sym (y .version)))
 
       pub delete-absent : presentBy ws n ≡ false → Does (Delete key) s s bytes bytes table table (R.Refused N.KeyAbsent)
       unfolding planDelete
@@ -290,19 +290,19 @@ module _ (c : Control) (k : Setup) (b bytes table : List ℕ) where
           refused 12 limit s bytes table N.KeyAbsent (Delete key) refl (λ f. f) (λ f. sym (rw (opened, parsed f, rests f .state, sym (says f key n is .shown) ∙ h)))
           (barred (R.Refused N.KeyAbsent)) (inr (inr (inr (inl refl)))) (refl, refl) (inl (N.KeyAbsent, refl))
 
-      module _ (h : presentBy ws n ≡ true) (a : Admission) (told : a ≡ admitOf c (n .version) 2 room) where
+      module _ (h : presentBy ws n ≡ true) (a : Admission) (told : a ≡ admitOf c maxVersion (n .version) 2 room) where
         pub delete-refused : (x : Refusal) → a ≡ A.Refused x → Does (Delete key) s s bytes bytes table table (R.Refused x)
         delete-refused x e =
             refused 12 limit s bytes table x (Delete key) refl (λ f. f) (λ f. sym (rw (opened, delete-plan h f, sym told ∙ e)))
-            (barred (R.Refused x)) (inr (inr (inr (inr (turned c (n .version) 2 room x (sym told ∙ e)))))) (refl, refl) (inl (x, refl))
+            (barred (R.Refused x)) (inr (inr (inr (inr (turned c maxVersion (n .version) 2 room x (sym told ∙ e)))))) (refl, refl) (inl (x, refl))
 
         pub delete-done : (fresh : ℕ) → a ≡ A.Admitted fresh → (after : List ℕ) (words : ℕ)
             → Added b after (c .words) words (entry 2 0 (n .version + 1) 0 key []) → (r : Stepped) → r ≡ oneMore c words fresh
             → Does (Delete key) s (record { control = r .control; setup = k; buffer = after }) bytes bytes table table (r .report)
         unfolding next
         delete-done fresh e after words added r is-r = rw is-r
-            (staged key (n .version) version-is item fresh adm after words added (Delete key) (λ f. f) (λ Fit f. f) (barred (R.Begun 0)) right refl refl next-is refl
-            (λ f. (rw (opened, plan f), rw (opened, plan f, rests f .state))) (inr ([], (stages key (n .version) version-is item fresh adm after words added, refl))))
+            (staged key (n .version) version-is item maxVersion fresh adm after words added (Delete key) (λ f. f) (λ Fit f. f) (barred (R.Begun 0)) right refl refl next-is refl
+            (λ f. (rw (opened, plan f), rw (opened, plan f, rests f .state))) (inr ([], (stages key (n .version) version-is item maxVersion fresh adm after words added, refl))))
           where
             next-is : n .version + 1 ≡ suc (n .version)
             next-is = omega arith
@@ -310,8 +310,8 @@ module _ (c : Control) (k : Setup) (b bytes table : List ℕ) where
             item : Entry
             item = entry 2 0 (n .version + 1) 0 key []
 
-            adm : Admitting c (n .version) 2 room fresh
-            adm = admitted c (n .version) 2 room fresh (sym told ∙ e)
+            adm : Admitting c maxVersion (n .version) 2 room fresh
+            adm = admitted c maxVersion (n .version) 2 room fresh (sym told ∙ e)
 
             right : Right item
             right = let u = adm .unspent in delete-right (n .version + 1) key (omega arith) (omega arith)

@@ -8,7 +8,7 @@ use lib.Dec.{eqb, leb, ltb}
 use lib.ListN.{getD}
 use Rattle.spec.specs.Basics.{pick, both}
 use Rattle.spec.specs.Log.{Entry, firstOf}
-use Rattle.spec.specs.Plans.{maxItems, maxVersion}
+use Rattle.spec.specs.Plans.{maxItems}
 use Rattle.session.specs.declared.Control.{Control}
 use Rattle.spec.specs.declared.FirstWord.{FirstWord}
 use Rattle.spec.specs.declared.FirstWord.the-variants as F
@@ -54,10 +54,10 @@ presentBy ws n = pick (eqb (n .version) 0) false (pick (n .staged) (eqb (n .op) 
 abbrev pub newKeys : ℕ → ℕ
 newKeys version = pick (eqb version 0) 1 0
 
--- 12, 10, 7 for an item of so many words, with a table that holds `room` keys
-unfoldable pub admitOf : Control → ℕ → ℕ → ℕ → Admission
-admitOf c version more room =
-    pick (leb (suc version) maxVersion)
+-- 12, 10, 7 for an item of so many words whose version is at most `most`, with a table that holds `room` keys
+unfoldable pub admitOf : Control → ℕ → ℕ → ℕ → ℕ → Admission
+admitOf c most version more room =
+    pick (leb (suc version) most)
     (pick (both (ltb (c .items) maxItems) (leb (c .words + more) batchRoom))
     (pick (leb (c .keys + (c .fresh + newKeys version)) room) (A.Admitted (c .fresh + newKeys version)) (A.Refused N.TableFull))
     (A.Refused N.BatchFull))

@@ -153,11 +153,17 @@ fn new_keys(version: u64) -> usize
     if version == 0 { 1 } else { 0 }
 }
 
-// 12, 10, 7 for an item of `more` words, where a table holds `room` keys; `version` is the key's highest so far.
-fn admit(control: Control, version: u64, more: usize, room: usize) -> Admission
-    ensures { λ r. ⌜ r ≡ admitOf control version more room ⌝ }
+// The largest version of a delete, and of a put: the last is kept for a delete.
+const LAST_DELETE: u64 = 1_048_575;
+
+const LAST_PUT: u64 = 1_048_574;
+
+// 12, 10, 7 for an item of `more` words whose version is at most `most`, where a table holds `room` keys; `version` is the
+// key's highest so far.
+fn admit(control: Control, most: u64, version: u64, more: usize, room: usize) -> Admission
+    ensures { λ r. ⌜ r ≡ admitOf control most version more room ⌝ }
 {
-    if 1_048_575 <= version {
+    if most <= version {
         return Admission::Refused(Refusal::VersionSpent);
     }
     if 16 <= control.items {
@@ -235,7 +241,13 @@ fn put_in_log(
             let words = control.words;
             let version = version_of(buffer, words, table, key);
             let more = 2 + (bytes + 7) / 8;
-            let a = admit(control, version, more, index::capacity(table.len()));
+            let a = admit(
+                control,
+                LAST_PUT,
+                version,
+                more,
+                index::capacity(table.len()),
+            );
             match a {
                 Admission::Refused(n) => refused(control, n),
                 Admission::Admitted(fresh) => {
@@ -278,7 +290,7 @@ fn put_in_block(
             }
             let words = control.words;
             let version = version_of(buffer, words, table, key);
-            let a = admit(control, version, 2, index::capacity(table.len()));
+            let a = admit(control, LAST_PUT, version, 2, index::capacity(table.len()));
             match a {
                 Admission::Refused(n) => Outcome {
                     control,
@@ -365,7 +377,13 @@ pub fn delete_core(
             let words = control.words;
             let known = known_of(buffer, words, table, key);
             if is_present(image, known) {
-                let a = admit(control, known.version, 2, index::capacity(table.len()));
+                let a = admit(
+                    control,
+                    LAST_DELETE,
+                    known.version,
+                    2,
+                    index::capacity(table.len()),
+                );
                 match a {
                     Admission::Refused(n) => refused(control, n),
                     Admission::Admitted(fresh) => {

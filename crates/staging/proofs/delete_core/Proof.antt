@@ -44,7 +44,7 @@ enum-known-a-2 c = search needs
 
 add-next : tie.Need-add-next
 add-next c =
-    let q = admitted _ _ _ _ _ (sym (c .before .before .before .before .admit .ensures) ∙ c .before .before .a2 .given .1) in
+    let q = admitted _ _ _ _ _ _ (sym (c .before .before .before .before .admit .ensures) ∙ c .before .before .a2 .given .1) in
     omega arith
 
 sub-none : tie.Need-sub-none
@@ -60,7 +60,7 @@ add-entry-requires : tie.Need-add-entry-requires
 add-entry-requires c κs = search needs
 
 one-more-requires : tie.Need-one-more-requires
-one-more-requires c κs = let q = admitted _ _ _ _ _ (sym (c .before .before .before .before .before .before .before .admit .ensures) ∙ c .before .before .before .before .before .a2 .given .1) in q .few
+one-more-requires c κs = let q = admitted _ _ _ _ _ _ (sym (c .before .before .before .before .before .before .before .admit .ensures) ∙ c .before .before .before .before .before .a2 .given .1) in q .few
 
 refused-requires-3 : tie.Need-refused-requires-3
 refused-requires-3 c κs = search needs
@@ -75,7 +75,7 @@ returns-2 c =
     let told = looked .before .before .before in
     left _ _ _ _ _ _ _ _ (c .refused2 .ensures)
     (delete-refused _ _ _ _ _ _ (told .before .before .gate .ensures) (told .enum-told .given .1) _ _ (looked .before .known-of .ensures)
-    (sym (looked .is-present .ensures) ∙ asked .before .before .if1 .taken) _ (told-room _ _ _ _ _ _ (asked .before .capacity .ensures) (asked .admit .ensures)) _ (c .before .before .a .given .1))
+    (sym (looked .is-present .ensures) ∙ asked .before .before .if1 .taken) _ (told-room _ _ _ _ _ _ _ (asked .before .capacity .ensures) (asked .admit .ensures)) _ (c .before .before .a .given .1))
 
 returns-3 : tie.Need-returns-3
 returns-3 c =
@@ -83,7 +83,7 @@ returns-3 c =
     let looked = asked .before .before .before in
     let told = looked .before .before .before in
     delete-done _ _ _ _ _ _ (told .before .before .gate .ensures) (told .enum-told .given .1) _ _ (looked .before .known-of .ensures)
-    (sym (looked .is-present .ensures) ∙ asked .before .before .if1 .taken) _ (told-room _ _ _ _ _ _ (asked .before .capacity .ensures) (asked .admit .ensures)) _
+    (sym (looked .is-present .ensures) ∙ asked .before .before .if1 .taken) _ (told-room _ _ _ _ _ _ _ (asked .before .capacity .ensures) (asked .admit .ensures)) _
     (c .before .before .before .before .before .before .a2 .given .1) _ _ (c .before .add-entry .ensures) _ (c .one-more .ensures)
 
 returns-4 : tie.Need-returns-4
