@@ -252,7 +252,7 @@ zkv_report zkv_commit(zkv_record *record, const uint8_t *image, size_t bytes, co
 zkv_report zkv_abandon(zkv_record *record, const uint8_t *image, size_t bytes, const uint64_t *table, size_t words);
 
 /* Chooses the chunk whose cleaning copies the fewest bytes, among log chunks that would take fewer lines afterwards; of equals the
- * lowest number. Staged items play no part. ZKV_CHOSEN with first = chunk, or refused: 2, 1, 8, 16 where none is worth
+ * one with the most committed lines, and of those the highest number. Staged items play no part. ZKV_CHOSEN with first = chunk, or refused: 2, 1, 8, 16 where none is worth
  * it. */
 zkv_report zkv_choose(const zkv_record *record, const uint8_t *image, size_t bytes, const uint64_t *table, size_t words);
 

@@ -506,14 +506,14 @@ def deletes_kept(s):
 
 
 def chosen(s):
-    s.note('Choosing: the fewest bytes to copy, padding not counted; of equals the lowest number; none that gains no line')
+    s.note('Choosing: the fewest bytes to copy, padding not counted; of equals the most committed lines; none that gains no line')
     s.fresh(24576)
     put = first_word(1, 0, 1, 0)
     longer = first_word(1, 0, 1, 3)
     s.pokes({9: 2 << 8 | 1, 512: longer, 513: 1, 514: 7, 10: 2 << 8 | 1, 1024: put, 1025: 2, 11: 64 << 8 | 1, 1536: put, 1537: 3,
              12: 257, 2048: put, 2049: 4})
     s.open()
-    for chunk, copied in ((2, 1), (3, 1), (1, 3)):  # the first two go behind chunk 1's lines
+    for chunk, copied in ((3, 1), (2, 1), (1, 3)):  # the first two go behind chunk 1's lines
         s.say('choose', f'chunk {chunk}')
         s.say('kept', 'kept')
         s.clean(chunk, 1, copied)
@@ -521,6 +521,17 @@ def chosen(s):
     for k in (1, 2, 3, 4):
         s.say(f'look {k}')
     s.say('sum')
+    s.note('Of equally few bytes and as many lines the highest number; and again, when it is cleaned')
+    s.fresh(24576)
+    s.pokes({8 + c: 3 << 8 | 1 for c in (1, 2, 3, 4)})
+    s.pokes({512 * c + i: w for c in (1, 2, 3, 4) for i, w in enumerate((put, c))})
+    s.pokes({12: 2 << 8 | 1})
+    s.open()
+    for chunk in (3, 2):                            # both go behind chunk 1's lines, and it then has more to copy than chunk 4
+        s.say('choose', f'chunk {chunk}')
+        s.clean(chunk, 1, 1)
+    s.say('choose', 'chunk 4')
+    s.say('look 3')
     s.note('A staged batch plays no part in choosing')
     s.stage('put 4 1 1')
     s.commit(1)
@@ -616,7 +627,7 @@ def centre_refusals(s):
     s.pokes({9: full, 512: first_word(1, 0, 1, 0), 513: 1, 10: full, 1024: first_word(1, 0, 1, 0), 1025: 2,
              11: full, 1536: first_word(1, 0, 1, 0), 1537: 3})
     s.open()
-    s.say('choose', 'chunk 1')
+    s.say('choose', 'chunk 3')
     for chunk in (1, 2, 3):
         s.refused(f'clean {chunk}', 13)
     s.pokes({1025: 1})

@@ -8,9 +8,9 @@ use mathlib.Core.List.{List}
 use Prim.Native.Nat.{ℕ, _+_, _*_, _%_}
 use native.Mathlib.Decide.{decLe}
 use native.Mathlib.Omega.{arith}
-use lib.Dec.{leb, ltb}
+use lib.Dec.{eqb, leb, ltb}
 use borrow.Author.Tests.{eq-eqb, ne-eqb, le-leb, lt-leb, le-ltb}
-use Rattle.spec.specs.Basics.{both}
+use Rattle.spec.specs.Basics.{both, either}
 use Rattle.spec.specs.Directory.{linesOf}
 use Rattle.spec.specs.Log.{Entry}
 use Rattle.spec.specs.Actions.{linesFor}
@@ -42,8 +42,26 @@ pub worth : (x : Candidate) (b : ℕ) → b ≡ linesFor (x .words) → Worth x 
 worth x b e = record { says = λ ws es d. rw (e, d .words, d .lines) (sym (worth-lines ws es (x .chunk))) }
 
 -- TWO CHUNKS
-pub fewer-words : (x y : Candidate) → Compared x y (ltb (x .words) (y .words))
-fewer-words x y = record { says = λ ws es d e. rw (d .words, e .words) }
+pub equal-words : (x y : Candidate) → x .words ≡ y .words → Compared x y (leb (y .lines) (x .lines))
+equal-words x y h = record {
+  says = λ ws es d e.
+      let a = copyWords 12 es (x .chunk) in
+      let b = copyWords 12 es (y .chunk) in
+      let q : a ≡ b = sym (d .words) ∙ h ∙ e .words in
+      rw (d .lines, e .lines, le-ltb a b (omega arith), eq-eqb a b q);
+}
+
+pub other-words : (x y : Candidate) → (x .words ≡ y .words → ⊥) → Compared x y (ltb (x .words) (y .words))
+other-words x y n = record {
+  says = λ ws es d e.
+      let a = copyWords 12 es (x .chunk) in
+      let b = copyWords 12 es (y .chunk) in
+      rw (d .words, e .words, ne-eqb a b (λ q. n (d .words ∙ q ∙ sym (e .words)))) (go (ltb a b));
+}
+  where
+    go : (t : Bool) → t ≡ either t false
+    go true = refl
+    go false = refl
 
 pub some-best : (x : Candidate) → (x .chunk ≡ 0 → ⊥) → bestSoFar x ≡ some (x .chunk)
 some-best x n = rw (ne-eqb (x .chunk) 0 n)

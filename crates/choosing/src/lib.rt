@@ -1,5 +1,5 @@
 // Choosing the chunk to clean: of log chunks whose kept entries fill fewer lines than are committed, the one with the fewest bytes to
-// copy; of equals the lowest number. Nothing is changed.
+// copy; of equals the one with the most committed lines, and of those the highest number. Nothing is changed.
 ghost use mathlib.Core.Path.{_≡_};
 ghost use Rattle.spec.specs.Words.{wordsOf};
 ghost use Rattle.spec.specs.Actions.{linesFor};
@@ -60,6 +60,9 @@ fn is_worth(c: Candidate) -> bool
 fn is_better(c: Candidate, d: Candidate) -> bool
     ensures { λ r. ⌜ Compared c d r ⌝ }
 {
+    if c.words == d.words {
+        return d.lines <= c.lines;
+    }
     c.words < d.words
 }
 

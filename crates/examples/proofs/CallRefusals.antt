@@ -145,6 +145,16 @@ rows =
     ∷ on [] [] Choose is Number 1
     ∷ on [] (9 becomes log 2 ∷ []) Choose is Number 1
     ∷ onEmpty [] [] Choose is Refused 16
+    -- choosing: of equally few bytes to copy the most committed lines, of those the highest number; bytes come before lines
+    ∷ onEmpty [] (9 becomes log 2 ∷ 10 becomes log 5 ∷ 11 becomes log 4 ∷ []) Choose is Number 2
+    ∷ onEmpty [] (9 becomes log 5 ∷ 10 becomes log 4 ∷ 11 becomes log 2 ∷ []) Choose is Number 1
+    ∷ onEmpty [] (9 becomes log 3 ∷ 10 becomes log 3 ∷ 11 becomes log 2 ∷ []) Choose is Number 2
+    ∷ onEmpty [] (9 becomes log 3 ∷ 10 becomes log 3 ∷ 11 becomes log 3 ∷ []) Choose is Number 3
+    ∷ onEmpty [] (9 becomes log 2 ∷ 10 becomes log 64 ∷ 1024 becomes first 1 0 1 0 ∷ 1025 becomes 7 ∷ []) Choose is Number 1
+    ∷ onEmpty [] (9 becomes log 2 ∷ 512 becomes first 1 0 1 0 ∷ 513 becomes 5 ∷ 10 becomes log 64 ∷ 1024 becomes first 1 0 1 1 ∷ 1025 becomes 7 ∷ []) Choose is Number 1
+    ∷ onEmpty [] (9 becomes log 2 ∷ 512 becomes first 1 0 1 0 ∷ 513 becomes 5 ∷ 10 becomes log 64 ∷ 1024 becomes first 1 0 1 0 ∷ 1025 becomes 7 ∷ []) Choose is Number 2
+    -- which of a key's top entries is chosen stays: the first, so that nothing of the later chunk is copied
+    ∷ onEmpty [] (9 becomes log 64 ∷ 512 becomes first 1 0 1 0 ∷ 513 becomes 7 ∷ 10 becomes log 1 ∷ 1024 becomes first 1 0 1 0 ∷ 1025 becomes 7 ∷ []) Choose is Number 2
     -- 13: staging of a large value: three chunks must be free, or a block of its size be neither live nor staged
     ∷ onEmpty [] (9 becomes log 1 ∷ []) (Put 7 (large 257)) is Refused 13
     ∷ onEmpty [] [] (Put 7 (large 257)) is Begun 41

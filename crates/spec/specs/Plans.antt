@@ -6,7 +6,7 @@ use mathlib.Core.List.{List, [], _∷_, _++_, map}
 use Prim.Native.Nat.{ℕ, zero, suc, _+_, _-_, _*_, _/_}
 use lib.Dec.{eqb, leb, ltb}
 use lib.ListN.{length, getD}
-use Rattle.spec.specs.Basics.{pick, both, negate, filter, first, all, any, isIn, isEmpty, upFrom, distinct}
+use Rattle.spec.specs.Basics.{pick, both, either, negate, filter, first, all, any, isIn, isEmpty, upFrom, distinct}
 use Rattle.spec.specs.Words.{packed}
 use Rattle.spec.specs.Places.{chunkLines, chunkUnits, firstUnit, unitChunk, unitWord, directoryWord}
 use Rattle.spec.specs.Medium.{Action}
@@ -201,7 +201,8 @@ planClean p n ws es items c =
     (need (inUse p n ws c) N.NotCleanable
     (pick (isLog (roleAt p ws c)) (cleanLog p n ws c (keptIn p c es)) (cleanData p ws es c)))
 
--- CHOOSING: of log chunks whose kept entries fill fewer lines than are committed, the one with the fewest bytes to copy; of equals the lowest number
+-- CHOOSING: of log chunks whose kept entries fill fewer lines than are committed, the one with the fewest bytes to copy; of equals the one with
+-- the most committed lines, and of those the highest number
 abbrev pub copyWords : ℕ → List Entry → ℕ → ℕ
 copyWords p es c = length (encodeAll (keptIn p c es))
 
@@ -210,7 +211,8 @@ worthCleaning p ws es c = both (isLog (roleAt p ws c)) (ltb (linesFor (copyWords
 
 -- chunk c, which comes later, is taken before chunk d
 abbrev pub isBetter : ℕ → List ℕ → List Entry → ℕ → ℕ → Bool
-isBetter p ws es c d = ltb (copyWords p es c) (copyWords p es d)
+isBetter p ws es c d =
+    either (ltb (copyWords p es c) (copyWords p es d)) (both (eqb (copyWords p es c) (copyWords p es d)) (leb (linesOf p ws d) (linesOf p ws c)))
 
 abbrev pub better : ℕ → List ℕ → List Entry → Option ℕ → ℕ → Option ℕ
 better p ws es none c = some c
