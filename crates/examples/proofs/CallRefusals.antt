@@ -2,7 +2,7 @@
 -- their order.
 -- Assumes nothing.
 use mathlib.Core.Bool.{true, false}
-use mathlib.Core.List.{List, [], _∷_}
+use mathlib.Core.List.{List, [], _∷_, _++_}
 use Prim.Native.Nat.{ℕ, zero, suc}
 use lib.Dec.{T}
 use lib.ListN.{replicate}
@@ -34,6 +34,10 @@ empty = 1 ∷ blankOf (headerTail 4 G.Absent G.Absent)
 
 abbrev onEmpty : List Entry → List Change → Call → Shown
 onEmpty items changes k = ask k (Rest 16384 64 items) (changed changes empty) 16384 64
+
+-- the same with the words of its three chunks, so that they can be changed
+abbrev onBlank : List Change → Call → Shown
+onBlank changes k = ask k (Rest 16384 64 []) (changed changes (empty ++ replicate 1536 0)) 16384 64
 
 -- staged items: an empty put, a delete, a put in a block; n empty puts of keys n and below
 abbrev put : ℕ → ℕ → Entry
@@ -150,11 +154,11 @@ rows =
     ∷ onEmpty [] (9 becomes log 5 ∷ 10 becomes log 4 ∷ 11 becomes log 2 ∷ []) Choose is Number 1
     ∷ onEmpty [] (9 becomes log 3 ∷ 10 becomes log 3 ∷ 11 becomes log 2 ∷ []) Choose is Number 2
     ∷ onEmpty [] (9 becomes log 3 ∷ 10 becomes log 3 ∷ 11 becomes log 3 ∷ []) Choose is Number 3
-    ∷ onEmpty [] (9 becomes log 2 ∷ 10 becomes log 64 ∷ 1024 becomes first 1 0 1 0 ∷ 1025 becomes 7 ∷ []) Choose is Number 1
-    ∷ onEmpty [] (9 becomes log 2 ∷ 512 becomes first 1 0 1 0 ∷ 513 becomes 5 ∷ 10 becomes log 64 ∷ 1024 becomes first 1 0 1 1 ∷ 1025 becomes 7 ∷ []) Choose is Number 1
-    ∷ onEmpty [] (9 becomes log 2 ∷ 512 becomes first 1 0 1 0 ∷ 513 becomes 5 ∷ 10 becomes log 64 ∷ 1024 becomes first 1 0 1 0 ∷ 1025 becomes 7 ∷ []) Choose is Number 2
+    ∷ onBlank (9 becomes log 2 ∷ 10 becomes log 64 ∷ 1024 becomes first 1 0 1 0 ∷ 1025 becomes 7 ∷ []) Choose is Number 1
+    ∷ onBlank (9 becomes log 2 ∷ 512 becomes first 1 0 1 0 ∷ 513 becomes 5 ∷ 10 becomes log 64 ∷ 1024 becomes first 1 0 1 1 ∷ 1025 becomes 7 ∷ []) Choose is Number 1
+    ∷ onBlank (9 becomes log 2 ∷ 512 becomes first 1 0 1 0 ∷ 513 becomes 5 ∷ 10 becomes log 64 ∷ 1024 becomes first 1 0 1 0 ∷ 1025 becomes 7 ∷ []) Choose is Number 2
     -- which of a key's top entries is chosen stays: the first, so that nothing of the later chunk is copied
-    ∷ onEmpty [] (9 becomes log 64 ∷ 512 becomes first 1 0 1 0 ∷ 513 becomes 7 ∷ 10 becomes log 1 ∷ 1024 becomes first 1 0 1 0 ∷ 1025 becomes 7 ∷ []) Choose is Number 2
+    ∷ onBlank (9 becomes log 64 ∷ 512 becomes first 1 0 1 0 ∷ 513 becomes 7 ∷ 10 becomes log 1 ∷ 1024 becomes first 1 0 1 0 ∷ 1025 becomes 7 ∷ []) Choose is Number 2
     -- 13: staging of a large value: three chunks must be free, or a block of its size be neither live nor staged
     ∷ onEmpty [] (9 becomes log 1 ∷ []) (Put 7 (large 257)) is Refused 13
     ∷ onEmpty [] [] (Put 7 (large 257)) is Begun 41
