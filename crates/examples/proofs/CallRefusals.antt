@@ -1,8 +1,8 @@
 -- The other calls' refusals: an example for each number of the rules' table, what is nearest to it and accepted, and
--- their order.
+-- their order; and which of equal chunks is chosen.
 -- Assumes nothing.
 use mathlib.Core.Bool.{true, false}
-use mathlib.Core.List.{List, [], _∷_, _++_}
+use mathlib.Core.List.{List, [], _∷_}
 use Prim.Native.Nat.{ℕ, zero, suc}
 use lib.Dec.{T}
 use lib.ListN.{replicate}
@@ -34,10 +34,6 @@ empty = 1 ∷ blankOf (headerTail 4 G.Absent G.Absent)
 
 abbrev onEmpty : List Entry → List Change → Call → Shown
 onEmpty items changes k = ask k (Rest 16384 64 items) (changed changes empty) 16384 64
-
--- the same with the words of its three chunks, so that they can be changed
-abbrev onBlank : List Change → Call → Shown
-onBlank changes k = ask k (Rest 16384 64 []) (changed changes (empty ++ replicate 1536 0)) 16384 64
 
 -- staged items: an empty put, a delete, a put in a block; n empty puts of keys n and below
 abbrev put : ℕ → ℕ → Entry
@@ -149,16 +145,6 @@ rows =
     ∷ on [] [] Choose is Number 1
     ∷ on [] (9 becomes log 2 ∷ []) Choose is Number 1
     ∷ onEmpty [] [] Choose is Refused 16
-    -- choosing: of equally few bytes to copy the most committed lines, of those the highest number; bytes come before lines
-    ∷ onEmpty [] (9 becomes log 2 ∷ 10 becomes log 5 ∷ 11 becomes log 4 ∷ []) Choose is Number 2
-    ∷ onEmpty [] (9 becomes log 5 ∷ 10 becomes log 4 ∷ 11 becomes log 2 ∷ []) Choose is Number 1
-    ∷ onEmpty [] (9 becomes log 3 ∷ 10 becomes log 3 ∷ 11 becomes log 2 ∷ []) Choose is Number 2
-    ∷ onEmpty [] (9 becomes log 3 ∷ 10 becomes log 3 ∷ 11 becomes log 3 ∷ []) Choose is Number 3
-    ∷ onBlank (9 becomes log 2 ∷ 10 becomes log 64 ∷ 1024 becomes first 1 0 1 0 ∷ 1025 becomes 7 ∷ []) Choose is Number 1
-    ∷ onBlank (9 becomes log 2 ∷ 512 becomes first 1 0 1 0 ∷ 513 becomes 5 ∷ 10 becomes log 64 ∷ 1024 becomes first 1 0 1 1 ∷ 1025 becomes 7 ∷ []) Choose is Number 1
-    ∷ onBlank (9 becomes log 2 ∷ 512 becomes first 1 0 1 0 ∷ 513 becomes 5 ∷ 10 becomes log 64 ∷ 1024 becomes first 1 0 1 0 ∷ 1025 becomes 7 ∷ []) Choose is Number 2
-    -- which of a key's top entries is chosen stays: the first, so that nothing of the later chunk is copied
-    ∷ onBlank (9 becomes log 64 ∷ 512 becomes first 1 0 1 0 ∷ 513 becomes 7 ∷ 10 becomes log 1 ∷ 1024 becomes first 1 0 1 0 ∷ 1025 becomes 7 ∷ []) Choose is Number 2
     -- 13: staging of a large value: three chunks must be free, or a block of its size be neither live nor staged
     ∷ onEmpty [] (9 becomes log 1 ∷ []) (Put 7 (large 257)) is Refused 13
     ∷ onEmpty [] [] (Put 7 (large 257)) is Begun 41
@@ -199,3 +185,24 @@ rows =
 pub computed : T (allHold rows)
 unfolding base firstLine firstUnit chunkBytes chunkWords chunkLines chunkUnits chunksIn lengthAllowed unitChunk unitIn wordChunk headerTail headerTest roleOf linesOf sizeOf sizeFor isSize directoryRight firstOf stepOf blockLimit unitsFor blockSize blockTest chosen tops capacity keptIn opening appendOf commitOf bodyOf padded blockOf formatOf blankOf fillOf planPut planDelete planCommit planClean slotFor logPlace chosenChunk lookUp
 computed = tt
+
+-- CHOOSING
+abbrev choices : List Row
+choices =
+    -- choosing: of equally few bytes to copy the most committed lines, of those the highest number; bytes come before lines
+    onEmpty [] (9 becomes log 2 ∷ 10 becomes log 5 ∷ 11 becomes log 4 ∷ []) Choose is Number 2
+    ∷ onEmpty [] (9 becomes log 5 ∷ 10 becomes log 4 ∷ 11 becomes log 2 ∷ []) Choose is Number 1
+    ∷ onEmpty [] (9 becomes log 3 ∷ 10 becomes log 3 ∷ 11 becomes log 2 ∷ []) Choose is Number 2
+    ∷ onEmpty [] (9 becomes log 3 ∷ 10 becomes log 3 ∷ 11 becomes log 3 ∷ []) Choose is Number 3
+    -- chunk 1 has six lines and 56 bytes to copy
+    ∷ on [] (11 becomes log 6 ∷ 1536 becomes first 1 0 1 40 ∷ 1537 becomes 3 ∷ []) Choose is Number 3
+    ∷ on [] (11 becomes log 5 ∷ 1536 becomes first 1 0 1 40 ∷ 1537 becomes 3 ∷ []) Choose is Number 1
+    ∷ on [] (11 becomes log 64 ∷ 1536 becomes first 1 0 1 41 ∷ 1537 becomes 3 ∷ []) Choose is Number 1
+    ∷ on [] (11 becomes log 2 ∷ 1536 becomes first 1 0 1 32 ∷ 1537 becomes 3 ∷ []) Choose is Number 3
+    -- which of a key's top entries is chosen stays: the first, so that nothing of the later chunk is copied
+    ∷ on [] (11 becomes log 2 ∷ 1536 becomes first 1 0 1 5 ∷ 1537 becomes 7 ∷ 1538 becomes 478560413032 ∷ []) Choose is Number 3
+    ∷ []
+
+pub choices-computed : T (allHold choices)
+unfolding base firstLine firstUnit chunkBytes chunkWords chunkLines chunkUnits chunksIn lengthAllowed unitChunk unitIn wordChunk headerTail headerTest roleOf linesOf sizeOf sizeFor isSize directoryRight firstOf stepOf blockLimit unitsFor blockSize blockTest chosen tops capacity keptIn opening appendOf commitOf bodyOf padded blockOf formatOf blankOf fillOf planPut planDelete planCommit planClean slotFor logPlace chosenChunk lookUp
+choices-computed = tt
