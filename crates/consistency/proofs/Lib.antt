@@ -1,7 +1,6 @@
 pub mod Blocks
-pub mod Spans
+pub mod Same
 pub mod Found
 pub mod Passed
-pub mod Clash
 pub mod Marks
 pub mod Tests

@@ -5,20 +5,23 @@ use mathlib.Core.Logic.{inl}
 use mathlib.Core.Bool.{Bool, true, false}
 use mathlib.Core.Option.{some}
 use mathlib.Core.List.{List, [], _∷_, _++_}
-use Prim.Native.Nat.{ℕ}
+use Prim.Native.Nat.{ℕ, _+_, _-_}
 use native.Mathlib.Decide.{ℕ-discrete}
 use native.Mathlib.Omega.{arith}
 use lib.Dec.{eqb}
 use borrow.Author.Tests.{eq-eqb, ne-eqb}
 use Rattle.spec.specs.Basics.{pick, both}
+use Rattle.spec.specs.Places.{base}
 use Rattle.spec.specs.Log.{Entry}
 use Rattle.spec.specs.Blocks.{blockRight}
 use Rattle.spec.specs.Contents.{isTop, chosen}
 use Rattle.spec.specs.Opening.{fine, agreeWith}
-use Rattle.theory_base.proofs.Lists.{not-both, pick-e}
+use Rattle.theory_base.proofs.Lists.{not-both}
+use Rattle.theory_log.specs.Batch.{AllRight}
 use Rattle.theory_log.specs.Contents.{Mem}
+use Rattle.theory_log.proofs.Places.{rising-before, all-sound}
 use Rattle.theory_log.proofs.Contents.{mem-r, chosen-is}
-use Rattle.theory_log.proofs.Tops.{all-in, is-top, top-is, chosen-top, top-chosen}
+use Rattle.theory_log.proofs.Tops.{is-top, top-chosen}
 use Rattle.blocks.specs.Bits.{hasBit, WordsKept, BitsCleared}
 use Rattle.blocks.proofs.Laws.{kept-all, kept-then}
 use Rattle.log.specs.declared.Best.{Best}
@@ -29,13 +32,12 @@ use Rattle.log.specs.Best.{bestOf}
 use Rattle.log.specs.Cursor.{start, Advanced}
 use Rattle.log.specs.Stands.{StandsIn}
 use Rattle.log.proofs.Stands.{image-stands, image-apart}
-use Rattle.volatile.specs.Check.{CheckInv}
-use Rattle.volatile.proofs.Marks.{chosen-before}
-use Rattle.volatile.proofs.Check.{agreed-own, agreed-other, block-wrong, check-start, check-skip, check-top, check-blocks, check-agree, check-apart, check-live}
+use Rattle.volatile.specs.Check.{Marks, CheckInv}
+use Rattle.volatile.proofs.Check.{agreed-own, agreed-other, block-bit, block-wrong, check-start, check-skip, check-top, check-blocks, check-tops, check-live}
 use Rattle.volatile.proofs.Plain.{plain-check}
 use Rattle.consistency.specs.declared.Head.{Head}
 use Rattle.consistency.specs.declared.Checked.{Checked}
-use Rattle.consistency.specs.Spans.{entryOf, points}
+use Rattle.consistency.specs.Heads.{entryOf, points}
 use Rattle.consistency.specs.Pass.{Listed, AgreesWith, TopIs, AgreedIs, MarkedIs, VisitedIs, CheckedAs, Tested, Examined}
 use Rattle.consistency.proofs.Blocks.{both-true}
 use Rattle.consistency.proofs.Found.{version-highest}
@@ -76,27 +78,32 @@ module _ (n : ℕ) (ws table : List ℕ) (fits : Bool) (h : Head) (top : Best) (
         let t = top-chosen es (entryOf ws h words) (is-top es (entryOf ws h words) member (is-highest q)) in
         (t .0, t .1, sym (ap (λ (b : Best). b .place) (is-top-of es l ∙ ap bestOf (t .1))))
 
-    -- agreement with it, which stands before and whose block is right
-    agreement : (before : ℕ → Bool) (agreeing apart : Bool) → CheckInv 12 n ws es xs before true agreeing apart → h .version ≡ top .version → fine 12 n ws (entryOf ws h words) ≡ true
-        → (r : Bool) → AgreedIs ws agreeing h (top .place) r → r ≡ both agreeing (agreeWith ws (entryOf ws h words) (chosen (h .key) es))
-    agreement before agreeing apart inv q b r is = go (pick-chosen q) (ℕ-discrete (h .place) (top .place)) agreeing refl
+    -- agreement with it
+    agreement : h .version ≡ top .version → (agreeing r : Bool) → AgreedIs ws agreeing h (top .place) r → r ≡ both agreeing (agreeWith (entryOf ws h words) (chosen (h .key) es))
+    agreement q agreeing r is = go (pick-chosen q) (ℕ-discrete (h .place) (top .place)) agreeing refl
       where
         read : (f : Entry) → Mem f es → StandsIn ws f
         read f m = image-stands 12 (omega arith) (omega arith) n ws es (l .entries) f m
 
         go : ((f : Entry) × (chosen (h .key) es ≡ some f) × (f .at ≡ top .place)) → Dec (h .place ≡ top .place) → (so : Bool) → agreeing ≡ so
-            → r ≡ both so (agreeWith ws (entryOf ws h words) (chosen (h .key) es))
+            → r ≡ both so (agreeWith (entryOf ws h words) (chosen (h .key) es))
         go t (no p) false a = is .before a
         go t (yes p) so a =
-            let own = agreed-own ws es (entryOf ws h words) (t .0) (image-apart 12 (omega arith) (omega arith) n ws es (l .entries)) member (t .1) (t .2 ∙ sym p) in
+            let own = agreed-own es (entryOf ws h words) (t .0) (image-apart 12 (omega arith) (omega arith) n ws es (l .entries)) member (t .1) (t .2 ∙ sym p) in
             is .own p ∙ a ∙ sym (ap (both so) own ∙ both-true so)
         go t (no p) true a =
             let f = t .0 in
             let c = t .1 in
-            let before-it = chosen-before es xs ys (entryOf ws h words) f split (is-highest q) c (λ z. p (sym z ∙ t .2)) in
-            let right = pick-e (isTop es f) (fine 12 n ws f) (all-in (λ g. pick (isTop es g) (fine 12 n ws g) true) xs (sym (inv .right)) f before-it) (top-is es f (chosen-top (h .key) es f c)) in
-            is .other p a n words f (l .few) (l .whole) (read (entryOf ws h words) member) (read f (chosen-is (h .key) es f c .in-list)) (t .2) b right
-            ∙ sym (agreed-other ws es (entryOf ws h words) f c)
+            is .other p a words f (read (entryOf ws h words) member) (read f (chosen-is (h .key) es f c .in-list)) (t .2) ∙ sym (agreed-other es (entryOf ws h words) f c)
+
+    -- the marks, with its block
+    marking : h .version ≡ top .version → (before after : List ℕ) (apart r : Bool) → MarkedIs apart h (top .place) before after r → fine 12 n ws (entryOf ws h words) ≡ true
+        → Marks es xs (hasBit before) apart → Marks es (xs ++ entryOf ws h words ∷ []) (hasBit after) r
+    marking q before after apart r is b m =
+        let e = entryOf ws h words in
+        let c = pick-chosen q in
+        let fresh : Mem e xs → ⊥ = λ x. (let z = rising-before (base 12 1) (base 12 (1 + (n - 1))) xs ys e e (rw split at (all-sound 12 (omega arith) (omega arith) (n - 1) 1 ws es (l .entries) .rising)) x in omega arith) in
+        is .marks ws es xs ys words (c .0) (image-apart 12 (omega arith) (omega arith) n ws es (l .entries)) split fresh (c .1) (c .2) (λ p. block-bit n ws e (l .few) b p) m
 
   module _ (s : Checked) (before : List ℕ) where
     pub visited-below : (h .version ≡ top .version → ⊥) → VisitedIs n ws table fits s h before before s
@@ -115,18 +122,19 @@ module _ (n : ℕ) (ws table : List ℕ) (fits : Bool) (h : Head) (top : Best) (
       }
 
       pub visited-top : pick (points (h .op) (h .placement)) (blockRight 12 n ws (h .field)) true ≡ true → (agreeing apart : Bool) (after : List ℕ) → AgreedIs ws (s .agreeing) h (top .place) agreeing
-          → MarkedIs n ws table fits (s .apart) h (top .place) before after apart → VisitedIs n ws table fits s h before after (record { blocks = true; agreeing = agreeing; apart = apart })
+          → MarkedIs (s .apart) h (top .place) before after apart → VisitedIs n ws table fits s h before after (record { blocks = true; agreeing = agreeing; apart = apart })
       visited-top b agreeing apart after agrees marked = record {
         kept = marked .kept;
         right = λ es xs ys words l split inv t.
-            let c = pick-chosen es xs ys words l split q in
             check-top 12 n ws es xs (entryOf ws h words) (hasBit before) true (s .agreeing) (s .apart) inv (hasBit after) true agreeing apart (is-highest es xs ys words l split q) (sym b)
-            (agreement es xs ys words l split (hasBit before) (s .agreeing) (s .apart) inv q b agreeing agrees)
-            (marked .marks es xs ys words (c .0) l split (is-highest es xs ys words l split q) (c .1) (c .2) b (inv .marks));
+            (agreement es xs ys words l split q (s .agreeing) agreeing agrees) (marking es xs ys words l split q before after (s .apart) apart marked b (inv .marks));
         wrong = λ es xs ys words l split t f. absurd (not-both true refl f);
       }
 
 -- ## The pass
+
+right-all : (n : ℕ) (ws table : List ℕ) (fits : Bool) (es : List Entry) → Listed n ws table fits es → AllRight es
+right-all n ws table fits es l = all-sound 12 (omega arith) (omega arith) (n - 1) 1 ws es (l .entries) .right
 
 -- at a cursor: the tests of the entries passed, after the bits were cleared, and none failed
 pub record Going (n : ℕ) (ws table : List ℕ) (fits : Bool) (cleared now : List ℕ) (s : Checked) (c : Cursor) : Type 0 where
@@ -146,10 +154,9 @@ module _ (n : ℕ) (ws table : List ℕ) (fits : Bool) (first cleared : List ℕ
     pub going-done : r ≡ N.Done → CheckedAs n ws table fits first now s
     going-done q = record {
       kept = kept-then first cleared now (clear .kept) (inv .kept);
-      blocks = λ es l. inv .sound ∙ check-blocks 12 n ws es (hasBit now) true (s .agreeing) (s .apart) (all es l);
-      agreeing = λ es l t. check-agree 12 n ws es (hasBit now) true (s .agreeing) (s .apart) (all es l);
-      apart = λ es l t. check-apart 12 n ws es (hasBit now) true (s .agreeing) (s .apart) (all es l);
-      bits = λ es l t. check-live 12 n ws es (hasBit now) true (s .agreeing) (s .apart) (all es l);
+      blocks = λ es l. inv .sound ∙ check-blocks 12 n ws es (right-all n ws table fits es l) (hasBit now) true (s .agreeing) (s .apart) (all es l);
+      tops = λ es l t. check-tops 12 n ws es (right-all n ws table fits es l) (hasBit now) true (s .agreeing) (s .apart) (all es l);
+      bits = λ es l t. check-live 12 n ws es (right-all n ws table fits es l) (hasBit now) true (s .agreeing) (s .apart) (all es l);
     }
       where
         all : (es : List Entry) → Listed n ws table fits es → CheckInv 12 n ws es es (hasBit now) true (s .agreeing) (s .apart)
@@ -159,8 +166,7 @@ module _ (n : ℕ) (ws table : List ℕ) (fits : Bool) (first cleared : List ℕ
     going-wrong q = record {
       kept = kept-then first cleared now (clear .kept) (inv .kept);
       blocks = λ es l. absurd (none es l);
-      agreeing = λ es l t. absurd (none es l);
-      apart = λ es l t. absurd (none es l);
+      tops = λ es l t. absurd (none es l);
       bits = λ es l t. absurd (none es l);
     }
       where
@@ -189,8 +195,7 @@ module _ (n : ℕ) (ws table : List ℕ) (fits : Bool) (first cleared : List ℕ
             let i = inv .tests es l in
             let p = passed-split n ws c es (i .0) r told (i .1) op pl v x k m a behind q in
             f ∙ sym (visited .wrong es (i .0) (p .0) m l (p .1) (inv .sound) f);
-        agreeing = λ es l t. absurd (not-both (s′ .blocks) t f);
-        apart = λ es l t. absurd (not-both (s′ .blocks) t f);
+        tops = λ es l t. absurd (not-both (s′ .blocks) t f);
         bits = λ es l t. absurd (not-both (s′ .blocks) t f);
       }
 
@@ -200,17 +205,16 @@ pub examined-passed : (n : ℕ) (ws table : List ℕ) (fits plain : Bool) (befor
     → Examined n ws table fits plain before after r
 examined-passed n ws table fits plain before after r h = record {
   kept = h .kept;
-  tested = λ es l p. record { blocks = h .blocks es l; agreeing = h .agreeing es l; apart = h .apart es l; bits = h .bits es l };
+  tested = λ es l p. record { blocks = h .blocks es l; tops = h .tops es l; bits = h .bits es l };
 }
 
 pub examined-plain : (n : ℕ) (ws table : List ℕ) (fits plain : Bool) (before after : List ℕ) → plain ≡ true → BitsCleared before after
     → Examined n ws table fits plain before after (record { blocks = true; agreeing = true; apart = true })
-examined-plain n ws table fits plain before after so clear = record { kept = clear .kept; tested = λ es l p. told es (plain-check 12 n ws es (hasBit after) (clear .none) (p so)) }
+examined-plain n ws table fits plain before after so clear = record { kept = clear .kept; tested = λ es l p. told es (right-all n ws table fits es l) (plain-check 12 n ws es (hasBit after) (clear .none) (p so)) }
   where
-    told : (es : List Entry) → CheckInv 12 n ws es es (hasBit after) true true true → Tested n ws es after (record { blocks = true; agreeing = true; apart = true })
-    told es inv = record {
-      blocks = check-blocks 12 n ws es (hasBit after) true true true inv;
-      agreeing = λ t. check-agree 12 n ws es (hasBit after) true true true inv;
-      apart = λ t. check-apart 12 n ws es (hasBit after) true true true inv;
-      bits = λ t. check-live 12 n ws es (hasBit after) true true true inv;
+    told : (es : List Entry) → AllRight es → CheckInv 12 n ws es es (hasBit after) true true true → Tested n ws es after (record { blocks = true; agreeing = true; apart = true })
+    told es right inv = record {
+      blocks = check-blocks 12 n ws es right (hasBit after) true true true inv;
+      tops = λ t. check-tops 12 n ws es right (hasBit after) true true true inv;
+      bits = λ t. check-live 12 n ws es right (hasBit after) true true true inv;
     }

@@ -1,2 +1,2 @@
-pub mod Spans
+pub mod Heads
 pub mod Pass

@@ -8,12 +8,10 @@ ghost use Rattle.spec.specs.Words.{wordsOf};
 ghost use Rattle.spec.specs.Blocks.{startTests, lengthTests, blockRight};
 ghost use Rattle.consistency.specs.Heads.{sameFrom, points};
 ghost use Rattle.consistency.specs.Pass.{AgreesWith, TopIs, AgreedIs, MarkedIs, VisitedIs, CheckedAs, Examined};
-use blocks::Buffer;
 use blocks::clear_bits;
 use blocks::has_bit;
 use blocks::set_bit;
 use codec::Unit;
-use codec::first_of;
 use index::look;
 use index::unpack;
 use log::Best;
@@ -23,7 +21,6 @@ use log::first_cursor;
 use log::next_in_log;
 use log::size_of;
 use log::words_for;
-use spec::FirstWord;
 use words::load;
 
 // An entry of the log but for its value: `place` is its first word.
@@ -34,13 +31,6 @@ pub struct Head {
     pub field: u64,
     pub key: u64,
     pub place: usize,
-}
-
-// Where a put's value lies: its bytes and its first word. A delete has none.
-pub struct Span {
-    pub put: bool,
-    pub length: u64,
-    pub start: usize,
 }
 
 // What the pass finds: no wrong block, no top entries that disagree, no block of two keys.
@@ -112,34 +102,7 @@ pub fn block_right(image: &[u8], count: usize, unit: u64) -> bool
     false
 }
 
-// VALUES
-// Where the value of an entry with these parts lies; a start past the image is cut.
-fn span_of(image: &[u8], op: u64, placement: u64, field: u64, at: usize) -> Span
-    ensures { λ r. ⌜ (r ≡ spanIn (wordsOf (now (image .entry))) op placement field at) × (r .start < 2 ^ 62) ⌝ }
-{
-    if op != 1 {
-        return Span {
-            put: false,
-            length: 0,
-            start: 0,
-        };
-    }
-    if placement == 1 {
-        let at = Unit(field).word_offset();
-        let length = load(image, at);
-        return Span {
-            put: true,
-            length,
-            start: at + 1,
-        };
-    }
-    Span {
-        put: true,
-        length: field,
-        start: lesser(at, image.len() / 8) + 2,
-    }
-}
-
+// AGREEMENT
 // Whether n words from word a are those from word b.
 fn same_words(image: &[u8], a: usize, b: usize, n: usize) -> bool
     requires { ⌜ (a < 2 ^ 62) × (b < 2 ^ 62) × (n < 2 ^ 62) ⌝ }
@@ -157,40 +120,13 @@ fn same_words(image: &[u8], a: usize, b: usize, n: usize) -> bool
     true
 }
 
-fn same_spans(image: &[u8], a: Span, b: Span) -> bool
-    requires { ⌜ (a .start < 2 ^ 62) × (b .start < 2 ^ 62) ⌝ }
-    ensures { λ r. ⌜ r ≡ sameSpan (wordsOf (now (image .entry))) a b ⌝ }
-{
-    if a.put {
-        if b.put {
-            if a.length == b.length {
-                return same_words(image, a.start, b.start, words_for(0, a.length));
-            }
-        }
-        return false;
-    }
-    if b.put { false } else { true }
-}
-
-// Whether an entry agrees with the one that stands at word `place`.
+// Whether an entry is, word for word, the one that stands at word `place`.
 fn agrees(image: &[u8], e: Head, place: usize) -> bool
     ensures { λ r. ⌜ AgreesWith (wordsOf (now (image .entry))) e place r ⌝ }
 {
-    let own = span_of(image, e.op, e.placement, e.field, e.place);
-    let first = first_of(load(image, place));
-    match first {
-        FirstWord::Padding => false,
-        FirstWord::Wrong => false,
-        FirstWord::Entry {
-            op,
-            placement,
-            version: _,
-            field,
-        } => {
-            let other = span_of(image, op, placement, field, place);
-            same_spans(image, own, other)
-        }
-    }
+    let end = image.len() / 8;
+    let words = words_for(e.placement, e.field);
+    same_words(image, lesser(e.place, end), lesser(place, end), 2 + words)
 }
 
 // TOP ENTRIES
@@ -208,7 +144,8 @@ pub fn top_of(image: &[u8], count: usize, table: &[u64], fits: bool, key: u64) -
     best_of(image, count, key)
 }
 
-// Whether an entry with these parts is a put of a block, and of this block.
+// MARKS
+// Whether an entry with these parts is a put of a block.
 fn points(op: u64, placement: u64) -> bool
     ensures { λ r. ⌜ r ≡ points op placement ⌝ }
 {
@@ -220,151 +157,19 @@ fn points(op: u64, placement: u64) -> bool
 
 // A top entry's block is marked if it is the chosen one of its key, which stands at word `place`: the others have the same block, or
 // disagree. The answer is whether no two keys share a block: one that is marked already is another key's.
-fn marked(buffer: &mut Buffer, apart: bool, e: Head, place: usize) -> bool
+fn marked(buffer: &mut [u64; 1152], apart: bool, e: Head, place: usize) -> bool
     ensures { λ r. ⌜ MarkedIs apart e place (now (buffer .entry)) (now (buffer .exit)) r ⌝ }
 {
-    if points(op, placement) {
-        return field == unit;
-    }
-    false
-}
-
-// Whether an entry is another key's top put of this block.
-fn clashing(
-    image: &[u8],
-    count: usize,
-    table: &[u64],
-    fits: bool,
-    key: u64,
-    unit: u64,
-    e: Head,
-) -> bool
-    ensures { λ r. ⌜ ClashingIs count (wordsOf (now (image .entry))) (now (table .entry)) fits key unit e r ⌝ }
-{
-    if e.key == key {
-        return false;
-    }
-    if points_to(e.op, e.placement, e.field, unit) {
-        let top = top_of(image, count, table, fits, e.key);
-        return e.version == top.version;
-    }
-    false
-}
-
-// Whether another key's top put points to this block, by a scan of the log.
-fn clashes(image: &[u8], count: usize, table: &[u64], fits: bool, key: u64, unit: u64) -> bool
-    ensures { λ r. ⌜ ClashIs count (wordsOf (now (image .entry))) (now (table .entry)) fits key unit r ⌝ }
-{
-    let mut cursor = first_cursor();
-    loop {
-        let n = next_in_log(image, count, cursor);
-        match n {
-            Next::Done => {
-                return false;
-            }
-            Next::Wrong => {
-                return false;
-            }
-            Next::Entry {
-                op,
-                placement,
-                version,
-                field,
-                key: k,
-                words: _,
-                place,
-                cursor: after,
-            } => {
-                let e = Head {
-                    op,
-                    placement,
-                    version,
-                    field,
-                    key: k,
-                    place,
-                };
-                if clashing(image, count, table, fits, key, unit, e) {
-                    return true;
-                }
-                cursor = after;
-            }
-        }
-    }
-}
-
-// MARKS
-// Whether the entry that stands at word `place` is a put of this block.
-fn points_at(image: &[u8], place: usize, unit: u64) -> bool
-    ensures { λ r. ⌜ PointsAt (wordsOf (now (image .entry))) place unit r ⌝ }
-{
-    let first = first_of(load(image, place));
-    match first {
-        FirstWord::Padding => false,
-        FirstWord::Wrong => false,
-        FirstWord::Entry {
-            op,
-            placement,
-            version: _,
-            field,
-        } => points_to(op, placement, field, unit),
-    }
-}
-
-// Whether a top entry has no block to mark; the chosen one of its key stands at word `place`.
-fn skipped(image: &[u8], e: Head, place: usize) -> bool
-    ensures { λ r. ⌜ SkippedIs (wordsOf (now (image .entry))) e place r ⌝ }
-{
-    if points(e.op, e.placement) {
-        if e.place == place {
-            return false;
-        }
-        return points_at(image, place, e.field);
-    }
-    true
-}
-
-// Whether no two keys share a block, with one more entry whose block is marked already: scanned for only while it is so.
-fn still_apart(
-    image: &[u8],
-    count: usize,
-    table: &[u64],
-    fits: bool,
-    apart: bool,
-    key: u64,
-    unit: u64,
-) -> bool
-    ensures { λ r. ⌜ StillIs count (wordsOf (now (image .entry))) (now (table .entry)) fits key unit apart r ⌝ }
-{
-    if apart {
-        if clashes(image, count, table, fits, key, unit) {
-            return false;
-        }
-        return true;
-    }
-    false
-}
-
-// A top entry's block is marked, if it has one to mark; the answer is whether no two keys share a block.
-fn marked(
-    image: &[u8],
-    count: usize,
-    table: &[u64],
-    fits: bool,
-    buffer: &mut [u64; 1152],
-    apart: bool,
-    e: Head,
-    place: usize,
-) -> bool
-    ensures { λ r. ⌜ MarkedIs count (wordsOf (now (image .entry))) (now (table .entry)) fits apart e place (now (buffer .entry)) (now (buffer .exit)) r ⌝ }
-{
-    if skipped(image, e, place) {
+    if e.place != place {
         return apart;
     }
-    let unit = e.field as usize;
-    if has_bit(buffer, unit) {
-        return still_apart(image, count, table, fits, apart, e.key, e.field);
+    if points(e.op, e.placement) {
+        let unit = e.field as usize;
+        if has_bit(buffer, unit) {
+            return false;
+        }
+        set_bit(buffer, unit);
     }
-    set_bit(buffer, unit);
     apart
 }
 
@@ -410,7 +215,7 @@ fn visit(
     }
     if block_fine(image, count, e.op, e.placement, e.field) {
         let agreeing = agreed(image, s.agreeing, e, top.place);
-        let apart = marked(image, count, table, fits, buffer, s.apart, e, top.place);
+        let apart = marked(buffer, s.apart, e, top.place);
         return Checked {
             blocks: true,
             agreeing,

@@ -168,11 +168,14 @@ cases =
     ∷ refuses 6 (521 becomes first 1 0 1 0 ∷ 522 becomes 7 ∷ []) (521 becomes first 1 0 1 0 ∷ 522 becomes 7 ∷ 523 becomes first 2 0 2 0 ∷ 524 becomes 7 ∷ [])
     -- 6: a put in a block and one in the log; the neighbour is a second put in the same block
     ∷ refuses 6 (521 becomes first 1 0 1 256 ∷ 522 becomes 9 ∷ []) (521 becomes first 1 1 1 32 ∷ 522 becomes 9 ∷ [])
-    -- 6: two puts in blocks, of unequal bytes, the first or the last; of unequal lengths; what follows the values may
-    -- differ
-    ∷ refuses 6 (520 becomes 9 ∷ 1121 becomes 2 ∷ []) (520 becomes 9 ∷ [])
-    ∷ refuses 6 (520 becomes 9 ∷ 1153 becomes 2 ∷ []) (520 becomes 9 ∷ [])
-    ∷ refuses 6 (520 becomes 9 ∷ 1120 becomes 258 ∷ []) (520 becomes 9 ∷ 1154 becomes 4 ∷ [])
+    -- 6: two puts in two blocks, of equal values and of unequal ones; the neighbours point to one block, or a third
+    -- entry is above them
+    ∷ refuses 6 (520 becomes 9 ∷ []) (519 becomes first 1 1 1 32 ∷ 520 becomes 9 ∷ [])
+    ∷ refuses 6 (520 becomes 9 ∷ []) (515 becomes first 1 1 1 35 ∷ 520 becomes 9 ∷ [])
+    ∷ refuses 6 (520 becomes 9 ∷ 1121 becomes 2 ∷ []) (519 becomes first 1 1 1 32 ∷ 520 becomes 9 ∷ 1121 becomes 2 ∷ [])
+    ∷ refuses 6 (520 becomes 9 ∷ []) (520 becomes 9 ∷ 521 becomes first 2 0 2 0 ∷ 522 becomes 9 ∷ [])
+    -- 6: the third of three points elsewhere
+    ∷ refuses 6 (519 becomes first 1 1 1 32 ∷ 520 becomes 9 ∷ 521 becomes first 1 1 1 35 ∷ 522 becomes 9 ∷ []) (519 becomes first 1 1 1 32 ∷ 520 becomes 9 ∷ 521 becomes first 1 1 1 32 ∷ 522 becomes 9 ∷ [])
     -- 6: two keys' top puts share a block; one key's two may, and a put that is not top may
     ∷ refuses 6 (519 becomes first 1 1 1 32 ∷ []) (519 becomes first 1 1 1 35 ∷ [])
     ∷ refuses 6 (519 becomes first 1 1 1 32 ∷ []) (519 becomes first 1 1 1 32 ∷ 520 becomes 9 ∷ [])
@@ -197,6 +200,8 @@ pairs =
     ∷ faulty 4 (559 becomes 3 ∷ []) 5 (515 becomes first 1 1 1 0 ∷ [])
     -- a pointer, and top entries that disagree
     ∷ faulty 5 (519 becomes first 1 1 1 0 ∷ []) 6 (521 becomes first 1 0 1 0 ∷ 522 becomes 7 ∷ [])
+    -- the second of two blocks, and top puts of one key that point to them
+    ∷ faulty 5 (1120 becomes 256 ∷ []) 6 (520 becomes 9 ∷ [])
     -- a block, and top puts that share one
     ∷ faulty 5 (1024 becomes 256 ∷ []) 6 (521 becomes first 1 1 1 35 ∷ 522 becomes 13 ∷ [])
     -- a disagreement, and keys beyond the table; an entry, and keys beyond the table

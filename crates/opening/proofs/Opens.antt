@@ -23,7 +23,7 @@ use Rattle.spec.specs.declared.Refusal.{Refusal}
 use Rattle.spec.specs.declared.Refusal.the-variants as N
 use Rattle.spec.specs.declared.Report.the-variants as R
 use Rattle.words.specs.Image.{length-wordsOf}
-use Rattle.theory_base.proofs.Lists.{not-both}
+use Rattle.theory_base.proofs.Lists.{not-both, both-l}
 use Rattle.theory_base.proofs.Places.{length-allowed}
 use Rattle.log.proofs.Roles.{base-is}
 use Rattle.index.specs.Index.{zeros}
@@ -109,8 +109,8 @@ module _ (n : ℕ) (ws table table′ : List ℕ) (right fits plain : Bool) (key
           five : blocksTest 12 n ws (es most long) ≡ true
           five = sym (tested most long .blocks) ∙ b
 
-          six : both (agreeTest ws (es most long)) (apartTest (es most long)) ≡ agreed
-          six = rw (← tested most long .agreeing b, ← tested most long .apart b) (sym is-agreed)
+          six : both (agreeTest (es most long)) (apartTest (es most long)) ≡ agreed
+          six = sym (is-agreed ∙ tested most long .tops b)
 
           go : (t : Bool) → agreed ≡ t → (u : Bool) → fits ≡ u → Judged (openLog 12 n ws (length table) (imageEntries 12 n ws)) table′ buffer′ (firstRefusal t N.TopsDisagree u N.TableFull keys)
           go false h u i = (rw (found most long .1, five, six ∙ h), inr (inr (inr (inr (inr (inl refl))))))
@@ -119,7 +119,7 @@ module _ (n : ℕ) (ws table table′ : List ℕ) (right fits plain : Bool) (key
             es most long,
             rw (found most long .1, five, six ∙ h, sym (space most long) ∙ i),
             indexed most long fits (found most long .2) i,
-            tested most long .bits b,
+            tested most long .bits b (both-l (r .agreeing) (r .apart) (sym is-agreed ∙ h)),
           )
 
       pub log-end : (v : Verdict) → v ≡ firstRefusal agreed N.TopsDisagree fits N.TableFull keys → JudgingLog n ws table table′ buffer buffer′ v

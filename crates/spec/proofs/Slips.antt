@@ -3,10 +3,10 @@
 -- Assumes nothing.
 use mathlib.Core.Bool.{Bool, true, false}
 use mathlib.Core.List.{List, [], _∷_, _++_}
-use Prim.Native.Nat.{ℕ}
+use Prim.Native.Nat.{ℕ, _+_, _*_}
 use lib.Dec.{T, eqb}
 use lib.ListN.{length, replicate, take}
-use Rattle.spec.specs.Basics.{pick, both, every}
+use Rattle.spec.specs.Basics.{pick, both, negate, every}
 use Rattle.spec.specs.Places.{basePower, base, firstLine, firstUnit, chunkBytes, chunkWords, chunkLines, chunkUnits, chunksIn, lengthAllowed, unitChunk, unitIn, wordChunk}
 use Rattle.spec.specs.Medium.{Action, run, cut, settledAt}
 use Rattle.spec.specs.Header.{headerTest}
@@ -62,6 +62,10 @@ blockOfSlot Nowhere = 0
 abbrev inBlock : List ℕ
 inBlock = image 257 514 (536870933 ∷ 7 ∷ 0 ∷ 0 ∷ 0 ∷ 0 ∷ 0 ∷ 0 ∷ []) (257 ∷ replicate 7 3)
 
+-- two puts of 7, of one version: the first in the block at unit 32, the second in that at unit u; the blocks hold the same value
+abbrev twins : ℕ → List ℕ
+twins u = take 2048 (image 257 514 (536870933 ∷ 7 ∷ (16777216 * u + 21) ∷ 7 ∷ 0 ∷ 0 ∷ 0 ∷ 0 ∷ []) (257 ∷ (replicate 63 3 ++ (257 ∷ replicate 7 3))))
+
 abbrev rows : List Bool
 rows =
     -- an empty value is present
@@ -73,6 +77,9 @@ rows =
     ∷ eqb (length (keptIn basePower 2 (entriesIn basePower 4 (image 257 257 line (34 ∷ 7 ∷ replicate 6 0))))) 1
     -- a live block is not taken: the next one is
     ∷ eqb (blockOfSlot (slotFor basePower 4 inBlock (entriesIn basePower 4 inBlock) [] 2)) 34
+    -- top puts of a key agree in one block, and in two they do not, whatever these hold
+    ∷ accepted (opening basePower 16384 (twins 32) 64)
+    ∷ negate (accepted (opening basePower 16384 (twins 34) 64))
     ∷ []
 
 pub computed : T (every rows)

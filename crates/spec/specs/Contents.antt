@@ -9,13 +9,19 @@ use lib.ListN.{length, getD}
 use Rattle.spec.specs.Basics.{pick, both, either, negate, larger, filter, first, isSome, any, sameList, distinct}
 use Rattle.spec.specs.Words.{valueBytes}
 use Rattle.spec.specs.Places.{wordChunk}
-use Rattle.spec.specs.Log.{Entry, Parsed, Wrong, Entries, imageEntries}
+use Rattle.spec.specs.Log.{Entry, Parsed, Wrong, Entries, imageEntries, encode}
 use Rattle.spec.specs.Blocks.{pointed, blockBytes}
 
 -- what a key has: nothing, or a value's bytes
 pub data Held : Type 0 where
   Absent : Held
   Value : List ℕ → Held
+
+abbrev pub sameHeld : Held → Held → Bool
+sameHeld Absent Absent = true
+sameHeld Absent (Value ys) = false
+sameHeld (Value xs) Absent = false
+sameHeld (Value xs) (Value ys) = sameList xs ys
 
 -- the highest version of a key, 0 if it is not known
 abbrev pub highest : ℕ → List Entry → ℕ
@@ -72,15 +78,9 @@ entriesIn p n ws = listed (imageEntries p n ws)
 unfoldable pub contents : ℕ → ℕ → List ℕ → ℕ → Held
 contents p n ws k = contentsBy (meaning ws) (entriesIn p n ws) k
 
--- Top entries agree if both are deletes or both are puts of equal values.
-abbrev pub sameHeld : Held → Held → Bool
-sameHeld Absent Absent = true
-sameHeld Absent (Value ys) = false
-sameHeld (Value xs) Absent = false
-sameHeld (Value xs) (Value ys) = sameList xs ys
-
-abbrev pub agree : List ℕ → Entry → Entry → Bool
-agree ws e f = sameHeld (meaning ws e) (meaning ws f)
+-- Top entries agree if they are equal in every word: first word, key, and a value in the log.
+abbrev pub agree : Entry → Entry → Bool
+agree e f = sameList (encode e) (encode f)
 
 -- the blocks, by their first unit, to which a top put points: the live ones
 abbrev pub pointers : List Entry → List ℕ

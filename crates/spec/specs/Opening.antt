@@ -36,12 +36,12 @@ abbrev pub blocksTest : ℕ → ℕ → List ℕ → List Entry → Bool
 blocksTest p n ws es = eachTop es (fine p n ws)
 
 -- 6: each top entry agrees with the chosen one of its key
-abbrev pub agreeWith : List ℕ → Entry → Option Entry → Bool
-agreeWith ws e none = true
-agreeWith ws e (some f) = agree ws e f
+abbrev pub agreeWith : Entry → Option Entry → Bool
+agreeWith e none = true
+agreeWith e (some f) = agree e f
 
-abbrev pub agreeTest : List ℕ → List Entry → Bool
-agreeTest ws es = eachTop es (λ e. agreeWith ws e (chosen (e .key) es))
+abbrev pub agreeTest : List Entry → Bool
+agreeTest es = eachTop es (λ e. agreeWith e (chosen (e .key) es))
 
 -- 6: no two keys' top puts share a block
 abbrev pub sharing : Entry → Entry → Bool
@@ -59,7 +59,7 @@ abbrev pub openLog : ℕ → ℕ → List ℕ → ℕ → Parsed → Opening
 openLog p n ws table Wrong = Refused N.EntryWrong
 openLog p n ws table (Entries es) =
     pick (blocksTest p n ws es)
-    (pick (both (agreeTest ws es) (apartTest es))
+    (pick (both (agreeTest es) (apartTest es))
     (pick (fitsTable table es) (Accepted es) (Refused N.TableFull))
     (Refused N.TopsDisagree)) (Refused N.BlockWrong)
 

@@ -25,7 +25,7 @@ use Rattle.theory_base.proofs.Places.{lines-words, base-apart}
 use Rattle.theory_log.proofs.Contents.{mem-l, mem-r, mem-cases, mem-filter}
 use Rattle.theory_log.proofs.Clean.{mem-placed, is-at}
 use Rattle.theory_log.proofs.Places.{rising-apart, right-filter, chunk-sound, all-sound}
-use Rattle.theory_log.proofs.Tops.{chosen-top, meaning-delete}
+use Rattle.theory_log.proofs.Tops.{chosen-top}
 use Rattle.theory_log.proofs.Directory.{size-is}
 use Rattle.theory_log.proofs.Kept.{Parts, parts, kept-is}
 use Rattle.theory_crash.specs.Accepted.{Ok, Needs}
@@ -109,9 +109,9 @@ module _ (p : ℕ) (lo : 12 ≤ p) (hi : p ≤ 16) (n s old′ keys : ℕ) (C : 
     rest-es f mf = rw (t .whole) (wider f xs chunk ys (inl mf))
 
     -- NOTHING KEPT: the chunk is only freed
-    none-covers : kept ≡ [] → Covers (meaning ws) es rest
+    none-covers : kept ≡ [] → Covers es rest
     none-covers e =
-        covers (meaning ws) (meaning-delete ws) es es rest chunk rest 0 es-cases chunk-es (λ f mf. inl mf) (λ f mf. mf) (λ f mf. mf) (λ f mf. absurd (none-placed f mf)) (λ f mf. inl mf) es-apart (r .ok .agree)
+        covers es es rest chunk rest 0 es-cases chunk-es (λ f mf. inl mf) (λ f mf. mf) (λ f mf. mf) (λ f mf. absurd (none-placed f mf)) (λ f mf. inl mf) es-apart (r .ok .agree)
       where
         none-placed : (f : Entry) → Mem f (placed 0 kept) → ⊥
         none-placed f mf = rw e at mf
@@ -254,9 +254,9 @@ module _ (p : ℕ) (lo : 12 ≤ p) (hi : p ≤ 16) (n s old′ keys : ℕ) (C : 
             go (inr x) = inr x
             go (inl x) = two (es-cases f x) (parts′ .3 .outside f mf)
 
-        cov : Covers (meaning vs) gs new
+        cov : Covers gs new
         cov =
-            covers (meaning vs) (meaning-delete vs) es gs rest chunk new at′ es-cases chunk-es gs-cases es-gs (λ f mf. to-new f (es-gs f (rest-es f mf)) (t .outside f mf))
+            covers es gs rest chunk new at′ es-cases chunk-es gs-cases es-gs (λ f mf. to-new f (es-gs f (rest-es f mf)) (t .outside f mf))
             (λ f mf. to-new f (copy-gs f mf) (side f mf)) new-cases es-apart (mid .rests .ok .agree)
 
         copied : Copied p lo hi n s old′ keys at′ d ws vs es kept

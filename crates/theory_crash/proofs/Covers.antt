@@ -11,41 +11,28 @@ use lib.Dec.{eqb}
 use borrow.Author.Tests.{eq-eqb}
 use Rattle.spec.specs.Basics.{either, filter}
 use Rattle.spec.specs.Log.{Entry, moved, placed}
-use Rattle.spec.specs.Contents.{Held, Absent, chosen, known, isKept}
+use Rattle.spec.specs.Contents.{chosen, known, isKept}
 use Rattle.theory_log.specs.Contents.{Mem, Agree, Apart, Top}
 use Rattle.theory_base.proofs.Lists.{both-l, either-no}
 use Rattle.theory_log.proofs.Contents.{mem-filter, filter-mem, Chosen, chosen-is, none-of}
+use Rattle.theory_log.proofs.Tops.{tops-same}
 use Rattle.theory_log.proofs.Clean.{mem-placed, placed-mem, is-at, unknown}
 use Rattle.theory_crash.specs.Clean.{Covers}
 
--- two top entries of a key say the same
-tops-mean : (mean : Entry → Held) (es : List Entry) → Agree mean es → (e f : Entry) → Top es e → Top es f → e .key ≡ f .key → mean e ≡ mean f
-tops-mean mean es a e f te tf q = go (chosen (e .key) es) refl
-  where
-    go : (o : Option Entry) → chosen (e .key) es ≡ o → mean e ≡ mean f
-    go none h = absurd (none-of (e .key) es e h (te .0) refl)
-    go (some c) h =
-        let d = chosen-is (e .key) es c h in
-        let x = d .above e (te .0) refl in
-        let y = te .1 c (d .in-list) (d .of-key) in
-        let z = d .above f (tf .0) (sym q) in
-        let w = tf .1 c (d .in-list) (d .of-key ∙ q) in
-        a (e .key) c e h (te .0) refl (omega arith) ∙ sym (a (e .key) c f h (tf .0) (sym q) (omega arith))
-
 -- es: the entries before; gs: with the copies; new: without the chunk
-module _ (mean : Entry → Held) (deletes : (e : Entry) → eqb (e .op) 1 ≡ false → mean e ≡ Absent) (es gs rest chunk new : List Entry) (at : ℕ)
+module _ (es gs rest chunk new : List Entry) (at : ℕ)
     (es-cases : (f : Entry) → Mem f es → Mem f rest ⊎ Mem f chunk) (chunk-es : (f : Entry) → Mem f chunk → Mem f es)
     (gs-cases : (f : Entry) → Mem f gs → Mem f es ⊎ Mem f (placed at (filter (isKept es rest) chunk))) (es-gs : (f : Entry) → Mem f es → Mem f gs)
     (rest-new : (f : Entry) → Mem f rest → Mem f new) (copy-new : (f : Entry) → Mem f (placed at (filter (isKept es rest) chunk)) → Mem f new)
-    (new-cases : (f : Entry) → Mem f new → Mem f rest ⊎ Mem f (placed at (filter (isKept es rest) chunk))) (apart : Apart es) (agree : Agree mean gs) where
+    (new-cases : (f : Entry) → Mem f new → Mem f rest ⊎ Mem f (placed at (filter (isKept es rest) chunk))) (apart : Apart es) (agree : Agree gs) where
   abbrev cs : List Entry
   cs = filter (isKept es rest) chunk
 
-  pub covers : Covers mean gs new
+  pub covers : Covers gs new
   covers e (m, above) = go (gs-cases e m)
     where
       Goal : Type 0
-      Goal = ((f : Entry) × Mem f new × (f .key ≡ e .key) × (f .version ≡ e .version)) ⊎ ((mean e ≡ Absent) × ((f : Entry) → Mem f new → f .key ≡ e .key → ⊥))
+      Goal = ((f : Entry) × Mem f new × (f .key ≡ e .key) × (f .version ≡ e .version)) ⊎ ((eqb (e .op) 1 ≡ false) × ((f : Entry) → Mem f new → f .key ≡ e .key → ⊥))
 
       gone : (c : Entry) → chosen (e .key) es ≡ some c → isKept es rest c ≡ false → known (c .key) rest ≡ false → (f : Entry) → Mem f new → f .key ≡ e .key → ⊥
       gone c h q un f mf fk = six (new-cases f mf)
@@ -95,7 +82,7 @@ module _ (mean : Entry → Held) (deletes : (e : Entry) → eqb (e .op) 1 ≡ fa
               five mc false q =
                   let k : isKept es rest c ≡ false = rw (mine, eq-eqb (c .at) (c .at) refl) q in
                   let n = either-no (eqb (c .op) 1) (known (c .key) rest) q in
-                  inr (tops-mean mean gs agree e c (m, above) top-c (sym (d .of-key)) ∙ deletes c (n .0), gone c h k (n .1))
+                  inr (ap (λ (x : Entry). eqb (x .op) 1) (tops-same gs agree e c (m, above) top-c (sym (d .of-key))) ∙ n .0, gone c h k (n .1))
 
               four : Mem c rest ⊎ Mem c chunk → Goal
               four (inl r) = inl (c, rest-new c r, d .of-key, eqv)

@@ -19,7 +19,7 @@ use Rattle.theory_base.proofs.Places.{lines-words, base-apart, base-low, line-i
 use Rattle.theory_log.proofs.Batch.{entries-agree}
 use Rattle.theory_log.proofs.Image.{all-agree}
 use Rattle.theory_log.proofs.Directory.{lines-is, lines-most}
-use Rattle.theory_log.proofs.Tops.{contents-mean, agree-mean}
+use Rattle.theory_log.proofs.Tops.{contents-mean}
 use Rattle.theory_crash.specs.Accepted.{Calm, Ok, Support, Framed}
 use Rattle.theory_crash.proofs.Directory.{lines-inside, header-agree}
 use Rattle.theory_crash.proofs.Blocks.{Fits, block-fits, needs-first, needs-move, fits-in, needs-only}
@@ -102,7 +102,7 @@ module _ (p : ℕ) (lo : 12 ≤ p) (hi : p ≤ 16) where
       dirs = dirs-same;
       parsed = all-agree p (n - 1) 1 ws vs chunk-same ∙ ok .parsed;
       blocks = λ e t. live-same e t .0;
-      agree = agree-mean (meaning ws) (meaning vs) es (λ e t. live-same e t .1) (ok .agree);
+      agree = ok .agree;
       apart = ok .apart;
     }
 

@@ -2,12 +2,13 @@
 -- Assumes nothing.
 use mathlib.Core.Path.{_≡_, refl, sym, _∙_, ap}
 use mathlib.Core.Logic.{_⊎_, inl, inr}
-use mathlib.Core.Bool.{true}
+use mathlib.Core.Bool.{true, false}
 use mathlib.Core.Option.{Option, none, some}
 use mathlib.Core.List.{List, [], _++_}
 use Prim.Native.Nat.{ℕ, suc, _+_, _-_, _*_, _≤_, _<_}
 use native.Mathlib.Omega.{arith}
 use native.Mathlib.Decide.{ℕ-discrete}
+use lib.Dec.{eqb}
 use lib.ListN.{length, getD, set, length-set}
 use lib.Seq.{slice-empty, getD-set-same, getD-set-other}
 use Rattle.spec.specs.Places.{base, unitChunk, unitWord, lineOf, directoryWord, maxChunks}
@@ -18,14 +19,14 @@ use Rattle.spec.specs.Blocks.{pointed}
 use Rattle.spec.specs.Contents.{Held, Absent, chosen, contentsBy, meaning, keysOf}
 use Rattle.spec.specs.Opening.{fine}
 use Rattle.spec.specs.Actions.{freeOf}
-use Rattle.theory_log.specs.Contents.{Mem, Top}
+use Rattle.theory_log.specs.Contents.{Mem, Same, Top}
 use Rattle.theory_base.proofs.Through.{Through, through-map}
 use Rattle.theory_base.proofs.Places.{past-directory}
 use Rattle.theory_log.proofs.Parse.{prepend-entries}
 use Rattle.theory_log.proofs.Image.{all-split, all-agree}
-use Rattle.theory_log.proofs.Contents.{mem-l, mem-r, mem-cases, chosen-is, none-of, Same, contents-same}
+use Rattle.theory_log.proofs.Contents.{mem-l, mem-r, mem-cases, chosen-is, none-of, contents-same}
 use Rattle.theory_log.proofs.Agree.{agree-same}
-use Rattle.theory_log.proofs.Tops.{chosen-top, contents-mean, agree-mean}
+use Rattle.theory_log.proofs.Tops.{chosen-top, contents-mean, meaning-moved, meaning-delete}
 use Rattle.theory_log.proofs.Directory.{lines-is, size-is}
 use Rattle.theory_log.proofs.Kept.{Parts}
 use Rattle.theory_crash.specs.Accepted.{Calm, Ok, Support}
@@ -68,7 +69,7 @@ module _ (p : ℕ) (lo : 12 ≤ p) (hi : p ≤ 16) (n d old : ℕ) (ws : List �
       (λ h. absurd (let q : 1 ≤ sizeOf p freed d = rw now at h in let z = no-size in omega arith))
 
   -- A log chunk: its entries leave the list.
-  module _ (no-data : sizeOf p ws d ≡ 0) (xs chunk ys : List Entry) (parts : Parts p lo hi n d ws es xs chunk ys) (cov : Covers (meaning ws) es (xs ++ ys)) where
+  module _ (no-data : sizeOf p ws d ≡ 0) (xs chunk ys : List Entry) (parts : Parts p lo hi n d ws es xs chunk ys) (cov : Covers es (xs ++ ys)) where
     abbrev gs : List Entry
     gs = xs ++ ys
 
@@ -105,23 +106,23 @@ module _ (p : ℕ) (lo : 12 ≤ p) (hi : p ≤ 16) (n d old : ℕ) (ws : List �
             k : c .key ≡ e .key
             k = chosen-is (e .key) es c h .of-key
 
-            two : ((f : Entry) × Mem f gs × (f .key ≡ c .key) × (f .version ≡ c .version)) ⊎ ((meaning ws c ≡ Absent) × ((f : Entry) → Mem f gs → f .key ≡ c .key → ⊥)) → Top es e
+            two : ((f : Entry) × Mem f gs × (f .key ≡ c .key) × (f .version ≡ c .version)) ⊎ ((eqb (c .op) 1 ≡ false) × ((f : Entry) → Mem f gs → f .key ≡ c .key → ⊥)) → Top es e
             two (inl (f, mf, fk, fv)) = (was e m, λ g mg gk. let a = above f mf (fk ∙ k) in let b = chosen-is (e .key) es c h .above g mg gk in omega arith)
             two (inr (a, gone)) = absurd (gone e m (sym k))
 
-    from : (f : Entry) → Mem f gs → (e : Entry) × Mem e es × Same (meaning ws) f e
-    from f m = (f, was f m, record { key = refl; version = refl; means = refl })
+    from : (f : Entry) → Mem f gs → (e : Entry) × Mem e es × Same f e
+    from f m = (f, was f m, refl)
 
-    to : (k : ℕ) (e : Entry) → chosen k es ≡ some e → ((f : Entry) × Mem f gs × Same (meaning ws) f e) ⊎ ((meaning ws e ≡ Absent) × ((f : Entry) → Mem f gs → f .key ≡ k → ⊥))
+    to : (k : ℕ) (e : Entry) → chosen k es ≡ some e → ((f : Entry) × Mem f gs × Same f e) ⊎ ((meaning ws e ≡ Absent) × ((f : Entry) → Mem f gs → f .key ≡ k → ⊥))
     to k e h = go (cov e (chosen-top k es e h))
       where
         kk : e .key ≡ k
         kk = chosen-is k es e h .of-key
 
-        go : ((f : Entry) × Mem f gs × (f .key ≡ e .key) × (f .version ≡ e .version)) ⊎ ((meaning ws e ≡ Absent) × ((f : Entry) → Mem f gs → f .key ≡ e .key → ⊥))
-            → ((f : Entry) × Mem f gs × Same (meaning ws) f e) ⊎ ((meaning ws e ≡ Absent) × ((f : Entry) → Mem f gs → f .key ≡ k → ⊥))
-        go (inl (f, mf, fk, fv)) = inl (f, mf, record { key = fk; version = fv; means = ok .agree k e f h (was f mf) (fk ∙ kk) fv })
-        go (inr (a, gone)) = inr (a, λ f mf fk. gone f mf (fk ∙ sym kk))
+        go : ((f : Entry) × Mem f gs × (f .key ≡ e .key) × (f .version ≡ e .version)) ⊎ ((eqb (e .op) 1 ≡ false) × ((f : Entry) → Mem f gs → f .key ≡ e .key → ⊥))
+            → ((f : Entry) × Mem f gs × Same f e) ⊎ ((meaning ws e ≡ Absent) × ((f : Entry) → Mem f gs → f .key ≡ k → ⊥))
+        go (inl (f, mf, fk, fv)) = inl (f, mf, ok .agree k e f h (was f mf) (fk ∙ kk) fv)
+        go (inr (a, gone)) = inr (meaning-delete ws e a, λ f mf fk. gone f mf (fk ∙ sym kk))
 
     fine-same : (e : Entry) → Top es e → (fine p n freed e ≡ true) × (meaning freed e ≡ meaning ws e)
     fine-same e t =
@@ -137,7 +138,7 @@ module _ (p : ℕ) (lo : 12 ≤ p) (hi : p ≤ 16) (n d old : ℕ) (ws : List �
       dirs = λ c h. dirs′ c h (ℕ-discrete c d);
       parsed = parsed;
       blocks = λ e t. fine-same e (top-was e t) .0;
-      agree = agree-mean (meaning ws) (meaning freed) gs (λ e t. fine-same e (top-was e t) .1) (agree-same (meaning ws) es gs (ok .agree) from to);
+      agree = agree-same es gs (ok .agree) from (λ k e h. elim (to k e h) [ inl a ↦ inl a | inr b ↦ inr (b .1) ]);
       apart = λ e f te tf. ok .apart e f (top-was e te) (top-was f tf);
     }
       where
@@ -146,7 +147,7 @@ module _ (p : ℕ) (lo : 12 ≤ p) (hi : p ≤ 16) (n d old : ℕ) (ws : List �
         dirs′ c h (no e) = rw (other-word (directoryWord c) (λ q. e (omega arith))) (ok .dirs c h)
 
     pub free-contents : (k : ℕ) → contentsBy (meaning freed) gs k ≡ contentsBy (meaning ws) es k
-    free-contents k = contents-mean (meaning ws) (meaning freed) gs (λ e t. fine-same e (top-was e t) .1) k ∙ contents-same (meaning ws) es gs (ok .agree) from to k
+    free-contents k = contents-mean (meaning ws) (meaning freed) gs (λ e t. fine-same e (top-was e t) .1) k ∙ contents-same (meaning ws) (meaning-moved ws) es gs (ok .agree) from to k
 
     support-was : (k : ℕ) → (k ≡ directoryWord d → ⊥) → Support p n freed gs k → Support p n ws es k
     support-was k q (inl s) = inl s

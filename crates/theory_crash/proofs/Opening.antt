@@ -1,72 +1,31 @@
 -- Opening accepts exactly the images that are `Ok` and whose known keys fit the table.
 -- Assumes nothing.
-use mathlib.Core.Path.{_≡_, refl, sym, _∙_, ap, ap₂}
+use mathlib.Core.Path.{_≡_, refl, sym, _∙_, ap}
 use mathlib.Core.Bool.{Bool, true, false}
-use mathlib.Core.Option.{some}
-use mathlib.Core.List.{List, [], _∷_}
-use Prim.Native.Nat.{ℕ, _*_, _/_, _≤_}
+use mathlib.Core.List.{List}
+use Prim.Native.Nat.{ℕ, _-_, _*_, _/_, _≤_}
 use native.Mathlib.Omega.{arith}
 use lib.Dec.{eqb}
 use lib.ListN.{length}
 use borrow.Author.Tests.{eqb-true, eq-eqb, leb-true, le-leb}
-use Rattle.spec.specs.Basics.{pick, both, sameList}
+use Rattle.spec.specs.Basics.{pick, both}
 use Rattle.spec.specs.Places.{base, chunksIn, lengthAllowed}
 use Rattle.spec.specs.Header.{headerRight}
 use Rattle.spec.specs.Log.{Entry, Parsed, Wrong, Entries, imageEntries}
 use Rattle.spec.specs.Blocks.{pointed}
-use Rattle.spec.specs.Contents.{Held, Absent, Value, isTop, chosen, meaning, sameHeld, contentsBy, contents, keysOf, capacity}
-use Rattle.spec.specs.Opening.{Refused, Accepted, directoryTest, eachTop, fine, blocksTest, agreeWith, agreeTest, sharing, apartTest, fitsTable, openLog, opening}
+use Rattle.spec.specs.Contents.{Held, meaning, contentsBy, contents, keysOf, capacity}
+use Rattle.spec.specs.Opening.{Refused, Accepted, directoryTest, eachTop, fine, blocksTest, agreeTest, sharing, apartTest, fitsTable, openLog, opening}
 use Rattle.spec.specs.declared.Refusal.{Refusal}
 use Rattle.spec.specs.declared.Refusal.the-variants as N
-use Rattle.theory_log.specs.Contents.{Agree, Top}
+use Rattle.theory_log.specs.Contents.{Top}
 use Rattle.theory_base.proofs.Lists.{both-l, both-r, both-i, pick-i, pick-e}
 use Rattle.theory_base.proofs.Places.{length-allowed, allowed-length}
-use Rattle.theory_log.proofs.Tops.{all-in, in-all, twin-top, top-is, is-top, top-chosen}
+use Rattle.theory_log.proofs.Places.{all-sound}
+use Rattle.theory_log.proofs.Tops.{top-each, each-top}
+use Rattle.theory_log.proofs.Agree.{agree-test, test-agree}
 use Rattle.theory_crash.specs.Accepted.{Ok}
 use Rattle.theory_crash.specs.Rest.{Holds}
 use Rattle.theory_crash.proofs.Directory.{test-each, each-test}
-
--- A test of each top entry.
-pub top-each : (es : List Entry) (test : Entry → Bool) → eachTop es test ≡ true → (e : Entry) → Top es e → test e ≡ true
-top-each es test h e t = pick-e (isTop es e) (test e) (all-in (λ f. pick (isTop es f) (test f) true) es h e (t .0)) (top-is es e t)
-
-pub each-top : (es : List Entry) (test : Entry → Bool) → ((e : Entry) → Top es e → test e ≡ true) → eachTop es test ≡ true
-each-top es test h = in-all (λ f. pick (isTop es f) (test f) true) es (λ e m. pick-i (isTop es e) (test e) (λ q. h e (is-top es e m q)))
-
--- Equal lists and values.
-list-same : (xs ys : List ℕ) → sameList xs ys ≡ true → xs ≡ ys
-list-same [] [] h = refl
-list-same [] (y ∷ ys) h = absurd (let z : _≡_ {A = ℕ} 0 1 = cc in omega arith)
-list-same (x ∷ xs) [] h = absurd (let z : _≡_ {A = ℕ} 0 1 = cc in omega arith)
-list-same (x ∷ xs) (y ∷ ys) h = ap₂ (λ (a : ℕ) (l : List ℕ). a ∷ l) (eqb-true x y (both-l (eqb x y) (sameList xs ys) h)) (list-same xs ys (both-r (eqb x y) (sameList xs ys) h))
-
-list-refl : (xs : List ℕ) → sameList xs xs ≡ true
-list-refl [] = refl
-list-refl (x ∷ xs) = both-i (eqb x x) (sameList xs xs) (eq-eqb x x refl) (list-refl xs)
-
-pub held-same : (a b : Held) → sameHeld a b ≡ true → a ≡ b
-held-same Absent Absent h = refl
-held-same Absent (Value ys) h = absurd (let z : _≡_ {A = ℕ} 0 1 = cc in omega arith)
-held-same (Value xs) Absent h = absurd (let z : _≡_ {A = ℕ} 0 1 = cc in omega arith)
-held-same (Value xs) (Value ys) h = ap Value (list-same xs ys h)
-
-pub held-refl : (a : Held) → sameHeld a a ≡ true
-held-refl Absent = refl
-held-refl (Value xs) = list-refl xs
-
--- 6: agreement.
-pub agree-test : (ws : List ℕ) (es : List Entry) → Agree (meaning ws) es → agreeTest ws es ≡ true
-agree-test ws es a = each-top es (λ e. agreeWith ws e (chosen (e .key) es)) one
-  where
-    one : (e : Entry) → Top es e → agreeWith ws e (chosen (e .key) es) ≡ true
-    one e t = let f = top-chosen es e t in rw (f .1, a (e .key) (f .0) e (f .1) (t .0) refl (sym (f .4))) (held-refl (meaning ws (f .0)))
-
-pub test-agree : (ws : List ℕ) (es : List Entry) → agreeTest ws es ≡ true → Agree (meaning ws) es
-test-agree ws es h k e f c m q v =
-    let t = twin-top k es e f c m q v in
-    let s = top-each es (λ g. agreeWith ws g (chosen (g .key) es)) h f t in
-    let o : chosen (f .key) es ≡ some e = ap (λ (j : ℕ). chosen j es) q ∙ c in
-    held-same (meaning ws f) (meaning ws e) (rw o at s)
 
 -- 6: no two keys share a block.
 pub apart-test : (es : List Entry) → ((e f : Entry) → Top es e → Top es f → pointed e ≡ true → pointed f ≡ true → e .field ≡ f .field → e .key ≡ f .key) → apartTest es ≡ true
@@ -113,7 +72,7 @@ module _ (p : ℕ) (lo : 12 ≤ p) (hi : p ≤ 16) where
         each-test p n ws (ok .dirs),
         ok .parsed,
         each-top es (fine p n ws) (ok .blocks),
-        agree-test ws es (ok .agree),
+        agree-test es (ok .agree),
         apart-test es (ok .apart),
         fits,
       )
@@ -134,7 +93,7 @@ module _ (p : ℕ) (lo : 12 ≤ p) (hi : p ≤ 16) where
       wrong x q = absurd (let z : _≡_ {A = ℕ} 0 1 = cc in omega arith)
 
       last : (fs : List Entry) → lengthAllowed p bytes ≡ true → headerRight n ws ≡ true → directoryTest p n ws ≡ true → imageEntries p n ws ≡ Entries fs
-          → (b5 : Bool) → blocksTest p n ws fs ≡ b5 → (b6 : Bool) → both (agreeTest ws fs) (apartTest fs) ≡ b6 → (b7 : Bool) → fitsTable table fs ≡ b7
+          → (b5 : Bool) → blocksTest p n ws fs ≡ b5 → (b6 : Bool) → both (agreeTest fs) (apartTest fs) ≡ b6 → (b7 : Bool) → fitsTable table fs ≡ b7
           → pick b5 (pick b6 (pick b7 (Accepted fs) (Refused N.TableFull)) (Refused N.TopsDisagree)) (Refused N.BlockWrong) ≡ Accepted es → Goal
       last fs s1 s2 s3 s4 false s5 b6 s6 b7 s7 q = wrong N.BlockWrong q
       last fs s1 s2 s3 s4 true s5 false s6 b7 s7 q = wrong N.TopsDisagree q
@@ -142,7 +101,7 @@ module _ (p : ℕ) (lo : 12 ≤ p) (hi : p ≤ 16) where
       last fs s1 s2 s3 s4 true s5 true s6 true s7 q =
           let e : fs ≡ es = cc in
           let u = length-allowed p lo hi bytes s1 in
-          let t6 : both (agreeTest ws es) (apartTest es) ≡ true = rw e at s6 in
+          let t6 : both (agreeTest es) (apartTest es) ≡ true = rw e at s6 in
           let t5 : blocksTest p n ws es ≡ true = rw e at s5 in
           let t7 : fitsTable table es ≡ true = rw e at s7 in
           let v = u .2 in (
@@ -154,8 +113,8 @@ module _ (p : ℕ) (lo : 12 ≤ p) (hi : p ≤ 16) where
               dirs = test-each p n ws s3;
               parsed = rw e at s4;
               blocks = top-each es (fine p n ws) t5;
-              agree = test-agree ws es (both-l (agreeTest ws es) (apartTest es) t6);
-              apart = test-apart es (both-r (agreeTest ws es) (apartTest es) t6);
+              agree = test-agree es (all-sound p lo hi (n - 1) 1 ws es (rw e at s4) .right) (both-l (agreeTest es) (apartTest es) t6);
+              apart = test-apart es (both-r (agreeTest es) (apartTest es) t6);
             },
             t7,
             v,
@@ -167,7 +126,7 @@ module _ (p : ℕ) (lo : 12 ≤ p) (hi : p ≤ 16) where
       go true s1 false s2 b3 s3 q s4 t = wrong N.NotOpen t
       go true s1 true s2 false s3 q s4 t = wrong N.DirectoryWrong t
       go true s1 true s2 true s3 Wrong s4 t = wrong N.EntryWrong t
-      go true s1 true s2 true s3 (Entries fs) s4 t = last fs s1 s2 s3 s4 (blocksTest p n ws fs) refl (both (agreeTest ws fs) (apartTest fs)) refl (fitsTable table fs) refl t
+      go true s1 true s2 true s3 (Entries fs) s4 t = last fs s1 s2 s3 s4 (blocksTest p n ws fs) refl (both (agreeTest fs) (apartTest fs)) refl (fitsTable table fs) refl t
 
   -- an image that holds contents opens, with any table that has space for its keys
   pub holds-opens : (n keys table : ℕ) (C : ℕ → Held) (ws : List ℕ) → keys ≤ capacity table → Holds p n keys C ws

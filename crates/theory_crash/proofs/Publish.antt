@@ -16,14 +16,14 @@ use Rattle.spec.specs.Blocks.{pointed, blockWords}
 use Rattle.spec.specs.Contents.{Held, contentsBy, meaning}
 use Rattle.spec.specs.Opening.{fine}
 use Rattle.theory_log.specs.Batch.{AllRight}
-use Rattle.theory_log.specs.Contents.{done, Mem, Agree, Top}
+use Rattle.theory_log.specs.Contents.{done, Mem, Top}
 use Rattle.theory_base.proofs.Places.{lines-words, base-apart, past-directory, one-chunk}
 use Rattle.theory_log.proofs.Parse.{prepend-entries}
 use Rattle.theory_log.proofs.Batch.{parse-commit}
 use Rattle.theory_log.proofs.Image.{all-split, all-agree, Joined, join-inv}
 use Rattle.theory_log.proofs.Contents.{done-same, mem-l, mem-r, mem-cases}
 use Rattle.theory_log.proofs.Directory.{lines-is}
-use Rattle.theory_log.proofs.Tops.{contents-mean, agree-mean}
+use Rattle.theory_log.proofs.Tops.{contents-mean}
 use Rattle.theory_crash.specs.Accepted.{Needs, Ok}
 use Rattle.theory_crash.specs.Batch.{entryWords, Batch}
 use Rattle.theory_crash.proofs.Directory.{log-word, header-agree}
@@ -223,9 +223,6 @@ module _ (p : ℕ) (lo : 12 ≤ p) (hi : p ≤ 16) where
     top-fine e (inl m) = bt .staged e m
     top-fine e (inr t) = ok .blocks e t
 
-    agree-es : Agree (meaning published) es
-    agree-es = agree-mean (meaning ws) (meaning published) es (λ e t. fine-same e (ok .blocks e t) .1) (ok .agree)
-
     pub publish-ok : Ok p n published entries
     publish-ok = record {
       least = ok .least;
@@ -235,7 +232,7 @@ module _ (p : ℕ) (lo : 12 ≤ p) (hi : p ≤ 16) where
       dirs = λ c h. dirs′ c h (ℕ-discrete c d);
       parsed = shape .3;
       blocks = λ e t. fine-same e (top-fine e (top-cases e t)) .0;
-      agree = bt .effect .agrees (meaning published) (λ a e. refl) xs ys (shape .2) agree-es;
+      agree = bt .effect .agrees xs ys (shape .2) (ok .agree);
       apart = λ e f te tf. apart′ e f (top-cases e te) (top-cases f tf);
     }
       where
@@ -250,6 +247,6 @@ module _ (p : ℕ) (lo : 12 ≤ p) (hi : p ≤ 16) where
 
     pub publish-contents : (k : ℕ) → contentsBy (meaning published) entries k ≡ E (meaning ws) (contentsBy (meaning ws) es) k
     publish-contents k =
-        bt .effect .gives (meaning published) (λ a e. refl) xs ys (shape .2) agree-es k
+        bt .effect .gives (meaning published) (λ a e. refl) xs ys (shape .2) (ok .agree) k
         ∙ bt .effect .extends (meaning ws) (meaning published) (contentsBy (meaning ws) es) (contentsBy (meaning published) es) (λ e m. fine-same e (bt .staged e m) .1)
         (contents-mean (meaning ws) (meaning published) es (λ e t. fine-same e (ok .blocks e t) .1)) k

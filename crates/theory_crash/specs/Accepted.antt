@@ -11,7 +11,6 @@ use Rattle.spec.specs.Header.{headerRight}
 use Rattle.spec.specs.Directory.{roleOf, linesIn, directoryRight, linesOf}
 use Rattle.spec.specs.Log.{Entry, Entries, imageEntries}
 use Rattle.spec.specs.Blocks.{pointed, blockWords}
-use Rattle.spec.specs.Contents.{meaning}
 use Rattle.spec.specs.Opening.{fine}
 use Rattle.theory_log.specs.Contents.{Agree, Top}
 
@@ -34,7 +33,7 @@ pub record Ok (p n : ℕ) (ws : List ℕ) (es : List Entry) : Type 0 where
   pub dirs : (c : ℕ) → c < maxChunks → directoryRight p n c (getD ws (directoryWord c) 0) ≡ true
   pub parsed : imageEntries p n ws ≡ Entries es
   pub blocks : (e : Entry) → Top es e → fine p n ws e ≡ true
-  pub agree : Agree (meaning ws) es
+  pub agree : Agree es
   pub apart : (e f : Entry) → Top es e → Top es f → pointed e ≡ true → pointed f ≡ true → e .field ≡ f .field → e .key ≡ f .key
 
 -- The support: the header line, the directory words of log chunks, the committed lines, and what each top entry's value needs.

@@ -21,8 +21,8 @@ entryWords fs z = encodeAll fs ++ replicate z 0
 
 -- what a batch among the entries es does to the contents, wherever it comes to stand in the list
 pub record Effect (es batch : List Entry) (E : (Entry → Held) → (ℕ → Held) → ℕ → Held) : Type 0 where
-  pub agrees : (mean : Entry → Held) → ((a : ℕ) (e : Entry) → mean (moved a e) ≡ mean e) → (xs ys : List Entry) → es ≡ xs ++ ys → Agree mean es → Agree mean (xs ++ (batch ++ ys))
-  pub gives : (mean : Entry → Held) → ((a : ℕ) (e : Entry) → mean (moved a e) ≡ mean e) → (xs ys : List Entry) → es ≡ xs ++ ys → Agree mean es
+  pub agrees : (xs ys : List Entry) → es ≡ xs ++ ys → Agree es → Agree (xs ++ (batch ++ ys))
+  pub gives : (mean : Entry → Held) → ((a : ℕ) (e : Entry) → mean (moved a e) ≡ mean e) → (xs ys : List Entry) → es ≡ xs ++ ys → Agree es
       → (k : ℕ) → contentsBy mean (xs ++ (batch ++ ys)) k ≡ E mean (contentsBy mean es) k
   pub extends : (mean mean′ : Entry → Held) (c c′ : ℕ → Held) → ((e : Entry) → Mem e batch → mean′ e ≡ mean e) → ((k : ℕ) → c′ k ≡ c k) → (k : ℕ) → E mean′ c′ k ≡ E mean c k
 

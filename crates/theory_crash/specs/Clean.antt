@@ -2,12 +2,13 @@
 -- Assumes nothing.
 use mathlib.Core.Path.{_≡_}
 use mathlib.Core.Logic.{_⊎_}
+use mathlib.Core.Bool.{false}
 use mathlib.Core.List.{List}
+use lib.Dec.{eqb}
 use Rattle.spec.specs.Log.{Entry}
-use Rattle.spec.specs.Contents.{Held, Absent}
 use Rattle.theory_log.specs.Contents.{Mem, Top}
 
--- each top entry of es is covered by gs: an entry of its key and version stands there, or it means absent and its key is gone
-abbrev pub Covers : (Entry → Held) → List Entry → List Entry → Type 0
-Covers mean es gs =
-    (e : Entry) → Top es e → ((f : Entry) × Mem f gs × (f .key ≡ e .key) × (f .version ≡ e .version)) ⊎ ((mean e ≡ Absent) × ((f : Entry) → Mem f gs → f .key ≡ e .key → ⊥))
+-- each top entry of es is covered by gs: an entry of its key and version stands there, or it is a delete and its key is gone
+abbrev pub Covers : List Entry → List Entry → Type 0
+Covers es gs =
+    (e : Entry) → Top es e → ((f : Entry) × Mem f gs × (f .key ≡ e .key) × (f .version ≡ e .version)) ⊎ ((eqb (e .op) 1 ≡ false) × ((f : Entry) → Mem f gs → f .key ≡ e .key → ⊥))

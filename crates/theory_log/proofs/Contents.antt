@@ -11,9 +11,9 @@ use lib.Dec.{eqb, leb, leb·zero}
 use lib.Seq.{append-snoc}
 use borrow.Author.Tests.{eqb-true, eqb-false, leb-true, leb-false, eq-eqb, ne-eqb, le-leb, lt-leb}
 use Rattle.spec.specs.Basics.{pick, larger, both, filter, first}
-use Rattle.spec.specs.Log.{Entry}
+use Rattle.spec.specs.Log.{Entry, moved}
 use Rattle.spec.specs.Contents.{highest, Held, Absent, isTopOf, tops, chosen, held, contentsBy}
-use Rattle.theory_log.specs.Contents.{done, CountsOn, Mem, Agree}
+use Rattle.theory_log.specs.Contents.{done, CountsOn, Mem, Same, Agree}
 
 -- The chosen entry as a fold: the first of the highest.
 abbrev pub better : Option Entry → Option Entry → Option Entry
@@ -314,36 +314,40 @@ chosen-none k es h = go (chosen k es) (chosen-is k es)
     go none c = refl
     go (some e) c = let d = c e refl in absurd (h e (d .in-list) (d .of-key))
 
--- Two entries that say the same.
-pub record Same (mean : Entry → Held) (e f : Entry) : Type 0 where
-  pub key : e .key ≡ f .key
-  pub version : e .version ≡ f .version
-  pub means : mean e ≡ mean f
+-- Entries that are the same have one key and one version, and mean the same where the meaning does not depend on the place.
+pub same-key : (e f : Entry) → Same e f → e .key ≡ f .key
+same-key e f s = ap (λ (x : Entry). x .key) s
 
--- The frame of cleaning: a list whose entries all say what some entry of the old one says, and which has for each key what the old one chose, or nothing where that is absent.
-pub contents-same : (mean : Entry → Held) (old new : List Entry) → Agree mean old
-    → ((f : Entry) → Mem f new → (e : Entry) × Mem e old × Same mean f e)
-    → ((k : ℕ) (e : Entry) → chosen k old ≡ some e → ((f : Entry) × Mem f new × Same mean f e) ⊎ ((mean e ≡ Absent) × ((f : Entry) → Mem f new → f .key ≡ k → ⊥)))
+pub same-version : (e f : Entry) → Same e f → e .version ≡ f .version
+same-version e f s = ap (λ (x : Entry). x .version) s
+
+pub same-means : (mean : Entry → Held) → ((a : ℕ) (e : Entry) → mean (moved a e) ≡ mean e) → (e f : Entry) → Same e f → mean e ≡ mean f
+same-means mean free e f s = sym (free 0 e) ∙ ap mean s ∙ free 0 f
+
+-- The frame of cleaning: a list whose entries are all the same as some entry of the old one, and which has for each key what the old one chose, or nothing where that is absent.
+pub contents-same : (mean : Entry → Held) → ((a : ℕ) (e : Entry) → mean (moved a e) ≡ mean e) → (old new : List Entry) → Agree old
+    → ((f : Entry) → Mem f new → (e : Entry) × Mem e old × Same f e)
+    → ((k : ℕ) (e : Entry) → chosen k old ≡ some e → ((f : Entry) × Mem f new × Same f e) ⊎ ((mean e ≡ Absent) × ((f : Entry) → Mem f new → f .key ≡ k → ⊥)))
     → (k : ℕ) → contentsBy mean new k ≡ contentsBy mean old k
-contents-same mean old new agree from to k = go (chosen k old) refl
+contents-same mean free old new agree from to k = go (chosen k old) refl
   where
-    more : (e : Entry) → chosen k old ≡ some e → (f : Entry) → Mem f new → Same mean f e → (q : Option Entry) → chosen k new ≡ q → held mean q ≡ mean e
-    more e h f m s none n = absurd (none-of k new f n m (s .key ∙ chosen-is k old e h .of-key))
+    more : (e : Entry) → chosen k old ≡ some e → (f : Entry) → Mem f new → Same f e → (q : Option Entry) → chosen k new ≡ q → held mean q ≡ mean e
+    more e h f m s none n = absurd (none-of k new f n m (same-key f e s ∙ chosen-is k old e h .of-key))
     more e h f m s (some g) n =
         let c = chosen-is k new g n in
         let d = chosen-is k old e h in
         let o = from g (c .in-list) in
-        let ok : o .0 .key ≡ k = sym (o .2 .key) ∙ c .of-key in
-        let up : f .version ≤ g .version = c .above f m (s .key ∙ d .of-key) in
+        let ok : o .0 .key ≡ k = sym (same-key g (o .0) (o .2)) ∙ c .of-key in
+        let up : f .version ≤ g .version = c .above f m (same-key f e s ∙ d .of-key) in
         let down : o .0 .version ≤ e .version = d .above (o .0) (o .1) ok in
-        let sv = s .version in
-        let ov = o .2 .version in
-        o .2 .means ∙ agree k e (o .0) h (o .1) ok (omega arith)
+        let sv = same-version f e s in
+        let ov = same-version g (o .0) (o .2) in
+        same-means mean free g e (o .2 ∙ agree k e (o .0) h (o .1) ok (omega arith))
 
     go : (q : Option Entry) → chosen k old ≡ q → contentsBy mean new k ≡ held mean q
-    go none h = rw (chosen-none k new (λ f m s. let o = from f m in none-of k old (o .0) h (o .1) (sym (o .2 .key) ∙ s)))
+    go none h = rw (chosen-none k new (λ f m s. let o = from f m in none-of k old (o .0) h (o .1) (sym (same-key f (o .0) (o .2)) ∙ s)))
     go (some e) h = either-way (to k e h)
       where
-        either-way : ((f : Entry) × Mem f new × Same mean f e) ⊎ ((mean e ≡ Absent) × ((f : Entry) → Mem f new → f .key ≡ k → ⊥)) → contentsBy mean new k ≡ mean e
+        either-way : ((f : Entry) × Mem f new × Same f e) ⊎ ((mean e ≡ Absent) × ((f : Entry) → Mem f new → f .key ≡ k → ⊥)) → contentsBy mean new k ≡ mean e
         either-way (inl r) = more e h (r .0) (r .1) (r .2) (chosen k new) refl
         either-way (inr r) = rw (chosen-none k new (r .1)) (sym (r .0))

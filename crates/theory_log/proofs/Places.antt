@@ -22,6 +22,7 @@ use Rattle.theory_log.specs.Batch.{Kind, put, block, delete, Right, AllR
 use Rattle.theory_log.specs.Contents.{Mem, Apart}
 use Rattle.theory_log.proofs.Parse.{found, cons-inv}
 use Rattle.theory_log.proofs.Walk.{slice-long}
+use Rattle.theory_log.proofs.Contents.{mem-r}
 use Rattle.theory_log.proofs.Directory.{lines-most}
 use Rattle.theory_base.proofs.Places.{base-next, lines-words}
 use Rattle.theory_log.proofs.Image.{Joined, join-inv}
@@ -64,6 +65,15 @@ rising-apart lo hi (x ∷ xs) r e f (inl a) (inr n) q =
 rising-apart lo hi (x ∷ xs) r e f (inr m) (inl b) q =
     let a = rising-in (suc (x .at)) hi xs e (r .1) m .0 in let c : f .at ≡ x .at = ap (λ (y : Entry). y .at) b in absurd (omega arith)
 rising-apart lo hi (x ∷ xs) r e f (inr m) (inr n) q = rising-apart (suc (x .at)) hi xs (r .1) e f m n q
+
+-- what stands before an entry in the list is another
+pub rising-before : (lo hi : ℕ) (xs ys : List Entry) (e f : Entry) → Rising lo hi (xs ++ e ∷ ys) → Mem f xs → f .at < e .at
+rising-before lo hi [] ys e f r m = absurd m
+rising-before lo hi (x ∷ xs) ys e f r (inr m) = rising-before (suc (x .at)) hi xs ys e f (r .1) m
+rising-before lo hi (x ∷ xs) ys e f r (inl q) =
+    let a = rising-in (suc (x .at)) hi (xs ++ e ∷ ys) e (r .1) (mem-r e xs (e ∷ ys) (inl refl)) .0 in
+    let b : f .at ≡ x .at = ap (λ (y : Entry). y .at) q in
+    omega arith
 
 -- Rightness of a first word.
 fields-right : (op pl v x op′ pl′ v′ x′ : ℕ) → v < 1048576 → partsOf op pl v x ≡ F.Entry op′ pl′ v′ x′ → Kind op′ pl′ x′ × (1 ≤ v′) × (v′ < 1048576)

@@ -1,4 +1,4 @@
--- Top entries: the test and the claim are one, and contents and agreement look at their meaning alone.
+-- Top entries: the test and the claim are one, contents look at their meaning alone, and those of a key that agree are the same.
 -- Assumes nothing.
 use mathlib.Core.Path.{_≡_, refl, sym, _∙_, ap}
 use mathlib.Core.Logic.{inl, inr}
@@ -9,11 +9,12 @@ use Prim.Native.Nat.{ℕ, _≤_}
 use native.Mathlib.Omega.{arith}
 use lib.Dec.{eqb}
 use borrow.Author.Tests.{eqb-true, eq-eqb}
-use Rattle.spec.specs.Basics.{all}
+use Rattle.spec.specs.Basics.{pick, all}
 use Rattle.spec.specs.Log.{Entry, moved}
 use Rattle.spec.specs.Contents.{Held, Absent, isTop, highest, chosen, held, contentsBy, meaning}
-use Rattle.theory_log.specs.Contents.{Mem, Agree, Top}
-use Rattle.theory_base.proofs.Lists.{both-l, both-r, both-i}
+use Rattle.spec.specs.Opening.{eachTop}
+use Rattle.theory_log.specs.Contents.{Mem, Same, Agree, Top}
+use Rattle.theory_base.proofs.Lists.{both-l, both-r, both-i, pick-i, pick-e}
 use Rattle.theory_log.proofs.Contents.{versionOf, chosen-best, highest-best, below-highest, chosen-is, none-of}
 
 -- A test of each entry.
@@ -63,7 +64,14 @@ top-chosen es e t = go (chosen (e .key) es) refl
         let v = c .above e (t .0) refl in
         (f, refl, c .in-list, c .of-key, omega arith)
 
--- what contents and agreement take from `mean`: the meaning of top entries
+-- A test of each top entry.
+pub top-each : (es : List Entry) (test : Entry → Bool) → eachTop es test ≡ true → (e : Entry) → Top es e → test e ≡ true
+top-each es test h e t = pick-e (isTop es e) (test e) (all-in (λ f. pick (isTop es f) (test f) true) es h e (t .0)) (top-is es e t)
+
+pub each-top : (es : List Entry) (test : Entry → Bool) → ((e : Entry) → Top es e → test e ≡ true) → eachTop es test ≡ true
+each-top es test h = in-all (λ f. pick (isTop es f) (test f) true) es (λ e m. pick-i (isTop es e) (test e) (λ q. h e (is-top es e m q)))
+
+-- what contents take from `mean`: the meaning of top entries
 pub contents-mean : (mean mean′ : Entry → Held) (es : List Entry) → ((e : Entry) → Top es e → mean′ e ≡ mean e) → (k : ℕ) → contentsBy mean′ es k ≡ contentsBy mean es k
 contents-mean mean mean′ es h k = go (chosen k es) refl
   where
@@ -71,8 +79,14 @@ contents-mean mean mean′ es h k = go (chosen k es) refl
     go none p = refl
     go (some e) p = h e (chosen-top k es e p)
 
-pub agree-mean : (mean mean′ : Entry → Held) (es : List Entry) → ((e : Entry) → Top es e → mean′ e ≡ mean e) → Agree mean es → Agree mean′ es
-agree-mean mean mean′ es h a k e f c m q v = h f (twin-top k es e f c m q v) ∙ a k e f c m q v ∙ sym (h e (chosen-top k es e c))
+-- top entries of a key that agree are the same
+pub tops-same : (es : List Entry) → Agree es → (e f : Entry) → Top es e → Top es f → e .key ≡ f .key → Same e f
+tops-same es a e f te tf q =
+    let c = top-chosen es e te in
+    let d = chosen-top (e .key) es (c .0) (c .1) in
+    let x = d .1 f (tf .0) (sym q ∙ sym (c .3)) in
+    let y = tf .1 (c .0) (c .2) (c .3 ∙ q) in
+    a (e .key) (c .0) e (c .1) (te .0) refl (sym (c .4)) ∙ sym (a (e .key) (c .0) f (c .1) (tf .0) (sym q) (omega arith))
 
 -- The meaning of an entry does not depend on its place, and a delete means absent.
 pub meaning-moved : (ws : List ℕ) (a : ℕ) (e : Entry) → meaning ws (moved a e) ≡ meaning ws e

@@ -7,7 +7,7 @@ use mathlib.Core.List.{List, [], _∷_}
 use Prim.Native.Nat.{ℕ, suc, _≤_}
 use lib.Dec.{eqb}
 use Rattle.spec.specs.Basics.{pick}
-use Rattle.spec.specs.Log.{Entry}
+use Rattle.spec.specs.Log.{Entry, moved}
 use Rattle.spec.specs.Contents.{Held, highest, chosen}
 
 -- membership
@@ -29,9 +29,13 @@ CountsOn es (e ∷ batch) = (e .version ≡ suc (highest (e .key) es)) × Counts
 abbrev pub Top : List Entry → Entry → Type 0
 Top es e = Mem e es × ((f : Entry) → Mem f es → f .key ≡ e .key → f .version ≤ e .version)
 
--- top entries agree with the chosen one; no two entries have one place
-abbrev pub Agree : (Entry → Held) → List Entry → Type 0
-Agree mean es = (k : ℕ) (e f : Entry) → chosen k es ≡ some e → Mem f es → f .key ≡ k → f .version ≡ e .version → mean f ≡ mean e
+-- two entries are one but for their place
+abbrev pub Same : Entry → Entry → Type 0
+Same e f = moved 0 e ≡ moved 0 f
+
+-- top entries are the same as the chosen one; no two entries have one place
+abbrev pub Agree : List Entry → Type 0
+Agree es = (k : ℕ) (e f : Entry) → chosen k es ≡ some e → Mem f es → f .key ≡ k → f .version ≡ e .version → Same f e
 
 abbrev pub Apart : List Entry → Type 0
 Apart es = (e f : Entry) → Mem e es → Mem f es → e .at ≡ f .at → e ≡ f

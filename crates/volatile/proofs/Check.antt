@@ -8,17 +8,19 @@ use Prim.Native.Nat.{ℕ, suc, _≤_, _<_}
 use native.Mathlib.Omega.{arith}
 use lib.Dec.{eqb}
 use borrow.Author.Tests.{eq-eqb, ltb-true}
-use Rattle.spec.specs.Basics.{pick, both, all, isIn, sameList}
-use Rattle.spec.specs.Log.{Entry}
+use Rattle.spec.specs.Basics.{pick, both, all, isIn}
+use Rattle.spec.specs.Log.{Entry, moved}
 use Rattle.spec.specs.Places.{basePower, maxChunks, chunkUnits, firstUnit, unitChunk}
 use Rattle.spec.specs.Blocks.{pointed, startTests, lengthTests, blockTest, blockRight}
-use Rattle.spec.specs.Contents.{Held, Absent, Value, isTop, highest, chosen, meaning, sameHeld, agree, liveBlocks}
+use Rattle.spec.specs.Contents.{isTop, highest, chosen, agree, liveBlocks}
 use Rattle.spec.specs.Opening.{fine, blocksTest, agreeWith, agreeTest, apartTest}
 use Rattle.theory_base.proofs.Lists.{not-both, every-true, pick-e}
 use Rattle.theory_base.proofs.Places.{base-next, base-rises, units-words, units-base, unit-in, unit-split}
+use Rattle.theory_log.specs.Batch.{AllRight}
 use Rattle.theory_log.specs.Contents.{Mem, Apart}
 use Rattle.theory_log.proofs.Contents.{chosen-is}
-use Rattle.theory_log.proofs.Tops.{all-in, top-highest, chosen-top}
+use Rattle.theory_log.proofs.Tops.{all-in, top-highest, chosen-top, top-is}
+use Rattle.theory_log.proofs.Agree.{same-agrees, test-agree}
 use Rattle.volatile.specs.Check.{Marks, CheckInv}
 use Rattle.volatile.proofs.Marks.{marks-start, marks-skip, marks-apart, marks-live}
 
@@ -43,20 +45,12 @@ all-last test (x ∷ xs) e = ap (both (test x)) (all-last test xs e) ∙ sym (bo
 pub top-test : (es : List Entry) (e f : Entry) → chosen (e .key) es ≡ some f → isTop es e ≡ eqb (e .version) (f .version)
 top-test es e f c = ap (eqb (e .version)) (sym (top-highest es f (chosen-top (e .key) es f c) ∙ ap (λ (k : ℕ). highest k es) (chosen-is (e .key) es f c .of-key)))
 
-same-list : (xs : List ℕ) → sameList xs xs ≡ true
-same-list [] = refl
-same-list (x ∷ xs) = rw (eq-eqb x x refl) (same-list xs)
-
-pub same-held : (h : Held) → sameHeld h h ≡ true
-same-held Absent = refl
-same-held (Value xs) = same-list xs
-
 -- the chosen entry agrees with itself, another has to be compared with it
-pub agreed-own : (ws : List ℕ) (es : List Entry) (e f : Entry) → Apart es → Mem e es → chosen (e .key) es ≡ some f → f .at ≡ e .at → agreeWith ws e (chosen (e .key) es) ≡ true
-agreed-own ws es e f a m c q = rw c (ap (agree ws e) (a f e (chosen-is (e .key) es f c .in-list) m q) ∙ same-held (meaning ws e))
+pub agreed-own : (es : List Entry) (e f : Entry) → Apart es → Mem e es → chosen (e .key) es ≡ some f → f .at ≡ e .at → agreeWith e (chosen (e .key) es) ≡ true
+agreed-own es e f a m c q = rw c (same-agrees e f (ap (moved 0) (sym (a f e (chosen-is (e .key) es f c .in-list) m q))))
 
-pub agreed-other : (ws : List ℕ) (es : List Entry) (e f : Entry) → chosen (e .key) es ≡ some f → agreeWith ws e (chosen (e .key) es) ≡ agree ws e f
-agreed-other ws es e f c = rw c
+pub agreed-other : (es : List Entry) (e f : Entry) → chosen (e .key) es ≡ some f → agreeWith e (chosen (e .key) es) ≡ agree e f
+agreed-other es e f c = rw c
 
 -- one wrong block is enough
 pub block-wrong : (p n : ℕ) (ws : List ℕ) (es : List Entry) (e : Entry) → Mem e es → isTop es e ≡ true → fine p n ws e ≡ false → blocksTest p n ws es ≡ false
@@ -98,19 +92,19 @@ module _ (p n : ℕ) (ws : List ℕ) (es xs : List Entry) (e : Entry) (has : ℕ
   pub check-skip : isTop es e ≡ false → CheckInv p n ws es (xs ++ e ∷ []) has blocks agreeing apart
   check-skip t = record {
     right = inv .right ∙ kept (fine p n ws);
-    agreed = inv .agreed ∙ kept (λ f. agreeWith ws f (chosen (f .key) es));
-    marks = marks-skip es xs e has apart (inv .marks) (λ u. absurd (not-both (isTop es e) u t));
+    agreed = inv .agreed ∙ kept (λ f. agreeWith f (chosen (f .key) es));
+    marks = marks-skip es xs e has apart (inv .marks) (λ c. absurd (not-both (isTop es e) (top-is es e (chosen-top (e .key) es e c)) t));
   }
     where
       kept : (test : Entry → Bool) → all (λ f. pick (isTop es f) (test f) true) xs ≡ all (λ f. pick (isTop es f) (test f) true) (xs ++ e ∷ [])
       kept test = sym (all-last (λ f. pick (isTop es f) (test f) true) xs e ∙ rw t (both-comm _ true))
 
   -- a top entry, whose marks the laws of marks give
-  pub check-top : (has′ : ℕ → Bool) (blocks′ agreeing′ apart′ : Bool) → isTop es e ≡ true → blocks′ ≡ both blocks (fine p n ws e) → agreeing′ ≡ both agreeing (agreeWith ws e (chosen (e .key) es))
+  pub check-top : (has′ : ℕ → Bool) (blocks′ agreeing′ apart′ : Bool) → isTop es e ≡ true → blocks′ ≡ both blocks (fine p n ws e) → agreeing′ ≡ both agreeing (agreeWith e (chosen (e .key) es))
       → Marks es (xs ++ e ∷ []) has′ apart′ → CheckInv p n ws es (xs ++ e ∷ []) has′ blocks′ agreeing′ apart′
   check-top has′ blocks′ agreeing′ apart′ t b a m = record {
     right = b ∙ ap (λ (x : Bool). both x (fine p n ws e)) (inv .right) ∙ more (fine p n ws);
-    agreed = a ∙ ap (λ (x : Bool). both x (agreeWith ws e (chosen (e .key) es))) (inv .agreed) ∙ more (λ f. agreeWith ws f (chosen (f .key) es));
+    agreed = a ∙ ap (λ (x : Bool). both x (agreeWith e (chosen (e .key) es))) (inv .agreed) ∙ more (λ f. agreeWith f (chosen (f .key) es));
     marks = m;
   }
     where
@@ -119,15 +113,17 @@ module _ (p n : ℕ) (ws : List ℕ) (es xs : List Entry) (e : Entry) (has : ℕ
 
 -- ## The end
 
-module _ (p n : ℕ) (ws : List ℕ) (es : List Entry) (has : ℕ → Bool) (blocks agreeing apart : Bool) (inv : CheckInv p n ws es es has blocks agreeing apart) where
+module _ (p n : ℕ) (ws : List ℕ) (es : List Entry) (right : AllRight es) (has : ℕ → Bool) (blocks agreeing apart : Bool) (inv : CheckInv p n ws es es has blocks agreeing apart) where
   pub check-blocks : blocks ≡ blocksTest p n ws es
   check-blocks = inv .right
 
-  pub check-agree : agreeing ≡ agreeTest ws es
-  check-agree = inv .agreed
+  -- where the top entries disagree nothing more is asked of the blocks
+  pub check-tops : both agreeing apart ≡ both (agreeTest es) (apartTest es)
+  check-tops = go agreeing (inv .agreed)
+    where
+      go : (b : Bool) → b ≡ agreeTest es → both b apart ≡ both (agreeTest es) (apartTest es)
+      go true q = rw (← q) (marks-apart es (test-agree es right (sym q)) has apart (inv .marks))
+      go false q = rw (← q)
 
-  pub check-apart : apart ≡ apartTest es
-  check-apart = marks-apart es has apart (inv .marks)
-
-  pub check-live : (u : ℕ) → has u ≡ isIn u (liveBlocks es)
-  check-live = marks-live es has apart (inv .marks)
+  pub check-live : agreeing ≡ true → (u : ℕ) → has u ≡ isIn u (liveBlocks es)
+  check-live t = marks-live es (test-agree es right (sym (inv .agreed) ∙ t)) has apart (inv .marks)

@@ -7,19 +7,20 @@ use mathlib.Core.Option.{some}
 use mathlib.Core.List.{List, [], _∷_, _++_, map, append-assoc}
 use Prim.Native.Nat.{ℕ}
 use native.Mathlib.Decide.{ℕ-discrete}
+use native.Mathlib.Omega.{arith}
 use lib.Dec.{eqb}
 use borrow.Author.Tests.{eqb-true, eq-eqb}
-use Rattle.spec.specs.Basics.{pick, both, either, negate, filter, first, any, isIn}
+use Rattle.spec.specs.Basics.{pick, both, either, filter, any, isIn}
 use Rattle.spec.specs.Medium.{Mem as Among}
 use Rattle.spec.specs.Log.{Entry}
 use Rattle.spec.specs.Blocks.{pointed}
-use Rattle.spec.specs.Contents.{isTop, isTopOf, highest, tops, chosen, liveBlocks}
+use Rattle.spec.specs.Contents.{isTop, chosen, liveBlocks}
 use Rattle.spec.specs.Opening.{sharing, eachTop, apartTest}
-use Rattle.theory_base.proofs.Lists.{not-both, both-l, both-r, both-i, either-l, either-r, either-cases, pick-i, pick-e, filter-append, isIn-mem, mem-isIn}
-use Rattle.theory_log.specs.Contents.{Mem}
-use Rattle.theory_log.proofs.Contents.{mem-l, mem-r, mem-cases, mem-filter, filter-mem, chosen-is}
-use Rattle.theory_log.proofs.Tops.{all-in, in-all, chosen-top, top-is}
-use Rattle.volatile.specs.Check.{clashing, clash, Live, Marks}
+use Rattle.theory_base.proofs.Lists.{not-both, both-l, both-r, both-i, either-l, either-r, either-cases, pick-i, pick-e, isIn-mem, mem-isIn}
+use Rattle.theory_log.specs.Contents.{Mem, Agree, Top}
+use Rattle.theory_log.proofs.Contents.{mem-l, mem-r, mem-cases, mem-filter, filter-mem}
+use Rattle.theory_log.proofs.Tops.{chosen-top, top-is, is-top, top-chosen, tops-same, top-each, each-top}
+use Rattle.volatile.specs.Check.{Live, Clash, Marks}
 
 -- A test of some entry.
 pub any-in : (test : Entry → Bool) (es : List Entry) (e : Entry) → Mem e es → test e ≡ true → any test es ≡ true
@@ -57,46 +58,21 @@ shared e f h =
     let r = both-r (pointed e) (both (pointed f) (eqb (e .field) (f .field))) h in
     (both-l (pointed e) (both (pointed f) (eqb (e .field) (f .field))) h, both-l (pointed f) (eqb (e .field) (f .field)) r, eqb-true (e .field) (f .field) (both-r (pointed f) (eqb (e .field) (f .field)) r))
 
--- where nothing clashes with e, an entry that shares its block is of its key
-no-clash : (es : List Entry) (e f : Entry) → clash es e ≡ false → pointed e ≡ true → Live es es f → e .field ≡ f .field → e .key ≡ f .key
-no-clash es e f c p l q = go (eqb (e .key) (f .key)) refl
-  where
-    go : (b : Bool) → eqb (e .key) (f .key) ≡ b → e .key ≡ f .key
-    go true h = eqb-true (e .key) (f .key) h
-    go false h =
-        let s : both (sharing e f) (negate (eqb (e .key) (f .key))) ≡ true = both-i (sharing e f) _ (share e f p (l .points) q) (ap negate h) in
-        absurd (not-both (clash es e) (any-in (clashing es e) es f (l .member) (both-i (isTop es f) _ (l .top) s)) c)
+-- Live entries: top, one of a key, and with one more entry.
+live-top : (es xs : List Entry) (e : Entry) → Live es xs e → Top es e
+live-top es xs e l = chosen-top (e .key) es e (l .first)
 
--- The chosen entry stands before every other top entry of its key.
-pub chosen-before : (es xs ys : List Entry) (e f : Entry) → es ≡ xs ++ e ∷ ys → isTop es e ≡ true → chosen (e .key) es ≡ some f → (f .at ≡ e .at → ⊥) → Mem f xs
-unfolding chosen tops
-chosen-before es xs ys e f s t c n = go (filter test xs) refl
-  where
-    test : Entry → Bool
-    test = isTopOf (e .key) (highest (e .key) es)
+live-one : (es xs ys : List Entry) (e f : Entry) → Live es xs e → Live es ys f → e .key ≡ f .key → e ≡ f
+live-one es xs ys e f l m q = let h = ap (λ (k : ℕ). chosen k es) q in let a = l .first in let b = m .first in cc
 
-    own : test e ≡ true
-    own = both-i (eqb (e .key) (e .key)) (isTop es e) (eq-eqb (e .key) (e .key) refl) t
-
-    parts : filter test es ≡ filter test xs ++ e ∷ filter test ys
-    parts = ap (filter test) s ∙ filter-append test xs (e ∷ ys) ∙ ap (λ (b : Bool). filter test xs ++ pick b (e ∷ filter test ys) (filter test ys)) own
-
-    found : first (filter test xs ++ e ∷ filter test ys) ≡ some f
-    found = sym (ap first parts) ∙ c
-
-    go : (l : List Entry) → filter test xs ≡ l → Mem f xs
-    go [] h = let q : e ≡ f = (let z : first ([] ++ e ∷ filter test ys) ≡ some f = rw h at found in cc) in absurd (n (ap (λ (x : Entry). x .at) (sym q)))
-    go (g ∷ l) h = let q : f ≡ g = (let z : first ((g ∷ l) ++ e ∷ filter test ys) ≡ some f = rw h at found in cc) in mem-filter test f xs (rw h (inl q)) .0
-
--- Live entries, with one more entry.
 live-more : (es xs ys : List Entry) (f : Entry) → Live es xs f → Live es (xs ++ ys) f
-live-more es xs ys f l = record { member = mem-l f xs ys (l .member); top = l .top; points = l .points }
+live-more es xs ys f l = record { member = mem-l f xs ys (l .member); first = l .first; points = l .points }
 
 live-last : (es xs : List Entry) (e f : Entry) → Live es (xs ++ e ∷ []) f → Live es xs f ⊎ (f ≡ e)
 live-last es xs e f l = go (mem-cases f xs (e ∷ []) (l .member))
   where
     go : Mem f xs ⊎ Mem f (e ∷ []) → Live es xs f ⊎ (f ≡ e)
-    go (inl m) = inl (record { member = m; top = l .top; points = l .points })
+    go (inl m) = inl (record { member = m; first = l .first; points = l .points })
     go (inr (inl q)) = inr q
     go (inr (inr m)) = absurd m
 
@@ -107,132 +83,86 @@ marks-start es has z = record {
   marked = λ e l. absurd (l .member);
   only = λ u h. absurd (not-both (has u) h (z u));
   alone = λ t e f l m q. absurd (l .member);
-  clashes = λ f. absurd (not-both true refl f);
+  clash = λ f. absurd (not-both true refl f);
 }
 
 -- ## One more entry
 
 module _ (es xs : List Entry) (e : Entry) (has : ℕ → Bool) (apart : Bool) (inv : Marks es xs has apart) where
-  -- each live entry has one of the same block and key before: nothing changes
-  marks-kept : ((f : Entry) → Live es (xs ++ e ∷ []) f → (g : Entry) × Live es xs g × (g .field ≡ f .field) × (g .key ≡ f .key)) → Marks es (xs ++ e ∷ []) has apart
-  marks-kept same = record {
-    marked = λ f l. let s = same f l in ap has (sym (s .2)) ∙ inv .marked (s .0) (s .1);
+  -- one with no block, or not the chosen one of its key
+  pub marks-skip : (chosen (e .key) es ≡ some e → pointed e ≡ true → ⊥) → Marks es (xs ++ e ∷ []) has apart
+  marks-skip n = record {
+    marked = λ f l. inv .marked f (before f l);
     only = λ u h. let r = inv .only u h in (r .0, live-more es xs (e ∷ []) (r .0) (r .1), r .2);
-    alone = λ t f g l m q. let a = same f l in let b = same g m in sym (a .3) ∙ inv .alone t (a .0) (b .0) (a .1) (b .1) (a .2 ∙ q ∙ sym (b .2)) ∙ b .3;
-    clashes = inv .clashes;
+    alone = λ t f g l m. inv .alone t f g (before f l) (before g m);
+    clash = inv .clash;
   }
-
-  -- no top entry, or one with no block
-  pub marks-skip : (isTop es e ≡ true → pointed e ≡ true → ⊥) → Marks es (xs ++ e ∷ []) has apart
-  marks-skip n = marks-kept (λ f l. go f l (live-last es xs e f l))
     where
-      go : (f : Entry) → Live es (xs ++ e ∷ []) f → Live es xs f ⊎ (f ≡ e) → (g : Entry) × Live es xs g × (g .field ≡ f .field) × (g .key ≡ f .key)
-      go f l (inl m) = (f, m, refl, refl)
-      go f l (inr q) = absurd (n (ap (isTop es) (sym q) ∙ l .top) (ap pointed (sym q) ∙ l .points))
+      before : (f : Entry) → Live es (xs ++ e ∷ []) f → Live es xs f
+      before f l = go (live-last es xs e f l)
+        where
+          go : Live es xs f ⊎ (f ≡ e) → Live es xs f
+          go (inl m) = m
+          go (inr q) = absurd (n (rw q at (l .first)) (rw q at (l .points)))
 
-  -- one whose block another of its key has
-  marks-same : (c : Entry) → Live es xs c → c .field ≡ e .field → c .key ≡ e .key → Marks es (xs ++ e ∷ []) has apart
-  marks-same c l a b = marks-kept (λ f m. go f (live-last es xs e f m))
-    where
-      go : (f : Entry) → Live es xs f ⊎ (f ≡ e) → (g : Entry) × Live es xs g × (g .field ≡ f .field) × (g .key ≡ f .key)
-      go f (inl m) = (f, m, refl, refl)
-      go f (inr q) = (c, l, a ∙ ap (λ (x : Entry). x .field) (sym q), b ∙ ap (λ (x : Entry). x .key) (sym q))
+  module _ (ys : List Entry) (split : es ≡ xs ++ e ∷ ys) (is-first : chosen (e .key) es ≡ some e) (points : pointed e ≡ true) where
+    inside : (f : Entry) → Live es xs f → Live es es f
+    inside f l = record { member = rw split (mem-l f xs (e ∷ ys) (l .member)); first = l .first; points = l .points }
 
-  -- a top entry that is not the chosen one, and points to the chosen one's block
-  pub marks-twin : (ys : List Entry) (f : Entry) → es ≡ xs ++ e ∷ ys → isTop es e ≡ true → chosen (e .key) es ≡ some f → (f .at ≡ e .at → ⊥) → pointed f ≡ true → f .field ≡ e .field → Marks es (xs ++ e ∷ []) has apart
-  marks-twin ys f s t c n p q =
-      marks-same f (record { member = chosen-before es xs ys e f s t c n; top = top-is es f (chosen-top (e .key) es f c); points = p }) q (chosen-is (e .key) es f c .of-key)
-
-  module _ (ys : List Entry) (split : es ≡ xs ++ e ∷ ys) (top : isTop es e ≡ true) (points : pointed e ≡ true) where
-    inside : (f : Entry) → Live es (xs ++ e ∷ []) f → Live es es f
-    inside f l = record { member = rw (split, ← append-assoc xs (e ∷ []) ys) (mem-l f (xs ++ e ∷ []) ys (l .member)); top = l .top; points = l .points }
-
-    last : Live es (xs ++ e ∷ []) e
-    last = record { member = mem-r e xs (e ∷ []) (inl refl); top = top; points = points }
-
-    -- what it takes that e's block is no other key's
-    alone-more : apart ≡ true → ((f : Entry) → Live es xs f → e .field ≡ f .field → e .key ≡ f .key) → (f g : Entry) → Live es (xs ++ e ∷ []) f → Live es (xs ++ e ∷ []) g → f .field ≡ g .field → f .key ≡ g .key
-    alone-more t own f g l m q = go (live-last es xs e f l) (live-last es xs e g m)
-      where
-        go : Live es xs f ⊎ (f ≡ e) → Live es xs g ⊎ (g ≡ e) → f .key ≡ g .key
-        go (inl a) (inl b) = inv .alone t f g a b q
-        go (inl a) (inr b) = sym (ap (λ (x : Entry). x .key) b ∙ own f a (sym (q ∙ ap (λ (x : Entry). x .field) b)))
-        go (inr a) (inl b) = ap (λ (x : Entry). x .key) a ∙ own g b (ap (λ (x : Entry). x .field) (sym a) ∙ q)
-        go (inr a) (inr b) = ap (λ (x : Entry). x .key) (a ∙ sym b)
+    last : (zs : List Entry) → Mem e zs → Live es zs e
+    last zs m = record { member = m; first = is-first; points = points }
 
     -- a block that was not marked: it is now
     pub marks-new : (has′ : ℕ → Bool) → has (e .field) ≡ false → has′ (e .field) ≡ true → ((u : ℕ) → (u ≡ e .field → ⊥) → has′ u ≡ has u) → Marks es (xs ++ e ∷ []) has′ apart
     marks-new has′ z own others = record {
       marked = λ f l. by-cases (ℕ-discrete (f .field) (e .field)) (λ q. ap has′ q ∙ own) (λ n. others (f .field) n ∙ older f n (live-last es xs e f l));
-      only = λ u h. by-cases (ℕ-discrete u (e .field)) (λ q. (e, last, sym q)) (λ n. let r = inv .only u (sym (others u n) ∙ h) in (r .0, live-more es xs (e ∷ []) (r .0) (r .1), r .2));
-      alone = λ t. alone-more t (λ f l q. absurd (not-both (has (e .field)) (ap has q ∙ inv .marked f l) z));
-      clashes = inv .clashes;
+      only = λ u h. by-cases (ℕ-discrete u (e .field)) (λ q. (e, last (xs ++ e ∷ []) (mem-r e xs (e ∷ []) (inl refl)), sym q))
+          (λ n. let r = inv .only u (sym (others u n) ∙ h) in (r .0, live-more es xs (e ∷ []) (r .0) (r .1), r .2));
+      alone = λ t f g l m q. two t f g q (live-last es xs e f l) (live-last es xs e g m);
+      clash = inv .clash;
     }
       where
         older : (f : Entry) → (f .field ≡ e .field → ⊥) → Live es xs f ⊎ (f ≡ e) → has (f .field) ≡ true
         older f n (inl l) = inv .marked f l
         older f n (inr q) = absurd (n (ap (λ (x : Entry). x .field) q))
 
-    -- a block that was marked: another key's, or that of another top entry of this key
-    pub marks-seen : (apart′ : Bool) → has (e .field) ≡ true → apart′ ≡ both apart (negate (clash es e)) → Marks es (xs ++ e ∷ []) has apart′
-    marks-seen apart′ h is = record {
+        never : (f : Entry) → Live es xs f → f .field ≡ e .field → ⊥
+        never f l q = not-both (has (e .field)) (ap has (sym q) ∙ inv .marked f l) z
+
+        two : apart ≡ true → (f g : Entry) → f .field ≡ g .field → Live es xs f ⊎ (f ≡ e) → Live es xs g ⊎ (g ≡ e) → f .key ≡ g .key
+        two t f g q (inl a) (inl b) = inv .alone t f g a b q
+        two t f g q (inl a) (inr b) = absurd (never f a (q ∙ ap (λ (x : Entry). x .field) b))
+        two t f g q (inr a) (inl b) = absurd (never g b (sym q ∙ ap (λ (x : Entry). x .field) a))
+        two t f g q (inr a) (inr b) = ap (λ (x : Entry). x .key) (a ∙ sym b)
+
+    -- a block that was marked: another key's
+    pub marks-clash : (Mem e xs → ⊥) → has (e .field) ≡ true → Marks es (xs ++ e ∷ []) has false
+    marks-clash fresh h = record {
       marked = λ f l. older f (live-last es xs e f l);
       only = λ u t. let r = inv .only u t in (r .0, live-more es xs (e ∷ []) (r .0) (r .1), r .2);
-      alone = λ t. alone-more (both-l apart (negate (clash es e)) (sym is ∙ t)) (λ f l. no-clash es e f (unclear (both-r apart (negate (clash es e)) (sym is ∙ t))) points (inside f (live-more es xs (e ∷ []) f l)));
-      clashes = λ t. found apart refl (clash es e) refl (sym is ∙ t);
+      alone = λ t. absurd (not-both true refl (sym t));
+      clash = λ f. found;
     }
       where
         older : (f : Entry) → Live es xs f ⊎ (f ≡ e) → has (f .field) ≡ true
         older f (inl l) = inv .marked f l
         older f (inr q) = ap (λ (x : Entry). has (x .field)) q ∙ h
 
-        unclear : negate (clash es e) ≡ true → clash es e ≡ false
-        unclear t = go (clash es e) t
-          where
-            go : (b : Bool) → negate b ≡ true → b ≡ false
-            go true t = sym t
-            go false t = refl
+        found : Clash es
+        found =
+            let r = inv .only (e .field) h in
+            let l = last es (rw split (mem-r e xs (e ∷ ys) (inl refl))) in
+            record {
+              one = r .0;
+              other = e;
+              one-live = inside (r .0) (r .1);
+              other-live = l;
+              block = r .2;
+              keys = λ q. fresh (rw (live-one es xs es (r .0) e (r .1) l q) at (r .1 .member));
+            }
 
-        found : (a : Bool) → apart ≡ a → (b : Bool) → clash es e ≡ b → both a (negate b) ≡ false → (f : Entry) × Live es es f × (clash es f ≡ true)
-        found true q true c t = (e, inside e last, c)
-        found true q false c t = absurd (not-both true refl t)
-        found false q b c t = inv .clashes q
+-- ## The end, where the top entries agree: each names the block of the chosen one
 
--- ## The end
-
--- no two keys share a block
-pub marks-apart : (es : List Entry) (has : ℕ → Bool) (apart : Bool) → Marks es es has apart → apart ≡ apartTest es
-marks-apart es has true inv =
-    sym (in-all _ es (λ e m. pick-i (isTop es e) _ (λ t. in-all _ es (λ f n. pick-i (isTop es f) _ (λ u. pick-i (sharing e f) _ (λ s.
-    let r = shared e f s in
-    eq-eqb (e .key) (f .key) (inv .alone refl e f (record { member = m; top = t; points = r .0 }) (record { member = n; top = u; points = r .1 }) (r .2))))))))
-marks-apart es has false inv = go (apartTest es) refl
-  where
-    c : (e : Entry) × Live es es e × (clash es e ≡ true)
-    c = inv .clashes refl
-
-    e : Entry
-    e = c .0
-
-    d : (f : Entry) × Mem f es × (clashing es e f ≡ true)
-    d = in-any (clashing es e) es (c .2)
-
-    f : Entry
-    f = d .0
-
-    inner : Entry → Bool
-    inner g = eachTop es (λ h. pick (sharing g h) (eqb (g .key) (h .key)) true)
-
-    go : (b : Bool) → apartTest es ≡ b → false ≡ b
-    go false h = refl
-    go true h =
-        let a = pick-e (isTop es e) (inner e) (all-in _ es h e (c .1 .member)) (c .1 .top) in
-        let t = both-l (isTop es f) _ (d .2) in
-        let r = both-r (isTop es f) _ (d .2) in
-        let k = pick-e (sharing e f) (eqb (e .key) (f .key)) (pick-e (isTop es f) _ (all-in _ es a f (d .1)) t) (both-l (sharing e f) _ r) in
-        absurd (not-both true refl (sym (both-r (sharing e f) (negate (eqb (e .key) (f .key))) r) ∙ ap negate k))
-
--- the marked blocks are the live ones
 field-mem : (e : Entry) (es : List Entry) → Mem e es → Among (e .field) (map (λ (f : Entry). f .field) es)
 field-mem e [] m = absurd m
 field-mem e (x ∷ xs) (inl q) = inl (ap (λ (f : Entry). f .field) q)
@@ -243,22 +173,66 @@ mem-field u [] m = absurd m
 mem-field u (x ∷ xs) (inl q) = (x, inl refl, sym q)
 mem-field u (x ∷ xs) (inr m) = let r = mem-field u xs m in (r .0, inr (r .1), r .2)
 
-pub marks-live : (es : List Entry) (has : ℕ → Bool) (apart : Bool) → Marks es es has apart → (u : ℕ) → has u ≡ isIn u (liveBlocks es)
-marks-live es has apart inv u = go (has u) refl (isIn u (liveBlocks es)) refl
-  where
-    pointers : List Entry
-    pointers = filter pointed (filter (isTop es) es)
+module _ (es : List Entry) (agree : Agree es) (has : ℕ → Bool) (apart : Bool) (inv : Marks es es has apart) where
+  -- the chosen entry of a top put
+  lead : (e : Entry) → Top es e → pointed e ≡ true → (c : Entry) × Live es es c × (c .key ≡ e .key) × (c .field ≡ e .field)
+  lead e t p =
+      let c = top-chosen es e t in
+      let own : chosen (c .0 .key) es ≡ some (c .0) = ap (λ (k : ℕ). chosen k es) (c .3) ∙ c .1 in
+      let s = tops-same es agree (c .0) e (chosen-top (e .key) es (c .0) (c .1)) t (c .3) in
+      (c .0, record { member = c .2; first = own; points = ap pointed s ∙ p }, c .3, ap (λ (x : Entry). x .field) s)
 
-    go : (a : Bool) → has u ≡ a → (b : Bool) → isIn u (liveBlocks es) ≡ b → a ≡ b
-    go true h true g = refl
-    go false h false g = refl
-    go true h false g =
-        let r = inv .only u h in
-        let l = r .1 in
-        let m = filter-mem pointed (r .0) (filter (isTop es) es) (filter-mem (isTop es) (r .0) es (l .member) (l .top)) (l .points) in
-        absurd (not-both (isIn u (liveBlocks es)) (mem-isIn u (liveBlocks es) (rw (r .2) at (field-mem (r .0) pointers m))) g)
-    go false h true g =
-        let r = mem-field u pointers (isIn-mem u (liveBlocks es) g) in
-        let m = mem-filter pointed (r .0) (filter (isTop es) es) (r .1) in
-        let n = mem-filter (isTop es) (r .0) es (m .0) in
-        absurd (not-both (has u) (ap has (sym (r .2)) ∙ inv .marked (r .0) (record { member = n .0; top = n .1; points = m .1 })) h)
+  -- no two keys share a block
+  pub marks-apart : apart ≡ apartTest es
+  marks-apart = go apart refl
+    where
+      go : (b : Bool) → apart ≡ b → b ≡ apartTest es
+      go true t =
+          sym (each-top es _ (λ e te. each-top es _ (λ f tf. pick-i (sharing e f) _ (λ s.
+          let r = shared e f s in
+          let a = lead e te (r .0) in
+          let b = lead f tf (r .1) in
+          eq-eqb (e .key) (f .key) (sym (a .2) ∙ inv .alone t (a .0) (b .0) (a .1) (b .1) (a .3 ∙ r .2 ∙ sym (b .3)) ∙ b .2)))))
+      go false t = two (apartTest es) refl
+        where
+          c : Clash es
+          c = inv .clash t
+
+          e : Entry
+          e = c .one
+
+          f : Entry
+          f = c .other
+
+          inner : Entry → Bool
+          inner g = eachTop es (λ h. pick (sharing g h) (eqb (g .key) (h .key)) true)
+
+          two : (b : Bool) → apartTest es ≡ b → false ≡ b
+          two false h = refl
+          two true h =
+              let a = top-each es inner h e (live-top es es e (c .one-live)) in
+              let b = top-each es (λ h. pick (sharing e h) (eqb (e .key) (h .key)) true) a f (live-top es es f (c .other-live)) in
+              let k = pick-e (sharing e f) (eqb (e .key) (f .key)) b (share e f (c .one-live .points) (c .other-live .points) (c .block)) in
+              absurd (c .keys (eqb-true (e .key) (f .key) k))
+
+  -- the marked blocks are the live ones
+  pub marks-live : (u : ℕ) → has u ≡ isIn u (liveBlocks es)
+  marks-live u = go (has u) refl (isIn u (liveBlocks es)) refl
+    where
+      pointers : List Entry
+      pointers = filter pointed (filter (isTop es) es)
+
+      go : (a : Bool) → has u ≡ a → (b : Bool) → isIn u (liveBlocks es) ≡ b → a ≡ b
+      go true h true g = refl
+      go false h false g = refl
+      go true h false g =
+          let r = inv .only u h in
+          let l = r .1 in
+          let m = filter-mem pointed (r .0) (filter (isTop es) es) (filter-mem (isTop es) (r .0) es (l .member) (top-is es (r .0) (live-top es es (r .0) l))) (l .points) in
+          absurd (not-both (isIn u (liveBlocks es)) (mem-isIn u (liveBlocks es) (rw (r .2) at (field-mem (r .0) pointers m))) g)
+      go false h true g =
+          let r = mem-field u pointers (isIn-mem u (liveBlocks es) g) in
+          let m = mem-filter pointed (r .0) (filter (isTop es) es) (r .1) in
+          let n = mem-filter (isTop es) (r .0) es (m .0) in
+          let c = lead (r .0) (is-top es (r .0) (n .0) (n .1)) (m .1) in
+          absurd (not-both (has u) (ap has (sym (c .3 ∙ r .2)) ∙ inv .marked (c .0) (c .1)) h)

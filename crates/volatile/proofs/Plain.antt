@@ -11,21 +11,21 @@ use lib.Dec.{eqb, leb}
 use lib.ListN.{length}
 use borrow.Author.Tests.{eqb-true, eq-eqb, ne-eqb, le-leb}
 use Rattle.spec.specs.Basics.{pick, both, first}
-use Rattle.spec.specs.Log.{Entry}
+use Rattle.spec.specs.Log.{Entry, moved}
 use Rattle.spec.specs.Blocks.{pointed}
-use Rattle.spec.specs.Contents.{highest, isTopOf, isTop, tops, chosen, meaning}
+use Rattle.spec.specs.Contents.{highest, isTopOf, isTop, tops, chosen}
 use Rattle.spec.specs.Opening.{fine, agreeWith}
 use Rattle.theory_base.proofs.Lists.{not-both, both-i, pick-i}
 use Rattle.theory_log.specs.Contents.{Mem}
 use Rattle.theory_log.proofs.Contents.{filter-mem, mem-cases, chosen-none}
 use Rattle.theory_log.proofs.Tops.{in-all}
+use Rattle.theory_log.proofs.Agree.{same-agrees}
 use Rattle.index.specs.Packed.{packed}
 use Rattle.volatile.specs.Known.{several, infoOf, ownOf, noted, Bounded}
 use Rattle.volatile.specs.Check.{CheckInv}
 use Rattle.volatile.specs.Plain.{Plain, PlainInv}
 use Rattle.volatile.proofs.Info.{several-most, info-chosen, info-none, chosen-first}
 use Rattle.volatile.proofs.Grow.{grows-last}
-use Rattle.volatile.proofs.Check.{same-held}
 
 -- A word without the bit is that of a key with one top entry at most.
 bit-low : (extent place version entries twins : ℕ) → twins < 2 → packed extent place version entries twins < 0x8000_0000_0000_0000 → twins ≡ 0
@@ -73,22 +73,22 @@ own-top es e f single m t h = go (rw (q .1, r) at in-tops)
 
 -- ## The tests of the second pass
 
-plain-agrees : (ws : List ℕ) (es : List Entry) → Plain es → (e : Entry) → Mem e es → isTop es e ≡ true → agreeWith ws e (chosen (e .key) es) ≡ true
-plain-agrees ws es plain e m t = go (chosen (e .key) es) refl
+plain-agrees : (es : List Entry) → Plain es → (e : Entry) → Mem e es → isTop es e ≡ true → agreeWith e (chosen (e .key) es) ≡ true
+plain-agrees es plain e m t = go (chosen (e .key) es) refl
   where
-    go : (q : Option Entry) → chosen (e .key) es ≡ q → agreeWith ws e q ≡ true
+    go : (q : Option Entry) → chosen (e .key) es ≡ q → agreeWith e q ≡ true
     go none h = refl
-    go (some f) h = rw (← own-top es e f (plain .single) m t h) (same-held (meaning ws e))
+    go (some f) h = same-agrees e f (ap (moved 0) (own-top es e f (plain .single) m t h))
 
 pub plain-check : (p n : ℕ) (ws : List ℕ) (es : List Entry) (has : ℕ → Bool) → ((u : ℕ) → has u ≡ false) → Plain es → CheckInv p n ws es es has true true true
 plain-check p n ws es has z plain = record {
   right = sym (in-all _ es (λ e m. pick-i (isTop es e) (fine p n ws e) (λ t. rw (plain .unpointed e m))));
-  agreed = sym (in-all _ es (λ e m. pick-i (isTop es e) _ (plain-agrees ws es plain e m)));
+  agreed = sym (in-all _ es (λ e m. pick-i (isTop es e) _ (plain-agrees es plain e m)));
   marks = record {
     marked = λ e l. absurd (not-both (pointed e) (l .points) (plain .unpointed e (l .member)));
     only = λ u h. absurd (not-both (has u) h (z u));
     alone = λ t e f l m q. absurd (not-both (pointed e) (l .points) (plain .unpointed e (l .member)));
-    clashes = λ f. absurd (not-both true refl f);
+    clash = λ f. absurd (not-both true refl f);
   };
 }
 

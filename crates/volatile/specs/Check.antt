@@ -2,38 +2,40 @@
 -- Assumes nothing.
 use mathlib.Core.Path.{_≡_}
 use mathlib.Core.Bool.{Bool, true, false}
+use mathlib.Core.Option.{some}
 use mathlib.Core.List.{List}
 use Prim.Native.Nat.{ℕ}
-use lib.Dec.{eqb}
-use Rattle.spec.specs.Basics.{pick, both, negate, any, all}
+use Rattle.spec.specs.Basics.{pick, all}
 use Rattle.spec.specs.Log.{Entry}
 use Rattle.spec.specs.Blocks.{pointed}
 use Rattle.spec.specs.Contents.{isTop, chosen}
-use Rattle.spec.specs.Opening.{fine, agreeWith, sharing}
+use Rattle.spec.specs.Opening.{fine, agreeWith}
 use Rattle.theory_log.specs.Contents.{Mem}
 
--- a top entry of another key shares e's block
-abbrev pub clashing : List Entry → Entry → Entry → Bool
-clashing es e f = both (isTop es f) (both (sharing e f) (negate (eqb (e .key) (f .key))))
-
-abbrev pub clash : List Entry → Entry → Bool
-clash es e = any (clashing es e) es
-
--- a top put of the list xs that points to a block
+-- a put of the list xs that points to a block, and is the chosen entry of its key
 pub record Live (es xs : List Entry) (e : Entry) : Type 0 where
   pub member : Mem e xs
-  pub top : isTop es e ≡ true
+  pub first : chosen (e .key) es ≡ some e
   pub points : pointed e ≡ true
 
--- the blocks marked after xs, a front part of es; `apart`: no two keys of xs share a block, else two of es do
+-- two keys' chosen puts share a block
+pub record Clash (es : List Entry) : Type 0 where
+  pub one : Entry
+  pub other : Entry
+  pub one-live : Live es es one
+  pub other-live : Live es es other
+  pub block : one .field ≡ other .field
+  pub keys : one .key ≡ other .key → ⊥
+
+-- the blocks marked after xs, a front part of es: those of the chosen entries; `apart`: no two keys of xs share one, else two of es do
 pub record Marks (es xs : List Entry) (has : ℕ → Bool) (apart : Bool) : Type 0 where
   pub marked : (e : Entry) → Live es xs e → has (e .field) ≡ true
   pub only : (u : ℕ) → has u ≡ true → (e : Entry) × Live es xs e × (e .field ≡ u)
   pub alone : apart ≡ true → (e f : Entry) → Live es xs e → Live es xs f → e .field ≡ f .field → e .key ≡ f .key
-  pub clashes : apart ≡ false → (e : Entry) × Live es es e × (clash es e ≡ true)
+  pub clash : apart ≡ false → Clash es
 
 -- the tests after xs
 pub record CheckInv (p n : ℕ) (ws : List ℕ) (es xs : List Entry) (has : ℕ → Bool) (blocks agreeing apart : Bool) : Type 0 where
   pub right : blocks ≡ all (λ (e : Entry). pick (isTop es e) (fine p n ws e) true) xs
-  pub agreed : agreeing ≡ all (λ (e : Entry). pick (isTop es e) (agreeWith ws e (chosen (e .key) es)) true) xs
+  pub agreed : agreeing ≡ all (λ (e : Entry). pick (isTop es e) (agreeWith e (chosen (e .key) es)) true) xs
   pub marks : Marks es xs has apart

@@ -4,8 +4,8 @@ use Prim.Native.Nat.{_+_, _-_, _≤_, _<_}
 use mathlib.Core.Path.{_≡_, sym, _∙_}
 use native.Mathlib.Omega.{arith}
 use Rattle.spec.specs.Words.{wordsOf}
-use Rattle.consistency.specs.Spans.{sameFrom}
-use Rattle.consistency.proofs.Spans.{same-begin, same-end, same-next, same-not}
+use Rattle.consistency.specs.Heads.{sameFrom}
+use Rattle.consistency.proofs.Same.{same-begin, same-end, same-next, same-not}
 use borrow.Author.Needs.{needs}
 use Rattle.consistency.proofs.same_words.Statement.{statement}
 use Rattle.consistency.proofs.same_words.Tie as tie
