@@ -25,7 +25,7 @@ use Rattle.theory_base.proofs.Words as W
 use Rattle.theory_base.proofs.Places.{lines-least}
 use Rattle.theory_base.proofs.Through.{through-end}
 use Rattle.theory_log.specs.Batch.{AllRight}
-use Rattle.theory_log.specs.Contents.{CountsOn, Mem, Top, done}
+use Rattle.theory_log.specs.Contents.{CountsOn, Mem, Top, Agree, done}
 use Rattle.theory_log.proofs.Directory.{lines-most}
 use Rattle.theory_log.proofs.Clean.{mem-placed, placed-mem}
 use Rattle.theory_crash.specs.Accepted.{Ok}
@@ -67,6 +67,7 @@ pub record Forward (bytes table : ℕ) (ws : List ℕ) (es items : List Entry) (
   pub split : es ≡ front ++ back
   pub chunk : d ≤ 503
   pub lines : linesOf basePower ws d ≤ 64
+  pub agree : Agree es
   pub apart : BlocksApart es
   pub fit : ItemsFit (chunksIn basePower bytes) (runWords (appendOf basePower d old (linesOf basePower ws d) (encodeAll items)) ws) es items
   pub accepted : opening basePower bytes (runWords (appendOf basePower d old (linesOf basePower ws d) (encodeAll items)) ws) table
@@ -159,6 +160,7 @@ module _ (bytes table : ℕ) (ws : List ℕ) (es : List Entry) (f : Entry) (fs :
     split = ended .split;
     chunk = let a = place .high in let q = ok .most in omega arith;
     lines = most;
+    agree = ok .agree;
     apart = ok .apart;
     fit = record { blocks = λ e m. rw (← image-is) (let q = placed-mem e at′ items m in ended .staged (moved (q .0) e) (q .1)); dead = fit .dead; own = fit .own };
     accepted =

@@ -112,7 +112,7 @@ left-start c k buffer ws table front back items f =
       right = f .right;
       counts = f .counts;
       fit = f .fit;
-      shown = record { indexed = f .built .indexed; blocks = f .built .blocks; apart = f .apart };
+      shown = record { indexed = f .built .indexed; blocks = f .built .blocks; agree = f .agree; apart = f .apart };
       most = f .most;
       image = f .shown;
       room = f .room;
@@ -122,7 +122,7 @@ left-start c k buffer ws table front back items f =
 
 left-next : (n : ℕ) (ws buffer buffer′ buffer″ table table′ : List ℕ) (keys keys′ place at end op placement version field key words extent own : ℕ) (whole back : List Entry) → end ≤ 512
     → ((rest : List Entry) → StagedFrom buffer at end rest → Taken buffer at end op placement version field key words rest) → at + (2 + words) ≤ end
-    → extent ≡ extentOf placement field → own ≡ alone extent (place + at) version → OneJoined n ws buffer buffer′ table table′ keys key own keys′ → Claimed buffer′ buffer″ (blockAt op placement field)
+    → extent ≡ extentOf placement field → own ≡ alone extent (place + at) version → OneJoined ws buffer buffer′ table table′ keys key own keys′ → Claimed buffer′ buffer″ (blockAt op placement field)
     → Left n ws buffer table keys place at end whole back → Left n ws buffer″ table′ keys′ place (at + (2 + words)) end whole back
 left-next n ws buffer buffer′ buffer″ table table′ keys keys′ place at end op placement version field key words extent own whole back short taken fits is-extent is-own one claimed l = record {
   joined = l .joined ++ e ∷ [];
@@ -133,7 +133,7 @@ left-next n ws buffer buffer′ buffer″ table table′ keys keys′ place at e
   counts = counts-same (t .entry ∷ (l .joined ++ back)) ((l .joined ++ e ∷ []) ++ back) es (λ k. rw append-snoc (highest-insert k (l .joined) back e)) (counts .1);
   fit = rw append-snoc (items-next n ws (l .joined) back (t .entry) (place + at) es counts items);
   shown = rw append-snoc (joined-shown n ws buffer buffer′ buffer″ table table′ keys keys′ (l .joined) more back e awaits (l .shown) (small-block n ws (t .entry) (l .most) (items .blocks (t .entry) (inl refl)))
-      (one .joins (l .joined) more back e (t .of-key) own-here awaits (l .shown)) (rw (t .of-op, t .of-placement, t .of-field) claimed));
+      (one .joins n (l .joined) more back e (t .of-key) own-here awaits (l .shown)) (rw (t .of-op, t .of-placement, t .of-field) claimed));
   most = l .most;
   image = l .image;
   room = rw (one .sized) (l .room);
@@ -175,42 +175,42 @@ left-next n ws buffer buffer′ buffer″ table table′ keys keys′ place at e
 
 -- ## The loop: what was left at the beginning says what is left now
 
-pub record Going (n : ℕ) (ws buffer₀ table₀ : List ℕ) (keys₀ place at₀ end : ℕ) (buffer table : List ℕ) (keys at : ℕ) : Type 0 where
+pub record Going (ws buffer₀ table₀ : List ℕ) (keys₀ place at₀ end : ℕ) (buffer table : List ℕ) (keys at : ℕ) : Type 0 where
   pub kept : WordsKept buffer₀ buffer
   pub sized : length table ≡ length table₀
-  pub goes : (whole back : List Entry) → Left n ws buffer₀ table₀ keys₀ place at₀ end whole back → Left n ws buffer table keys place at end whole back
+  pub goes : (n : ℕ) (whole back : List Entry) → Left n ws buffer₀ table₀ keys₀ place at₀ end whole back → Left n ws buffer table keys place at end whole back
 
-pub going-start : (n : ℕ) (ws buffer table : List ℕ) (keys place at end : ℕ) → length buffer ≡ 1152 → Going n ws buffer table keys place at end buffer table keys at
-going-start n ws buffer table keys place at end long = record { kept = kept-all buffer long; sized = refl; goes = λ whole back l. l }
+pub going-start : (ws buffer table : List ℕ) (keys place at end : ℕ) → length buffer ≡ 1152 → Going ws buffer table keys place at end buffer table keys at
+going-start ws buffer table keys place at end long = record { kept = kept-all buffer long; sized = refl; goes = λ n whole back l. l }
 
-module _ (n : ℕ) (ws buffer₀ table₀ : List ℕ) (keys₀ place at₀ end : ℕ) (buffer table : List ℕ) (keys at : ℕ) (inv : Going n ws buffer₀ table₀ keys₀ place at₀ end buffer table keys at)
+module _ (ws buffer₀ table₀ : List ℕ) (keys₀ place at₀ end : ℕ) (buffer table : List ℕ) (keys at : ℕ) (inv : Going ws buffer₀ table₀ keys₀ place at₀ end buffer table keys at)
     (r : Item) (told : Staged buffer at end r) where
   pub going-next : (op placement version field key words : ℕ) → r ≡ I.Entry op placement version field key words → end ≤ 512 → (extent own : ℕ) → extent ≡ extentOf placement field → own ≡ alone extent (place + at) version
-      → (buffer′ table′ : List ℕ) (keys′ : ℕ) → OneJoined n ws buffer buffer′ table table′ keys key own keys′ → (buffer″ : List ℕ) → Claimed buffer′ buffer″ (blockAt op placement field)
-      → Going n ws buffer₀ table₀ keys₀ place at₀ end buffer″ table′ keys′ (at + (2 + words))
+      → (buffer′ table′ : List ℕ) (keys′ : ℕ) → OneJoined ws buffer buffer′ table table′ keys key own keys′ → (buffer″ : List ℕ) → Claimed buffer′ buffer″ (blockAt op placement field)
+      → Going ws buffer₀ table₀ keys₀ place at₀ end buffer″ table′ keys′ (at + (2 + words))
   going-next op placement version field key words e short extent own is-extent is-own buffer′ table′ keys′ one buffer″ claimed = record {
     kept = kept-then buffer₀ buffer buffer″ (inv .kept) (kept-then buffer buffer′ buffer″ (one .kept) (claimed .kept));
     sized = one .sized ∙ inv .sized;
-    goes = λ whole back l.
+    goes = λ n whole back l.
         left-next n ws buffer buffer′ buffer″ table table′ keys keys′ place at end op placement version field key words extent own whole back short
-        (told-entry buffer at end r told op placement version field key words e) (told-fits buffer at end r told op placement version field key words e) is-extent is-own one claimed (inv .goes whole back l);
+        (told-entry buffer at end r told op placement version field key words e) (told-fits buffer at end r told op placement version field key words e) is-extent is-own one claimed (inv .goes n whole back l);
   }
 
   -- the end
-  going-end : r ≡ I.Nothing → (whole back : List Entry) → Left n ws buffer₀ table₀ keys₀ place at₀ end whole back → Shown buffer table keys whole
-  going-end e whole back l =
-      let m = inv .goes whole back l in
+  going-end : r ≡ I.Nothing → (n : ℕ) (whole back : List Entry) → Left n ws buffer₀ table₀ keys₀ place at₀ end whole back → Shown buffer table keys whole
+  going-end e n whole back l =
+      let m = inv .goes n whole back l in
       let z = told-none buffer at end r told e (m .rest) (m .right, m .words) in
       rw (m .parts, z) (m .shown)
 
-pub going-joins : (c : Control) (k : Setup) (ws buffer₀ table₀ : List ℕ) (n keys₀ place at₀ end : ℕ) (buffer table : List ℕ) (keys at : ℕ) (inv : Going n ws buffer₀ table₀ keys₀ place at₀ end buffer table keys at)
-    (r : Item) → Staged buffer at end r → r ≡ I.Nothing → n ≡ k .image / 4096 → keys₀ ≡ c .keys → place ≡ placeOf k → at₀ ≡ 0 → end ≡ min (c .words) 512
+pub going-joins : (c : Control) (k : Setup) (ws buffer₀ table₀ : List ℕ) (keys₀ place at₀ end : ℕ) (buffer table : List ℕ) (keys at : ℕ) (inv : Going ws buffer₀ table₀ keys₀ place at₀ end buffer table keys at)
+    (r : Item) → Staged buffer at end r → r ≡ I.Nothing → keys₀ ≡ c .keys → place ≡ placeOf k → at₀ ≡ 0 → end ≡ min (c .words) 512
     → Joining c k buffer₀ buffer ws table₀ table keys
-going-joins c k ws buffer₀ table₀ n keys₀ place at₀ end buffer table keys at inv r told e q1 q2 q3 q4 q5 = record {
+going-joins c k ws buffer₀ table₀ keys₀ place at₀ end buffer table keys at inv r told e q2 q3 q4 q5 = record {
   kept = inv .kept;
   sized = inv .sized;
   joins = λ front back items f.
       let whole = front ++ (placed (batchPlace k) items ++ back) in
-      let s = going-end n ws buffer₀ table₀ keys₀ place at₀ end buffer table keys at inv r told e whole back (rw (q1, q2, q3, q4, q5) (left-start c k buffer₀ ws table₀ front back items f)) in
+      let s = going-end ws buffer₀ table₀ keys₀ place at₀ end buffer table keys at inv r told e (k .image / 4096) whole back (rw (q2, q3, q4, q5) (left-start c k buffer₀ ws table₀ front back items f)) in
       (record { indexed = s .indexed; blocks = s .blocks }, s .indexed .count);
 }

@@ -14,6 +14,7 @@ use Rattle.spec.specs.Basics.{both, either, negate}
 use Rattle.spec.specs.Log.{Entry}
 use Rattle.spec.specs.Blocks.{pointed}
 use Rattle.theory_base.proofs.Lists.{both-l, both-r}
+use Rattle.theory_log.proofs.Agree.{agree-one}
 use Rattle.blocks.specs.Bits.{hasBit, BitWritten}
 use Rattle.blocks.proofs.Laws.{kept-all}
 use Rattle.apply.specs.Blocks.{bitRoom, blockAt, points, topBlock, Claimed}
@@ -48,7 +49,8 @@ joined-shown n ws buffer buffer′ buffer″ table table′ keys keys′ xs more
   indexed = p .0;
   blocks = λ u.
       c .bits u (room u) ∙ ap (either (points u e)) (p .1 u ∙ ap (λ (t : Bool). both t (negate (topBlock (e .key) (xs ++ ys) u))) (s .blocks u))
-      ∙ sym (live-joined xs ys e (a .later e (inl refl)) (a .dead) (s .apart) u);
+      ∙ sym (live-joined xs ys e (a .later e (inl refl)) (a .dead) (s .agree) (s .apart) u);
+  agree = agree-one xs ys e (a .later e (inl refl)) (s .agree);
   apart = apart-joined xs ys e (a .later e (inl refl)) (a .dead) (s .apart);
 }
   where

@@ -2,17 +2,14 @@
 -- Assumes nothing.
 use mathlib.Core.Path.{_≡_, refl, sym, _∙_, ap}
 use mathlib.Core.Logic.{inl}
-use mathlib.Core.Bool.{Bool, true, false}
-use mathlib.Core.Option.{none}
+use mathlib.Core.Bool.{false}
 use mathlib.Core.List.{List, [], _∷_, _++_}
 use Prim.Native.Nat.{ℕ, _+_, _≤_, _<_}
 use native.Mathlib.Omega.{arith}
 use lib.ListN.{length, length-append}
 use lib.Seq.{append-snoc}
-use Rattle.spec.specs.Basics.{both, negate}
 use Rattle.spec.specs.Log.{Entry}
-use Rattle.spec.specs.Contents.{chosen, keysOf, capacity}
-use Rattle.theory_log.proofs.Contents.{none-of}
+use Rattle.spec.specs.Contents.{keysOf, capacity}
 use Rattle.theory_log.proofs.Keys.{mem-known, known-mem, keys-fewer}
 use Rattle.index.specs.declared.Info.{Info}
 use Rattle.index.specs.Index.{infoAt, stopOf, get, insert, putAt, capacity as tableRoom}
@@ -21,12 +18,12 @@ use Rattle.index.proofs.Answers.{look-in, put-insert}
 use Rattle.index.specs.Packed.{unpackOf}
 use Rattle.blocks.specs.Bits.{hasBit}
 use Rattle.blocks.proofs.Laws.{kept-all}
-use Rattle.volatile.specs.Known.{ownOf, noted, Bounded, Indexed}
+use Rattle.volatile.specs.Known.{ownOf, noted, Bounded}
 use Rattle.volatile.proofs.Image.{image-bounded}
 use Rattle.volatile.proofs.Grow.{Grows, grows-above, capacity-same, found-none, found-chosen, was-unknown, indexed-old, indexed-new}
 use Rattle.apply.specs.Blocks.{topBlock}
 use Rattle.apply.specs.Joining.{Superseded, Shown, Awaited, OneJoined}
-use Rattle.apply.proofs.Live.{mem-around, top-block-entry}
+use Rattle.apply.proofs.Live.{mem-around}
 use Rattle.apply.proofs.Freeing.{both-true}
 
 -- Entries put anywhere into a list: numbers stay small without them, and keys are more with them.
@@ -42,12 +39,12 @@ keys-around : (xs more ys : List Entry) → length (keysOf (xs ++ ys)) ≤ lengt
 keys-around xs more ys = keys-fewer (xs ++ ys) (xs ++ (more ++ ys)) (λ k t. let r = known-mem k (xs ++ ys) t in mem-known k (xs ++ (more ++ ys)) (r .0) (mem-around (r .0) xs more ys (r .1)) (r .2))
 
 -- An entry of a key whose probing stops at `slot`, where the table holds `old`.
-module _ (n : ℕ) (ws buffer buffer′ table table′ : List ℕ) (keys key own slot old info : ℕ) (is-slot : slot ≡ stopOf table key) (is-word : old ≡ infoAt table slot) (is-info : info ≡ noted old own) where
+module _ (ws buffer buffer′ table table′ : List ℕ) (keys key own slot old info : ℕ) (is-slot : slot ≡ stopOf table key) (is-word : old ≡ infoAt table slot) (is-info : info ≡ noted old own) where
   is-old : old ≡ get table key
   is-old = is-word ∙ look-in table key slot is-slot
 
   -- what the entry, its place and its key give
-  module _ (xs more ys : List Entry) (e : Entry) (k : e .key ≡ key) (o : ownOf e ≡ own) (awaits : Awaited n ws table xs more ys e) (shown : Shown buffer table keys (xs ++ ys)) where
+  module _ (n : ℕ) (xs more ys : List Entry) (e : Entry) (k : e .key ≡ key) (o : ownOf e ≡ own) (awaits : Awaited n ws table xs more ys e) (shown : Shown buffer table keys (xs ++ ys)) where
     whole : Bounded (xs ++ (e ∷ (more ++ ys)))
     whole = image-bounded n ws (xs ++ (e ∷ (more ++ ys))) (awaits .shown) (awaits .most)
 
@@ -74,14 +71,7 @@ module _ (n : ℕ) (ws buffer buffer′ table table′ : List ℕ) (keys key own
 
     -- and no block
     no-blocks : old ≡ 0 → (u : ℕ) → topBlock (e .key) (xs ++ ys) u ≡ false
-    no-blocks z u = go (topBlock (e .key) (xs ++ ys) u) refl
-      where
-        c : chosen (e .key) (xs ++ ys) ≡ none
-        c = found-none table keys (xs ++ ys) (shown .indexed) (grows .small) (e .key) old old-here z
-
-        go : (b : Bool) → topBlock (e .key) (xs ++ ys) u ≡ b → b ≡ false
-        go false h = refl
-        go true h = let r = top-block-entry (e .key) (xs ++ ys) u h in absurd (none-of (e .key) (xs ++ ys) (r .0) c (r .1) (r .2))
+    no-blocks z u = rw (found-none table keys (xs ++ ys) (shown .indexed) (grows .small) (e .key) old old-here z)
 
   module _ (is-put : table′ ≡ putAt table slot key info) where
     is-table : table′ ≡ insert table key info
@@ -91,33 +81,33 @@ module _ (n : ℕ) (ws buffer buffer′ table table′ : List ℕ) (keys key own
     long = ap length is-table ∙ insert-length table key info
 
     -- a key that the table has
-    pub joined-old : (i : Info) → i ≡ unpackOf old → Superseded n ws buffer buffer′ key i → (old ≡ 0 → ⊥) → OneJoined n ws buffer buffer′ table table′ keys key own keys
+    pub joined-old : (i : Info) → i ≡ unpackOf old → Superseded ws buffer buffer′ i → (old ≡ 0 → ⊥) → OneJoined ws buffer buffer′ table table′ keys key own keys
     joined-old i is-i freed no-zero = record {
       kept = freed .kept;
       sized = long;
-      joins = λ xs more ys e k o awaits shown.
-          let small = grows xs more ys e k o awaits shown .small in
+      joins = λ n xs more ys e k o awaits shown.
+          let small = grows n xs more ys e k o awaits shown .small in
           let found = found-chosen table keys (xs ++ ys) (shown .indexed) small key old is-old no-zero in (
-            indexed-old (xs ++ ys) (xs ++ e ∷ ys) e table table′ keys old info (shown .indexed) (grows xs more ys e k o awaits shown) (rw k is-old) (rw o is-info) (rw k is-table) no-zero,
-            rw k (freed .freed xs (e ∷ more) ys (found .0) (awaits .shown) (awaits .later) (found .1) (is-i ∙ found .2) .bits),
+            indexed-old (xs ++ ys) (xs ++ e ∷ ys) e table table′ keys old info (shown .indexed) (grows n xs more ys e k o awaits shown) (rw k is-old) (rw o is-info) (rw k is-table) no-zero,
+            rw k (freed .freed n key xs (e ∷ more) ys (found .0) (awaits .shown) (found .1) (is-i ∙ found .2) .bits),
           );
     }
 
   -- a new key
-  pub joined-new : length buffer ≡ 1152 → buffer′ ≡ buffer → table′ ≡ putAt table slot key info → old ≡ 0 → OneJoined n ws buffer buffer′ table table′ keys key own (keys + 1)
+  pub joined-new : length buffer ≡ 1152 → buffer′ ≡ buffer → table′ ≡ putAt table slot key info → old ≡ 0 → OneJoined ws buffer buffer′ table table′ keys key own (keys + 1)
   joined-new size same is-put z = record {
     kept = rw same (kept-all buffer size);
     sized = long is-put;
-    joins = λ xs more ys e k o awaits shown. (
-      indexed-new (xs ++ ys) (xs ++ e ∷ ys) e table table′ keys old info (shown .indexed) (grows xs more ys e k o awaits shown) (rw k is-old) (rw o is-info) (rw k (is-table is-put)) z (room xs more ys e k o awaits shown z),
-      λ u. rw (same, no-blocks xs more ys e k o awaits shown z u) (sym (both-true (hasBit buffer u))),
+    joins = λ n xs more ys e k o awaits shown. (
+      indexed-new (xs ++ ys) (xs ++ e ∷ ys) e table table′ keys old info (shown .indexed) (grows n xs more ys e k o awaits shown) (rw k is-old) (rw o is-info) (rw k (is-table is-put)) z (room n xs more ys e k o awaits shown z),
+      λ u. rw (same, no-blocks n xs more ys e k o awaits shown z u) (sym (both-true (hasBit buffer u))),
     );
   }
 
   -- a new key where the table is full: there is room, so this is never the case
-  pub joined-full : length buffer ≡ 1152 → buffer′ ≡ buffer → table′ ≡ table → old ≡ 0 → tableRoom (length table) ≤ keys → OneJoined n ws buffer buffer′ table table′ keys key own keys
+  pub joined-full : length buffer ≡ 1152 → buffer′ ≡ buffer → table′ ≡ table → old ≡ 0 → tableRoom (length table) ≤ keys → OneJoined ws buffer buffer′ table table′ keys key own keys
   joined-full size same kept z full = record {
     kept = rw same (kept-all buffer size);
     sized = ap length kept;
-    joins = λ xs more ys e k o awaits shown. let r = room xs more ys e k o awaits shown z in let c = capacity-same (length table) in absurd (omega arith);
+    joins = λ n xs more ys e k o awaits shown. let r = room n xs more ys e k o awaits shown z in let c = capacity-same (length table) in absurd (omega arith);
   }

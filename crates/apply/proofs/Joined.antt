@@ -13,9 +13,10 @@ use Rattle.spec.specs.Log.{Entry}
 use Rattle.spec.specs.Blocks.{pointed}
 use Rattle.spec.specs.Contents.{highest, liveBlocks}
 use Rattle.theory_base.proofs.Lists.{not-both, both-i}
-use Rattle.theory_log.specs.Contents.{Mem, Top}
+use Rattle.theory_log.specs.Contents.{Mem, Top, Agree}
 use Rattle.theory_log.proofs.Contents.{below-highest, mem-r}
-use Rattle.apply.specs.Blocks.{points, topBlock, BlocksApart}
+use Rattle.session.specs.Fits.{BlocksApart}
+use Rattle.apply.specs.Blocks.{points, topBlock}
 use Rattle.apply.proofs.Live.{mem-between, mem-around, Holder, holder, live-holder, holder-live, own-holder, holder-own}
 
 module _ (xs ys : List Entry) (e : Entry) (above : highest (e .key) (xs ++ ys) < e .version)
@@ -57,10 +58,10 @@ module _ (xs ys : List Entry) (e : Entry) (above : highest (e .key) (xs ++ ys) <
       go (inr a) (inl b) = absurd (dead f (a .1) (sym (ap pointed b) ∙ q) p (sym (ap (λ (y : Entry). y .field) b) ∙ sym u))
       go (inr a) (inr b) = apart f g (a .1) (b .1) p q u
 
-  -- the live blocks: the entry's own, and those before, but for the ones of the key's top entries
-  pub live-joined : BlocksApart (xs ++ ys) → (u : ℕ)
+  -- the live blocks: the entry's own, and those before, but for the one of the key's top entries
+  pub live-joined : Agree (xs ++ ys) → BlocksApart (xs ++ ys) → (u : ℕ)
       → isIn u (liveBlocks (xs ++ e ∷ ys)) ≡ either (points u e) (both (isIn u (liveBlocks (xs ++ ys))) (negate (topBlock (e .key) (xs ++ ys) u)))
-  live-joined apart u = own (points u e) refl
+  live-joined agree apart u = own (points u e) refl
     where
       before : points u e ≡ false → isIn u (liveBlocks (xs ++ e ∷ ys)) ≡ true → (h : Holder (xs ++ ys) u) × (h .entry .key ≡ e .key → ⊥)
       before no-own l = pass (live-holder (xs ++ e ∷ ys) u l)
@@ -87,7 +88,7 @@ module _ (xs ys : List Entry) (e : Entry) (above : highest (e .key) (xs ++ ys) <
           absurd (h .1 (apart (h .0 .entry) (g .0 .entry) (h .0 .top) (g .0 .top) (h .0 .puts) (g .0 .puts) (h .0 .unit ∙ sym (g .0 .unit)) ∙ g .1))
       go w false p true q false r =
           let h = live-holder (xs ++ ys) u q in
-          absurd (not-both (isIn u (liveBlocks (xs ++ e ∷ ys))) (after h (λ k. not-both (topBlock (e .key) (xs ++ ys) u) (holder-own (e .key) (xs ++ ys) u h k) r)) p)
+          absurd (not-both (isIn u (liveBlocks (xs ++ e ∷ ys))) (after h (λ k. not-both (topBlock (e .key) (xs ++ ys) u) (holder-own (e .key) (xs ++ ys) u agree h k) r)) p)
 
       own : (t : Bool) → points u e ≡ t → isIn u (liveBlocks (xs ++ e ∷ ys)) ≡ either t (both (isIn u (liveBlocks (xs ++ ys))) (negate (topBlock (e .key) (xs ++ ys) u)))
       own true q = holder-live (xs ++ e ∷ ys) u (holder (xs ++ e ∷ ys) u e e-top q)

@@ -1,23 +1,23 @@
--- The live blocks: those of the top puts, and those of one key's.
+-- The live blocks: those of the top puts, and that of one key's.
 -- Assumes nothing.
 use mathlib.Core.Path.{_≡_, refl, sym, _∙_, ap}
 use mathlib.Core.Logic.{_⊎_, inl, inr}
 use mathlib.Core.Bool.{Bool, true, false}
+use mathlib.Core.Option.{Option, none, some}
 use mathlib.Core.List.{List, [], _∷_, _++_, map}
-use Prim.Native.Nat.{ℕ, _≤_, _<_}
-use native.Mathlib.Omega.{arith}
+use Prim.Native.Nat.{ℕ}
 use lib.Dec.{eqb}
 use borrow.Author.Tests.{eqb-true, eq-eqb}
-use Rattle.spec.specs.Basics.{pick, both, either, negate, filter, any, isIn}
+use Rattle.spec.specs.Basics.{pick, both, either, filter, any, isIn}
 use Rattle.spec.specs.Log.{Entry}
 use Rattle.spec.specs.Blocks.{pointed}
-use Rattle.spec.specs.Contents.{highest, isTop, isTopOf, pointers, liveBlocks}
+use Rattle.spec.specs.Contents.{isTop, chosen, pointers, liveBlocks}
 use Rattle.theory_base.proofs.Lists.{not-both, both-l, both-r, both-i}
-use Rattle.theory_log.specs.Contents.{Mem, Top}
-use Rattle.theory_log.proofs.Contents.{below-highest, mem-l, mem-r, mem-cases}
-use Rattle.theory_log.proofs.Tops.{top-highest, top-is, is-top}
+use Rattle.theory_log.specs.Contents.{Mem, Top, Agree}
+use Rattle.theory_log.proofs.Contents.{mem-l, mem-r, mem-cases, chosen-is}
+use Rattle.theory_log.proofs.Tops.{top-is, is-top, chosen-top, top-chosen, tops-same}
 use Rattle.volatile.proofs.Marks.{any-in, in-any}
-use Rattle.apply.specs.Blocks.{points, frees, topBlock, BlocksApart}
+use Rattle.apply.specs.Blocks.{points, blockOf, topBlock}
 
 -- Entries put anywhere into a list.
 pub mem-between : (f : Entry) (xs more ys : List Entry) → Mem f (xs ++ (more ++ ys)) → Mem f more ⊎ Mem f (xs ++ ys)
@@ -40,7 +40,7 @@ pointers-any u (e ∷ es) = go (pointed e) (pointers-any u es)
     go true h = ap (either (eqb (e .field) u)) h
     go false h = h
 
-pub any-filter : (test other : Entry → Bool) (es : List Entry) → any other (filter test es) ≡ any (λ e. both (test e) (other e)) es
+any-filter : (test other : Entry → Bool) (es : List Entry) → any other (filter test es) ≡ any (λ e. both (test e) (other e)) es
 any-filter test other [] = refl
 any-filter test other (e ∷ es) = go (test e) (any-filter test other es)
   where
@@ -78,20 +78,16 @@ holder-live es u h =
 -- and one of key k
 pub own-holder : (k : ℕ) (es : List Entry) (u : ℕ) → topBlock k es u ≡ true → (h : Holder es u) × (h .entry .key ≡ k)
 unfolding holder
-own-holder k es u t =
-    let r = in-any (frees k (highest k es) u) es t in
-    let f = r .0 in
-    let a = both-l (isTopOf k (highest k es) f) (points u f) (r .2) in
-    let q : f .key ≡ k = eqb-true (f .key) k (both-l (eqb (f .key) k) (eqb (f .version) (highest k es)) a) in
-    let v : isTop es f ≡ true = ap (λ (j : ℕ). eqb (f .version) (highest j es)) q ∙ both-r (eqb (f .key) k) (eqb (f .version) (highest k es)) a in
-    (holder es u f (is-top es f (r .1) v) (both-r (isTopOf k (highest k es) f) (points u f) (r .2)), q)
+own-holder k es u t = go (chosen k es) refl t
+  where
+    go : (q : Option Entry) → chosen k es ≡ q → blockOf q u ≡ true → (h : Holder es u) × (h .entry .key ≡ k)
+    go none c t = absurd (not-both true refl (sym t))
+    go (some f) c t = (holder es u f (chosen-top k es f c) t, chosen-is k es f c .of-key)
 
-pub top-block-entry : (k : ℕ) (es : List Entry) (u : ℕ) → topBlock k es u ≡ true → (f : Entry) × Mem f es × (f .key ≡ k)
-top-block-entry k es u t = let h = own-holder k es u t in (h .0 .entry, h .0 .top .0, h .1)
-
-pub holder-own : (k : ℕ) (es : List Entry) (u : ℕ) (h : Holder es u) → h .entry .key ≡ k → topBlock k es u ≡ true
-holder-own k es u h q =
+pub holder-own : (k : ℕ) (es : List Entry) (u : ℕ) → Agree es → (h : Holder es u) → h .entry .key ≡ k → topBlock k es u ≡ true
+holder-own k es u agree h q =
     let f = h .entry in
-    let v : f .version ≡ highest k es = top-highest es f (h .top) ∙ ap (λ (j : ℕ). highest j es) q in
-    any-in (frees k (highest k es) u) es f (h .top .0)
-    (both-i (isTopOf k (highest k es) f) (points u f) (both-i (eqb (f .key) k) (eqb (f .version) (highest k es)) (eq-eqb (f .key) k q) (eq-eqb (f .version) (highest k es) v)) (pointing es u h))
+    let c = top-chosen es f (h .top) in
+    let s = tops-same es agree (c .0) f (chosen-top (f .key) es (c .0) (c .1)) (h .top) (c .3) in
+    let own : chosen k es ≡ some (c .0) = ap (λ (j : ℕ). chosen j es) (sym q) ∙ c .1 in
+    ap (λ (x : Option Entry). blockOf x u) own ∙ ap (points u) s ∙ pointing es u h

@@ -2,16 +2,15 @@
 -- Assumes nothing.
 use mathlib.Core.Path.{_≡_}
 use mathlib.Core.Bool.{Bool, true, false}
+use mathlib.Core.Option.{Option, none, some}
 use mathlib.Core.List.{List}
 use Prim.Native.Nat.{ℕ, _<_}
 use lib.Dec.{eqb}
-use Rattle.spec.specs.Basics.{both, either, negate, any}
+use Rattle.spec.specs.Basics.{both, either, negate}
 use Rattle.spec.specs.Log.{Entry}
-use Rattle.spec.specs.Blocks.{pointed}
-use Rattle.spec.specs.Contents.{highest}
+use Rattle.spec.specs.Contents.{chosen}
 use Rattle.spec.specs.declared.FirstWord.{FirstWord}
 use Rattle.spec.specs.declared.FirstWord.the-variants as F
-use Rattle.theory_log.specs.Contents.{Top}
 use Rattle.blocks.specs.Bits.{hasBit, WordsKept}
 
 -- the units that have a bit
@@ -31,15 +30,13 @@ namedBy F.Padding u = false
 namedBy F.Wrong u = false
 namedBy (F.Entry op placement version field) u = blockAt op placement field u
 
--- the block of an entry of this key and version, and of the key's top entries
-abbrev pub twinBlock : (key version k v op placement field u : ℕ) → Bool
-twinBlock key version k v op placement field u = both (both (eqb k key) (eqb v version)) (blockAt op placement field u)
-
-abbrev pub frees : (key version u : ℕ) → Entry → Bool
-frees key version u e = twinBlock key version (e .key) (e .version) (e .op) (e .placement) (e .field) u
+-- the block of a key's chosen entry, which is that of all its top entries where they agree
+abbrev pub blockOf : Option Entry → ℕ → Bool
+blockOf none u = false
+blockOf (some e) u = points u e
 
 abbrev pub topBlock : ℕ → List Entry → ℕ → Bool
-topBlock key es u = any (frees key (highest key es) u) es
+topBlock key es u = blockOf (chosen key es) u
 
 -- the units that `gone` names have left the set, every other is as it was
 pub record Freed (before after : List ℕ) (gone : ℕ → Bool) : Type 0 where
@@ -50,7 +47,3 @@ pub record Freed (before after : List ℕ) (gone : ℕ → Bool) : Type 0 where
 pub record Claimed (before after : List ℕ) (own : ℕ → Bool) : Type 0 where
   pub bits : (u : ℕ) → (own u ≡ true → u < bitRoom) → hasBit after u ≡ either (own u) (hasBit before u)
   pub kept : WordsKept before after
-
--- no two keys' top puts share a block
-abbrev pub BlocksApart : List Entry → Type 0
-BlocksApart es = (e f : Entry) → Top es e → Top es f → pointed e ≡ true → pointed f ≡ true → e .field ≡ f .field → e .key ≡ f .key

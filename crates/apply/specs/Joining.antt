@@ -6,7 +6,7 @@ use mathlib.Core.Option.{some}
 use mathlib.Core.List.{List, [], _∷_, _++_}
 use Prim.Native.Nat.{ℕ, _+_, _-_, _*_, _/_, _≤_, _<_}
 use lib.ListN.{length}
-use Rattle.spec.specs.Basics.{both, negate, any, isIn}
+use Rattle.spec.specs.Basics.{both, negate, isIn}
 use Rattle.spec.specs.Places.{basePower, maxChunks}
 use Rattle.spec.specs.Log.{Entry, Entries, imageEntries, encodeAll, placed}
 use Rattle.spec.specs.Blocks.{pointed}
@@ -14,36 +14,32 @@ use Rattle.spec.specs.Contents.{highest, chosen, keysOf, capacity, liveBlocks}
 use Rattle.session.specs.declared.Control.{Control}
 use Rattle.session.specs.declared.Setup.{Setup}
 use Rattle.theory_log.specs.Batch.{AllRight}
-use Rattle.theory_log.specs.Contents.{Mem, Top, CountsOn}
+use Rattle.theory_log.specs.Contents.{Mem, Top, CountsOn, Agree}
 use Rattle.index.specs.declared.Info.{Info}
 use Rattle.blocks.specs.Bits.{hasBit, WordsKept}
 use Rattle.volatile.specs.Known.{ownOf, Indexed}
 use Rattle.volatile.proofs.Info.{said}
 use Rattle.session.specs.State.{bufferPart, batchWords, chunkIn, linesIn}
-use Rattle.session.specs.Fits.{ItemsFit, Built, batchPlace}
-use Rattle.apply.specs.Blocks.{frees, topBlock, Freed, BlocksApart}
+use Rattle.session.specs.Fits.{ItemsFit, Built, BlocksApart, batchPlace}
+use Rattle.apply.specs.Blocks.{topBlock, Freed}
 use Rattle.apply.specs.declared.Item.{Item}
 use Rattle.apply.specs.declared.Item.the-variants as I
-
--- the bits after a pass over the log of an image of n chunks, for the entries of a key with a version
-pub record Scanned (n : ℕ) (ws before after : List ℕ) (key version : ℕ) : Type 0 where
-  pub kept : WordsKept before after
-  pub freed : (es : List Entry) → imageEntries basePower n ws ≡ Entries es → Freed before after (λ u. any (frees key version u) es)
 
 -- these entries are above all of es of their keys
 abbrev pub Later : (es more : List Entry) → Type 0
 Later es more = (g : Entry) → Mem g more → highest (g .key) es < g .version
 
--- the bits without the blocks of a key's top entries, of which the table says so much; `more` are entries that the table does not know yet, above the key's others
-pub record Superseded (n : ℕ) (ws before after : List ℕ) (key : ℕ) (info : Info) : Type 0 where
+-- the bits without the block of a key's top entries, of which the table says so much; `more` are entries that the table does not know yet
+pub record Superseded (ws before after : List ℕ) (info : Info) : Type 0 where
   pub kept : WordsKept before after
-  pub freed : (xs more ys : List Entry) (f : Entry) → imageEntries basePower n ws ≡ Entries (xs ++ (more ++ ys)) → Later (xs ++ ys) more
-      → chosen key (xs ++ ys) ≡ some f → info ≡ said key (xs ++ ys) f → Freed before after (topBlock key (xs ++ ys))
+  pub freed : (n key : ℕ) (xs more ys : List Entry) (f : Entry) → imageEntries basePower n ws ≡ Entries (xs ++ (more ++ ys)) → chosen key (xs ++ ys) ≡ some f → info ≡ said key (xs ++ ys) f
+      → Freed before after (topBlock key (xs ++ ys))
 
--- table and bits are those of the entries es, of which no two keys' top puts share a block
+-- table and bits are those of the entries es, whose top entries agree and of which no two keys' top puts share a block
 pub record Shown (buffer table : List ℕ) (keys : ℕ) (es : List Entry) : Type 0 where
   pub indexed : Indexed table keys es
   pub blocks : (u : ℕ) → hasBit buffer u ≡ isIn u (liveBlocks es)
+  pub agree : Agree es
   pub apart : BlocksApart es
 
 -- the entry e is to join xs and ys, then `more`: the image shows them all, each is above all others of its key, e is in no block or in one that no top put points to, and the table has room
@@ -59,10 +55,10 @@ abbrev pub Superseding : (buffer buffer′ table′ : List ℕ) (keys′ : ℕ) 
 Superseding buffer buffer′ table′ keys′ xs ys e = Indexed table′ keys′ (xs ++ e ∷ ys) × ((u : ℕ) → hasBit buffer′ u ≡ both (hasBit buffer u) (negate (topBlock (e .key) (xs ++ ys) u)))
 
 -- before and after an entry of this key joined, `own` being what the table would hold with it alone: of any memory, and where it was awaited
-pub record OneJoined (n : ℕ) (ws buffer buffer′ table table′ : List ℕ) (keys key own keys′ : ℕ) : Type 0 where
+pub record OneJoined (ws buffer buffer′ table table′ : List ℕ) (keys key own keys′ : ℕ) : Type 0 where
   pub kept : WordsKept buffer buffer′
   pub sized : length table′ ≡ length table
-  pub joins : (xs more ys : List Entry) (e : Entry) → e .key ≡ key → ownOf e ≡ own
+  pub joins : (n : ℕ) (xs more ys : List Entry) (e : Entry) → e .key ≡ key → ownOf e ≡ own
       → Awaited n ws table xs more ys e → Shown buffer table keys (xs ++ ys) → Superseding buffer buffer′ table′ keys′ xs ys e
 
 -- what stands in the buffer's words from `at` to `end`, if they are those of entries: none, or one with so many words of value, and the others behind it
@@ -101,6 +97,7 @@ pub record Fenced (c : Control) (k : Setup) (buffer ws table : List ℕ) (front 
   pub fit : ItemsFit (k .image / 4096) ws (front ++ back) items
   pub shown : imageEntries basePower (k .image / 4096) ws ≡ Entries (front ++ (placed (batchPlace k) items ++ back))
   pub built : Built c buffer table (front ++ back)
+  pub agree : Agree (front ++ back)
   pub apart : BlocksApart (front ++ back)
   pub room : length (keysOf (front ++ (placed (batchPlace k) items ++ back))) ≤ capacity (length table)
 

@@ -5,9 +5,7 @@ ghost use Rattle.spec.specs.Log.{firstOf};
 ghost use lib.ListN.{getD};
 ghost use Rattle.apply.specs.Blocks.{blockAt, namedBy, Freed, Claimed};
 ghost use Rattle.apply.specs.Joining.{Superseded, OneJoined, Staged, Joining};
-use blocks::Buffer;
 use index::Info;
-use log::Next;
 use session::Control;
 use spec::FirstWord;
 use session::Setup;
@@ -46,62 +44,14 @@ fn release_at(buffer: &mut Buffer, image: &[u8], place: usize)
 }
 
 // The block of a key's top entries, of which the table says so much: the chosen one's, since all of them are equal in every word.
-fn release_tops(buffer: &mut Buffer, image: &[u8], info: Info)
+fn release_tops(buffer: &mut [u64; 1152], image: &[u8], info: Info)
     ensures { λ _. ⌜ Superseded (wordsOf (now (image .entry))) (now (buffer .entry)) (now (buffer .exit)) info ⌝ }
 {
     blocks::buffer_length(buffer);
-    if k == key {
-        if v == version {
-            release(buffer, op, placement, field);
-        }
-    }
-}
-
-// All entries of this key and version, by a scan of the log of an image of `count` chunks.
-fn release_twins(buffer: &mut [u64; 1152], image: &[u8], count: usize, key: u64, version: u64)
-    ensures { λ _. ⌜ Scanned count (wordsOf (now (image .entry))) (now (buffer .entry)) (now (buffer .exit)) key version ⌝ }
-{
-    blocks::buffer_length(buffer);
-    let mut cursor = log::first_cursor();
-    loop {
-        let n = log::next_in_log(image, count, cursor);
-        match n {
-            Next::Done => {
-                return;
-            }
-            Next::Wrong => {
-                return;
-            }
-            Next::Entry {
-                op,
-                placement,
-                version: v,
-                field,
-                key: k,
-                words: _,
-                place: _,
-                cursor: behind,
-            } => {
-                release_twin(buffer, key, version, k, v, op, placement, field);
-                cursor = behind;
-            }
-        }
-    }
-}
-
-// The top entries of a key, of which the table says so much: one, or several.
-fn release_tops(buffer: &mut [u64; 1152], image: &[u8], count: usize, key: u64, info: Info)
-    ensures { λ _. ⌜ Superseded count (wordsOf (now (image .entry))) (now (buffer .entry)) (now (buffer .exit)) key info ⌝ }
-{
-    blocks::buffer_length(buffer);
-    if info.several == 0 {
-        if 0 < info.extent {
-            return;
-        }
-        release_at(buffer, image, info.place as usize);
+    if 0 < info.extent {
         return;
     }
-    release_twins(buffer, image, count, key, info.version);
+    release_at(buffer, image, info.place as usize);
 }
 
 // ONE ITEM
@@ -121,13 +71,13 @@ fn claim(buffer: &mut Buffer, op: u64, placement: u64, field: u64)
 // The blocks that it supersedes leave the bits; its own is not yet there.
 fn join_one(
     image: &[u8],
-    buffer: &mut Buffer,
+    buffer: &mut [u64; 1152],
     table: &mut [u64],
     keys: usize,
     key: u64,
     own: u64,
 ) -> usize
-    ensures { λ r. ⌜ OneJoined count (wordsOf (now (image .entry))) (now (buffer .entry)) (now (buffer .exit)) (now (table .entry)) (now (table .exit)) keys key own r ⌝ }
+    ensures { λ r. ⌜ OneJoined (wordsOf (now (image .entry))) (now (buffer .entry)) (now (buffer .exit)) (now (table .entry)) (now (table .exit)) keys key own r ⌝ }
 {
     blocks::buffer_length(buffer);
     let slot = index::stop(table, key);
@@ -140,7 +90,7 @@ fn join_one(
         return keys;
     }
     index::put_at(table, slot, key, volatile::noted(old, own));
-    release_tops(buffer, image, count, key, index::unpack(old));
+    release_tops(buffer, image, index::unpack(old));
     keys
 }
 
@@ -202,7 +152,6 @@ pub fn join(
     ensures { λ r. ⌜ Joining control setup (now (buffer .entry)) (now (buffer .exit)) (wordsOf (now (image .entry))) (now (table .entry)) (now (table .exit)) r ⌝ }
 {
     blocks::buffer_length(buffer);
-    let count = setup.image / 4096;
     let place = actions::batch_start(setup);
     let end = actions::at_most(control.words, 512);
     let mut keys = control.keys;
@@ -223,7 +172,7 @@ pub fn join(
             } => {
                 let extent = volatile::extent_of(placement, field);
                 let own = volatile::alone(extent, place + at, version);
-                keys = join_one(image, count, buffer, table, keys, key, own);
+                keys = join_one(image, buffer, table, keys, key, own);
                 claim(buffer, op, placement, field);
                 at += 2 + words;
             }

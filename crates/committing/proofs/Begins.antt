@@ -125,6 +125,7 @@ module _ (c : Control) (k : Setup) (b ws table : List ℕ) (f : Entry) (fs : Lis
       fit = subst (λ (l : List Action). ItemsFit (chunksIn basePower (k .image)) (runWords l ws) (ahead .front ++ ahead .back) items) (sym todo) (rw (ahead .split) at (ahead .fit));
       keys = rw (ahead .split) at (r .batch .keys);
     };
+    agree = rw (ahead .split) at (ahead .agree);
     apart = rw (ahead .split) at (ahead .apart);
     built = record { indexed = rw (ahead .split) at (r .built .indexed); blocks = rw (ahead .split) at (r .built .blocks) };
     table-room = r .table-room;

@@ -9,7 +9,7 @@ use Prim.Native.Nat.{ℕ}
 use Rattle.spec.specs.Log.{Entry}
 use Rattle.spec.specs.Contents.{chosen}
 use Rattle.theory_base.proofs.Lists.{not-both}
-use Rattle.theory_log.specs.Contents.{Mem, Apart}
+use Rattle.theory_log.specs.Contents.{Apart}
 use Rattle.theory_log.proofs.Contents.{mem-r, chosen-is}
 use Rattle.blocks.specs.Bits.{hasBit, BitWritten}
 use Rattle.blocks.proofs.Laws.{kept-all}

@@ -23,7 +23,7 @@ use Rattle.session.specs.declared.Setup.{Setup}
 use Rattle.session.specs.declared.Source.{Source}
 use Rattle.session.specs.declared.Session.{Session}
 use Rattle.theory_log.specs.Batch.{AllRight}
-use Rattle.theory_log.specs.Contents.{CountsOn, Mem, Top}
+use Rattle.theory_log.specs.Contents.{CountsOn, Mem, Top, Agree}
 use Rattle.blocks.specs.Bits.{hasBit}
 use Rattle.volatile.specs.Known.{Indexed}
 use Rattle.session.specs.State.{batchRoom, batchWords, stateOf}
@@ -103,6 +103,7 @@ pub record CommitFits (s : Session) (ws table : List ℕ) (items : List Entry) (
   pub long : length ws ≡ s .setup .image / 8
   pub lent : length table ≡ s .setup .table
   pub batch : BatchFits (s .control) (s .buffer) (chunksIn basePower (s .setup .image)) (runWords rest ws) (front ++ back) items
+  pub agree : Agree (front ++ back)
   pub apart : BlocksApart (front ++ back)
   pub built : BuiltBy rest s table (front ++ back) (front ++ (placed (batchPlace (s .setup)) items ++ back))
   pub table-room : s .control .keys + s .control .fresh ≤ capacity (s .setup .table)

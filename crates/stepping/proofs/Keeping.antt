@@ -68,6 +68,7 @@ module _ (c : Control) (k : Setup) (b : List ℕ) where
       long = action-length x ws ∙ f .long;
       lent = f .lent;
       batch = batch-kept c (acted c (c .keys) (c .fresh)) b b (chunksIn basePower (k .image)) _ (f .front ++ f .back) items refl refl refl refl (f .batch);
+      agree = f .agree;
       apart = f .apart;
       built = built-kept c (acted c (c .keys) (c .fresh)) b table (f .front ++ f .back) refl (f .built);
       table-room = f .table-room;
@@ -100,6 +101,7 @@ module _ (c : Control) (k : Setup) (b : List ℕ) where
         fit = f .batch .fit;
         shown = ok .parsed;
         built = f .built;
+        agree = f .agree;
         apart = f .apart;
         room = rw (f .lent) (keys-fit (k .table) after (opens-ok basePower lo hi (k .image) (k .table) ws′ after long′ (f .accepted) .1));
       }
@@ -119,6 +121,7 @@ module _ (c : Control) (k : Setup) (b : List ℕ) where
             long = long′;
             lent = j .sized ∙ f .lent;
             batch = batch-kept c (acted c keys 0) b b′ (chunksIn basePower (k .image)) _ (f .front ++ f .back) items refl refl (words-kept c (acted c keys 0) b b′ (j .kept) refl) e (f .batch);
+            agree = f .agree;
             apart = f .apart;
             built = record { indexed = q .0 .indexed; blocks = q .0 .blocks };
             table-room = omega arith;

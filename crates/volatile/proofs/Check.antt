@@ -7,7 +7,7 @@ use mathlib.Core.List.{List, [], _∷_, _++_}
 use Prim.Native.Nat.{ℕ, suc, _≤_, _<_}
 use native.Mathlib.Omega.{arith}
 use lib.Dec.{eqb}
-use borrow.Author.Tests.{eq-eqb, ltb-true}
+use borrow.Author.Tests.{ltb-true}
 use Rattle.spec.specs.Basics.{pick, both, all, isIn}
 use Rattle.spec.specs.Log.{Entry, moved}
 use Rattle.spec.specs.Places.{basePower, maxChunks, chunkUnits, firstUnit, unitChunk}

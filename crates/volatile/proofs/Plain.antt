@@ -9,8 +9,8 @@ use Prim.Native.Nat.{ℕ, suc, _<_}
 use native.Mathlib.Omega.{arith}
 use lib.Dec.{eqb, leb}
 use lib.ListN.{length}
-use borrow.Author.Tests.{eqb-true, eq-eqb, ne-eqb, le-leb}
-use Rattle.spec.specs.Basics.{pick, both, first}
+use borrow.Author.Tests.{eqb-true, eq-eqb, le-leb}
+use Rattle.spec.specs.Basics.{pick, first}
 use Rattle.spec.specs.Log.{Entry, moved}
 use Rattle.spec.specs.Blocks.{pointed}
 use Rattle.spec.specs.Contents.{highest, isTopOf, isTop, tops, chosen}

@@ -1,25 +1,19 @@
--- A value's bytes and its words: each word of the packed bytes, the bytes of packed words again, and the words of a value's bytes again.
+-- A value's bytes and its words: each word of the packed bytes, and the bytes of packed words again.
 -- Assumes nothing.
 use mathlib.Core.Path.{_≡_, refl, sym, _∙_, ap}
-use mathlib.Core.Bool.{Bool, true, false}
+use mathlib.Core.Bool.{true}
 use mathlib.Core.List.{List, [], _∷_, _++_}
 use Prim.Native.Nat.{ℕ, zero, suc, _+_, _-_, _*_, _/_, _%_, _^_, _<_, _≤_}
 use native.Mathlib.Omega.{arith}
-use native.Mathlib.Nat.{div-eq-of-lt}
 use native.Mathlib.Decide.{ℕ-discrete}
-use borrow.Author.Tests.{eq-eqb, ne-eqb, eqb-true, ltb-true, lt-ltb}
-use lib.Dec.{T, eqb, ltb, eqb→eq}
+use borrow.Author.Tests.{eq-eqb, ne-eqb, ltb-true, lt-ltb}
+use lib.Dec.{eqb, ltb}
 use lib.ListN.{length, getD, take, drop, List·getD-eq-default}
-use lib.Seq.{getD-drop, length-take-le}
-use Rattle.spec.specs.Basics.{pick, both, sameList}
+use lib.Seq.{getD-drop}
+use Rattle.spec.specs.Basics.{pick}
 use Rattle.spec.specs.Words.{AreBytes, joined, wordAt, packed, eightBytes, bytesOf, valueBytes}
-use Rattle.words.specs.Store.{joined-bytes}
-use Rattle.words.specs.Image.{wordAt-fits}
 
--- each is a word; the last word of a value of n bytes is zero-filled
-abbrev pub Words : List ℕ → Type 0
-Words ws = (i : ℕ) → getD ws i 0 < 2 ^ 64
-
+-- the last word of a value of n bytes is zero-filled
 abbrev pub Filled : ℕ → List ℕ → Type 0
 Filled n ws = (n % 8 ≡ 0 → ⊥) → getD ws (n / 8) 0 < 256 ^ (n % 8)
 
@@ -130,15 +124,6 @@ filled-test n ws f = go (ℕ-discrete (n % 8) 0)
     go (yes e) = rw (eq-eqb (n % 8) 0 e)
     go (no ne) = rw (ne-eqb (n % 8) 0 ne, lt-ltb (getD ws (n / 8) 0) (256 ^ (n % 8)) (f ne))
 
--- the words of a value of n bytes: so many, each a word, the last one zero-filled
-pub record Encoded (n : ℕ) (ws : List ℕ) : Type 0 where
-  pub size : length ws ≡ (n + 7) / 8
-  pub words : Words ws
-  pub filled : Filled n ws
-
-pub packed-fits : (xs : List ℕ) → AreBytes xs → Words (packed xs)
-packed-fits xs s i = rw (getD-packed xs i) (wordAt-fits xs s i)
-
 pub packed-filled : (xs : List ℕ) → AreBytes xs → Filled (length xs) (packed xs)
 packed-filled [] s ne = absurd (ne refl)
 packed-filled (a ∷ []) s ne = omega (arith, s 0)
@@ -154,16 +139,6 @@ packed-filled (a ∷ b ∷ c ∷ d ∷ e ∷ f ∷ g ∷ h ∷ rest) s ne =
     let r : suc (suc (suc (suc (suc (suc (suc (suc n))))))) % 8 ≡ n % 8 = omega arith in
     rw (q, r) (packed-filled rest (tail a b c d e f g h rest s) (λ z. ne (r ∙ z)))
 
-pub packed-encoded : (xs : List ℕ) → AreBytes xs → Encoded (length xs) (packed xs)
-packed-encoded xs s = record { size = length-packed xs; words = packed-fits xs s; filled = packed-filled xs s }
-
-pub length-bytesOf : (ws : List ℕ) → length (bytesOf ws) ≡ 8 * length ws
-length-bytesOf [] = refl
-length-bytesOf (w ∷ ws) = let q = length-bytesOf ws in omega arith
-
-pub length-valueBytes : (n : ℕ) (ws : List ℕ) → n ≤ 8 * length ws → length (valueBytes n ws) ≡ n
-length-valueBytes n ws h = let q = length-bytesOf ws in length-take-le n (bytesOf ws) (omega arith)
-
 -- each byte of a value is one
 pub bytesOf-bytes : (ws : List ℕ) → AreBytes (bytesOf ws)
 bytesOf-bytes [] i = omega arith
@@ -176,100 +151,3 @@ bytesOf-bytes (w ∷ ws) (suc (suc (suc (suc (suc zero))))) = omega arith
 bytesOf-bytes (w ∷ ws) (suc (suc (suc (suc (suc (suc zero)))))) = omega arith
 bytesOf-bytes (w ∷ ws) (suc (suc (suc (suc (suc (suc (suc zero))))))) = omega arith
 bytesOf-bytes (w ∷ ws) (suc (suc (suc (suc (suc (suc (suc (suc i)))))))) = bytesOf-bytes ws i
-
--- encoding what was decoded: a lone word of few bytes, then any
-module _ (w : ℕ) where
-  gone : (p : ℕ) → w < p → w / p % 256 ≡ 0
-  gone p h = rw (div-eq-of-lt h)
-
-  lone1 : w < 256 ^ 1 → packed (valueBytes 1 (w ∷ [])) ≡ w ∷ []
-  lone1 h = ap (λ (x : ℕ). x ∷ []) (rw (gone 0x100 (omega arith), gone 0x1_0000 (omega arith), gone 0x100_0000 (omega arith), gone 0x1_0000_0000 (omega arith), gone 0x100_0000_0000 (omega arith), gone 0x1_0000_0000_0000 (omega arith), gone 0x100_0000_0000_0000 (omega arith)) at (joined-bytes w (omega arith)))
-
-  lone2 : w < 256 ^ 2 → packed (valueBytes 2 (w ∷ [])) ≡ w ∷ []
-  lone2 h = ap (λ (x : ℕ). x ∷ []) (rw (gone 0x1_0000 (omega arith), gone 0x100_0000 (omega arith), gone 0x1_0000_0000 (omega arith), gone 0x100_0000_0000 (omega arith), gone 0x1_0000_0000_0000 (omega arith), gone 0x100_0000_0000_0000 (omega arith)) at (joined-bytes w (omega arith)))
-
-  lone3 : w < 256 ^ 3 → packed (valueBytes 3 (w ∷ [])) ≡ w ∷ []
-  lone3 h = ap (λ (x : ℕ). x ∷ []) (rw (gone 0x100_0000 (omega arith), gone 0x1_0000_0000 (omega arith), gone 0x100_0000_0000 (omega arith), gone 0x1_0000_0000_0000 (omega arith), gone 0x100_0000_0000_0000 (omega arith)) at (joined-bytes w (omega arith)))
-
-  lone4 : w < 256 ^ 4 → packed (valueBytes 4 (w ∷ [])) ≡ w ∷ []
-  lone4 h = ap (λ (x : ℕ). x ∷ []) (rw (gone 0x1_0000_0000 (omega arith), gone 0x100_0000_0000 (omega arith), gone 0x1_0000_0000_0000 (omega arith), gone 0x100_0000_0000_0000 (omega arith)) at (joined-bytes w (omega arith)))
-
-  lone5 : w < 256 ^ 5 → packed (valueBytes 5 (w ∷ [])) ≡ w ∷ []
-  lone5 h = ap (λ (x : ℕ). x ∷ []) (rw (gone 0x100_0000_0000 (omega arith), gone 0x1_0000_0000_0000 (omega arith), gone 0x100_0000_0000_0000 (omega arith)) at (joined-bytes w (omega arith)))
-
-  lone6 : w < 256 ^ 6 → packed (valueBytes 6 (w ∷ [])) ≡ w ∷ []
-  lone6 h = ap (λ (x : ℕ). x ∷ []) (rw (gone 0x1_0000_0000_0000 (omega arith), gone 0x100_0000_0000_0000 (omega arith)) at (joined-bytes w (omega arith)))
-
-  lone7 : w < 256 ^ 7 → packed (valueBytes 7 (w ∷ [])) ≡ w ∷ []
-  lone7 h = ap (λ (x : ℕ). x ∷ []) (rw (gone 0x100_0000_0000_0000 (omega arith)) at (joined-bytes w (omega arith)))
-
--- a list of one word
-only : (k : ℕ) (ws : List ℕ) → length ws ≡ 1 → ((w : ℕ) → w < 256 ^ k → packed (valueBytes k (w ∷ [])) ≡ w ∷ []) → getD ws 0 0 < 256 ^ k
-    → packed (valueBytes k ws) ≡ ws
-only k [] l law f = absurd (omega arith)
-only k (w ∷ []) l law f = law w f
-only k (w ∷ v ∷ vs) l law f = absurd (omega arith)
-
-none : (ws : List ℕ) → length ws ≡ 0 → packed (valueBytes 0 ws) ≡ ws
-none [] l = refl
-none (w ∷ ws) l = absurd (omega arith)
-
-packs : (n : ℕ) (ws : List ℕ) → length ws ≡ (n + 7) / 8 → Words ws → Filled n ws → packed (valueBytes n ws) ≡ ws
-packs zero ws l s f = none ws l
-packs (suc zero) ws l s f = only 1 ws l lone1 (f (λ z. omega arith))
-packs (suc (suc zero)) ws l s f = only 2 ws l lone2 (f (λ z. omega arith))
-packs (suc (suc (suc zero))) ws l s f = only 3 ws l lone3 (f (λ z. omega arith))
-packs (suc (suc (suc (suc zero)))) ws l s f = only 4 ws l lone4 (f (λ z. omega arith))
-packs (suc (suc (suc (suc (suc zero))))) ws l s f = only 5 ws l lone5 (f (λ z. omega arith))
-packs (suc (suc (suc (suc (suc (suc zero)))))) ws l s f = only 6 ws l lone6 (f (λ z. omega arith))
-packs (suc (suc (suc (suc (suc (suc (suc zero))))))) ws l s f = only 7 ws l lone7 (f (λ z. omega arith))
-packs (suc (suc (suc (suc (suc (suc (suc (suc n)))))))) [] l s f = absurd (omega arith)
-packs (suc (suc (suc (suc (suc (suc (suc (suc n)))))))) (w ∷ ws) l s f =
-    let q : suc (suc (suc (suc (suc (suc (suc (suc n))))))) / 8 ≡ suc (n / 8) = omega arith in
-    let r : suc (suc (suc (suc (suc (suc (suc (suc n))))))) % 8 ≡ n % 8 = omega arith in
-    ap (λ (x : ℕ). x ∷ packed (valueBytes n ws)) (joined-bytes w (s 0))
-    ∙ ap (λ (l : List ℕ). w ∷ l) (packs n ws (omega arith) (λ i. s (suc i)) (λ ne. rw (q, r) at (f (λ z. ne (sym r ∙ z)))))
-
-pub packed-bytes : {n : ℕ} {ws : List ℕ} → Encoded n ws → packed (valueBytes n ws) ≡ ws
-packed-bytes {n} {ws} e = packs n ws (e .size) (e .words) (e .filled)
-
--- two values are equal exactly if their lengths and words are
-pub values-equal : {n m : ℕ} {ws vs : List ℕ} → Encoded n ws → Encoded m vs → valueBytes n ws ≡ valueBytes m vs → (n ≡ m) × (ws ≡ vs)
-values-equal {n} {m} {ws} {vs} e f same =
-    let l : length ws ≡ (n + 7) / 8 = e .size in
-    let k : length vs ≡ (m + 7) / 8 = f .size in (
-      sym (length-valueBytes n ws (omega arith)) ∙ ap length same ∙ length-valueBytes m vs (omega arith),
-      sym (packed-bytes e) ∙ ap packed same ∙ packed-bytes f,
-    )
-
-pub sameList-eq : (xs ys : List ℕ) → T (sameList xs ys) → xs ≡ ys
-sameList-eq [] [] t = refl
-sameList-eq [] (y ∷ ys) t = absurd t
-sameList-eq (x ∷ xs) [] t = absurd t
-sameList-eq (x ∷ xs) (y ∷ ys) t = go (eqb x y) (eqb→eq x y) (sameList-eq xs ys) t
-  where
-    go : (b : Bool) → (T b → x ≡ y) → (T (sameList xs ys) → xs ≡ ys) → T (both b (sameList xs ys)) → x ∷ xs ≡ y ∷ ys
-    go true f g u = let p = f tt in let q = g u in cc
-    go false f g u = absurd u
-
-pub sameList-refl : (xs : List ℕ) → sameList xs xs ≡ true
-sameList-refl [] = refl
-sameList-refl (x ∷ xs) = rw (eq-eqb x x refl) (sameList-refl xs)
-
--- comparing values by length and words
-pub same-values : {n m : ℕ} {ws vs : List ℕ} → Encoded n ws → Encoded m vs → sameList (valueBytes n ws) (valueBytes m vs) ≡ both (eqb n m) (sameList ws vs)
-same-values {n} {m} {ws} {vs} e f = go (sameList (valueBytes n ws) (valueBytes m vs)) refl
-  where
-    go : (b : Bool) → sameList (valueBytes n ws) (valueBytes m vs) ≡ b → b ≡ both (eqb n m) (sameList ws vs)
-    go true p =
-        let q = values-equal e f (sameList-eq (valueBytes n ws) (valueBytes m vs) (rw p tt)) in
-        sym (rw (eq-eqb n m (q .0)) (ap (λ (l : List ℕ). sameList l vs) (q .1) ∙ sameList-refl vs))
-    go false p = back (eqb n m) (sameList ws vs) refl refl
-      where
-        back : (c d : Bool) → eqb n m ≡ c → sameList ws vs ≡ d → false ≡ both c d
-        back false d x y = refl
-        back true false x y = refl
-        back true true x y =
-            let k : n ≡ m = eqb-true n m x in
-            let l : ws ≡ vs = sameList-eq ws vs (rw y tt) in
-            sym p ∙ ap (λ (i : ℕ). sameList (valueBytes i ws) (valueBytes m vs)) k ∙ ap (λ (us : List ℕ). sameList (valueBytes m us) (valueBytes m vs)) l ∙ sameList-refl (valueBytes m vs)

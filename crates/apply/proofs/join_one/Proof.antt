@@ -31,14 +31,14 @@ same-length c = search needs
 returns : tie.Need-returns
 returns c =
     let zero = c .before .before .before .before .before .before .if1 .taken in
-    joined-new _ _ _ _ _ _ _ _ _ _ _ _ (c .before .before .before .before .before .before .before .before .before .stop .ensures) (c .before .before .before .before .before .before .before .word-at .ensures) (noted-new _ _ zero) (c .before .before .before .before .before .before .before .before .before .before .before .buffer-length .ensures .1) refl (c .before .before .put-at .ensures) zero
+    joined-new _ _ _ _ _ _ _ _ _ _ _ (c .before .before .before .before .before .before .before .before .before .stop .ensures) (c .before .before .before .before .before .before .before .word-at .ensures) (noted-new _ _ zero) (c .before .before .before .before .before .before .before .before .before .before .before .buffer-length .ensures .1) refl (c .before .before .put-at .ensures) zero
 
 same-length-2 : tie.Need-same-length-2
 same-length-2 c = search needs
 
 returns-2 : tie.Need-returns-2
 returns-2 c =
-    joined-full _ _ _ _ _ _ _ _ _ _ _ _ (c .before .before .before .before .before .stop .ensures) (c .before .before .before .word-at .ensures) refl (c .before .before .before .before .before .before .before .buffer-length .ensures .1) refl refl (c .before .before .if1 .taken) (rw (← c .before .capacity .ensures) (c .if2 .left))
+    joined-full _ _ _ _ _ _ _ _ _ _ _ (c .before .before .before .before .before .stop .ensures) (c .before .before .before .word-at .ensures) refl (c .before .before .before .before .before .before .before .buffer-length .ensures .1) refl refl (c .before .before .if1 .taken) (rw (← c .before .capacity .ensures) (c .if2 .left))
 
 noted-requires : tie.Need-noted-requires
 noted-requires c κs = search needs
@@ -57,7 +57,7 @@ same-length-3 c = search needs
 
 returns-3 : tie.Need-returns-3
 returns-3 c =
-    joined-old _ _ _ _ _ _ _ _ _ _ _ _ (c .before .before .before .before .before .before .before .before .before .before .before .stop .ensures) (c .before .before .before .before .before .before .before .before .before .word-at .ensures) (c .before .before .before .before .before .before .noted .ensures) (c .before .before .before .before .before .put-at2 .ensures) _ (c .before .unpack .ensures) (c .release-tops .ensures) (c .before .before .before .before .before .before .before .before .if1 .left)
+    joined-old _ _ _ _ _ _ _ _ _ _ _ (c .before .before .before .before .before .before .before .before .before .before .before .stop .ensures) (c .before .before .before .before .before .before .before .before .before .word-at .ensures) (c .before .before .before .before .before .before .noted .ensures) (c .before .before .before .before .before .put-at2 .ensures) _ (c .before .unpack .ensures) (c .release-tops .ensures) (c .before .before .before .before .before .before .before .before .if1 .left)
 
 pub join-one-spec : {M : Type 1} → statement M
 join-one-spec =

@@ -1,7 +1,6 @@
 -- `tops::agrees` meets its contract: the words of the two entries are compared.
 -- Assumes nothing.
 use mathlib.Core.Path.{sym}
-use native.Mathlib.Omega.{arith}
 use Rattle.spec.specs.Words.{wordsOf}
 use Rattle.words.specs.Image.{length-wordsOf}
 use Rattle.consistency.proofs.Same.{shows-agree}
