@@ -185,7 +185,7 @@ inline const char *zkv_sentence(uint64_t number)
     case ZKV_BLOCK_WRONG:
         return "a value's block is wrong: its place, its length or its fill";
     case ZKV_TOPS_DISAGREE:
-        return "the newest entries of a key disagree, or two keys share a block";
+        return "the newest entries of a key are not equal in every word, or two keys share a block";
     case ZKV_TABLE_FULL:
         return "the keys do not fit the key table";
     case ZKV_UNFINISHED:

@@ -275,12 +275,13 @@ DAMAGED = [
     (6, 'the third of three', at(NEW, F(1, 0, 1, 5), 7, 478560413032, F(1, 0, 1, 0), 7), at(NEW, F(1, 0, 1, 5), 7, 478560413032, F(1, 0, 1, 0), 13)),
     (6, 'disagreement at the highest version', at(NEW, F(1, 0, 1, 0), 7), at(NEW, F(1, 0, 1, 0), 7, F(2, 0, 2, 0), 7)),
     (6, 'a block and the log', at(NEW, F(1, 0, 1, 256), 9), at(NEW, F(1, 1, 1, 32), 9)),
-    (6, 'blocks of unequal first bytes', {520: 9, 1121: 2}, {520: 9}),
-    (6, 'blocks of unequal last bytes', {520: 9, 1153: 2}, {520: 9}),
-    (6, 'blocks of unequal lengths', {520: 9, 1120: 258}, {520: 9, 1154: 4}),
+    (6, 'two blocks of equal values', {520: 9}, {519: F(1, 1, 1, 32), 520: 9}),
+    (6, 'two blocks of unequal values', {520: 9, 1121: 2}, {519: F(1, 1, 1, 32), 520: 9, 1121: 2}),
+    (6, 'two blocks at the highest version', {520: 9}, {520: 9, **at(NEW, F(1, 0, 2, 0), 9)}),
+    (6, 'the second of two in another block', {519: F(1, 1, 1, 32), 520: 9, **at(NEW, F(1, 1, 1, 35), 9)}, {519: F(1, 1, 1, 32), 520: 9, **at(NEW, F(1, 1, 1, 32), 9)}),
     (6, 'one block of two keys', {519: F(1, 1, 1, 32)}, {519: F(1, 1, 1, 32), 520: 9}),
     (6, 'one block of two keys, and a later put', {519: F(1, 1, 1, 32), **at(NEW, F(1, 0, 2, 0), 13)}, {519: F(1, 1, 1, 32), **at(NEW, F(1, 0, 2, 0), 11)}),
-    (6, 'the block of a twin that is not chosen', {520: 9, **at(NEW, F(1, 1, 1, 35), 13)}, {520: 9, **at(NEW, F(1, 1, 1, 35), 9)}),
+    (6, 'the block of two twins, and another key', {519: F(1, 1, 1, 32), 520: 9, **at(NEW, F(1, 1, 1, 32), 13)}, {519: F(1, 1, 1, 32), 520: 9, **at(NEW, F(1, 1, 1, 35), 13)}),
 ]
 
 # two faults in one image: the lower number is answered
@@ -338,13 +339,16 @@ def twins(s):
     s.image('twins in the log, in three chunks; a put of 8 below two deletes', w, [7, 8, 9, 10], number=0, places=True)
     s.image('the same, and a fourth that disagrees', changed({2049: 9, 2048: F(1, 0, 1, 30)}, w), [7], number=6)
     s.image('the same, table of eleven words', w, [7], table=11, number=7)
-    two = {520: 9}
-    s.image('twins in two blocks of one key', changed(two), KEYS, number=0, places=True)
-    s.image('twins in two blocks, table of eleven words', changed(two), KEYS, table=11, number=7)
-    s.image('twins in two blocks, of sizes three and five', changed({11: blocks(5), 519: F(1, 1, 1, 53), 520: 9, **at(1696, 257, *[1] * 33)}), KEYS, number=0, places=True)
-    s.image('twins in one block, and a third in another', changed({520: 9, **at(NEW, F(1, 1, 1, 32), 9)}), KEYS, number=0, places=True)
+    one = {519: F(1, 1, 1, 32), 520: 9}
+    s.image('twins in one block', changed(one), KEYS, number=0, places=True)
+    s.image('twins in one block, table of eleven words', changed(one), KEYS, table=11, number=7)
+    s.image('twins in one block, in two chunks', changed({11: log(1), 519: 0, 520: 0, **at(1536, F(1, 1, 1, 32), 9)}), KEYS, number=0, places=True)
+    s.image('twins in two blocks of one key', changed({520: 9}), KEYS, number=6)
+    s.image('twins in two blocks, of sizes three and five', changed({11: blocks(5), 519: F(1, 1, 1, 53), 520: 9, **at(1696, 257, *[1] * 33)}), KEYS, number=6)
+    s.image('twins in one block, and a third in another', changed({520: 9, **at(NEW, F(1, 1, 1, 32), 9)}), KEYS, number=6)
+    s.image('twins in one block, which is wrong', changed({**one, 1024: 256}), KEYS, number=5)
     s.image('a twin in a block of a key that a later delete hides', changed({520: 9, **at(NEW, F(2, 0, 2, 0), 9)}), KEYS, number=0, places=True)
-    s.image('the twin that is not chosen has the block of another key', changed({520: 9, **at(NEW, F(1, 1, 1, 35), 13)}), [7], number=6)
+    s.image('twins have the block of another key', changed({**one, **at(NEW, F(1, 1, 1, 32), 13)}), [7], number=6)
     s.image('a superseded twin has the block of another key', changed({520: 9, **at(NEW, F(1, 1, 1, 35), 13, F(1, 0, 2, 1), 9, 65)}), KEYS, number=0, places=True)
 
 

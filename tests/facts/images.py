@@ -105,7 +105,7 @@ def foreign(rng, count, keys, with_blocks, twins=.6):
             k, v = rng.choice(keys), rng.choice([1, 2, 2, 3])
             if rng.random() < twins and (k, v) in said:
                 entry = said[k, v]
-                if entry[0] & 4:                        # the same value, in any block that has it
+                if entry[0] & 4 and rng.random() < .3:  # the same value, in any block that has it: refused
                     entry = [first_word(1, 1, v, rng.choice([u for u in blocks if blocks[u] == blocks[entry[0] >> 24]])), k]
             elif rng.random() < .25:
                 entry = [first_word(2, 0, v, 0), k]
@@ -138,7 +138,7 @@ def has_twins(v):
 
 
 def has_block_twins(v):
-    return any(len({e.tail for e in es if e.block}) > 1 for es in v.tops.values())
+    return any(sum(bool(e.block) for e in es) > 1 for es in v.tops.values())
 
 
 def has_live(v):
