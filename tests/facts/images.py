@@ -285,7 +285,7 @@ def block_damage(rng, ws, v, name, some):
 
 
 def twin_damage(rng, ws, v):
-    """One committed line more, with an entry that has a top entry for a twin, or shares a block."""
+    """One committed line more, with an entry that has a top entry for a twin, or shares a block; a block more, with a top entry's value."""
     logs = [c for c in range(1, v.count) if v.roles[c][0] == 1 and v.roles[c][1] < 64]
     if not logs or not v.tops:
         return {}
@@ -305,8 +305,16 @@ def twin_damage(rng, ws, v):
         out.update({'same-block': [first_word(1, 1, e.version, e.tail), e.key], 'block-and-log': put_words(e.key, e.version, b''),
                     'any-block': [first_word(1, 1, e.version, rng.choice(blocks)), e.key], 'shared': [first_word(1, 1, 1, e.tail), 12345],
                     'shared-below': [first_word(1, 1, max(1, h - 1), e.tail), k]})
-    at = c * 512 + lines * 8
-    return {f'twin-{name}': [(8 + c, 1 | lines + 1 << 8)] + [(at + i, w) for i, w in enumerate(words + [0] * (8 - len(words)))] for name, words in out.items()}
+    at, blocks = c * 512 + lines * 8, {}
+    for e in live:
+        size = v.roles[e.tail // UNITS][1]
+        first = e.tail // UNITS * UNITS
+        for u in range(first, first + UNITS - size + 1, size):
+            if u not in v.live:
+                out['equal-block'] = [first_word(1, 1, e.version, u), e.key]
+                blocks['equal-block'] = [(32 * u + i, ws[32 * e.tail + i]) for i in range(1 + (ws[32 * e.tail] + 7) // 8)]
+    return {f'twin-{name}': [(8 + c, 1 | lines + 1 << 8)] + [(at + i, w) for i, w in enumerate(words + [0] * (8 - len(words)))] + blocks.get(name, [])
+            for name, words in out.items()}
 
 
 times_damaged = {}

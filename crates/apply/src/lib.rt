@@ -5,10 +5,11 @@ ghost use Rattle.spec.specs.Log.{firstOf};
 ghost use lib.ListN.{getD};
 ghost use Rattle.apply.specs.Blocks.{blockAt, namedBy, Freed, Claimed};
 ghost use Rattle.apply.specs.Joining.{Superseded, OneJoined, Staged, Joining};
+use blocks::Buffer;
 use index::Info;
 use session::Control;
-use spec::FirstWord;
 use session::Setup;
+use spec::FirstWord;
 
 // THE BLOCKS OF SUPERSEDED ENTRIES
 // The block of an entry with these parts, if it is a put in one, leaves the bits.
@@ -44,7 +45,7 @@ fn release_at(buffer: &mut Buffer, image: &[u8], place: usize)
 }
 
 // The block of a key's top entries, of which the table says so much: the chosen one's, since all of them are equal in every word.
-fn release_tops(buffer: &mut [u64; 1152], image: &[u8], info: Info)
+fn release_tops(buffer: &mut Buffer, image: &[u8], info: Info)
     ensures { λ _. ⌜ Superseded (wordsOf (now (image .entry))) (now (buffer .entry)) (now (buffer .exit)) info ⌝ }
 {
     blocks::buffer_length(buffer);
@@ -71,7 +72,7 @@ fn claim(buffer: &mut Buffer, op: u64, placement: u64, field: u64)
 // The blocks that it supersedes leave the bits; its own is not yet there.
 fn join_one(
     image: &[u8],
-    buffer: &mut [u64; 1152],
+    buffer: &mut Buffer,
     table: &mut [u64],
     keys: usize,
     key: u64,

@@ -8,6 +8,7 @@ ghost use Rattle.spec.specs.Words.{wordsOf};
 ghost use Rattle.spec.specs.Blocks.{startTests, lengthTests, blockRight};
 ghost use Rattle.consistency.specs.Heads.{sameFrom, points};
 ghost use Rattle.consistency.specs.Pass.{AgreesWith, TopIs, AgreedIs, MarkedIs, VisitedIs, CheckedAs, Examined};
+use blocks::Buffer;
 use blocks::clear_bits;
 use blocks::has_bit;
 use blocks::set_bit;
@@ -157,7 +158,7 @@ fn points(op: u64, placement: u64) -> bool
 
 // A top entry's block is marked if it is the chosen one of its key, which stands at word `place`: the others have the same block, or
 // disagree. The answer is whether no two keys share a block: one that is marked already is another key's.
-fn marked(buffer: &mut [u64; 1152], apart: bool, e: Head, place: usize) -> bool
+fn marked(buffer: &mut Buffer, apart: bool, e: Head, place: usize) -> bool
     ensures { λ r. ⌜ MarkedIs apart e place (now (buffer .entry)) (now (buffer .exit)) r ⌝ }
 {
     if e.place != place {
