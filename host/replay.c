@@ -252,6 +252,10 @@ static bool play(char *line)
     } else if (COMMAND("poke", 2) && n[0] < bytes / 8) {
         memcpy(now.image + 8 * n[0], &n[1], 8);
         puts("poke");
+    } else if (COMMAND("tpoke", 2) && n[0] < words) {
+        now.table[n[0]] = n[1];
+        memset(running, 0, sizeof running);
+        puts("tpoke");
     } else if (COMMAND("open", 0)) {
         remember();
         zkv_report r = zkv_open(&now.record, now.image, bytes, now.table, words);

@@ -10,7 +10,7 @@ sys.dont_write_bytecode = True
 sys.path[:0] = [os.path.join(os.path.dirname(os.path.abspath(__file__)), 'model')]
 import register_model                                                           # noqa: E402
 
-CARDS = {1, 6, 8}
+CARDS = {1, 4, 6, 8, 14}
 
 RULES = register_model.Model(CARDS)
 
