@@ -17,3 +17,5 @@ pub mod Contract
 pub mod History
 pub mod Means
 pub mod FormatCut
+pub mod Reopening
+pub mod Fixed

@@ -1,4 +1,5 @@
 pub mod Lent
 pub mod Demand
+pub mod Fixed
 pub mod Runs
 pub mod Meaning

@@ -7,3 +7,4 @@ pub mod Every
 pub mod Means
 pub mod Interrupted
 pub mod Ends
+pub mod Fixed
