@@ -1,4 +1,5 @@
-// The begin of a cleaning: the gate, its plan, and the words that it keeps stored in the record where it is not turned down.
+// The begin of a cleaning: the gate, its plan, and the words that it keeps stored in the record where it is not turned
+// down.
 ghost use Rattle.spec.specs.Machine.{Clean};
 ghost use Rattle.cleaning_begin.specs.Outsets.{KeptStored, Outsets};
 ghost use Rattle.session.specs.Promise.{Does};

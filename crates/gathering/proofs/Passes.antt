@@ -1,4 +1,5 @@
--- The pass that gathers from the copy: the reading, what is left from a cursor on, at the beginning, after one more entry, and at the end.
+-- The pass that gathers from the copy: the reading, what is left from a cursor on, at the beginning, after one more
+-- entry, and at the end.
 -- Assumes nothing.
 use mathlib.Core.Path.{_≡_, refl, sym, _∙_, ap}
 use mathlib.Core.Logic.{by-cases, _⊎_, inl, inr}

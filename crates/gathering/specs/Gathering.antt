@@ -1,4 +1,5 @@
--- What a cleaning gathers at its begin: the words of the entries that it keeps, in the second area of the record's buffer.
+-- What a cleaning gathers at its begin: the words of the entries that it keeps, in the second area of the record's
+-- buffer.
 -- Assumes nothing.
 --
 --   buffer words | 512 to 1023: the entries that a cleaning keeps, one behind the other, as a commit writes them
@@ -74,7 +75,8 @@ pub record Room (words entries place size : ℕ) (r : Bool) : Type 0 where
   pub fits : r ≡ true → (words + (2 + size) ≤ 512) × (entries < 512) × (place < 0x4_0000)
   pub lacks : r ≡ false → words + (2 + size) ≤ 512 → entries < 512 → place < 0x4_0000 → ⊥
 
--- THE GATHERING, with the words in the record's buffer: of any memory, and where the table is that of the image's entries
+-- THE GATHERING, with the words in the record's buffer: of any memory, and where the table is that of the image's
+-- entries
 pub record Gathered (ws table buffer buffer′ : List ℕ) (at end : ℕ) (t : Tally) : Type 0 where
   pub area : AreaWritten buffer buffer′
   pub bound : t .words ≤ 512
@@ -92,7 +94,8 @@ pub record OneWeighed (t : Tally) (kept : Bool) (place size : ℕ) (t′ : Tally
   pub adds : (ws table : List ℕ) (at end keys : ℕ) (xs mid ys left : List Entry) (e : Entry) → Gatherable ws table keys at end xs mid ys → kept ≡ keptTest xs mid ys e → e .at ≡ place
       → length (e .value) ≡ size → Weighing (keptTest xs mid ys) mid t (e ∷ left) → Weighing (keptTest xs mid ys) mid t′ left
 
--- before and after a run of puts, from word `from` on and before word `until`, which goes to word `at′`: what is left from there on is owed
+-- before and after a run of puts, from word `from` on and before word `until`, which goes to word `at′`: what is left
+-- from there on is owed
 pub record Hastened (ws table : List ℕ) (until from : ℕ) (t : Tally) (at′ : ℕ) (t′ : Tally) : Type 0 where
   pub nearer : (n c : ℕ) → left n ws (cursorAt c at′ until) ≤ left n ws (cursorAt c from until)
   pub bound : t .words ≤ 512 → t′ .words ≤ 512

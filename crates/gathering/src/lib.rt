@@ -1,4 +1,5 @@
-// What a cleaning keeps is gathered at its begin. The chunk's words are read once, by one loop, into memory of the call's own; all else goes
+// What a cleaning keeps is gathered at its begin. The chunk's words are read once, by one loop, into memory of the
+// call's own; all else goes
 // by that copy: a pass over its entries, and where a delete asks for it one before that counts the entries of each key.
 ghost use mathlib.Core.Path.{_≡_};
 ghost use Prim.Native.Nat.{_+_, _≤_, _<_, _^_, min};
@@ -51,7 +52,8 @@ fn count_keys(image: &[u8], counts: &mut [u64], at: usize, end: usize)
     }
 }
 
-// The keys are counted once, and not before an entry asks for it: a delete of a key with several entries. Whether they are counted now.
+// The keys are counted once, and not before an entry asks for it: a delete of a key with several entries. Whether they
+// are counted now.
 fn count_once(
     image: &[u8],
     table: &[u64],
@@ -78,7 +80,8 @@ fn count_once(
     true
 }
 
-// Whether the entry at this place is kept: the chosen one of its key, if it is a put, or its key has an entry in another chunk.
+// Whether the entry at this place is kept: the chosen one of its key, if it is a put, or its key has an entry in
+// another chunk.
 fn is_kept(table: &[u64], counts: &[u64], op: u64, key: u64, place: usize) -> bool
     ensures { λ r. ⌜ KeptTest (now (table .entry)) (now (counts .entry)) op key place r ⌝ }
 {
@@ -134,7 +137,8 @@ struct Run {
     at: usize,
 }
 
-// The puts with values in the log that stand one behind the other from word `from` on, before word `until`: all else is left to `measure`.
+// The puts with values in the log that stand one behind the other from word `from` on, before word `until`: all else is
+// left to `measure`.
 fn weigh_puts(
     image: &[u8],
     table: &[u64],
@@ -167,7 +171,8 @@ fn weigh_puts(
     }
 }
 
-// How many words and entries a cleaning keeps of the words from `at` to `end`: for a plan that may yet be refused, and for choosing.
+// How many words and entries a cleaning keeps of the words from `at` to `end`: for a plan that may yet be refused, and
+// for choosing.
 pub fn measure(image: &[u8], table: &[u64], at: usize, end: usize) -> Tally
     ensures { λ r. ⌜ Measured (wordsOf (now (image .entry))) (now (table .entry)) at end r ⌝ }
 {
@@ -228,7 +233,8 @@ fn count_bytes(bytes: &[u8]) -> usize
     bytes.len()
 }
 
-// How many words and bytes there is room for: a call tells its caller that the list behind the reference has that length.
+// How many words and bytes there is room for: a call tells its caller that the list behind the reference has that
+// length.
 pub fn kept_length(kept: &[u64; 512]) -> usize
     ensures { λ r. ⌜ (r ≡ 512) × (length (now (kept .entry)) ≡ 512) ⌝ }
 {
@@ -300,7 +306,8 @@ fn take(copy: &[u8], kept: &mut [u64; 512], so: Tally, is: bool, place: usize, s
     so
 }
 
-// Of a copy whose first word is word `at` of the image: the puts with values in the log that stand one behind the other from word `from`
+// Of a copy whose first word is word `at` of the image: the puts with values in the log that stand one behind the other
+// from word `from`
 // on, before word `until`.
 fn take_puts(
     copy: &[u8],

@@ -1,4 +1,5 @@
--- The pass over the words of a chunk: what is left from a cursor on, at the beginning, after one more entry, and at the end.
+-- The pass over the words of a chunk: what is left from a cursor on, at the beginning, after one more entry, and at the
+-- end.
 -- Assumes nothing.
 use mathlib.Core.Path.{_≡_, refl, sym, _∙_, ap}
 use mathlib.Core.Logic.{_⊎_, inl, inr}

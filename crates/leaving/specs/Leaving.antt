@@ -1,5 +1,7 @@
--- What is still owed to the key table while the entries of a cleaned chunk leave it and the copies of those that are kept take their
--- places. `es` are the entries before, `mid` those of the chunk, `left` those of them that are still to leave, and `out` the entries of
+-- What is still owed to the key table while the entries of a cleaned chunk leave it and the copies of those that are
+-- kept take their
+-- places. `es` are the entries before, `mid` those of the chunk, `left` those of them that are still to leave, and
+-- `out` the entries of
 -- the new image, which knows the chunk no more.
 -- Assumes nothing.
 use mathlib.Core.Path.{_≡_}
@@ -70,7 +72,8 @@ turned i place = record { extent = i .extent; place = place; version = i .versio
 unfoldable pub turnedOf : ℕ → ℕ → ℕ
 turnedOf word place = packOf (turned (unpackOf word) place)
 
--- THE ENTRIES LEAVE: table and number of keys, with `left` still to leave, and the copies of the kept ones of them from word `to` on
+-- THE ENTRIES LEAVE: table and number of keys, with `left` still to leave, and the copies of the kept ones of them from
+-- word `to` on
 pub record Leaving (ws : List ℕ) (until : ℕ) (es mid out : List Entry) (test : Entry → Bool) (table : List ℕ) (keys : ℕ) (left : List Entry) (to : ℕ) : Type 0 where
   pub probed : Probed table
   pub stored : used table ≡ keys

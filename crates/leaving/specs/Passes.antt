@@ -1,4 +1,5 @@
--- What the pass over the entries of a chunk does to the key table: one entry, a run of puts, and all of them, at a cleaning's last fence.
+-- What the pass over the entries of a chunk does to the key table: one entry, a run of puts, and all of them, at a
+-- cleaning's last fence.
 -- Assumes nothing.
 use mathlib.Core.Path.{_≡_}
 use mathlib.Core.Bool.{Bool, true}
@@ -18,7 +19,8 @@ use Rattle.leaving.specs.Leaving.{Leaving, Marked}
 use Rattle.leaving.specs.declared.Went.{Went}
 use Rattle.leaving.specs.declared.Run.{Run}
 
--- whether the chosen entry with this operation and key has a copy, the copies still to come standing from `to` to `until`
+-- whether the chosen entry with this operation and key has a copy, the copies still to come standing from `to` to
+-- `until`
 pub record IsCopied (ws : List ℕ) (to until op key : ℕ) (r : Bool) : Type 0 where
   pub marks : (test : Entry → Bool) (left : List Entry) (e : Entry) → e .op ≡ op → e .key ≡ key → Stand ws to until (placed to (filter test (e ∷ left))) → Marked test r left e
 
@@ -51,7 +53,8 @@ pub record Rebuilt (n : ℕ) (ws buffer buffer′ table table′ : List ℕ) (ke
   pub kept : length buffer′ ≡ length buffer
   pub builds : n ≤ maxChunks → 512 * n ≤ length ws → (es : List Entry) → openLog 12 n ws (length table) (imageEntries 12 n ws) ≡ Accepted es → Holds buffer′ table′ keys′ es
 
--- AT A CLEANING'S LAST FENCE. The image shows the new entries alone. The words of the chunk still stand from `at` to `end`, the copies
+-- AT A CLEANING'S LAST FENCE. The image shows the new entries alone. The words of the chunk still stand from `at` to
+-- `end`, the copies
 -- from `from` to `until`. Table and bits know the entries before.
 pub record Emptied (n : ℕ) (ws buffer table : List ℕ) (keys at end from until : ℕ) (xs mid ys as′ bs : List Entry) : Type 0 where
   pub cleaned : Cleaned xs mid ys as′ bs from

@@ -1,4 +1,5 @@
-// What a cleaning finds before it is begun: a refusal, or the words that it keeps, the place of their copies and how many actions it has.
+// What a cleaning finds before it is begun: a refusal, or the words that it keeps, the place of their copies and how
+// many actions it has.
 // Neither record, image nor key table is changed.
 ghost use mathlib.Core.Path.{_≡_};
 ghost use Prim.Native.Nat.{_*_, _%_};
@@ -16,7 +17,8 @@ use spec::Role;
 use session::Setup;
 use session::Source;
 
-// A cleaning's begin: turned down, or where its copies go (chunk, its directory word, its committed lines), where the next commit
+// A cleaning's begin: turned down, or where its copies go (chunk, its directory word, its committed lines), where the
+// next commit
 // looks for space, what the record is to hold of the cleaned chunk, and the number of actions.
 pub enum CleanPlan {
     Refused(Refusal),

@@ -1,4 +1,5 @@
--- A CLEANING IS FIXED AT ITS BEGIN: from its accepted begin on the steps report just the actions fixed there, and the end the count fixed
+-- A CLEANING IS FIXED AT ITS BEGIN: from its accepted begin on the steps report just the actions fixed there, and the
+-- end the count fixed
 -- there, whatever image and table of the same lengths are lent to each step.
 -- Assumes nothing.
 use mathlib.Core.Path.{_≡_}
@@ -21,7 +22,8 @@ abbrev pub allReports : List Action → ℕ → List Report
 allReports acts count = map asReport acts ++ (R.End count ∷ [])
 
 module _ {S : Type 0} (Proper : S → Type 0) (stateOf : S → State) (Fits : S → List ℕ → List ℕ → Type 0) (p limit : ℕ) where
-  -- the cleaning of chunk c, begun on the record s with these bytes and this table, which left the record s′ and said `a` actions
+  -- the cleaning of chunk c, begun on the record s with these bytes and this table, which left the record s′ and said
+  -- `a` actions
   pub record FixedAt (c : ℕ) (s s′ : S) (bytes table : List ℕ) (a : ℕ) : Type 0 where
     pub acts : List Action
     pub count : ℕ

@@ -1,4 +1,5 @@
--- Every begun call ends after its count of steps, whatever image and table are lent to them: from the contract of a step alone.
+-- Every begun call ends after its count of steps, whatever image and table are lent to them: from the contract of a
+-- step alone.
 -- Assumes nothing.
 use mathlib.Core.Path.{_≡_, refl, sym, _∙_, ap}
 use mathlib.Core.List.{List, [], _∷_, _++_, map}

@@ -1,4 +1,5 @@
--- `gathering::read_chunk` meets its contract. The loop's invariant: the bytes before `i` are read; the measure falls by one with each, so no byte is read again.
+-- `gathering::read_chunk` meets its contract. The loop's invariant: the bytes before `i` are read; the measure falls by
+-- one with each, so no byte is read again.
 -- Assumes nothing.
 use mathlib.Core.Path.{refl}
 use Prim.Native.Nat.{_-_, _≤_}
