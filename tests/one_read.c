@@ -1,13 +1,10 @@
 /* Watches which words of the chunk the begin of a cleaning reads: each at most once, from the first to the last. The
- * chunk's page
- * is closed; every instruction that touches it faults, is noted with its address, let through alone by the processor's
- * trap
- * flag, and the page is closed again. The addresses must rise.
+ * chunk's page is closed; every instruction that touches it faults, is noted with its address, let through alone by the
+ * processor's trap flag, and the page is closed again. The addresses must rise.
  *
  * Chunks are cleaned of which nothing, half and all is kept, with deletes that ask for a count of their keys, and one
- * that is
- * refused for want of space. Built with -DTWICE the chunk is measured first, by a choosing, and this program must find
- * it. */
+ * that is refused for want of space. Built with -DTWICE the chunk is measured first, by a choosing, and this program
+ * must find it. */
 #define _GNU_SOURCE
 #include <inttypes.h>
 #include <signal.h>
@@ -32,8 +29,8 @@ static uint8_t *watched;                                 /* the chunk's page */
 static volatile uint64_t reads, backward;
 static volatile uintptr_t last;
 
-/* Copies word by word, from the first on: the library may copy by a call of memcpy, and libc's reads some bytes twice.
- * */
+/* Copies word by word, from the first on: the library may copy by a call of memcpy, and libc's reads
+ * some bytes twice. */
 void *memcpy(void *restrict to, const void *restrict from, size_t n)
 {
     volatile uint8_t *t = to;

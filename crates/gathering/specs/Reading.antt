@@ -1,6 +1,5 @@
 -- The chunk's words read once into a copy, and what is gathered from that: entry by entry, the copy's first word being
--- word `at` of the
--- image.
+-- word `at` of the image.
 -- Assumes nothing.
 use mathlib.Core.Path.{_≡_}
 use mathlib.Core.Bool.{Bool}

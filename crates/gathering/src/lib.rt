@@ -1,6 +1,6 @@
 // What a cleaning keeps is gathered at its begin. The chunk's words are read once, by one loop, into memory of the
-// call's own; all else goes
-// by that copy: a pass over its entries, and where a delete asks for it one before that counts the entries of each key.
+// call's own; all else goes by that copy: a pass over its entries, and where a delete asks for it one before that
+// counts the entries of each key.
 ghost use mathlib.Core.Path.{_≡_};
 ghost use Prim.Native.Nat.{_+_, _≤_, _<_, _^_, min};
 ghost use lib.ListN.{length};
@@ -307,8 +307,7 @@ fn take(copy: &[u8], kept: &mut [u64; 512], so: Tally, is: bool, place: usize, s
 }
 
 // Of a copy whose first word is word `at` of the image: the puts with values in the log that stand one behind the other
-// from word `from`
-// on, before word `until`.
+// from word `from` on, before word `until`.
 fn take_puts(
     copy: &[u8],
     table: &[u64],

@@ -1,8 +1,6 @@
 -- What is still owed to the key table while the entries of a cleaned chunk leave it and the copies of those that are
--- kept take their
--- places. `es` are the entries before, `mid` those of the chunk, `left` those of them that are still to leave, and
--- `out` the entries of
--- the new image, which knows the chunk no more.
+-- kept take their places. `es` are the entries before, `mid` those of the chunk, `left` those of them that are still to
+-- leave, and `out` the entries of the new image, which knows the chunk no more.
 -- Assumes nothing.
 use mathlib.Core.Path.{_≡_}
 use mathlib.Core.Logic.{_⊎_}

@@ -54,8 +54,7 @@ pub record Rebuilt (n : ℕ) (ws buffer buffer′ table table′ : List ℕ) (ke
   pub builds : n ≤ maxChunks → 512 * n ≤ length ws → (es : List Entry) → openLog 12 n ws (length table) (imageEntries 12 n ws) ≡ Accepted es → Holds buffer′ table′ keys′ es
 
 -- AT A CLEANING'S LAST FENCE. The image shows the new entries alone. The words of the chunk still stand from `at` to
--- `end`, the copies
--- from `from` to `until`. Table and bits know the entries before.
+-- `end`, the copies from `from` to `until`. Table and bits know the entries before.
 pub record Emptied (n : ℕ) (ws buffer table : List ℕ) (keys at end from until : ℕ) (xs mid ys as′ bs : List Entry) : Type 0 where
   pub cleaned : Cleaned xs mid ys as′ bs from
   pub here : Stand ws at end mid

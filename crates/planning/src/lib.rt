@@ -18,8 +18,7 @@ use session::Setup;
 use session::Source;
 
 // A cleaning's begin: turned down, or where its copies go (chunk, its directory word, its committed lines), where the
-// next commit
-// looks for space, what the record is to hold of the cleaned chunk, and the number of actions.
+// next commit looks for space, what the record is to hold of the cleaned chunk, and the number of actions.
 pub enum CleanPlan {
     Refused(Refusal),
     At {
@@ -99,8 +98,7 @@ fn has_live(buffer: &Buffer, chunk: usize) -> bool
     false
 }
 
-// THE PLAN
-// of a log chunk: its kept entries are gathered, and a place is looked for if there are any
+// THE PLAN of a log chunk: its kept entries are gathered, and a place is looked for if there are any
 fn plan_log(
     image: &[u8],
     table: &[u64],

@@ -1,6 +1,5 @@
 -- A CLEANING IS FIXED AT ITS BEGIN: from its accepted begin on the steps report just the actions fixed there, and the
--- end the count fixed
--- there, whatever image and table of the same lengths are lent to each step.
+-- end the count fixed there, whatever image and table of the same lengths are lent to each step.
 -- Assumes nothing.
 use mathlib.Core.Path.{_≡_}
 use mathlib.Core.List.{List, [], _∷_, _++_, map}

@@ -1,6 +1,5 @@
 -- REQUEST 4, of the very contracts that the public functions ensure: a cleaning's actions and its count are fixed at
--- its begin, whatever
--- image and key table of the same lengths are lent to its steps.
+-- its begin, whatever image and key table of the same lengths are lent to its steps.
 -- Assumes nothing.
 use Rattle.spec.specs.Fixed.{Fixed}
 use Rattle.session.specs.State.{limit, stateOf}
