@@ -18,4 +18,3 @@ pub mod History
 pub mod Means
 pub mod FormatCut
 pub mod Reopening
-pub mod Fixed

@@ -3,3 +3,4 @@ pub mod Demand
 pub mod Fixed
 pub mod Runs
 pub mod Meaning
+pub mod Closing

@@ -1,4 +1,4 @@
--- DEMANDS 2 AND 3 and a cut in a formatting hold at every level: for chunks of 2^12 to 2^16 bytes, for any
+-- DEMANDS 2 AND 3, a cut in a formatting and a reopening hold at every level: for chunks of 2^12 to 2^16 bytes, for any
 -- largest value up to the block's limit, and for any implementation whose calls meet `Called`. Nothing is asked of how
 -- it reads its record, or of what record and table hold.
 -- Assumes nothing.
@@ -11,11 +11,13 @@ use Rattle.spec.specs.Machine.{State}
 use Rattle.spec.specs.History.{Demand3}
 use Rattle.spec.specs.Means.{Demand2}
 use Rattle.spec.specs.FormatCut.{FormatCut, FormatCutAmong}
+use Rattle.spec.specs.Contract.{Proper}
 use Rattle.spec.specs.Reopening.{ReopenedAfter}
 use Rattle.theory_plans.proofs.Hold.{laws-hold}
 use Rattle.theory_histories.proofs.Theorem.{demand3}
 use Rattle.theory_histories.proofs.Means.{demand2}
 use Rattle.theory_histories.proofs.Interrupted.{format-cut, format-cut-among}
+use Rattle.theory_histories.proofs.Twins.{reopened-after}
 
 pub every-list : (p : ℕ) → 12 ≤ p → p ≤ 16 → (limit : ℕ) → limit ≤ blockLimit p → {S : Type 0} (Proper : S → Type 0) (stateOf : S → State) (Fits : S → List ℕ → List ℕ → Type 0)
     → Demand3 Proper stateOf Fits p limit
@@ -39,3 +41,7 @@ module _ (p : ℕ) (low : 12 ≤ p) (high : p ≤ 16) (limit : ℕ) (fits : limi
 
   pub every-format-cut-among : FormatCutAmong Proper stateOf Fits p limit
   every-format-cut-among = format-cut-among p limit low high (laws-hold p low high limit fits) Proper stateOf Fits
+
+  -- a record that fits is one of its type
+  pub every-reopening : ((s : S) (ws table : List ℕ) → Fits s ws table → Proper s) → ReopenedAfter Proper stateOf Fits p limit
+  every-reopening proper = reopened-after p limit Proper stateOf Fits proper low high (laws-hold p low high limit fits)

@@ -6,5 +6,6 @@ pub mod Theorem
 pub mod Every
 pub mod Means
 pub mod Interrupted
+pub mod Twins
 pub mod Ends
 pub mod Fixed
