@@ -3,15 +3,13 @@
 # the answers must be equal line by line. Twins run along (replay --twin): wherever nothing is staged or unfinished, the
 # image is opened anew beside the station, and from then on both must answer and write alike. That comparison is first
 # shown to find twins whose record has a wrong hint (replay_wrong).
-# The model plays the changes that have landed (tests/landed.py). At the levels with cleanings the key table and entries
-# of other chunks are altered between the steps of cleanings too.
 #
 # tests/replay.sh [FIRST [COUNT [TURNS [LEVEL...]]]]   seeds FIRST .. FIRST + COUNT - 1 (1, 100), scripts of TURNS turns
 #                                                      (60), for each level: counter, centre, archive (all, if none is
 #                                                      named)
 #
-# Needs host/build/replay (make -C host) and Python 3. Stops at the first difference, shows it, and keeps the script and
-# both outputs under host/build/differ/.
+# Needs host/build/replay and replay_wrong (make -C host) and Python 3. Stops at the first difference, shows it, and keeps
+# the script and both outputs under host/build/differ/.
 set -eu
 cd "$(dirname "$0")/.."
 first=${1:-1}
@@ -21,7 +19,9 @@ turns=${3:-60}
 shift 3
 work=$(mktemp -d)
 trap 'rm -rf "$work"' EXIT
-[ -x host/build/replay ] || { echo "host/build/replay is missing: run make -C host" >&2; exit 2; }
+for p in replay replay_wrong; do
+    [ -x host/build/$p ] || { echo "host/build/$p is missing: run make -C host" >&2; exit 2; }
+done
 python="$(python3 -c 'import sys; print(sys.executable)') -S -B"     # the interpreter itself, started quickly
 cards=$($python tests/landed.py)
 export python turns work cards
@@ -34,7 +34,7 @@ stopped() { echo "replay: $level, seed $1: $2" >&2; exit 255; }
 $python tests/model/make_script.py "$1" "$turns" --level "$level" --cards "$cards" > "$at.script" || stopped "$1" "no script could be made"
 $python tests/model/replay_model.py --cards "$cards" < "$at.script" > "$at.model" || stopped "$1" "the model stopped"
 status=0
-host/build/replay < "$at.script" > "$at.replay" || status=$?
+host/build/replay --twin < "$at.script" > "$at.replay" 2> "$at.twins" || status=$?
 if [ "$status" -ne 0 ] || ! cmp -s "$at.model" "$at.replay"; then
     mkdir -p host/build/differ
     cp "$at.script" "$at.model" "$at.replay" host/build/differ/
@@ -45,9 +45,18 @@ if [ "$status" -ne 0 ] || ! cmp -s "$at.model" "$at.replay"; then
     } >&2
     exit 255
 fi
-wc -l < "$at.model" >> "$work/lines"
-rm -f "$at.script" "$at.model" "$at.replay"
+echo "$(wc -l < "$at.model") $(cat "$at.twins")" >> "$work/lines"
+rm -f "$at.script" "$at.model" "$at.replay" "$at.twins"
 END
+
+$python tests/model/make_script.py "$first" "$turns" --level centre > "$work/wrong"
+status=0
+host/build/replay_wrong --twin < "$work/wrong" > "$work/found" 2> "$work/twins" || status=$?
+if [ "$status" -ne 1 ] || ! grep -q '^twin$' "$work/found"; then
+    echo "replay: twins with a wrong hint were not found" >&2
+    exit 1
+fi
+echo "replay: twins with a wrong hint are found: $(grep -c '^twin$' "$work/found") answers unlike"
 
 for level in "$@"; do
     export level
@@ -56,6 +65,8 @@ for level in "$@"; do
         grep -v '^xargs:' "$work/errors" >&2
         exit 1
     fi
-    answers=$(awk '{ n += $1 } END { print n }' "$work/lines")
-    echo "replay: $level: $count scripts (seeds $first to $((first + count - 1))), $answers answers, all equal"
+    set -- $(awk '{ n += $1; t += $2; c += $3 } END { print n, t, c }' "$work/lines")
+    [ "$2" -gt 0 ] || { echo "replay: $level: no twin was opened" >&2; exit 1; }
+    echo "replay: $level: $count scripts (seeds $first to $((first + count - 1))), $1 answers, all equal;" \
+        "$2 twins, $3 calls, all alike"
 done
