@@ -14,11 +14,21 @@ use Rattle.spec.specs.declared.Report.{Report}
 use Rattle.spec.specs.declared.Report.the-variants as R
 
 module _ {S : Type 0} (Proper : S → Type 0) (stateOf : S → State) (Fits : S → List ℕ → List ℕ → Type 0) (p limit : ℕ) where
+  -- What two stations have in common after a list of calls: the image, byte for byte, the state and the table's length;
+  -- and record and table fit at both. So they answer alike where a contract speaks by these alone, as those of the
+  -- calls that list keys do.
+  pub record Same (s t : S) (image other table beside : List ℕ) : Type 0 where
+    pub bytes : image ≡ other
+    pub state : stateOf s ≡ stateOf t
+    pub lengths : length table ≡ length beside
+    pub fits : Fits s (wordsOf image) table
+    pub also : Fits t (wordsOf other) beside
+
   -- Two stations with their own records, images and tables get the same list of calls, of any kind, each lent what its
   -- last call left. Whatever they answer, as the contract allows: the answers (with them the reported actions) are the
   -- same, and the images are, byte for byte, call by call. (An image is bytes.)
   abbrev pub Alike : List Call → S → S → List ℕ → List ℕ → List ℕ → List ℕ → Type 0
-  Alike [] s t image other table beside = image ≡ other
+  Alike [] s t image other table beside = Same s t image other table beside
   Alike (k ∷ ks) s t image other table beside =
       (s′ t′ : S) (image′ other′ table′ beside′ : List ℕ) (r q : Report) → AreBytes image′ → AreBytes other′
       → Called Proper stateOf Fits p limit k s s′ image image′ table table′ r → Called Proper stateOf Fits p limit k t t′ other other′ beside beside′ q

@@ -20,7 +20,7 @@ use Rattle.spec.specs.Machine.{Call, Format, Open, Put, Delete, Commit, Abandon
 use Rattle.spec.specs.Contract.{Changed, Again, Ready, Exact, Called}
 use Rattle.spec.specs.Book.{Item, Book}
 use Rattle.spec.specs.History.{World, SameLent}
-use Rattle.spec.specs.Reopening.{Alike, Reopens, Reopened, ReopenedAfter}
+use Rattle.spec.specs.Reopening.{Same, Alike, Reopens, Reopened, ReopenedAfter}
 use Rattle.spec.specs.declared.Report.{Report}
 use Rattle.spec.specs.declared.Report.the-variants as R
 use Rattle.words.specs.Image.{length-wordsOf}
@@ -97,30 +97,22 @@ module _ (p limit : ℕ) {S : Type 0} (Proper : S → Type 0) (stateOf : S → S
   fits-again (Clean x) s s′ image image′ table table′ r f c = c .exact f .fits
   fits-again Step s s′ image image′ table table′ r f c = c .exact f .fits
 
-  -- WHAT TWO STATIONS SHARE before and after every call: the state, the image, the table's length; each fits.
-  record Twins (s t : S) (image other table beside : List ℕ) : Type 0 where
-    state : stateOf s ≡ stateOf t
-    bytes : image ≡ other
-    lengths : length table ≡ length beside
-    whole : Whole image
-    fits : Fits s (wordsOf image) table
-    also : Fits t (wordsOf other) beside
-
-  alike : (ks : List Call) (s t : S) (image other table beside : List ℕ) → Twins s t image other table beside → Alike Proper stateOf Fits p limit ks s t image other table beside
-  alike [] s t image other table beside w = w .bytes
-  alike (k ∷ ks) s t image other table beside w = λ s′ t′ image′ other′ table′ beside′ r q small small′ c d.
+  -- WHAT TWO STATIONS SHARE is kept by every call, on images of whole words.
+  alike : (ks : List Call) (s t : S) (image other table beside : List ℕ) → Whole image → Same Proper stateOf Fits p limit s t image other table beside
+      → Alike Proper stateOf Fits p limit ks s t image other table beside
+  alike [] s t image other table beside whole w = w
+  alike (k ∷ ks) s t image other table beside whole w = λ s′ t′ image′ other′ table′ beside′ r q small small′ c d.
       let x : Exact Proper stateOf Fits p limit k s s′ image image′ table table′ r = c .exact (ready k s (wordsOf image) table (w .fits)) in
       let y : Exact Proper stateOf Fits p limit k t t′ other other′ beside beside′ q = d .exact (ready k t (wordsOf other) beside (w .also)) in
       let e : r ≡ q = x .answered ∙ rw (w .state, w .bytes, w .lengths) (sym (y .answered)) in
-      let i : image′ ≡ other′ = changed-same r image image′ other′ small small′ (w .whole) (c .image) (rw (e, w .bytes) (d .image)) in (
+      let i : image′ ≡ other′ = changed-same r image image′ other′ small small′ whole (c .image) (rw (e, w .bytes) (d .image)) in (
         e,
         (
           i,
-          alike ks s′ t′ image′ other′ table′ beside′ (record {
+          alike ks s′ t′ image′ other′ table′ beside′ (rw (I.same-length r image image′ (c .image)) whole) (record {
             state = x .became ∙ rw (w .state, w .bytes, w .lengths) (sym (y .became));
             bytes = i;
             lengths = c .sized ∙ w .lengths ∙ sym (d .sized);
-            whole = rw (I.same-length r image image′ (c .image)) (w .whole);
             fits = fits-again k s s′ image image′ table table′ r (w .fits) c;
             also = fits-again k t t′ other other′ beside beside′ q (w .also) d;
           }),
@@ -133,13 +125,12 @@ module _ (p limit : ℕ) {S : Type 0} (Proper : S → Type 0) (stateOf : S → S
   unfolding next
   reopens lo hi s image table es a f rests t t′ lent table′ r q same c =
       let x : Exact Proper stateOf Fits p limit Open t t′ image image lent table′ r = c .exact q in
-      let whole = opens-ok p lo hi (length image) (length table) (wordsOf image) es (length-wordsOf image) a .2 in (
+      let even = opens-ok p lo hi (length image) (length table) (wordsOf image) es (length-wordsOf image) a .2 in (
         x .answered ∙ rw (same, a),
-        λ calls. alike calls s t′ image image table table′ (record {
+        λ calls. alike calls s t′ image image table table′ (omega arith) (record {
           state = rests ∙ sym (x .became ∙ rw (same, a));
           bytes = refl;
           lengths = sym same ∙ sym (c .sized);
-          whole = omega arith;
           fits = f;
           also = x .fits;
         }),
