@@ -4,3 +4,4 @@ pub mod Fixed
 pub mod Runs
 pub mod Meaning
 pub mod Closing
+pub mod Listings
