@@ -3,6 +3,8 @@
 # the answers must be equal line by line. Twins run along (replay --twin): wherever nothing is staged or unfinished, the
 # image is opened anew beside the station, and from then on both must answer and write alike. That comparison is first
 # shown to find twins whose record has a wrong hint (replay_wrong).
+# The model plays the changes that have landed (tests/landed.py). At the levels with cleanings the key table and entries
+# of other chunks are altered between the steps of cleanings too.
 #
 # tests/replay.sh [FIRST [COUNT [TURNS [LEVEL...]]]]   seeds FIRST .. FIRST + COUNT - 1 (1, 100), scripts of TURNS turns
 #                                                      (60), for each level: counter, centre, archive (all, if none is

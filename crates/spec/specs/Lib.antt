@@ -18,3 +18,4 @@ pub mod History
 pub mod Means
 pub mod FormatCut
 pub mod Reopening
+pub mod Fixed

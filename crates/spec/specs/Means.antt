@@ -81,8 +81,8 @@ module _ {S : Type 0} (Proper : S → Type 0) (stateOf : S → State) (Fits : S 
     pub keeps : (k : Call) (s′ : S) (image′ table′ : List ℕ) (r : Report) → Untouching k u
         → Called Proper stateOf Fits p limit k s s′ image image′ table table′ r → image′ ≡ image
 
-  -- AFTER A LIST OF CALLS, whatever they answer, such a thing holds of what they left. Any calls but an accepted
-  -- formatting; and an opening, which starts anew.
+  -- AFTER A LIST OF CALLS, whatever they answer, such a thing holds of what they left. Any calls but a formatting that
+  -- is not refused, and but an opening: if it accepts the image it is a start itself.
   abbrev pub Along : (Book → Bool → S → List ℕ → List ℕ → Type 0) → List Call → Book → Bool → S → List ℕ → List ℕ → Type 0
   Along P [] b u s image table = P b u s image table
   Along P (k ∷ ks) b u s image table =

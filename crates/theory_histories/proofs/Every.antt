@@ -11,7 +11,6 @@ use Rattle.spec.specs.Machine.{State}
 use Rattle.spec.specs.History.{Demand3}
 use Rattle.spec.specs.Means.{Demand2}
 use Rattle.spec.specs.FormatCut.{FormatCut, FormatCutAmong}
-use Rattle.spec.specs.Contract.{Proper}
 use Rattle.spec.specs.Reopening.{ReopenedAfter}
 use Rattle.theory_plans.proofs.Hold.{laws-hold}
 use Rattle.theory_histories.proofs.Theorem.{demand3}

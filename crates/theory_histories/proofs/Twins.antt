@@ -24,7 +24,7 @@ use Rattle.spec.specs.Reopening.{Same, Alike, Reopens, Reopened, ReopenedAfter}
 use Rattle.spec.specs.declared.Report.{Report}
 use Rattle.spec.specs.declared.Report.the-variants as R
 use Rattle.words.specs.Image.{length-wordsOf}
-use Rattle.words.specs.Parts.{bytes-wordsFrom}
+use Rattle.words.proofs.Parts.{bytes-wordsFrom}
 use Rattle.theory_crash.proofs.Opening.{opens-ok}
 use Rattle.theory_plans.specs.Standing.{itemOf}
 use Rattle.theory_plans.specs.Laws.{Laws}
