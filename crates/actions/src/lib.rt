@@ -8,9 +8,9 @@ ghost use Rattle.session.specs.State.{bufferPart, batchRoom, chunkIn, linesIn, 
 ghost use Rattle.actions.specs.Nth.{nthReport, commitCount, formatCount, registerWord};
 use blocks::Buffer;
 use session::Control;
+use session::Setup;
 use spec::Given;
 use spec::Report;
-use session::Setup;
 
 pub fn at_most(x: usize, bound: usize) -> usize
     ensures { λ r. ⌜ r ≡ min x bound ⌝ }

@@ -11,8 +11,8 @@ use actions::at_most;
 use blocks::Buffer;
 use blocks::buffer_length;
 use codec::Unit;
-use spec::Report;
 use session::Setup;
+use spec::Report;
 use words::pack_into;
 
 // THE VALUE

@@ -17,9 +17,9 @@ ghost use Rattle.capi.specs.Answers.{answerOf, Told, isGiven, ShownBy, S
 ghost use Rattle.session.specs.Promise.{Does};
 use listing::Counted;
 use listing::Listed;
+use session::Session;
 use spec::Refusal;
 use spec::Report;
-use session::Session;
 
 // A report in numbers: its kind, 0 to 10 in the order of `Report`, and its values, 0 where it has none.
 #[repr(C)]

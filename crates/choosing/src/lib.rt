@@ -5,11 +5,11 @@ ghost use Rattle.spec.specs.Words.{wordsOf};
 ghost use Rattle.spec.specs.Actions.{linesFor};
 ghost use Rattle.choosing.specs.Choices.{Weighed, Worth, Compared, Bettered, Chooses, Choosing};
 use log::lines_of;
-use session::Gated;
 use session::Control;
+use session::Gated;
+use session::Setup;
 use spec::Refusal;
 use spec::Report;
-use session::Setup;
 
 // The chunk that was chosen, or none.
 pub enum Choice {

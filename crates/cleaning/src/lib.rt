@@ -6,9 +6,9 @@ ghost use Rattle.spec.specs.Actions.{padded, freeOf};
 ghost use Rattle.actions.specs.Nth.{nthReport};
 ghost use Rattle.session.specs.State.{sourceIn, keptWords, appendActions, cleanActions};
 ghost use Rattle.cleaning.specs.Record.{copyCount, cleanCount};
-use blocks::Buffer;
 use session::Setup;
 use session::Source;
+use spec::Report;
 
 // How many actions copy so many words: none where there are none.
 pub fn copy_count(words: usize) -> usize

@@ -12,9 +12,9 @@ ghost use Rattle.spec.specs.declared.Report.the-variants.{End};
 ghost use Rattle.session.specs.Promise.{Does};
 use blocks::Buffer;
 use session::Control;
-use spec::Report;
 use session::Setup;
 use session::Stepped;
+use spec::Report;
 
 // A COMMIT
 // The number of the next action after a step or a run inside a commit, which alters nothing else of the record, and its report.

@@ -4,8 +4,8 @@ use blocks::Buffer;
 use listing::Counted;
 use listing::Listed;
 use session::Control;
-use spec::Report;
 use session::Setup;
+use spec::Report;
 
 // The line of a key, none where it is absent.
 fn put_key(

@@ -4,10 +4,10 @@ ghost use mathlib.Core.Path.{_≡_};
 ghost use Rattle.spec.specs.Words.{wordsOf};
 ghost use Rattle.listing.specs.Listing.{byEntry, byWord};
 ghost use Rattle.listing.specs.Contract.{Taken, Gathering, ListingKeys, ListingKey};
-use session::Gated;
 use session::Control;
-use spec::Refusal;
+use session::Gated;
 use session::Setup;
+use spec::Refusal;
 
 // What is listed of a key, or why nothing is.
 pub enum Listed {

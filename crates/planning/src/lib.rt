@@ -9,13 +9,13 @@ ghost use Rattle.space.specs.Found.{placeOf, Stops};
 ghost use Rattle.planning.specs.Plans.{anyBit, LogPlanned, DataPlanned, CleanPlanned};
 use blocks::Buffer;
 use log::lines_of;
-use space::Found;
-use space::Place;
 use session::Control;
-use spec::Refusal;
-use spec::Role;
 use session::Setup;
 use session::Source;
+use space::Found;
+use space::Place;
+use spec::Refusal;
+use spec::Role;
 
 // A cleaning's begin: turned down, or where its copies go (chunk, its directory word, its committed lines), where the
 // next commit looks for space, what the record is to hold of the cleaned chunk, and the number of actions.

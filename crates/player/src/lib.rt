@@ -10,9 +10,9 @@ use blocks::Buffer;
 use script::Line;
 use script::Token;
 use session::Control;
+use session::Setup;
 use spec::Given;
 use spec::Report;
-use session::Setup;
 
 // What a line of a script asks for.
 enum Command {
@@ -238,7 +238,10 @@ fn delete(
     l: Line,
 ) -> Answer {
     let key = l.first;
-    staged(s, staging::delete_core(c, s, buffer, image, table, key.value))
+    staged(
+        s,
+        staging::delete_core(c, s, buffer, image, table, key.value),
+    )
 }
 
 fn format(c: Control, s: Setup, buffer: &Buffer, image: &[u8], table: &[u64], l: Line) -> Answer {

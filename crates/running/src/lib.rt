@@ -6,9 +6,9 @@ ghost use Rattle.running.specs.Run.{Copying, CleaningRun, KeptStores};
 use blocks::Buffer;
 use fast_path::Advanced;
 use session::Control;
-use spec::Report;
 use session::Setup;
 use session::Stepped;
+use spec::Report;
 
 fn is_store(report: Report) -> bool
     ensures { λ r. ⌜ r ≡ isStore report ⌝ }

@@ -14,8 +14,8 @@ ghost use Rattle.store.specs.List.{KeysListed, KeyListed};
 ghost use Rattle.session.specs.Promise.{Does};
 use listing::Counted;
 use listing::Listed;
-use spec::Report;
 use session::Session;
+use spec::Report;
 
 // Begins a formatting; the register's numbers are told each with a mark whether it is given.
 pub fn format(

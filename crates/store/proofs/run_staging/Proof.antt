@@ -182,7 +182,6 @@ module _ {M : Type 1} (𝓤 : URA M) (H : Heap 𝓤) (A : Atoms 𝓤) (W : Given
         use1 W (knowing ((Is Lent.Row-buffer (h .buffer) (Lent.val-buffer (h .buffer) ∷ []))) (‵ (fat fullShare T′.mir b o (Lent.parts (h .control) (h .setup) (h .buffer))))) (Lent.back 𝓤 H A W b o (h .control) (h .setup) (h .buffer)) $ learn ! (λ j.
         -- the control is stored back, and the report is the result
         assigns ! (of-opd ! (load ! (from ! (fld ! refl (stop !))) (look-in ! 25 (sub ! 0 refl (whole !))))) (from ! (hop ! (look ! 35 refl) (fld ! refl (stop !)))) (store-in ! 0 (sub ! 0 refl (whole !)) (LL.lawful Ctl.the-type Ctl′.the-laws 𝓤 H A W .typed (r .control) _ (is-new r w is) .0)) $
-
         assigns ! (of-opd ! (load ! (from ! (fld ! refl (stop !))) (look-in ! 25 (sub ! 1 refl (whole !))))) (from ! (stop !)) (init ! 37 refl (EL.lawful P.the-type P′.the-laws 𝓤 H A W tt .typed (r .report) _ (is-result r w is) .0)) $
         -- the borrow is closed
         use1 W (‵ (fat fullShare (rawTy T′.mir) b o (mach (record { control = r .control; setup = h .setup; buffer = (h .buffer) })))) (Lent.hidden 𝓤 H A W b o (r .control) (h .setup) (h .buffer)) $ owned ! T.the-row (Is T.the-row) (LL.makes T.the-type T′.the-plain 𝓤 H A) (record { control = r .control; setup = h .setup; buffer = (h .buffer) }) _ (Lent.made (r .control) (h .setup) (h .buffer) (is-new r w is) (Lent.is-setup h g) j) $ move ! (1 ∷ 0 ∷ 11 ∷ 12 ∷ 13 ∷ []) $
