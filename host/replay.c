@@ -72,6 +72,7 @@ static zkv_report made(struct lent *l, struct asked a)
  * are young, some old. Where a register is open at rest with nothing staged, an abandoning says 14. */
 static struct lent twin[TWINS], tried;
 static bool running[TWINS], with_twins, unlike, differs;
+static bool altered;            /* memory is not as the calls left it: no twin starts before the next opening */
 static uint64_t started, compared;
 
 static void open_twin(void)
@@ -113,7 +114,7 @@ static void follow(struct asked a, zkv_report r)
     memcpy(tried.table, now.table, 8 * words);
     tried.record = now.record;
     zkv_report rests = zkv_abandon(&tried.record, now.image, bytes, tried.table, words);
-    if (rests.kind == ZKV_REFUSED && rests.first == 14) {
+    if (!altered && rests.kind == ZKV_REFUSED && rests.first == 14) {
         open_twin();
     }
 }
@@ -219,6 +220,7 @@ static zkv_report ask(struct asked a)
 {
     remember();
     zkv_report r = made(&now, a);
+    altered = altered && !(a.call == OPEN && r.kind == ZKV_OPENED);
     if (with_twins) {
         follow(a, r);
     }
@@ -369,10 +371,12 @@ static bool play(char *line)
         puts("record");
     } else if (COMMAND("poke", 2) && n[0] < bytes / 8) {
         memcpy(now.image + 8 * n[0], &n[1], 8);
+        altered = true;
         memset(running, 0, sizeof running);
         puts("poke");
     } else if (COMMAND("tpoke", 2) && n[0] < words) {
         now.table[n[0]] = n[1];
+        altered = true;
         memset(running, 0, sizeof running);
         puts("tpoke");
     } else if (COMMAND("open", 0)) {
