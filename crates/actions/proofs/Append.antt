@@ -1,4 +1,5 @@
--- The actions that put words behind a chunk's committed lines, by number. With b lines: 8b stores, b flushes, a fence; the directory word, its line, a fence.
+-- The actions that put words behind a chunk's committed lines, by number. With b lines: 8b stores, b flushes, a fence;
+-- the directory word, its line, a fence.
 -- Assumes nothing.
 use mathlib.Core.Path.{_≡_, refl, _∙_}
 use mathlib.Core.List.{List, [], _∷_, _++_, append-assoc}

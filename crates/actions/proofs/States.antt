@@ -37,8 +37,8 @@ pub record Idling (σ : State) : Type 0 where
   pub bars : (bytes words : ℕ) → stepBarred σ bytes words ≡ some R.Idle
   pub stays : stepped σ ≡ σ
 
--- A CALL BEGUN: its states F, by the actions still to come; the state E that its end leaves; the count n that its end reports.
--- At its begin the image had i bytes and the table t words.
+-- A CALL BEGUN: its states F, by the actions still to come; the state E that its end leaves; the count n that its end
+-- reports. At its begin the image had i bytes and the table t words.
 pub record Begun (i t n : ℕ) (E : State) (F : List Action → State) : Type 0 where
   pub answers : (l : List Action) (bytes words : ℕ) → stepAnswer (F l) bytes words ≡ pick (both (eqb i bytes) (eqb t words)) (nextReport n l) (R.Refused N.ImageLength)
   pub bars : (l : List Action) (bytes words : ℕ) → stepBarred (F l) bytes words ≡ pick (both (eqb i bytes) (eqb t words)) none (some (R.Refused N.ImageLength))

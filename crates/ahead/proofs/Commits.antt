@@ -1,5 +1,5 @@
--- A commit of items of which some are in blocks, looking forward from words at rest: with all its actions done, the image is accepted, and
--- its entries are those before with the batch placed among them.
+-- A commit of items of which some are in blocks, looking forward from words at rest: with all its actions done, the
+-- image is accepted, and its entries are those before with the batch placed among them.
 -- Assumes nothing.
 use mathlib.Core.Path.{_≡_, refl, sym, _∙_, ap}
 use mathlib.Core.Bool.{Bool, true, false}

@@ -1,5 +1,5 @@
--- A large value staged, looking forward from words at rest: with all actions done the image is accepted with the entries before, and the
--- blocks of all staged items, the new one's too, are right and nobody else's.
+-- A large value staged, looking forward from words at rest: with all actions done the image is accepted with the
+-- entries before, and the blocks of all staged items, the new one's too, are right and nobody else's.
 -- Assumes nothing.
 use mathlib.Core.Path.{_≡_, refl, sym, _∙_, ap}
 use mathlib.Core.Logic.{_⊎_, inl, inr, ⊎-elim}

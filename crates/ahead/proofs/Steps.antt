@@ -27,7 +27,8 @@ use Rattle.ahead.specs.Ahead.{Ahead}
 abbrev session : Control → Setup → List ℕ → Session
 session c k b = record { control = c; setup = k; buffer = b }
 
--- A STAGING BEGUN: the record has the new item behind the others, the value's place in its setup and the value in its buffer
+-- A STAGING BEGUN: the record has the new item behind the others, the value's place in its setup and the value in its
+-- buffer
 module _ (c c′ : Control) (k k′ : Setup) (b b′ ws table : List ℕ) (items : List Entry) (e : Entry) (acts : List Action) (f : RestFits (session c k b) ws table items)
     (ahead : Ahead (k .image) (k .table) ws (f .entries) (items ++ (e ∷ [])) acts) (bytes : k′ .image ≡ k .image) (lent : k′ .table ≡ k .table) (first : k′ .first ≡ k .first) (least : k′ .least ≡ k .least)
     (bits : (u : ℕ) → hasBit b′ u ≡ hasBit b u) (known : c′ .keys ≡ c .keys) (room : c′ .words ≤ batchRoom) (written : batchWords c′ b′ ≡ encodeAll (items ++ (e ∷ [])))

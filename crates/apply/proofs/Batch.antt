@@ -78,7 +78,8 @@ small-block n ws e most f p =
     let h : e .field / 16 < n = x .high in
     omega arith
 
--- Of the batch at `place`, whose words are the buffer's before `end`, the items before word `at` have joined. The image shows `whole`.
+-- Of the batch at `place`, whose words are the buffer's before `end`, the items before word `at` have joined. The image
+-- shows `whole`.
 pub record Left (n : ℕ) (ws buffer table : List ℕ) (keys place at end : ℕ) (whole back : List Entry) : Type 0 where
   pub joined : List Entry
   pub rest : List Entry

@@ -1,4 +1,5 @@
--- What the code shows of an item's own block: it joins the bits, and with it table and bits are those of the entries with the item.
+-- What the code shows of an item's own block: it joins the bits, and with it table and bits are those of the entries
+-- with the item.
 -- Assumes nothing.
 use mathlib.Core.Path.{_≡_, refl, sym, _∙_, ap}
 use mathlib.Core.Logic.{by-cases, inl}

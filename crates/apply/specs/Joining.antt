@@ -29,7 +29,8 @@ use Rattle.apply.specs.declared.Item.the-variants as I
 abbrev pub Later : (es more : List Entry) → Type 0
 Later es more = (g : Entry) → Mem g more → highest (g .key) es < g .version
 
--- the bits without the block of a key's top entries, of which the table says so much; `more` are entries that the table does not know yet
+-- the bits without the block of a key's top entries, of which the table says so much; `more` are entries that the table
+-- does not know yet
 pub record Superseded (ws before after : List ℕ) (info : Info) : Type 0 where
   pub kept : WordsKept before after
   pub freed : (n key : ℕ) (xs more ys : List Entry) (f : Entry) → imageEntries basePower n ws ≡ Entries (xs ++ (more ++ ys)) → chosen key (xs ++ ys) ≡ some f → info ≡ said key (xs ++ ys) f
@@ -42,7 +43,8 @@ pub record Shown (buffer table : List ℕ) (keys : ℕ) (es : List Entry) : Type
   pub agree : Agree es
   pub apart : BlocksApart es
 
--- the entry e is to join xs and ys, then `more`: the image shows them all, each is above all others of its key, e is in no block or in one that no top put points to, and the table has room
+-- the entry e is to join xs and ys, then `more`: the image shows them all, each is above all others of its key, e is in
+-- no block or in one that no top put points to, and the table has room
 pub record Awaited (n : ℕ) (ws table : List ℕ) (xs more ys : List Entry) (e : Entry) : Type 0 where
   pub most : n ≤ maxChunks
   pub shown : imageEntries basePower n ws ≡ Entries (xs ++ (e ∷ (more ++ ys)))
@@ -54,14 +56,16 @@ pub record Awaited (n : ℕ) (ws table : List ℕ) (xs more ys : List Entry) (e 
 abbrev pub Superseding : (buffer buffer′ table′ : List ℕ) (keys′ : ℕ) (xs ys : List Entry) (e : Entry) → Type 0
 Superseding buffer buffer′ table′ keys′ xs ys e = Indexed table′ keys′ (xs ++ e ∷ ys) × ((u : ℕ) → hasBit buffer′ u ≡ both (hasBit buffer u) (negate (topBlock (e .key) (xs ++ ys) u)))
 
--- before and after an entry of this key joined, `own` being what the table would hold with it alone: of any memory, and where it was awaited
+-- before and after an entry of this key joined, `own` being what the table would hold with it alone: of any memory, and
+-- where it was awaited
 pub record OneJoined (ws buffer buffer′ table table′ : List ℕ) (keys key own keys′ : ℕ) : Type 0 where
   pub kept : WordsKept buffer buffer′
   pub sized : length table′ ≡ length table
   pub joins : (n : ℕ) (xs more ys : List Entry) (e : Entry) → e .key ≡ key → ownOf e ≡ own
       → Awaited n ws table xs more ys e → Shown buffer table keys (xs ++ ys) → Superseding buffer buffer′ table′ keys′ xs ys e
 
--- what stands in the buffer's words from `at` to `end`, if they are those of entries: none, or one with so many words of value, and the others behind it
+-- what stands in the buffer's words from `at` to `end`, if they are those of entries: none, or one with so many words
+-- of value, and the others behind it
 pub record Taken (buffer : List ℕ) (at end op placement version field key words : ℕ) (rest : List Entry) : Type 0 where
   pub entry : Entry
   pub others : List Entry
@@ -86,7 +90,8 @@ Staged buffer at end (I.Entry op placement version field key words) =
 abbrev pub placeOf : Setup → ℕ
 placeOf k = 512 * chunkIn k + 8 * linesIn k
 
--- THE BATCH: what holds at a commit's last fence. The image shows the batch between front and back; table and bits know front and back alone.
+-- THE BATCH: what holds at a commit's last fence. The image shows the batch between front and back; table and bits know
+-- front and back alone.
 pub record Fenced (c : Control) (k : Setup) (buffer ws table : List ℕ) (front back items : List Entry) : Type 0 where
   pub chunk : k .chunk ≤ 503
   pub lines : k .lines ≤ 64

@@ -1,4 +1,5 @@
-// A commit's items join the key table, their blocks the bits; and the blocks of the entries that they supersede leave the bits.
+// A commit's items join the key table, their blocks the bits; and the blocks of the entries that they supersede leave
+// the bits.
 ghost use Prim.Native.Nat.{_≤_};
 ghost use Rattle.spec.specs.Words.{wordsOf};
 ghost use Rattle.spec.specs.Log.{firstOf};
@@ -44,7 +45,8 @@ fn release_at(buffer: &mut Buffer, image: &[u8], place: usize)
     }
 }
 
-// The block of a key's top entries, of which the table says so much: the chosen one's, since all of them are equal in every word.
+// The block of a key's top entries, of which the table says so much: the chosen one's, since all of them are equal in
+// every word.
 fn release_tops(buffer: &mut Buffer, image: &[u8], info: Info)
     ensures { λ _. ⌜ Superseded (wordsOf (now (image .entry))) (now (buffer .entry)) (now (buffer .exit)) info ⌝ }
 {
@@ -68,8 +70,8 @@ fn claim(buffer: &mut Buffer, op: u64, placement: u64, field: u64)
     }
 }
 
-// An entry joins the table, which has so many keys: how many it has then. `own` is what it would hold of the key with this entry alone.
-// The blocks that it supersedes leave the bits; its own is not yet there.
+// An entry joins the table, which has so many keys: how many it has then. `own` is what it would hold of the key with
+// this entry alone. The blocks that it supersedes leave the bits; its own is not yet there.
 fn join_one(
     image: &[u8],
     buffer: &mut Buffer,

@@ -1,4 +1,5 @@
--- The last staged item of a key, where versions count on: it is the chosen entry of staged and committed ones, and without one the committed ones decide.
+-- The last staged item of a key, where versions count on: it is the chosen entry of staged and committed ones, and
+-- without one the committed ones decide.
 -- Assumes nothing.
 use mathlib.Core.Path.{_≡_, refl, sym, _∙_, ap}
 use mathlib.Core.Bool.{Bool, true, false}
@@ -104,7 +105,8 @@ last-low k q (e ∷ items) es c l = last-low k (pick (eqb (e .key) k) (some e) q
     go true = let v = c .0 in omega arith
     go false = l
 
--- WHAT THE LAST STAGED ITEM SAYS: a version other than 0 if the key is staged, and then that of both; else those committed decide.
+-- WHAT THE LAST STAGED ITEM SAYS: a version other than 0 if the key is staged, and then that of both; else those
+-- committed decide.
 pub record KeyStaged (k : ℕ) (es items : List Entry) : Type 0 where
   pub among : isIn k (keyList items) ≡ true
   pub version : latestOf k items .version ≡ highest k (es ++ items)

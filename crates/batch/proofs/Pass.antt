@@ -1,4 +1,5 @@
--- A pass over the words of the batch: at each item's first word stands what the item says, and the other items stand behind it.
+-- A pass over the words of the batch: at each item's first word stands what the item says, and the other items stand
+-- behind it.
 -- Assumes nothing.
 use mathlib.Core.Path.{_≡_, refl, sym, _∙_, ap}
 use mathlib.Core.List.{List, [], _∷_, _++_}

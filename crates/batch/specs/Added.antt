@@ -9,8 +9,8 @@ use Rattle.theory_log.specs.Batch.{Right}
 use Rattle.blocks.specs.Bits.{hasBit}
 use Rattle.session.specs.State.{batchRoom, bufferPart}
 
--- from `words` words to `next`: the item is behind the others if there is room for it, and nothing is changed if there is not.
--- The field of an item has 40 bits.
+-- from `words` words to `next`: the item is behind the others if there is room for it, and nothing is changed if there
+-- is not. The field of an item has 40 bits.
 pub record Added (before after : List ℕ) (words next : ℕ) (e : Entry) : Type 0 where
   pub size : length before ≡ 1152
   pub long : length after ≡ length before

@@ -22,7 +22,8 @@ pub struct Latest {
     pub version: u64,
 }
 
-// What stands at a word of the batch: `size` is the number of words to the next item. A word that begins no item counts as one.
+// What stands at a word of the batch: `size` is the number of words to the next item. A word that begins no item counts
+// as one.
 pub struct Item {
     pub op: u64,
     pub version: u64,

@@ -1,5 +1,5 @@
-// A large value on its way: kept in the second area of the record's buffer, and the actions that put it into its block, one by one, made
-// without reading the image.
+// A large value on its way: kept in the second area of the record's buffer, and the actions that put it into its block,
+// one by one, made without reading the image.
 ghost use mathlib.Core.Path.{_≡_};
 ghost use Prim.Native.Nat.{_+_, _/_, _%_, _^_, _<_, _≤_, min};
 ghost use lib.ListN.{length, getD};

@@ -68,7 +68,8 @@ pub record Chooses (ws table : List ℕ) (n : ℕ) (r : Choice) : Type 0 where
   pub inside : InCount n r
   pub exact : (keys : ℕ) (es : List Entry) → Ok 12 n ws es → Indexed table keys es → r ≡ choiceOf (chosenChunk 12 n ws es)
 
--- THE CALL, whatever the buffer holds: record, image and table stay. Of any memory it answers a refusal, or a chunk of the lent image.
+-- THE CALL, whatever the buffer holds: record, image and table stay. Of any memory it answers a refusal, or a chunk of
+-- the lent image.
 abbrev pub reportOf : Choice → Report
 reportOf (C.At c) = R.Chosen c
 reportOf C.Nothing = R.Refused N.NotCleanable

@@ -1,5 +1,6 @@
-// Choosing the chunk to clean: of log chunks whose kept entries fill fewer lines than are committed, the one with the fewest bytes to
-// copy; of equals the one with the most committed lines, and of those the highest number. Nothing is changed.
+// Choosing the chunk to clean: of log chunks whose kept entries fill fewer lines than are committed, the one with the
+// fewest bytes to copy; of equals the one with the most committed lines, and of those the highest number. Nothing is
+// changed.
 ghost use mathlib.Core.Path.{_≡_};
 ghost use Rattle.spec.specs.Words.{wordsOf};
 ghost use Rattle.spec.specs.Actions.{linesFor};
@@ -17,7 +18,8 @@ pub enum Choice {
     Nothing,
 }
 
-// What choosing knows of a chunk: its committed lines, 0 unless it is a log chunk, and the words that a cleaning copies.
+// What choosing knows of a chunk: its committed lines, 0 unless it is a log chunk, and the words that a cleaning
+// copies.
 pub struct Candidate {
     pub chunk: usize,
     pub lines: usize,

@@ -1,4 +1,5 @@
--- The begin of a cleaning, on words at rest with nothing staged: the record's actions are the plan's, and memory fits, looking forward.
+-- The begin of a cleaning, on words at rest with nothing staged: the record's actions are the plan's, and memory fits,
+-- looking forward.
 -- Assumes nothing.
 use mathlib.Core.Path.{_≡_, refl, sym, _∙_, ap, subst}
 use mathlib.Core.Bool.{true, false}

@@ -1,5 +1,5 @@
--- A cleaning, looking forward from words at rest: with all its actions done, the image is accepted, and its entries are those before
--- without the chunk's, and with those that are kept placed among them.
+-- A cleaning, looking forward from words at rest: with all its actions done, the image is accepted, and its entries are
+-- those before without the chunk's, and with those that are kept placed among them.
 -- Assumes nothing.
 use mathlib.Core.Path.{_≡_, refl, sym, _∙_, ap, subst}
 use mathlib.Core.Logic.{_⊎_, inl, inr}

@@ -1,4 +1,5 @@
--- Memory in a cleaning stays as the calls left it in every step: one action, the last with the chunk's entries leaving, and the end.
+-- Memory in a cleaning stays as the calls left it in every step: one action, the last with the chunk's entries leaving,
+-- and the end.
 -- Assumes nothing.
 use mathlib.Core.Path.{_≡_, refl, sym, _∙_, ap}
 use mathlib.Core.List.{List, [], _∷_}

@@ -1,4 +1,5 @@
--- A cleaning, looking forward from words at rest: `ws` are the words at its begin, `vs` those with all its actions done.
+-- A cleaning, looking forward from words at rest: `ws` are the words at its begin, `vs` those with all its actions
+-- done.
 -- Assumes nothing.
 use mathlib.Core.Path.{_≡_}
 use mathlib.Core.List.{List}
@@ -11,8 +12,8 @@ use Rattle.spec.specs.Opening.{Accepted, opening}
 use Rattle.session.specs.Cleaned.{keptOf, after}
 use Rattle.leaving.specs.Fence.{Freed}
 
--- chunk s is cleaned; what it keeps stands from word `at` on in b lines, of which the last z words are padding; below chunk d, but for
--- chunk s, the directory is as it was
+-- chunk s is cleaned; what it keeps stands from word `at` on in b lines, of which the last z words are padding; below
+-- chunk d, but for chunk s, the directory is as it was
 pub record Ahead (lo : 12 ≤ 12) (hi : 12 ≤ 16) (bytes table s at b z d : ℕ) (ws vs : List ℕ) (es : List Entry) : Type 0 where
   pub xs : List Entry
   pub mid : List Entry

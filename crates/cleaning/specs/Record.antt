@@ -21,7 +21,8 @@ copyCount words = pick (eqb (min words batchRoom) 0) 0 (9 * linesFor (min words 
 abbrev pub cleanCount : ℕ → ℕ
 cleanCount words = copyCount words + 3
 
--- THE RECORD AT THE BEGIN: no action done yet; where the copies go, and where the next commit looks for space; what is cleaned
+-- THE RECORD AT THE BEGIN: no action done yet; where the copies go, and where the next commit looks for space; what is
+-- cleaned
 abbrev pub cleaning : Control → Control
 cleaning c = record { phase = 6; next = 0; items = c .items; words = c .words; keys = c .keys; fresh = c .fresh }
 

@@ -30,7 +30,8 @@ pub record ChunkLeft (k : Setup) (f : Source) (ws b b′ table table′ : List �
   pub ends : Ends k f at end from until
   pub empties : Emptying (k .image / 4096) ws b b′ table table′ keys at end from until keys′
 
--- AN ACTION: of any memory its report, the image's change, and that the actions behind it stay; and memory stays as the calls left it
+-- AN ACTION: of any memory its report, the image's change, and that the actions behind it stay; and memory stays as the
+-- calls left it
 pub record Acts (c c′ : Control) (k : Setup) (f : Source) (b b′ image image′ table table′ : List ℕ) (r : Report) : Type 0 where
   pub here : c .next < cleanCount (f .words)
   pub report : r ≡ nthReport (cleanActions k f b) (c .next)

@@ -1,4 +1,5 @@
-// One step of a cleaning: its next action, with the last of which the chunk's entries leave key table and bits; then its end.
+// One step of a cleaning: its next action, with the last of which the chunk's entries leave key table and bits; then
+// its end.
 ghost use Prim.Native.Nat.{_/_};
 ghost use Rattle.spec.specs.Words.{wordsOf};
 ghost use Rattle.cleaning_step.specs.Moves.{ChunkLeft, CleanStepped};

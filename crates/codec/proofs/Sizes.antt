@@ -1,4 +1,5 @@
--- Block sizes of chunks of 4,096 bytes: the table from needed units to block size, and that each entry is the smallest size that fits.
+-- Block sizes of chunks of 4,096 bytes: the table from needed units to block size, and that each entry is the smallest
+-- size that fits.
 -- Assumes nothing.
 use mathlib.Core.Path.{_≡_, refl, sym, _∙_, ap}
 use mathlib.Core.Bool.{Bool, true, false}

@@ -1,4 +1,5 @@
-// Encoding and decoding of words: the header line, directory words, first words of entries, unit numbers and block sizes.
+// Encoding and decoding of words: the header line, directory words, first words of entries, unit numbers and block
+// sizes.
 ghost use mathlib.Core.Path.{_≡_};
 ghost use Prim.Native.Nat.{_+_, _-_, _*_, _%_, _^_, _<_, _≤_, min};
 ghost use lib.Dec.{eqb, leb};

@@ -26,7 +26,8 @@ PlaceFor buffer words image first least r =
     (items : List Entry) → StagedIn buffer words items → NoneBelow (chunksIn 12 (length image)) (wordsOf image) first least
     → Searched (wordsOf image) (chunksIn 12 (length image)) (linesFor (length (encodeAll items))) (freeNeeded items) r
 
--- the record's small parts at a commit's begin: no action done yet, where it writes, and where the next one looks for space
+-- the record's small parts at a commit's begin: no action done yet, where it writes, and where the next one looks for
+-- space
 abbrev pub committing : Control → Control
 committing c = record { phase = 3; next = 0; items = c .items; words = c .words; keys = c .keys; fresh = c .fresh }
 

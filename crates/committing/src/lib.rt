@@ -16,9 +16,8 @@ use space::Placed;
 use spec::Refusal;
 use spec::Report;
 
-// COMMIT
-// What a commit finds: a refusal, or where it writes (chunk, its directory word, its committed lines), where the next one looks for space,
-// and how many actions it has.
+// COMMIT What a commit finds: a refusal, or where it writes (chunk, its directory word, its committed lines), where the
+// next one looks for space, and how many actions it has.
 pub enum CommitPlan {
     Refused(Refusal),
     At {

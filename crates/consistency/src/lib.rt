@@ -1,5 +1,5 @@
-// The second pass of an opening: whether the top entries' blocks are right, whether top entries agree and share no block with another key,
-// and the blocks in use as bits.
+// The second pass of an opening: whether the top entries' blocks are right, whether top entries agree and share no
+// block with another key, and the blocks in use as bits.
 ghost use mathlib.Core.Path.{_≡_};
 ghost use Prim.Native.Nat.{_+_, _-_, _*_, _^_, _≤_, _<_, min};
 ghost use mathlib.Core.Bool.{true};
@@ -156,8 +156,9 @@ fn points(op: u64, placement: u64) -> bool
     false
 }
 
-// A top entry's block is marked if it is the chosen one of its key, which stands at word `place`: the others have the same block, or
-// disagree. The answer is whether no two keys share a block: one that is marked already is another key's.
+// A top entry's block is marked if it is the chosen one of its key, which stands at word `place`: the others have the
+// same block, or disagree. The answer is whether no two keys share a block: one that is marked already is another
+// key's.
 fn marked(buffer: &mut Buffer, apart: bool, e: Head, place: usize) -> bool
     ensures { λ r. ⌜ MarkedIs apart e place (now (buffer .entry)) (now (buffer .exit)) r ⌝ }
 {
@@ -230,7 +231,8 @@ fn visit(
     }
 }
 
-// The pass over the log of an image of `count` chunks. The table holds the keys where `fits`; the bits become the blocks in use.
+// The pass over the log of an image of `count` chunks. The table holds the keys where `fits`; the bits become the
+// blocks in use.
 pub fn check(image: &[u8], count: usize, table: &[u64], fits: bool, buffer: &mut Buffer) -> Checked
     ensures { λ r. ⌜ CheckedAs count (wordsOf (now (image .entry))) (now (table .entry)) fits (now (buffer .entry)) (now (buffer .exit)) r ⌝ }
 {
@@ -279,7 +281,8 @@ pub fn check(image: &[u8], count: usize, table: &[u64], fits: bool, buffer: &mut
     }
 }
 
-// What the pass finds. Where the log is `plain`, with one top entry a key and no value in a block, nothing is left to find and none is made.
+// What the pass finds. Where the log is `plain`, with one top entry a key and no value in a block, nothing is left to
+// find and none is made.
 pub fn examine(
     image: &[u8],
     count: usize,

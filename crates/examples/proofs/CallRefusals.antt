@@ -189,7 +189,8 @@ computed = tt
 -- CHOOSING
 abbrev choices : List Row
 choices =
-    -- choosing: of equally few bytes to copy the most committed lines, of those the highest number; bytes come before lines
+    -- choosing: of equally few bytes to copy the most committed lines, of those the highest number; bytes come before
+    -- lines
     onEmpty [] (9 becomes log 2 ∷ 10 becomes log 5 ∷ 11 becomes log 4 ∷ []) Choose is Number 2
     ∷ onEmpty [] (9 becomes log 5 ∷ 10 becomes log 4 ∷ 11 becomes log 2 ∷ []) Choose is Number 1
     ∷ onEmpty [] (9 becomes log 3 ∷ 10 becomes log 3 ∷ 11 becomes log 2 ∷ []) Choose is Number 2

@@ -1,4 +1,5 @@
--- The worked cases that are to be proved, together: each computed value beside the value in the rules, one proof for all.
+-- The worked cases that are to be proved, together: each computed value beside the value in the rules, one proof for
+-- all.
 -- Assumes nothing.
 use mathlib.Core.List.{List, [], _∷_}
 use Prim.Native.Nat.{ℕ, zero, suc, _*_}

@@ -1,5 +1,5 @@
--- What the code of the fast path shows inside a commit is what its contracts say: one action that is not the last, and several with the stores
--- before it.
+-- What the code of the fast path shows inside a commit is what its contracts say: one action that is not the last, and
+-- several with the stores before it.
 -- Assumes nothing.
 use mathlib.Core.Path.{_≡_, refl, sym, _∙_, ap, subst}
 use mathlib.Core.Bool.{false}

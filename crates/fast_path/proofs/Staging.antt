@@ -1,4 +1,5 @@
--- What the code of the fast path shows inside a staging is what its contracts say: the stores that come next, and the action behind them.
+-- What the code of the fast path shows inside a staging is what its contracts say: the stores that come next, and the
+-- action behind them.
 -- Assumes nothing.
 use mathlib.Core.Path.{_≡_, refl, sym, _∙_, ap, subst}
 use mathlib.Core.Logic.{by-cases}

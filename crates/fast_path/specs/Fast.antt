@@ -35,7 +35,8 @@ pub record OnFastPath (Here : Control → Setup → (bytes words : ℕ) → Type
   pub within : Here (s .control) (s .setup) (length bytes) (length table) → P s s′ bytes bytes′ table table′ r
   pub without : (Here (s .control) (s .setup) (length bytes) (length table) → ⊥) → Idles s s′ bytes bytes′ table table′ r
 
--- the same of a core, which has the record by its parts: inside a commit a step and a run alter the number of the next action alone
+-- the same of a core, which has the record by its parts: inside a commit a step and a run alter the number of the next
+-- action alone
 abbrev pub FastPath : ((s s′ : Session) (bytes bytes′ table table′ : List ℕ) → Report → Type 0) → Control → Setup → (buffer bytes bytes′ table table′ : List ℕ) → (next : ℕ) → Report → Type 0
 FastPath P c k b bytes bytes′ table table′ n r =
     OnFastPath FastStep P (record { control = c; setup = k; buffer = b }) (record { control = toNext n c; setup = k; buffer = b }) bytes bytes′ table table′ r

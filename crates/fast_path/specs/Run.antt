@@ -1,4 +1,5 @@
--- Several steps taken in one call: those that store a word, as many as come next, and then one that stores none, whose report is told.
+-- Several steps taken in one call: those that store a word, as many as come next, and then one that stores none, whose
+-- report is told.
 -- Assumes nothing.
 use mathlib.Core.Path.{_≡_}
 use mathlib.Core.Bool.{Bool, true, false}

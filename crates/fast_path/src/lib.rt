@@ -1,5 +1,5 @@
-// The fast path: a step inside a commit, and runs inside a commit and a staging. A run makes the stores that come next in a short loop, and
-// then tells of the action behind them.
+// The fast path: a step inside a commit, and runs inside a commit and a staging. A run makes the stores that come next
+// in a short loop, and then tells of the action behind them.
 ghost use mathlib.Core.Path.{_≡_};
 ghost use mathlib.Core.Bool.{true, false};
 ghost use Prim.Native.Nat.{_-_, _^_, _≤_, _<_};
@@ -16,8 +16,8 @@ use session::Setup;
 use session::Stepped;
 use spec::Report;
 
-// A COMMIT
-// The number of the next action after a step or a run inside a commit, which alters nothing else of the record, and its report.
+// A COMMIT The number of the next action after a step or a run inside a commit, which alters nothing else of the
+// record, and its report.
 pub struct Advanced {
     pub next: usize,
     pub report: Report,
@@ -80,7 +80,8 @@ fn store_batch(control: Control, setup: Setup, buffer: &Buffer, image: &mut [u8]
     at
 }
 
-// The stores that come next, in one go, and then the action behind them, whose report is told: a flush or a fence. Elsewhere nothing is done.
+// The stores that come next, in one go, and then the action behind them, whose report is told: a flush or a fence.
+// Elsewhere nothing is done.
 pub fn fast_run(
     control: Control,
     setup: Setup,
@@ -158,8 +159,8 @@ fn take_count(setup: Setup) -> usize
     2
 }
 
-// The stores of a large value's staging that come next: the directory word of a chunk that is taken, or the words held. The number of the
-// action behind them.
+// The stores of a large value's staging that come next: the directory word of a chunk that is taken, or the words held.
+// The number of the action behind them.
 fn store_block(control: Control, setup: Setup, buffer: &Buffer, image: &mut [u8]) -> usize
     ensures { λ r. ⌜ BlockStores control setup (now (buffer .entry)) (now (image .entry)) (now (image .exit)) r ⌝ }
 {
@@ -227,7 +228,8 @@ fn staged(control: Control) -> Stepped
     }
 }
 
-// The stores that come next, and then the flush behind them, or the end. Elsewhere nothing is done. A flush comes by few comparisons.
+// The stores that come next, and then the flush behind them, or the end. Elsewhere nothing is done. A flush comes by
+// few comparisons.
 pub fn staging_run(
     control: Control,
     setup: Setup,

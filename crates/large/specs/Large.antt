@@ -1,4 +1,5 @@
--- What a staging of a large value leaves in the record: the plan's items as staged words, and the plan's actions as the record's own.
+-- What a staging of a large value leaves in the record: the plan's items as staged words, and the plan's actions as the
+-- record's own.
 -- Assumes nothing.
 use mathlib.Core.Path.{_≡_}
 use mathlib.Core.Bool.{Bool, true, false}

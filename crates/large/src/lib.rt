@@ -1,4 +1,5 @@
-// A large value staged: its slot found, its words held in the record, its item behind the others, and the place of its actions in the setup.
+// A large value staged: its slot found, its words held in the record, its item behind the others, and the place of its
+// actions in the setup.
 ghost use mathlib.Core.Path.{_≡_};
 ghost use Rattle.large.specs.Large.{BlockBegun, LargeStaged};
 use batch::add_entry;
@@ -12,7 +13,8 @@ use slots::Slot;
 use slots::slot_for;
 use space::directory_word;
 
-// What a staging of a large value leaves: the setup, the staged words, and the number of actions; or nothing found, and nothing changed.
+// What a staging of a large value leaves: the setup, the staged words, and the number of actions; or nothing found, and
+// nothing changed.
 pub struct Large {
     pub found: bool,
     pub setup: Setup,
@@ -20,7 +22,8 @@ pub struct Large {
     pub count: usize,
 }
 
-// The value goes to the block at this unit; `size` is 0 if its chunk is a data chunk, else the chunk is taken for blocks of that size.
+// The value goes to the block at this unit; `size` is 0 if its chunk is a data chunk, else the chunk is taken for
+// blocks of that size.
 fn begin_block(
     setup: Setup,
     buffer: &mut Buffer,

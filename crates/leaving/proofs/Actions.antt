@@ -1,4 +1,5 @@
--- The words when a cleaning's actions are done: those that it copies stand in their lines, and beside the directory nothing else has changed.
+-- The words when a cleaning's actions are done: those that it copies stand in their lines, and beside the directory
+-- nothing else has changed.
 -- Assumes nothing.
 use mathlib.Core.Path.{_≡_, refl, sym, _∙_, ap}
 use mathlib.Core.Logic.{_⊎_, inl, inr}
@@ -31,7 +32,8 @@ run-body : (d l b : ℕ) (words ws : List ℕ) → runWords (bodyOf 12 d l b wor
 unfolding bodyOf
 run-body d l b words ws = run-writes (base 12 d + 8 * l) words (flushes (firstLine 12 d + l) b ++ (Fence ∷ [])) ws ∙ run-flushes (firstLine 12 d + l) b (Fence ∷ []) (overlay ws (base 12 d + 8 * l) words)
 
--- a cleaning: the words go behind the l lines of chunk d, whose directory word is `old`; then chunk s, whose word is `old′`, is freed
+-- a cleaning: the words go behind the l lines of chunk d, whose directory word is `old`; then chunk s, whose word is
+-- `old′`, is freed
 module _ (d old l s old′ : ℕ) (words ws : List ℕ) where
   abbrev pub done : List ℕ
   done = runWords (appendOf 12 d old l words ++ freeOf s old′) ws

@@ -50,8 +50,9 @@ pub record Gathering (ws table out out′ : List ℕ) (count : ℕ) : Type 0 whe
   pub behind : (i : ℕ) → count ≤ i → getD out′ i 0 ≡ getD out i 0
   pub lists : Probed table → Lists (inOrder (slotKeys ws table (slots table))) out out′ count
 
--- THE CALLS, whatever the record's buffer holds: record, image and table stay. A refusal at the gate is answered, and `out`
--- stays; behind it, on memory as our calls left it, the answer is the register's. The words of `out` behind the keys stay.
+-- THE CALLS, whatever the record's buffer holds: record, image and table stay. A refusal at the gate is answered, and
+-- `out` stays; behind it, on memory as our calls left it, the answer is the register's. The words of `out` behind the
+-- keys stay.
 abbrev pub entriesOf : List ℕ → List Entry
 entriesOf bytes = entriesIn basePower (chunksIn basePower (length bytes)) (wordsOf bytes)
 

@@ -132,7 +132,8 @@ pub fn list_keys(
     }
 }
 
-// What a listing leaves of the record's control, which is as it was, and what it answers: for a thin call over the record.
+// What a listing leaves of the record's control, which is as it was, and what it answers: for a thin call over the
+// record.
 pub struct Listings {
     pub control: Control,
     pub report: Counted,

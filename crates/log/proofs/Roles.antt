@@ -1,4 +1,5 @@
--- What the directory says of a chunk, in chunks of 4,096 bytes: the bounds of lines and block sizes, and chunks past the image.
+-- What the directory says of a chunk, in chunks of 4,096 bytes: the bounds of lines and block sizes, and chunks past
+-- the image.
 -- Assumes nothing.
 use mathlib.Core.Path.{_≡_}
 use mathlib.Core.List.{List, []}

@@ -19,7 +19,8 @@ cursorAt chunk at end = record { chunk = chunk; at = at; end = end }
 abbrev pub start : Cursor
 start = record { chunk = 0; at = 0; end = 0 }
 
--- the entries from a cursor on, in an image of n chunks: those of the cursor's chunk, then those of the chunks behind it
+-- the entries from a cursor on, in an image of n chunks: those of the cursor's chunk, then those of the chunks behind
+-- it
 unfoldable pub remaining : ℕ → ℕ → List ℕ → Cursor → Parsed
 remaining p n ws c = join (parse (slice (c .at) (c .end) ws) 0 (c .at)) (allFrom p (n - suc (c .chunk)) (suc (c .chunk)) ws)
 

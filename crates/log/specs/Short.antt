@@ -9,7 +9,8 @@ use Rattle.spec.specs.declared.LogStep.the-variants as S
 use Rattle.log.specs.declared.Short.{Short}
 use Rattle.log.specs.declared.Short.the-variants as P
 
--- what is found at word `at` of the words before `end`: a put stands there as told, and of anything else nothing is told
+-- what is found at word `at` of the words before `end`: a put stands there as told, and of anything else nothing is
+-- told
 abbrev pub ShortAt : List ℕ → ℕ → ℕ → Short → Type 0
 ShortAt ws at end (P.Put version field key words) = stepOf (slice at end ws) ≡ S.Entry 1 0 version field key words
 ShortAt ws at end P.Other = Unit {0}

@@ -39,7 +39,8 @@ pub enum Next {
     },
 }
 
-// A put with its value in the log that stands at a word, or anything else: for a pass that goes by the common case first.
+// A put with its value in the log that stands at a word, or anything else: for a pass that goes by the common case
+// first.
 pub enum Short {
     Put {
         version: u64,
@@ -128,7 +129,8 @@ pub fn next_entry(img: &[u8], at: usize, end: usize) -> LogStep
     }
 }
 
-// The put with its value in the log that stands at word `at` of the committed words before `end`, if one does and is right.
+// The put with its value in the log that stands at word `at` of the committed words before `end`, if one does and is
+// right.
 pub fn short_put(img: &[u8], at: usize, end: usize) -> Short
     ensures { λ r. ⌜ ShortAt (wordsOf (now (img .entry))) at end r ⌝ }
 {

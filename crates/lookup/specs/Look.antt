@@ -37,7 +37,8 @@ within bytes a n = pick (leb (a + n) bytes) (L.Part a n) (L.Refused N.KeyAbsent)
 abbrev pub blockPart : ℕ → List ℕ → ℕ → Located
 blockPart bytes ws unit = within bytes (8 * (unitWord unit + 1)) (getD ws (unitWord unit) 0)
 
--- the part that holds the value of the entry at word `place`, whose first word is w: a put with its value in the log, or in a block
+-- the part that holds the value of the entry at word `place`, whose first word is w: a put with its value in the log,
+-- or in a block
 abbrev pub partBy : ℕ → List ℕ → ℕ → ℕ → Located
 partBy bytes ws place w =
     pick (eqb (w % 16) 1) (within bytes (8 * (place + 2)) (w / 16777216))

@@ -30,8 +30,8 @@ fn within(bytes: usize, start: usize, length: u64) -> Located
     Located::Refused(Refusal::KeyAbsent)
 }
 
-// The part that holds the value of the block at a unit. Where the image has the word behind the block's length word too, as every right image
-// has, two comparisons are enough.
+// The part that holds the value of the block at a unit. Where the image has the word behind the block's length word
+// too, as every right image has, two comparisons are enough.
 fn block_part(image: &[u8], unit: Unit) -> Located
     requires { ⌜ unit .0 < 2 ^ 40 ⌝ }
     ensures { λ r. ⌜ r ≡ blockPart (length (now (image .entry))) (wordsOf (now (image .entry))) (unit .0) ⌝ }
@@ -73,7 +73,8 @@ fn first_word(image: &[u8], place: usize) -> u64
     words::load_leading(image, place)
 }
 
-// The part that holds the value of the entry at word `place`: a put with its value in the log, or one with its value in a block.
+// The part that holds the value of the entry at word `place`: a put with its value in the log, or one with its value in
+// a block.
 fn part_at(image: &[u8], place: usize) -> Located
     requires { ⌜ place < 0x4_0000 ⌝ }
     ensures { λ r. ⌜ r ≡ partAt (length (now (image .entry))) (wordsOf (now (image .entry))) place ⌝ }
@@ -90,7 +91,8 @@ fn part_at(image: &[u8], place: usize) -> Located
     Located::Refused(Refusal::KeyAbsent)
 }
 
-// The value of a key, by one probe of the table, which tells the extent of a short value in the log; else the entry is read.
+// The value of a key, by one probe of the table, which tells the extent of a short value in the log; else the entry is
+// read.
 fn value_of(image: &[u8], table: &[u64], key: u64) -> Located
     ensures { λ r. ⌜ Looking key (now (image .entry)) (now (table .entry)) r ⌝ }
 {

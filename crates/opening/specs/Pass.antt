@@ -13,7 +13,8 @@ use Rattle.volatile.specs.Plain.{Plain, PlainInv}
 use Rattle.log.specs.declared.Cursor.{Cursor}
 use Rattle.log.specs.Cursor.{cursorAt, remaining, left}
 
--- the table before and after one more entry of a key, of which it would hold `own` with this entry alone; with the numbers before and after
+-- the table before and after one more entry of a key, of which it would hold `own` with this entry alone; with the
+-- numbers before and after
 pub record Entering (table table′ : List ℕ) (keys : ℕ) (fits plain : Bool) (key own keys′ : ℕ) (fits′ plain′ : Bool) : Type 0 where
   pub sized : length table′ ≡ length table
   pub enters : (xs : List Entry) (e : Entry) → e .key ≡ key → ownOf e ≡ own → Bounded (xs ++ e ∷ [])
@@ -27,7 +28,8 @@ pub record Passing (n : ℕ) (ws : List ℕ) (words : ℕ) (table : List ℕ) (k
   pub so-far : imageEntries 12 n ws ≡ prepend passed (remaining 12 n ws c)
   pub holds : n ≤ maxChunks → (es : List Entry) → imageEntries 12 n ws ≡ Entries es → FillInv words passed table keys fits × PlainInv passed plain fits
 
--- the table before and after a run of the pass up to word `end` of any chunk: the pass is then farther, by the table's new numbers
+-- the table before and after a run of the pass up to word `end` of any chunk: the pass is then farther, by the table's
+-- new numbers
 pub record Hastened (ws : List ℕ) (end : ℕ) (fits : Bool) (table : List ℕ) (keys at : ℕ) (table′ : List ℕ) (keys′ at′ : ℕ) : Type 0 where
   pub sized : length table′ ≡ length table
   pub nearer : (n c : ℕ) → left n ws (cursorAt c at′ end) ≤ left n ws (cursorAt c at end)

@@ -1,5 +1,5 @@
-// An opening: the refusals 1 to 7, and the volatile memory built. One pass over the entries fills the key table; a second one, where it is needed,
-// asks blocks and top entries.
+// An opening: the refusals 1 to 7, and the volatile memory built. One pass over the entries fills the key table; a
+// second one, where it is needed, asks blocks and top entries.
 ghost use mathlib.Core.Path.{_≡_};
 ghost use mathlib.Core.Bool.{false};
 ghost use Prim.Native.Nat.{_+_, _<_};
@@ -124,7 +124,8 @@ struct Entered {
     plain: bool,
 }
 
-// One more entry in the table; `own` is what it would hold of the key with this entry alone. Once the keys do not fit the table stays.
+// One more entry in the table; `own` is what it would hold of the key with this entry alone. Once the keys do not fit
+// the table stays.
 fn enter(table: &mut [u64], keys: usize, fits: bool, plain: bool, key: u64, own: u64) -> Entered
     ensures { λ r. ⌜ Entering (now (table .entry)) (now (table .exit)) keys fits plain key own (r .keys) (r .fits) (r .plain) ⌝ }
 {
@@ -167,7 +168,8 @@ struct Ran {
     at: usize,
 }
 
-// The pass over puts with new keys and values in the log, from word `at` on, as long as the table has room: all else is left to `fill`.
+// The pass over puts with new keys and values in the log, from word `at` on, as long as the table has room: all else is
+// left to `fill`.
 fn run(image: &[u8], at: usize, end: usize, table: &mut [u64], keys: usize, fits: bool) -> Ran
     ensures { λ r. ⌜ Hastened (wordsOf (now (image .entry))) end fits (now (table .entry)) keys at (now (table .exit)) (r .keys) (r .at) ⌝ }
 {
@@ -216,7 +218,8 @@ fn run(image: &[u8], at: usize, end: usize, table: &mut [u64], keys: usize, fits
     }
 }
 
-// What the pass finds: whether every entry is right, whether the keys fit and the entries are plain, and how many keys the table has.
+// What the pass finds: whether every entry is right, whether the keys fit and the entries are plain, and how many keys
+// the table has.
 struct Filled {
     right: bool,
     fits: bool,
@@ -224,8 +227,8 @@ struct Filled {
     keys: usize,
 }
 
-// The pass over the log of an image of `count` chunks, from an empty table. It walks as `log::next_in_log` does, the common entries
-// by a run first.
+// The pass over the log of an image of `count` chunks, from an empty table. It walks as `log::next_in_log` does, the
+// common entries by a run first.
 fn fill(image: &[u8], count: usize, table: &mut [u64]) -> Filled
     ensures { λ r. ⌜ Filling count (wordsOf (now (image .entry))) (now (table .entry)) (now (table .exit)) (r .right) (r .fits) (r .plain) (r .keys) ⌝ }
 {

@@ -1,5 +1,5 @@
--- From the plan to the begin: with the kept words gathered, the record's actions are those of the definition's plan, as many as the plan
--- said, and memory fits, looking forward.
+-- From the plan to the begin: with the kept words gathered, the record's actions are those of the definition's plan, as
+-- many as the plan said, and memory fits, looking forward.
 -- Assumes nothing.
 use mathlib.Core.Path.{_≡_, refl, sym, _∙_, ap, subst}
 use mathlib.Core.Logic.{_⊎_, inl, inr}

@@ -1,4 +1,5 @@
--- What the code of a cleaning's run shows: each store is a step, and so is the action behind them; the action before the last is none.
+-- What the code of a cleaning's run shows: each store is a step, and so is the action behind them; the action before
+-- the last is none.
 -- Assumes nothing.
 use mathlib.Core.Path.{_≡_, refl, sym, _∙_, ap, subst}
 use mathlib.Core.Logic.{by-cases}

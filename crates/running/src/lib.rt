@@ -1,4 +1,5 @@
-// Several steps in one call: those that store a word, as many as come next, and the one behind them. A cleaning has a short loop of its own.
+// Several steps in one call: those that store a word, as many as come next, and the one behind them. A cleaning has a
+// short loop of its own.
 ghost use mathlib.Core.Path.{_≡_};
 ghost use mathlib.Core.Bool.{true, false};
 ghost use Rattle.fast_path.specs.Run.{isStore, RunsOn};
@@ -48,7 +49,8 @@ fn is_copying(control: Control, setup: Setup, bytes: usize, words: usize) -> boo
     false
 }
 
-// The stores that come next, and the action behind them, whose report is told. The action before the last is a flush, so the loop is left from inside.
+// The stores that come next, and the action behind them, whose report is told. The action before the last is a flush,
+// so the loop is left from inside.
 fn run_cleaning(control: Control, setup: Setup, buffer: &Buffer, image: &mut [u8]) -> Advanced
     ensures { λ r. ⌜ CleaningRun control setup (now (buffer .entry)) (now (image .entry)) (now (image .exit)) (r .next) (r .report) ⌝ }
 {

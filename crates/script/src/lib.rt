@@ -4,7 +4,8 @@ ghost use Prim.Native.Nat.{_+_, _-_, _*_, _%_, _^_, _<_};
 ghost use lib.ListN.{length, drop};
 ghost use Rattle.script.specs.Spelled.{isDigit, withDigit, spelled};
 
-// What stands at a place of a line, and where the text goes on behind it: a word's letters or a number; `given` if there is one.
+// What stands at a place of a line, and where the text goes on behind it: a word's letters or a number; `given` if
+// there is one.
 pub struct Token {
     pub given: bool,
     pub value: u64,

@@ -1,5 +1,5 @@
--- The gate of a call on an open register, read off the record; what a refusal at the gate shows, once for all calls that ask there;
--- and what is known behind the gate.
+-- The gate of a call on an open register, read off the record; what a refusal at the gate shows, once for all calls
+-- that ask there; and what is known behind the gate.
 -- Assumes nothing.
 use mathlib.Core.Path.{_≡_, refl, sym, _∙_, ap}
 use mathlib.Core.Logic.{_⊎_, inl, inr, by-cases}

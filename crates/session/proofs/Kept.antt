@@ -1,4 +1,5 @@
--- What the record says of its batch and of memory stays so where the staged words do; a commit whose actions are done leaves memory at rest.
+-- What the record says of its batch and of memory stays so where the staged words do; a commit whose actions are done
+-- leaves memory at rest.
 -- Assumes nothing.
 use mathlib.Core.Path.{_≡_, refl, _∙_, ap}
 use mathlib.Core.List.{List, [], _++_, map}

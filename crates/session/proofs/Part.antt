@@ -1,4 +1,5 @@
--- Laws of the buffer's words read one by one, of the staged words among them, and of the chunk and lines that a commit writes to.
+-- Laws of the buffer's words read one by one, of the staged words among them, and of the chunk and lines that a commit
+-- writes to.
 -- Assumes nothing.
 use mathlib.Core.Path.{_≡_, refl, sym, _∙_, ap}
 use mathlib.Core.List.{List}

@@ -1,4 +1,5 @@
--- A ZEROED RECORD is closed, and fits whatever image and table are lent beside it: hosts make their record by zeroing it.
+-- A ZEROED RECORD is closed, and fits whatever image and table are lent beside it: hosts make their record by zeroing
+-- it.
 -- Assumes nothing.
 use mathlib.Core.Path.{_≡_, refl}
 use mathlib.Core.List.{List}

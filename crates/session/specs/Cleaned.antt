@@ -1,5 +1,5 @@
--- The entries of an image before and after one of its chunks is cleaned: those of the chunk are taken out, and those of them that are kept
--- stand anew behind others.
+-- The entries of an image before and after one of its chunks is cleaned: those of the chunk are taken out, and those of
+-- them that are kept stand anew behind others.
 -- Assumes nothing.
 use mathlib.Core.Path.{_≡_}
 use mathlib.Core.List.{List, _++_}

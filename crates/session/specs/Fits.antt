@@ -1,5 +1,5 @@
--- Memory as the calls left it: what record and key table hold of the image's words. They are what a fresh opening of the same image
--- would build, and the staged items beside.
+-- Memory as the calls left it: what record and key table hold of the image's words. They are what a fresh opening of
+-- the same image would build, and the staged items beside.
 -- Assumes nothing.
 use mathlib.Core.Path.{_≡_}
 use mathlib.Core.Bool.{true, false}
@@ -39,13 +39,15 @@ Proper s = length (s .buffer) ≡ bufferWords
 abbrev pub keyList : List Entry → List ℕ
 keyList es = map (λ (e : Entry). e .key) es
 
--- the blocks of staged items among the entries es, in an image of n chunks: each is right in the words, no top put points to it, and no other item does
+-- the blocks of staged items among the entries es, in an image of n chunks: each is right in the words, no top put
+-- points to it, and no other item does
 pub record ItemsFit (n : ℕ) (ws : List ℕ) (es items : List Entry) : Type 0 where
   pub blocks : (e : Entry) → Mem e items → fine basePower n ws e ≡ true
   pub dead : (e f : Entry) → Mem e items → Top es f → pointed e ≡ true → pointed f ≡ true → e .field ≡ f .field → ⊥
   pub own : (e f : Entry) → Mem e items → Mem f items → pointed e ≡ true → pointed f ≡ true → e .field ≡ f .field → e ≡ f
 
--- the staged items among the entries es, in an image of n chunks with the words ws: the staged words are theirs, versions count on, their blocks are right, and the staged keys that are not known are counted
+-- the staged items among the entries es, in an image of n chunks with the words ws: the staged words are theirs,
+-- versions count on, their blocks are right, and the staged keys that are not known are counted
 pub record BatchFits (c : Control) (buffer : List ℕ) (n : ℕ) (ws : List ℕ) (es items : List Entry) : Type 0 where
   pub room : c .words ≤ batchRoom
   pub written : batchWords c buffer ≡ encodeAll items
@@ -61,7 +63,8 @@ pub record Built (c : Control) (buffer table : List ℕ) (es : List Entry) : Typ
   pub indexed : Indexed table (c .keys) es
   pub blocks : (u : ℕ) → hasBit buffer u ≡ isIn u (liveBlocks es)
 
--- no log chunk below `first` has space for `least` lines behind its committed ones, in an image of n chunks: the word of a chunk past the directory would be a word of some block
+-- no log chunk below `first` has space for `least` lines behind its committed ones, in an image of n chunks: the word
+-- of a chunk past the directory would be a word of some block
 abbrev pub NoneBelow : (n : ℕ) (ws : List ℕ) (first least : ℕ) → Type 0
 NoneBelow n ws first least = (c : ℕ) → 1 ≤ c → c < first → c < n → hasSpace basePower ws least 0 c ≡ false
 
@@ -76,13 +79,15 @@ pub record RestFits (s : Session) (ws table : List ℕ) (items : List Entry) : T
   pub table-room : s .control .keys + s .control .fresh ≤ capacity (s .setup .table)
   pub hint : NoneBelow (chunksIn basePower (s .setup .image)) ws (s .setup .first) (s .setup .least)
 
--- In a staging, looking forward: with the actions still to come done on these words, memory is at rest with the new item among the staged
--- ones. Entries, key table and bits are those before. Nothing is said of the block's words in flight: no entry that is committed needs them.
+-- In a staging, looking forward: with the actions still to come done on these words, memory is at rest with the new
+-- item among the staged ones. Entries, key table and bits are those before. Nothing is said of the block's words in
+-- flight: no entry that is committed needs them.
 abbrev pub StageFits : (s : Session) (ws table : List ℕ) (items : List Entry) (rest : List Action) → Type 0
 StageFits s ws table items rest = RestFits s (runWords rest ws) table items
 
--- In a commit, looking forward: with the actions still to come done on these words, the image is accepted, and its entries are those
--- before (front and back) with the batch placed between. Until the last fence table and bits are those of the entries before.
+-- In a commit, looking forward: with the actions still to come done on these words, the image is accepted, and its
+-- entries are those before (front and back) with the batch placed between. Until the last fence table and bits are
+-- those of the entries before.
 abbrev pub BuiltBy : List Action → Session → List ℕ → List Entry → List Entry → Type 0
 BuiltBy [] s table before after = Built (s .control) (s .buffer) table after
 BuiltBy (a ∷ rest) s table before after = Built (s .control) (s .buffer) table before
@@ -109,9 +114,9 @@ pub record CommitFits (s : Session) (ws table : List ℕ) (items : List Entry) (
   pub table-room : s .control .keys + s .control .fresh ≤ capacity (s .setup .table)
   pub hint : NoneBelow (chunksIn basePower (s .setup .image)) (runWords rest ws) (s .setup .first) (s .setup .least)
 
--- In a cleaning, looking forward: with the actions still to come done on these words, the image is accepted, and its entries are those
--- before without the cleaned chunk's, with the copies of the kept ones among them. Until the last fence table and bits are those of the
--- entries before.
+-- In a cleaning, looking forward: with the actions still to come done on these words, the image is accepted, and its
+-- entries are those before without the cleaned chunk's, with the copies of the kept ones among them. Until the last
+-- fence table and bits are those of the entries before.
 pub record CleanFits (c : Control) (k : Setup) (f : Source) (b ws table : List ℕ) (rest : List Action) : Type 0 where
   pub xs : List Entry
   pub mid : List Entry

@@ -1,5 +1,5 @@
--- THE PROMISE of every call on the station record: `Called` of the rules for this record, chunks of 4,096 bytes and the archive's largest value.
--- Every core and every public call cites it.
+-- THE PROMISE of every call on the station record: `Called` of the rules for this record, chunks of 4,096 bytes and the
+-- archive's largest value. Every core and every public call cites it.
 -- Assumes nothing.
 use mathlib.Core.List.{List}
 use Prim.Native.Nat.{ℕ}

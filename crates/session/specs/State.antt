@@ -1,5 +1,5 @@
--- The state that a station record stands for, whatever numbers it holds: more staged words than there is room for are read as that many,
--- a chunk or a number of committed lines by its remainder.
+-- The state that a station record stands for, whatever numbers it holds: more staged words than there is room for are
+-- read as that many, a chunk or a number of committed lines by its remainder.
 -- Assumes nothing.
 --
 --   control.phase | state
@@ -14,8 +14,9 @@
 --   buffer words  | 0 to 511: the staged entries, as a commit writes them; from 1024: the blocks in use
 --                 | in a cleaning, 512 to 1023: the entries that it keeps, as a commit writes them
 --                 | in a staging with actions, 512: the value's length in bytes; 513 to 1023: its words, zero-filled
---   setup         | in a staging with actions, chunk: the block's chunk; lines: the block's first unit there; fields: 0 if that is a data chunk
---                 | already, else it is free, its directory word is old, and it is taken for blocks of so many units
+--   setup         | in a staging with actions, chunk: the block's chunk; lines: the block's first unit there; fields: 0
+--                 | if that is a data chunk already, else it is free, its directory word is old, and it is taken for
+--                 | blocks of so many units
 use mathlib.Core.Bool.{Bool, true, false}
 use mathlib.Core.List.{List, [], _∷_, _++_, map}
 use Prim.Native.Nat.{ℕ, zero, suc, _+_, _*_, _/_, _%_, _^_, min}
@@ -70,7 +71,8 @@ givenBy bit x = pick (eqb bit 1) (G.Number x) G.Absent
 unfoldable pub formatActions : Setup → List Action
 formatActions k = formatOf (chunksIn basePower (k .image)) (givenBy (k .fields / 2 % 2) (k .station)) (givenBy (k .fields / 4 % 2) (k .centre))
 
--- A STAGING'S ACTIONS, which put a large value into its block: a longer value is read as one of the most bytes, a unit by its remainder
+-- A STAGING'S ACTIONS, which put a large value into its block: a longer value is read as one of the most bytes, a unit
+-- by its remainder
 abbrev pub areaStart : ℕ
 areaStart = 512
 

@@ -1,5 +1,5 @@
-// The station record: its types, its constructors, the state of the machine that it stands for, what record and key table hold of the
-// image, and the promise that every call makes of them.
+// The station record: its types, its constructors, the state of the machine that it stands for, what record and key
+// table hold of the image, and the promise that every call makes of them.
 ghost use mathlib.Core.Path.{_≡_};
 ghost use Rattle.session.specs.State.{noSource};
 ghost use Rattle.spec.specs.Reports.{number};
@@ -8,9 +8,9 @@ use blocks::Buffer;
 use spec::Refusal;
 use spec::Report;
 
-// The numbers that change from call to call: what is begun (0 nothing open, 1 open and at rest, 2 a staging, 3 a commit,
-// 4 a formatting begun with nothing open, 5 one begun on an open register, 6 a cleaning), the number of its next action, the
-// staged items, their words, the known keys, and the staged keys that are not known.
+// The numbers that change from call to call: what is begun (0 nothing open, 1 open and at rest, 2 a staging, 3 a
+// commit, 4 a formatting begun with nothing open, 5 one begun on an open register, 6 a cleaning), the number of its
+// next action, the staged items, their words, the known keys, and the staged keys that are not known.
 #[repr(C)]
 pub struct Control {
     pub phase: u64,
@@ -21,8 +21,8 @@ pub struct Control {
     pub fresh: usize,
 }
 
-// What a cleaning has begun with: the chunk that it frees, that chunk's directory word and committed lines before, the words
-// that it keeps (in the buffer's second area), and how many entries these are.
+// What a cleaning has begun with: the chunk that it frees, that chunk's directory word and committed lines before, the
+// words that it keeps (in the buffer's second area), and how many entries these are.
 #[repr(C)]
 pub struct Source {
     pub chunk: usize,
@@ -32,11 +32,12 @@ pub struct Source {
     pub entries: usize,
 }
 
-// The numbers that a step only reads: the image's bytes and the table's words at the opening (at a formatting's begin, once
-// that is begun), where the begun call writes (chunk, its directory word, its committed lines), where the next commit looks for
-// space (no log chunk below `first` has space for `least` lines), what a formatting was told (the header's map of fields,
-// station and centre number), and what a cleaning has begun with. In the staging of a large value `lines` is the block's first
-// unit in its chunk, and `fields` the block size that a free chunk is taken for, 0 where the chunk has it already.
+// The numbers that a step only reads: the image's bytes and the table's words at the opening (at a formatting's begin,
+// once that is begun), where the begun call writes (chunk, its directory word, its committed lines), where the next
+// commit looks for space (no log chunk below `first` has space for `least` lines), what a formatting was told (the
+// header's map of fields, station and centre number), and what a cleaning has begun with. In the staging of a large
+// value `lines` is the block's first unit in its chunk, and `fields` the block size that a free chunk is taken for, 0
+// where the chunk has it already.
 #[repr(C)]
 pub struct Setup {
     pub image: usize,
@@ -52,9 +53,9 @@ pub struct Setup {
     pub source: Source,
 }
 
-// The station record: 64-bit numbers alone, in this order, so that a host in C may lend any memory of its size. Its buffer has
-// the staged entries (512 words), a large value on its way or the entries that a cleaning keeps (512 words), and a bit for each
-// unit that starts a block in use (126 words).
+// The station record: 64-bit numbers alone, in this order, so that a host in C may lend any memory of its size. Its
+// buffer has the staged entries (512 words), a large value on its way or the entries that a cleaning keeps (512 words),
+// and a bit for each unit that starts a block in use (126 words).
 #[repr(C)]
 pub struct Session {
     pub control: Control,
@@ -95,8 +96,8 @@ pub enum Gated {
     Refused(Refusal),
 }
 
-// 2 for a phase with nothing open, and else another refusal. 1, 2, 3, 5 and 6 are at rest, a staging, a commit, a formatting begun
-// on an open register, and a cleaning.
+// 2 for a phase with nothing open, and else another refusal. 1, 2, 3, 5 and 6 are at rest, a staging, a commit, a
+// formatting begun on an open register, and a cleaning.
 fn closed_or(phase: u64, refusal: Refusal) -> Refusal
     ensures { λ r. ⌜ r ≡ closedOr phase refusal ⌝ }
 {
@@ -112,7 +113,8 @@ fn closed_or(phase: u64, refusal: Refusal) -> Refusal
     refusal
 }
 
-// 2, 1, 8: nothing open, lengths unlike those at the opening, a call unfinished. An open register at rest is found by three comparisons.
+// 2, 1, 8: nothing open, lengths unlike those at the opening, a call unfinished. An open register at rest is found by
+// three comparisons.
 pub fn gate(control: Control, setup: Setup, bytes: usize, words: usize) -> Gated
     ensures { λ r. ⌜ Asking control setup bytes words r ⌝ }
 {

@@ -1,4 +1,5 @@
--- The blocks to which staged items point, asked by a pass over the staged words; and a block that is neither live nor staged.
+-- The blocks to which staged items point, asked by a pass over the staged words; and a block that is neither live nor
+-- staged.
 -- Assumes nothing.
 use mathlib.Core.Path.{_≡_, refl, sym, _∙_, ap}
 use mathlib.Core.Bool.{Bool, true, false}

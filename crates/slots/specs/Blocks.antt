@@ -1,5 +1,5 @@
--- Where a large value goes: what the searches for a block and for a slot answer, where the bits and the staged words are those of
--- entries and items, and what holds of the answer anyway.
+-- Where a large value goes: what the searches for a block and for a slot answer, where the bits and the staged words
+-- are those of entries and items, and what holds of the answer anyway.
 -- Assumes nothing.
 use mathlib.Core.Path.{_≡_}
 use mathlib.Core.Bool.{Bool, true, false}

@@ -1,4 +1,5 @@
-// Where a large value goes: the first data chunk of its block size with a block neither live nor staged, else the first free chunk.
+// Where a large value goes: the first data chunk of its block size with a block neither live nor staged, else the first
+// free chunk.
 ghost use mathlib.Core.Path.{_≡_};
 ghost use Prim.Native.Nat.{_+_, _*_, _/_, _^_, _<_, _≤_, min};
 ghost use lib.Dec.{eqb};
@@ -35,7 +36,8 @@ pub enum Slot {
     Nowhere,
 }
 
-// What stands at a word of the batch: whether it is a put whose value is in the block asked for, and the number of words to the next item.
+// What stands at a word of the batch: whether it is a put whose value is in the block asked for, and the number of
+// words to the next item.
 pub struct Met {
     pub here: bool,
     pub size: usize,
@@ -153,7 +155,8 @@ fn blocks_in(image: &[u8], c: usize, word: u64, blocks: usize) -> usize
     0
 }
 
-// The first unit of the first data chunk of that block size with a block neither live nor staged, lowest block, of an image of `count` chunks.
+// The first unit of the first data chunk of that block size with a block neither live nor staged, lowest block, of an
+// image of `count` chunks.
 pub fn find_block(image: &[u8], count: usize, size: usize, buffer: &Buffer, words: usize) -> Block
     ensures { λ r. ⌜ BlockFound (now (image .entry)) count size (now (buffer .entry)) words r ⌝ }
 {

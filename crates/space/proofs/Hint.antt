@@ -1,4 +1,5 @@
--- A search that starts at a hint finds what a search from chunk 1 on finds, where the hint holds; and tells the next hint.
+-- A search that starts at a hint finds what a search from chunk 1 on finds, where the hint holds; and tells the next
+-- hint.
 -- Assumes nothing.
 use mathlib.Core.Path.{_≡_, refl, sym, _∙_, ap}
 use mathlib.Core.Bool.{Bool, true, false}

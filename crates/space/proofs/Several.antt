@@ -1,4 +1,5 @@
--- A loop that looks for the first number that a test takes, and stops when so many are seen: found only if there are that many.
+-- A loop that looks for the first number that a test takes, and stops when so many are seen: found only if there are
+-- that many.
 -- Assumes nothing.
 use mathlib.Core.Path.{_≡_, refl, sym, _∙_, ap}
 use mathlib.Core.Logic.{_⊎_, inl, inr}

@@ -26,7 +26,8 @@ abbrev pub placeOf : List ℕ → Option ℕ → Place
 placeOf ws none = record { found = false; chunk = 0; committed = 0; old = 0 }
 placeOf ws (some c) = record { found = true; chunk = c; committed = linesOf 12 ws c; old = getD ws (directoryWord c) 0 }
 
--- a search from `from` on and below `count` stopped at r: the test takes nothing before r, and takes r, unless that is not below the count
+-- a search from `from` on and below `count` stopped at r: the test takes nothing before r, and takes r, unless that is
+-- not below the count
 pub record Stops (test : ℕ → Bool) (from count r : ℕ) : Type 0 where
   pub behind : from ≤ r
   pub before : (c : ℕ) → from ≤ c → c < r → test c ≡ false

@@ -19,7 +19,8 @@ pub enum Found {
     Nothing,
 }
 
-// Where the lines go: `committed` is the chunk's committed lines, `old` its directory word; all 0 where nothing was found.
+// Where the lines go: `committed` is the chunk's committed lines, `old` its directory word; all 0 where nothing was
+// found.
 pub struct Place {
     pub found: bool,
     pub chunk: usize,
@@ -150,7 +151,8 @@ fn fewer(a: usize, b: usize) -> usize
     if a < b { a } else { b }
 }
 
-// The place for so many lines in an image of `count` chunks, told where to look: no log chunk below `first` has space for `least` lines.
+// The place for so many lines in an image of `count` chunks, told where to look: no log chunk below `first` has space
+// for `least` lines.
 pub fn log_place(
     image: &[u8],
     count: usize,

@@ -1,4 +1,5 @@
--- The medium and the desk book on short histories, computed: a medium that loses nothing, or a book that forgets nothing, fails here.
+-- The medium and the desk book on short histories, computed: a medium that loses nothing, or a book that forgets
+-- nothing, fails here.
 -- Assumes nothing.
 use mathlib.Core.Bool.{Bool, true, false}
 use mathlib.Core.Option.{Option, none, some}

@@ -1,5 +1,5 @@
--- The slips that print the wrong label, as edits of the definitions: a small image on which each of them goes wrong is computed here.
--- The same slips as whole programs, with what an opening then shows, are in crate `worked`, `Cuts`.
+-- The slips that print the wrong label, as edits of the definitions: a small image on which each of them goes wrong is
+-- computed here. The same slips as whole programs, with what an opening then shows, are in crate `worked`, `Cuts`.
 -- Assumes nothing.
 use mathlib.Core.Bool.{Bool, true, false}
 use mathlib.Core.List.{List, [], _∷_, _++_}
@@ -18,7 +18,8 @@ use Rattle.spec.specs.Opening.{Opening, Refused, Accepted, opening}
 use Rattle.spec.specs.Actions.{appendOf, commitOf, bodyOf, padded}
 use Rattle.spec.specs.Plans.{Plan, Refuse, Begin, Slot, InData, InFree, Nowhere, entry, planCommit, logPlace, slotFor}
 
--- Four chunks: the directory words of chunks 1 and 2, eight words in the first line of each; words that mean nothing are 3.
+-- Four chunks: the directory words of chunks 1 and 2, eight words in the first line of each; words that mean nothing
+-- are 3.
 abbrev pub image : ℕ → ℕ → List ℕ → List ℕ → List ℕ
 image one two first second =
     1 ∷ 4 ∷ 0 ∷ 0 ∷ 0 ∷ 0 ∷ 0 ∷ 18446744073709551611 ∷ 0 ∷ one ∷ two ∷ 0 ∷ (replicate 500 0 ++ (first ++ (replicate 504 3 ++ (second ++ replicate 1016 3))))
@@ -62,7 +63,8 @@ blockOfSlot Nowhere = 0
 abbrev inBlock : List ℕ
 inBlock = image 257 514 (536870933 ∷ 7 ∷ 0 ∷ 0 ∷ 0 ∷ 0 ∷ 0 ∷ 0 ∷ []) (257 ∷ replicate 7 3)
 
--- two puts of 7, of one version: the first in the block at unit 32, the second in that at unit u; the blocks hold the same value
+-- two puts of 7, of one version: the first in the block at unit 32, the second in that at unit u; the blocks hold the
+-- same value
 abbrev twins : ℕ → List ℕ
 twins u = take 2048 (image 257 514 (536870933 ∷ 7 ∷ (16777216 * u + 21) ∷ 7 ∷ 0 ∷ 0 ∷ 0 ∷ 0 ∷ []) (257 ∷ (replicate 63 3 ++ (257 ∷ replicate 7 3))))
 

@@ -33,7 +33,8 @@ bodyOf p c l b words = writes (base p c + 8 * l) words ++ (flushes (firstLine p 
 abbrev pub sealOf : ℕ → ℕ → List Action
 sealOf c w = Store (directoryWord c) w ∷ Flush (lineOf (directoryWord c)) ∷ Fence ∷ []
 
--- COMMIT: the words go behind the l committed lines of chunk c, whose directory word is `old`. With b lines, 9b + 4 actions.
+-- COMMIT: the words go behind the l committed lines of chunk c, whose directory word is `old`. With b lines, 9b + 4
+-- actions.
 unfoldable pub commitOf : ℕ → ℕ → ℕ → ℕ → ℕ → List ℕ → List Action
 commitOf p c old l b words = bodyOf p c l b words ++ sealOf c (logWord old (l + b))
 
@@ -52,7 +53,8 @@ takeOf c old s = Store (directoryWord c) (dataWord old s) ∷ Flush (lineOf (dir
 unfoldable pub blockOf : ℕ → List ℕ → List Action
 blockOf u words = writes (unitWord u) words ++ flushes (lineOf (unitWord u)) (linesFor (length words))
 
--- FORMAT: word 0 zeroed, flushed, fenced; words 1 to 511 stored, 64 lines flushed, fence; word 0 stored, flushed, fenced. 582 actions.
+-- FORMAT: word 0 zeroed, flushed, fenced; words 1 to 511 stored, 64 lines flushed, fence; word 0 stored, flushed,
+-- fenced. 582 actions.
 abbrev pub firstWordOf : ℕ → List Action
 firstWordOf v = Store 0 v ∷ Flush 0 ∷ Fence ∷ []
 

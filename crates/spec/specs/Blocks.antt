@@ -1,7 +1,8 @@
 -- Blocks of large values: when a block is right, and the value that it holds.
 -- Assumes nothing.
 --
---   block at unit u | word 32 · u: the value's length in bytes, then the value, zero-filled to 8 bytes; the rest is free
+--   block at unit u | word 32 · u: the value's length in bytes, then the value, zero-filled to 8 bytes; the rest is
+--   free
 use mathlib.Core.Bool.{Bool, true, false}
 use mathlib.Core.List.{List, [], _∷_, _++_}
 use Prim.Native.Nat.{ℕ, zero, suc, _+_, _-_, _*_, _/_, _%_, _^_}

@@ -22,7 +22,8 @@ abbrev pub MemRefusal : Refusal → List Refusal → Type 0
 MemRefusal x [] = ⊥
 MemRefusal x (y ∷ ys) = (x ≡ y) ⊎ MemRefusal x ys
 
--- The report is the image's WHOLE change: of a store, one word; the bytes behind the last whole word, which belong to no word, stay too.
+-- The report is the image's WHOLE change: of a store, one word; the bytes behind the last whole word, which belong to
+-- no word, stay too.
 abbrev pub oddBytes : List ℕ → List ℕ
 oddBytes bytes = drop (8 * (length bytes / 8)) bytes
 
@@ -53,7 +54,8 @@ AgainBy ToStep r Fit = Fit
 abbrev pub Again : Call → Report → Type 0 → Type 0
 Again k r Fit = AgainBy (kindOf k) r Fit
 
--- ANY MEMORY AT ALL, by call: which answers the call has, and the state that it leaves. A step is exact, whatever image and table hold.
+-- ANY MEMORY AT ALL, by call: which answers the call has, and the state that it leaves. A step is exact, whatever image
+-- and table hold.
 abbrev pub Refuses : Report → Type 0
 Refuses r = (n : Refusal) × (r ≡ R.Refused n)
 
@@ -82,9 +84,9 @@ Anyway p limit Choose σ σ′ ws bytes table r = Refuses r ⊎ ((c : ℕ) × ((
 Anyway p limit (Clean c) σ σ′ ws bytes table r = Refuses r ⊎ Begins (CleansIn bytes table) σ′ r
 Anyway p limit Step σ σ′ ws bytes table r = (r ≡ answer p limit Step σ ws bytes table) × (σ′ ≡ next p limit Step σ ws bytes table)
 
--- An implementation has records of a type S. It tells which of them are proper values of that type, reads one as a state, and keeps record
--- and table fitting the image's words: "memory as our calls left it". Nothing is to be believed of any of these: an opening and a formatting
--- ask no more of the record than that it is proper.
+-- An implementation has records of a type S. It tells which of them are proper values of that type, reads one as a
+-- state, and keeps record and table fitting the image's words: "memory as our calls left it". Nothing is to be believed
+-- of any of these: an opening and a formatting ask no more of the record than that it is proper.
 module _ {S : Type 0} (Proper : S → Type 0) (stateOf : S → State) (Fits : S → List ℕ → List ℕ → Type 0) (p limit : ℕ) where
   abbrev pub ReadyBy : Kind → S → List ℕ → List ℕ → Type 0
   ReadyBy ToFormat s ws table = Proper s
@@ -101,7 +103,8 @@ module _ {S : Type 0} (Proper : S → Type 0) (stateOf : S → State) (Fits : S 
     pub became : stateOf s′ ≡ next p limit k (stateOf s) (wordsOf bytes) (length bytes) (length table)
     pub fits : Again k r (Fits s′ (wordsOf bytes′) table′)
 
-  -- a refusal leaves record and table as they were; a refused opening leaves a record with nothing open and a table of zeros
+  -- a refusal leaves record and table as they were; a refused opening leaves a record with nothing open and a table of
+  -- zeros
   abbrev pub KeptBy : Kind → S → S → List ℕ → List ℕ → Type 0
   KeptBy ToFormat s s′ table table′ = (s′ ≡ s) × (table′ ≡ table)
   KeptBy ToOpen s s′ table table′ = (stateOf s′ ≡ Closed) × (table′ ≡ replicate (length table) 0)
@@ -148,8 +151,8 @@ module _ {S : Type 0} (Proper : S → Type 0) (stateOf : S → State) (Fits : S 
     pub outcome : Outcome k s s′ table table′ r
     pub anyway : Anyway p limit k (stateOf s) (stateOf s′) (wordsOf bytes) (length bytes) (length table) r
 
-  -- EVERY BEGUN CALL ENDS AFTER ITS COUNT. Steps with these reports, each lent any image and any table of the lengths b and t: nothing is
-  -- asked of what these hold, and they may be altered between the steps.
+  -- EVERY BEGUN CALL ENDS AFTER ITS COUNT. Steps with these reports, each lent any image and any table of the lengths b
+  -- and t: nothing is asked of what these hold, and they may be altered between the steps.
   abbrev pub SteppedOn : (b t : ℕ) → S → List Report → Type 0
   SteppedOn b t s [] = Unit {0}
   SteppedOn b t s (r ∷ rs) =

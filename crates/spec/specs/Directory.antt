@@ -94,7 +94,8 @@ sizeOf p ws c = sizeIn (roleAt p ws c)
 abbrev pub freeChunks : ℕ → ℕ → List ℕ → List ℕ
 freeChunks p n ws = filter (λ c. isFree (roleAt p ws c)) (upFrom 1 (n - 1))
 
--- The new word of a chunk, from the old: a log chunk's with so many lines, a data chunk's of a block size, a freed chunk's.
+-- The new word of a chunk, from the old: a log chunk's with so many lines, a data chunk's of a block size, a freed
+-- chunk's.
 abbrev pub logWord : ℕ → ℕ → ℕ
 logWord old lines = 1 + 256 * lines
 

@@ -33,8 +33,9 @@ pub record Lent (S : Type 0) : Type 0 where
   pub session : S
   pub table : List ℕ
 
--- The medium as the reports made it, the image's bytes as the calls left them, record and table (none after a formatting or a
--- cut: then an opening comes before any other call), whether a call begun has not ended, and the table's length at the opening before.
+-- The medium as the reports made it, the image's bytes as the calls left them, record and table (none after a
+-- formatting or a cut: then an opening comes before any other call), whether a call begun has not ended, and the
+-- table's length at the opening before.
 pub record World (S : Type 0) : Type 0 where
   pub medium : Medium
   pub image : List ℕ
@@ -56,8 +57,8 @@ unfinishedAfter R.Abandoned u = u
 unfinishedAfter (R.Chosen c) u = u
 unfinishedAfter (R.Part a n) u = u
 
--- WHAT MAY FOLLOW WHAT. An opening is lent any record, and any table no smaller than at the opening before, and comes only when
--- every call begun has ended; any other call gets record and table as the last call left them.
+-- WHAT MAY FOLLOW WHAT. An opening is lent any record, and any table no smaller than at the opening before, and comes
+-- only when every call begun has ended; any other call gets record and table as the last call left them.
 abbrev pub SameLent : {S : Type 0} → Option (Lent S) → S → List ℕ → Type 0
 SameLent none s table = ⊥
 SameLent (some l) s table = (l .session ≡ s) × (l .table ≡ table)
@@ -119,8 +120,8 @@ module _ {S : Type 0} (Proper : S → Type 0) (stateOf : S → State) (Fits : S 
   Shows s image table register =
       (k : ℕ) (s′ : S) (table′ : List ℕ) (r : Report) → Called Proper stateOf Fits p limit (LookUp k) s s′ image image table table′ r → shows r image ≡ some (register k)
 
-  -- WHAT IS CLAIMED of a call's outcome, and of what comes then. Every opening succeeds, and look-up then gives the book's register;
-  -- so does every look-up with no call unfinished.
+  -- WHAT IS CLAIMED of a call's outcome, and of what comes then. Every opening succeeds, and look-up then gives the
+  -- book's register; so does every look-up with no call unfinished.
   abbrev pub Opens : (World S → Book → Type 0) → World S → Book → S → List ℕ → List ℕ → Report → Type 0
   Opens Then w b s′ image′ table′ r =
       (r ≡ R.Opened) × ((done : Bool) × (Shows s′ image′ table′ (noteOpen done b .register) × Then (afterCall Open w s′ image′ table′ r) (noteOpen done b)))
@@ -143,7 +144,8 @@ module _ {S : Type 0} (Proper : S → Type 0) (stateOf : S → State) (Fits : S 
   Ends (Clean c) Then w b s′ image′ table′ r = Goes (Clean c) Then w b s′ image′ table′ r
   Ends Step Then w b s′ image′ table′ r = Goes Step Then w b s′ image′ table′ r
 
-  -- an event: whatever the call answers and leaves, as its contract allows (an image is bytes); whatever image the cut leaves, by its picks
+  -- an event: whatever the call answers and leaves, as its contract allows (an image is bytes); whatever image the cut
+  -- leaves, by its picks
   abbrev pub Claim : Event → (World S → Book → Type 0) → World S → Book → Type 0
   Claim (Do k) Then w b =
       (s s′ : S) (image′ table table′ : List ℕ) (r : Report) → Lends Proper k w s table → Called Proper stateOf Fits p limit k s s′ (w .image) image′ table table′ r → AreBytes image′ → Stands k r

@@ -1,4 +1,5 @@
--- Entries: what a first word says, the entries in a log chunk's committed lines, the entries of an image, and their words.
+-- Entries: what a first word says, the entries in a log chunk's committed lines, the entries of an image, and their
+-- words.
 -- Assumes nothing.
 --
 --   first word | meaning
@@ -84,7 +85,8 @@ abbrev pub prepend : List Entry → Parsed → Parsed
 prepend [] q = q
 prepend (e ∷ es) q = cons e (prepend es q)
 
--- go on behind what stands at the head of l, which is word `at`; `rest n` is what follows if n words behind the first are skipped
+-- go on behind what stands at the head of l, which is word `at`; `rest n` is what follows if n words behind the first
+-- are skipped
 abbrev pub after : LogStep → List ℕ → ℕ → (ℕ → Parsed) → Parsed
 after S.End l at rest = Entries []
 after S.Padding l at rest = rest 0

@@ -1,4 +1,5 @@
--- The calls as a machine without record or bytes: what each answers, by the words of the image and the state, and the state that it leaves.
+-- The calls as a machine without record or bytes: what each answers, by the words of the image and the state, and the
+-- state that it leaves.
 -- Assumes nothing.
 use mathlib.Core.Bool.{Bool, true, false}
 use mathlib.Core.Option.{Option, none, some}
@@ -52,9 +53,9 @@ kindOf Choose = ToWork
 kindOf (Clean c) = ToWork
 kindOf Step = ToStep
 
--- No register open; a register open with the staged items; a call unfinished with the actions still to come; a formatting
--- unfinished, begun on an open register or not. The numbers are the image's bytes and the table's words at the opening,
--- or at the formatting's begin.
+-- No register open; a register open with the staged items; a call unfinished with the actions still to come; a
+-- formatting unfinished, begun on an open register or not. The numbers are the image's bytes and the table's words at
+-- the opening, or at the formatting's begin.
 pub data State : Type 0 where
   Closed : State
   Rest : ℕ → ℕ → List Entry → State
@@ -87,7 +88,8 @@ isOpen (Rest b t items) = true
 isOpen (Busy b t items task rest) = true
 isOpen (Formatting o b t rest) = o
 
--- The plan of a call on an open register, in an image of so many bytes whose words are ws, with a table of so many words.
+-- The plan of a call on an open register, in an image of so many bytes whose words are ws, with a table of so many
+-- words.
 abbrev pub planOf : ℕ → ℕ → Call → List Entry → List ℕ → ℕ → ℕ → Option Plan
 planOf p limit (Format s c) items ws bytes table = none
 planOf p limit Open items ws bytes table = none

@@ -2,17 +2,22 @@
 --
 -- THE FAULT MODEL: what module, processor and host are taken to do.
 --   F1. A word (8 aligned bytes) is stored by one move and reaches the medium whole.
---   F2. After a store the word may hold the new value or any value it might have held before; words are independent of each other, also
---       those of one line, and of the order of stores: `added`. What the processor reads is the newest: `latest`.
+--   F2. After a store the word may hold the new value or any value it might have held before; words are independent of
+--       each other, also those of one line, and of the order of stores: `added`. What the processor reads is the
+--       newest: `latest`.
 --   F3. A flush of a line marks the newest value of each of its eight words, and alone settles nothing: `marked`.
---   F4. A fence drops, of each word, all values older than its mark: `drained`. Values stored after the flush stay possible.
---   F5. A cut picks for each word one of its possible values, which is then its only one: `CanCutTo`, `cut`, `settledAt`.
+--   F4. A fence drops, of each word, all values older than its mark: `drained`. Values stored after the flush stay
+--       possible.
+--   F5. A cut picks for each word one of its possible values, which is then its only one: `CanCutTo`, `cut`,
+--       `settledAt`.
 --   F6. Cuts fall before, between and after steps, and between the stores of a run; any number of them.
---   F7. Record, key table and all else that is volatile are gone after a cut; the next call is an opening with any record and table.
---   F8. The host does each reported action on the module before the next step, in order; nobody else writes the image; lengths are true.
---   F9. Not covered: bytes that change by themselves or by another program (the format has no checksum), a module that forgets what was
---       fenced, another formatting of the image. A killed process counts as a cut that kept every newest word, once the whole image was
---       written back and fenced.
+--   F7. Record, key table and all else that is volatile are gone after a cut; the next call is an opening with any
+--       record and table.
+--   F8. The host does each reported action on the module before the next step, in order; nobody else writes the image;
+--       lengths are true.
+--   F9. Not covered: bytes that change by themselves or by another program (the format has no checksum), a module that
+--       forgets what was fenced, another formatting of the image. A killed process counts as a cut that kept every
+--       newest word, once the whole image was written back and fenced.
 -- Assumes nothing.
 use mathlib.Core.Path.{_≡_}
 use mathlib.Core.Logic.{_⊎_}
@@ -24,8 +29,8 @@ use lib.ListN.{length, getD}
 use Rattle.spec.specs.Basics.{pick}
 use Rattle.spec.specs.Places.{lineOf}
 
--- A word's possible values, newest first: `now`, then `newer`, back to the last flush's mark, then `older`, which a fence drops.
--- The value that bears the mark is the last of `now` and `newer`.
+-- A word's possible values, newest first: `now`, then `newer`, back to the last flush's mark, then `older`, which a
+-- fence drops. The value that bears the mark is the last of `now` and `newer`.
 pub record Cell : Type 0 where
   pub now : ℕ
   pub newer : List ℕ

@@ -1,4 +1,5 @@
--- What each call finds in an image: the refusal, or the items, the task and the actions; the chunk to clean; the part that holds a value.
+-- What each call finds in an image: the refusal, or the items, the task and the actions; the chunk to clean; the part
+-- that holds a value.
 -- Assumes nothing.
 use mathlib.Core.Bool.{Bool, true, false}
 use mathlib.Core.Option.{Option, none, some}
@@ -55,7 +56,8 @@ abbrev pub isPut : Option Entry → Bool
 isPut none = false
 isPut (some e) = eqb (e .op) 1
 
--- versions count on from the key's highest, staged ones included; so the top entry of both is the last staged of the key
+-- versions count on from the key's highest, staged ones included; so the top entry of both is the last staged of the
+-- key
 abbrev pub nextVersion : ℕ → List Entry → List Entry → ℕ
 nextVersion k es items = suc (highest k (es ++ items))
 
@@ -97,7 +99,8 @@ orFree (some u) c = InData u
 orFree none (some c) = InFree c
 orFree none none = Nowhere
 
--- the first data chunk of the size with a block neither live nor staged (lowest block), else the first free chunk if at least three are free
+-- the first data chunk of the size with a block neither live nor staged (lowest block), else the first free chunk if at
+-- least three are free
 unfoldable pub slotFor : ℕ → ℕ → List ℕ → List Entry → List Entry → ℕ → Slot
 slotFor p n ws es items s =
     orFree (first (filter (λ u. negate (isIn u (liveBlocks es ++ pointers items))) (blocksFrom p ws s (upFrom 1 (n - 1))))) (freeChunk p n ws 3)
@@ -138,7 +141,8 @@ planDelete table es items k =
     (need (fitsKeys table es items k) N.TableFull
     (Begin (items ++ (entry 2 0 (nextVersion k es items) 0 k [] ∷ [])) Staging []))))
 
--- COMMIT: the first log chunk, other than chunk x, with space for b lines behind its committed lines, else the first free chunk if at least so many are free
+-- COMMIT: the first log chunk, other than chunk x, with space for b lines behind its committed lines, else the first
+-- free chunk if at least so many are free
 abbrev pub hasSpace : ℕ → List ℕ → ℕ → ℕ → ℕ → Bool
 hasSpace p ws b x c = both (isLog (roleAt p ws c)) (both (negate (eqb c x)) (leb (linesOf p ws c + b) (chunkLines p)))
 
@@ -201,8 +205,8 @@ planClean p n ws es items c =
     (need (inUse p n ws c) N.NotCleanable
     (pick (isLog (roleAt p ws c)) (cleanLog p n ws c (keptIn p c es)) (cleanData p ws es c)))
 
--- CHOOSING: of log chunks whose kept entries fill fewer lines than are committed, the one with the fewest bytes to copy; of equals the one with
--- the most committed lines, and of those the highest number
+-- CHOOSING: of log chunks whose kept entries fill fewer lines than are committed, the one with the fewest bytes to
+-- copy; of equals the one with the most committed lines, and of those the highest number
 abbrev pub copyWords : ℕ → List Entry → ℕ → ℕ
 copyWords p es c = length (encodeAll (keptIn p c es))
 

@@ -48,8 +48,8 @@ numbersOf R.Abandoned = []
 numbersOf (R.Chosen c) = c ∷ []
 numbersOf (R.Part a n) = a ∷ n ∷ []
 
--- What a report says: the action that was done, the refusal, where in the image the part lies that a look-up hands out. What follows of a
--- report goes by these.
+-- What a report says: the action that was done, the refusal, where in the image the part lies that a look-up hands out.
+-- What follows of a report goes by these.
 abbrev pub actionOf : Report → Option Action
 actionOf (R.Refused n) = none
 actionOf (R.Begun a) = none

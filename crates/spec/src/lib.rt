@@ -1,6 +1,7 @@
 // The declared types that the definitions and the contracts speak of: what words say, and what calls answer.
 
-// What a directory word says of its chunk: free, a log chunk with its committed lines, a data chunk with its block size in units.
+// What a directory word says of its chunk: free, a log chunk with its committed lines, a data chunk with its block size
+// in units.
 pub enum Role {
     Free,
     Log(u64),

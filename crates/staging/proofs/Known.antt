@@ -1,4 +1,5 @@
--- What staging finds of a key by its staged items and the table is what the definitions say of the entries and the items.
+-- What staging finds of a key by its staged items and the table is what the definitions say of the entries and the
+-- items.
 -- Assumes nothing.
 use mathlib.Core.Path.{_≡_, refl, sym, _∙_, ap}
 use mathlib.Core.Bool.{Bool, true, false}

@@ -63,7 +63,8 @@ admitOf c most version more room =
     (A.Refused N.BatchFull))
     (A.Refused N.VersionSpent)
 
--- what a staging answers: a refusal leaves the control, and an item more, with so many words and new keys in all, begins a call with no action
+-- what a staging answers: a refusal leaves the control, and an item more, with so many words and new keys in all,
+-- begins a call with no action
 abbrev pub refusedWith : Control → Refusal → Stepped
 refusedWith c n = record { control = c; report = R.Refused n }
 

@@ -60,9 +60,8 @@ pub fn abandon_core(
     }
 }
 
-// STAGING
-// What is known of a key: the highest version, staged items counted, 0 where it has none; whether it is staged, and then the
-// operation of its last staged item; else the place of its chosen entry.
+// STAGING What is known of a key: the highest version, staged items counted, 0 where it has none; whether it is staged,
+// and then the operation of its last staged item; else the place of its chosen entry.
 pub struct Newest {
     pub version: u64,
     pub staged: bool,
@@ -158,8 +157,8 @@ const LAST_DELETE: u64 = 1_048_575;
 
 const LAST_PUT: u64 = 1_048_574;
 
-// 12, 10, 7 for an item of `more` words whose version is at most `most`, where a table holds `room` keys; `version` is the
-// key's highest so far.
+// 12, 10, 7 for an item of `more` words whose version is at most `most`, where a table holds `room` keys; `version` is
+// the key's highest so far.
 fn admit(control: Control, most: u64, version: u64, more: usize, room: usize) -> Admission
     ensures { λ r. ⌜ r ≡ admitOf control most version more room ⌝ }
 {

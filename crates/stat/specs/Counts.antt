@@ -35,15 +35,16 @@ linesUsed p n ws = sumOver (linesOf p ws) (upFrom 1 (n - 1))
 abbrev pub keyCount : ℕ → List ℕ → ℕ
 keyCount bytes ws = length (keysOf (entriesIn basePower (chunksIn basePower bytes) ws))
 
--- until a commit's last fence the count is that of the entries before it: with the actions to come done, the image has these and the batch
+-- until a commit's last fence the count is that of the entries before it: with the actions to come done, the image has
+-- these and the batch
 pub record Before (s : Session) (ws : List ℕ) (items : List Entry) (rest : List Action) (n : ℕ) : Type 0 where
   pub front : List Entry
   pub back : List Entry
   pub accepted : opening basePower (s .setup .image) (runWords rest ws) (s .setup .table) ≡ Accepted (front ++ (placed (batchPlace (s .setup)) items ++ back))
   pub count : n ≡ length (keysOf (front ++ back))
 
--- until a cleaning's last fence the count is that of the entries before it: with the actions to come done, the image has these without the
--- cleaned chunk's, and the copies of those that are kept
+-- until a cleaning's last fence the count is that of the entries before it: with the actions to come done, the image
+-- has these without the cleaned chunk's, and the copies of those that are kept
 pub record Uncleaned (s : Session) (ws : List ℕ) (rest : List Action) (n : ℕ) : Type 0 where
   pub xs : List Entry
   pub mid : List Entry

@@ -1,5 +1,5 @@
-// What a station's display asks: the known keys, the free chunks, and the committed lines. Nothing is changed, and nothing is asked of
-// the arguments.
+// What a station's display asks: the known keys, the free chunks, and the committed lines. Nothing is changed, and
+// nothing is asked of the arguments.
 ghost use mathlib.Core.Path.{_≡_};
 ghost use Prim.Native.Nat.{_≤_};
 ghost use lib.Dec.{eqb};

@@ -169,7 +169,8 @@ fn format_step(
     }
 }
 
-// A cleaning's next action; with the last, a fence, the chunk's entries leave the key table. Its end reports the entries copied.
+// A cleaning's next action; with the last, a fence, the chunk's entries leave the key table. Its end reports the
+// entries copied.
 fn clean_step(
     control: Control,
     setup: Setup,

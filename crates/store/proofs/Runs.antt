@@ -1,7 +1,7 @@
 -- A RUN IS A LIST OF STEPS of the theorem on histories: `Runs`, which the call that takes several steps ensures, says
--- the same as `Stepped`, the very steps of demand 3, with reports that each store a word and then the one that is told. And the fast path is a
--- step, a run, or nothing. The calls that only read (counts, lists, look-ups, choosings) leave record, image and table alone by their types, or
--- say so (`List.KeysListed.same`).
+-- the same as `Stepped`, the very steps of demand 3, with reports that each store a word and then the one that is told.
+-- And the fast path is a step, a run, or nothing. The calls that only read (counts, lists, look-ups, choosings) leave
+-- record, image and table alone by their types, or say so (`List.KeysListed.same`).
 -- Assumes nothing.
 use mathlib.Core.Path.{_≡_, refl}
 use mathlib.Core.Logic.{_⊎_, inl, inr}
@@ -40,7 +40,8 @@ ran-steps (suc n) s s′ bytes bytes′ table table′ r m (s₁, (bytes₁, (ta
 pub runs-are-steps : (s s′ : Session) (bytes bytes′ table table′ : List ℕ) (r : Report) (m : Medium) → Runs s s′ bytes bytes′ table table′ r → Steps s s′ bytes bytes′ table table′ r m
 runs-are-steps s s′ bytes bytes′ table table′ r m (n, ran) = ran-steps n s s′ bytes bytes′ table table′ r m ran
 
--- THE FAST PATH is a step, or a run, where it is taken; elsewhere it is no event at all: record, image and table stay as they were.
+-- THE FAST PATH is a step, or a run, where it is taken; elsewhere it is no event at all: record, image and table stay
+-- as they were.
 pub fast-or-nothing : (Here : Control → Setup → (bytes words : ℕ) → Type 0) (P : (s s′ : Session) (bytes bytes′ table table′ : List ℕ) → Report → Type 0)
     (s s′ : Session) (bytes bytes′ table table′ : List ℕ) (r : Report) → OnFastPath Here P s s′ bytes bytes′ table table′ r
     → Dec (Here (s .control) (s .setup) (length bytes) (length table)) → P s s′ bytes bytes′ table table′ r ⊎ Idles s s′ bytes bytes′ table table′ r

@@ -150,7 +150,8 @@ pub fn step_fast(s: &mut Session, image: &mut [u8], table: &mut [u64]) -> Report
     m.report
 }
 
-// The stores of a commit that come next, and the action behind them, whose report is told; elsewhere nothing, as before.
+// The stores of a commit that come next, and the action behind them, whose report is told; elsewhere nothing, as
+// before.
 pub fn run_fast(s: &mut Session, image: &mut [u8], table: &mut [u64]) -> Report
     ensures { λ r. ⌜ OnFastPath FastStep RunsOn (now (s .entry)) (now (s .exit)) (now (image .entry)) (now (image .exit)) (now (table .entry)) (now (table .exit)) r ⌝ }
 {

@@ -1,4 +1,5 @@
--- The laws of block sizes: the size for a value fits it, is a size, and is the smallest; where the blocks of a chunk stand.
+-- The laws of block sizes: the size for a value fits it, is a size, and is the smallest; where the blocks of a chunk
+-- stand.
 -- Assumes nothing.
 use mathlib.Core.Path.{_≡_, ap}
 use mathlib.Core.Bool.{true}

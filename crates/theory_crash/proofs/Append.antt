@@ -1,4 +1,5 @@
--- Commit and cleaning as the calls write them: the words padded to whole lines, behind the committed lines of the place found.
+-- Commit and cleaning as the calls write them: the words padded to whole lines, behind the committed lines of the place
+-- found.
 -- Assumes nothing.
 use mathlib.Core.Path.{_≡_, refl, sym, _∙_, ap}
 use mathlib.Core.Logic.{_⊎_}

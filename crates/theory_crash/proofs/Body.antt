@@ -1,4 +1,5 @@
--- Stores into words of a chunk that nothing needs, flushes and fences: the medium stays at rest; and what they leave in each word.
+-- Stores into words of a chunk that nothing needs, flushes and fences: the medium stays at rest; and what they leave in
+-- each word.
 -- Assumes nothing.
 use mathlib.Core.Path.{_≡_, _∙_, ap}
 use mathlib.Core.Logic.{_⊎_, inl, inr}

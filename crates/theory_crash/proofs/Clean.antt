@@ -1,4 +1,5 @@
--- Cleaning a log chunk: its kept entries are copied as a commit does, then it is freed; where none is kept it is only freed.
+-- Cleaning a log chunk: its kept entries are copied as a commit does, then it is freed; where none is kept it is only
+-- freed.
 -- Assumes nothing.
 use mathlib.Core.Path.{_≡_, refl, sym, _∙_, ap}
 use mathlib.Core.Logic.{_⊎_, inl, inr}
@@ -63,7 +64,8 @@ placed-in at [] f m = absurd m
 placed-in at (e ∷ es) f (inl q) = let b : f .at ≡ at = ap (λ (y : Entry). y .at) q in (omega arith, rw length-append (omega arith))
 placed-in at (e ∷ es) f (inr m) = let r = placed-in (at + (2 + length (e .value))) es f m in let a = r .0 in let b = r .1 in (omega arith, rw length-append (omega arith))
 
--- THE IMAGES OF A CLEANING: in `vs` the kept entries are published from word `at` on, in chunk d, among `before` and `behind`; then chunk s is freed
+-- THE IMAGES OF A CLEANING: in `vs` the kept entries are published from word `at` on, in chunk d, among `before` and
+-- `behind`; then chunk s is freed
 pub record Copied (p : ℕ) (lo : 12 ≤ p) (hi : p ≤ 16) (n s old′ keys at d : ℕ) (ws vs : List ℕ) (es kept : List Entry) : Type 0 where
   pub entries : List Entry
   pub before : List Entry

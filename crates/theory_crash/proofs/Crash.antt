@@ -2,19 +2,27 @@
 -- Assumes nothing.
 --
 -- INVARIANTS, each with the lemma that shows it
---  1. Acceptance, entries, known keys and contents look at the support of an image alone: `Frame.frame-ok`, `frame-contents`,
+--  1. Acceptance, entries, known keys and contents look at the support of an image alone: `Frame.frame-ok`,
+--      `frame-contents`,
 --     `frame-support`.
---  2. Opening accepts exactly the images that are `Ok` and whose known keys fit the table: `Opening.ok-opens`, `opens-ok`.
+--  2. Opening accepts exactly the images that are `Ok` and whose known keys fit the table: `Opening.ok-opens`,
+--      `opens-ok`.
 --  3. At rest, the support is settled, so every cut opens with the same entries and contents: `Rest.rest-cut`.
---  4. At rest is kept by flushes and fences (`Rest.rest-quiet`) and by stores outside the support (`Rest.rest-store`), the
+--  4. At rest is kept by flushes and fences (`Rest.rest-quiet`) and by stores outside the support (`Rest.rest-store`),
+--      the
 --     directory word of a chunk that becomes a data chunk among them (`Stage.take-through`).
 --  5. Spare words, behind the committed lines (`Body.free-area`) and in a block that no top put points to
---     (`Stage.free-block`), lie outside the support: a superseded block is not spare before the last fence of its commit.
---  6. A switch finds all that the new image needs settled, but for one directory word: `Commit.ready`, `Free.free-through`.
---     While that word has two sorts of values every cut opens with the old or the whole new contents: `Switch.switching-cut`.
---  7. Known keys are never more than the bound `keys` that held when the call was begun: `Commit.few-new`, `Free.free-through`;
+--     (`Stage.free-block`), lie outside the support: a superseded block is not spare before the last fence of its
+--     commit.
+--  6. A switch finds all that the new image needs settled, but for one directory word: `Commit.ready`,
+--      `Free.free-through`.
+--     While that word has two sorts of values every cut opens with the old or the whole new contents:
+--     `Switch.switching-cut`.
+--  7. Known keys are never more than the bound `keys` that held when the call was begun: `Commit.few-new`,
+--      `Free.free-through`;
 --     so no later opening is refused with 7 (`cut-opens`).
---  8. The word of a data chunk was flushed when the call that made it ended, so that a commit's first fence settles what its
+--  8. The word of a data chunk was flushed when the call that made it ended, so that a commit's first fence settles
+--      what its
 --     entries point to: `Cells.flushed-after`, `Staged.staged-prepared`, `prepared-stays`.
 --
 -- PHASES
@@ -33,13 +41,15 @@
 --          | staging into a block, or into a chunk taken for it; freeing of | Stage.stage-through, take-stage-through;
 --          | a data chunk                                                   | Free.free-data
 --     c    | the words of a commit, flushed and fenced, each at rest        | Commit.body-through (Body.busy-kept)
---     d    | the store of the directory word, then its flush                | Switch.rest-switches (Commit.ready), switching-quiet
+--     d    | the store of the directory word, then its flush                | Switch.rest-switches (Commit.ready),
+--     switching-quiet
 --     e    | the fence                                                      | Switch.switching-rests
 --     f    | freeing of a log chunk: a switch with nothing written          | Free.free-through
 --     g, h | a cut: the old contents; the old or the new                    | Rest.stays-cut; Switch.switching-cuts
 --     i    | opening accepts the image, and the medium is at rest           | cut-opens; cut-rests
 --
---     A commit is c, d, e (Commit.commit-through). A cleaning is a commit of copies, then f (Clean.clean-through), or f alone
+--     A commit is c, d, e (Commit.commit-through). A cleaning is a commit of copies, then f (Clean.clean-through), or f
+--     alone
 --     (Clean.clean-free-through).
 use mathlib.Core.Path.{_≡_}
 use mathlib.Core.Logic.{_⊎_, inl, inr}
@@ -87,7 +97,8 @@ module _ (p : ℕ) (lo : 12 ≤ p) (hi : p ≤ 16) where
       go (inl a) = let o = holds-opens p lo hi n keys table C xs small a in (o .0, o .1, inl (o .2))
       go (inr a) = let o = holds-opens p lo hi n keys table D xs small a in (o .0, o .1, inr (o .2))
 
-  -- THE CRASH THEOREM, of any call whose actions are done as `Through` says: a cut after any of them opens with the old contents or the new.
+  -- THE CRASH THEOREM, of any call whose actions are done as `Through` says: a cut after any of them opens with the old
+  -- contents or the new.
   pub crash : (n keys table : ℕ) (C D : ℕ → Held) (acts : List Action) (m : Medium) → keys ≤ capacity table → Through (Cuts p n keys C D) (Rests p n keys D) acts m
       → (begun rest : List Action) → acts ≡ begun ++ rest → (xs : List ℕ) → CanCutTo (run begun m) xs
       → (es : List Entry) × (opening p (8 * base p n) xs table ≡ Accepted es) × (((k : ℕ) → contents p n xs k ≡ C k) ⊎ ((k : ℕ) → contents p n xs k ≡ D k))

@@ -1,4 +1,5 @@
--- The laws of header and directory: which words are right, what the made words say, and the tests over the whole directory.
+-- The laws of header and directory: which words are right, what the made words say, and the tests over the whole
+-- directory.
 -- Assumes nothing.
 use mathlib.Core.Path.{_≡_, refl, ap}
 use mathlib.Core.Logic.{_⊎_, inl, inr}

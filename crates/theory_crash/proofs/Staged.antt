@@ -132,7 +132,8 @@ module _ (p : ℕ) (lo : 12 ≤ p) (hi : p ≤ 16) (n : ℕ) (es : List Entry) (
             let d : getD words (suc i) 0 ≡ getD vs i 0 = ap (λ (y : List ℕ). getD y (suc i) 0) x in
             slice-at (unitWord u + 1) (unitWord u + 1 + (getD words 0 0 + 7) / 8) (st .image) i (omega arith) ∙ rw g (st .block (suc i) (omega arith) .0 ∙ d))
 
-  -- Another value that was prepared stays so, and means the same, if it is in another chunk, or in another block of a chunk whose word was not changed.
+  -- Another value that was prepared stays so, and means the same, if it is in another chunk, or in another block of a
+  -- chunk whose word was not changed.
   module _ (e : Entry) (long : length ws ≡ base p n) (ready : Prepared p n ws m e) (small : length words ≤ 32 * s)
       (here : pointed e ≡ true → unitChunk p (e .field) ≡ unitChunk p u → (w ≡ getD ws (directoryWord (unitChunk p u)) 0) × (e .field ≡ u → ⊥)) where
     long′ : length (st .image) ≡ length ws

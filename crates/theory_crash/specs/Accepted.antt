@@ -36,7 +36,8 @@ pub record Ok (p n : ℕ) (ws : List ℕ) (es : List Entry) : Type 0 where
   pub agree : Agree es
   pub apart : (e f : Entry) → Top es e → Top es f → pointed e ≡ true → pointed f ≡ true → e .field ≡ f .field → e .key ≡ f .key
 
--- The support: the header line, the directory words of log chunks, the committed lines, and what each top entry's value needs.
+-- The support: the header line, the directory words of log chunks, the committed lines, and what each top entry's value
+-- needs.
 abbrev pub LogDirectory : ℕ → ℕ → List ℕ → ℕ → Type 0
 LogDirectory p n ws k = (c : ℕ) × (1 ≤ c) × (c < n) × (1 ≤ linesOf p ws c) × (k ≡ directoryWord c)
 

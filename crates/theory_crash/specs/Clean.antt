@@ -8,7 +8,8 @@ use lib.Dec.{eqb}
 use Rattle.spec.specs.Log.{Entry}
 use Rattle.theory_log.specs.Contents.{Mem, Top}
 
--- each top entry of es is covered by gs: an entry of its key and version stands there, or it is a delete and its key is gone
+-- each top entry of es is covered by gs: an entry of its key and version stands there, or it is a delete and its key is
+-- gone
 abbrev pub Covers : List Entry → List Entry → Type 0
 Covers es gs =
     (e : Entry) → Top es e → ((f : Entry) × Mem f gs × (f .key ≡ e .key) × (f .version ≡ e .version)) ⊎ ((eqb (e .op) 1 ≡ false) × ((f : Entry) → Mem f gs → f .key ≡ e .key → ⊥))

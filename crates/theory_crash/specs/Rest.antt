@@ -32,8 +32,8 @@ pub record Ready (p n d : ℕ) (vs : List ℕ) (gs : List Entry) (m : Medium) : 
 abbrev pub Allowed : ℕ → ℕ → ℕ → List ℕ → List Entry → ℕ → Type 0
 Allowed p n d ws es x = (Support p n ws es (directoryWord d) → x ≡ getD ws (directoryWord d) 0) × (linesOf p ws d ≡ 0 → Calm p n d x)
 
--- SWITCHING from the image ws to vs by the directory word of chunk d: all that either needs is settled, but for that word,
--- each possible value of which belongs to one of the two.
+-- SWITCHING from the image ws to vs by the directory word of chunk d: all that either needs is settled, but for that
+-- word, each possible value of which belongs to one of the two.
 pub record Switching (p n d : ℕ) (ws : List ℕ) (es : List Entry) (vs : List ℕ) (gs : List Entry) (m : Medium) : Type 0 where
   pub old-ok : Ok p n ws es
   pub new-ok : Ok p n vs gs
@@ -45,7 +45,8 @@ pub record Switching (p n d : ℕ) (ws : List ℕ) (es : List Entry) (vs : List 
 abbrev pub Flushed : ℕ → ℕ → Medium → Type 0
 Flushed p n m = (c : ℕ) → 1 ≤ c → c < n → 1 ≤ sizeOf p (latest m) c → (cellAt m (directoryWord c)) .newer ≡ []
 
--- By contents and number of known keys alone: an image with contents C and at most `keys` known keys; a medium at rest with them.
+-- By contents and number of known keys alone: an image with contents C and at most `keys` known keys; a medium at rest
+-- with them.
 abbrev pub Holds : ℕ → ℕ → ℕ → (ℕ → Held) → List ℕ → Type 0
 Holds p n keys C ws = (es : List Entry) × Ok p n ws es × (length (keysOf es) ≤ keys) × ((k : ℕ) → contentsBy (meaning ws) es k ≡ C k)
 
@@ -60,8 +61,8 @@ Rests p n keys C m = Stays p n keys C m × Flushed p n m
 abbrev pub Cuts : ℕ → ℕ → ℕ → (ℕ → Held) → (ℕ → Held) → Medium → Type 0
 Cuts p n keys C D m = (xs : List ℕ) → CanCutTo m xs → Holds p n keys C xs ⊎ Holds p n keys D xs
 
--- Formatting, begun on the medium m₀: a cut leaves what a cut of m₀ might have left, or an image that opening refuses with 2,
--- or an empty register.
+-- Formatting, begun on the medium m₀: a cut leaves what a cut of m₀ might have left, or an image that opening refuses
+-- with 2, or an empty register.
 abbrev pub empty : ℕ → Held
 empty k = Absent
 

@@ -48,6 +48,7 @@ pub record Stored (p n : ℕ) (es : List Entry) (C : ℕ → Held) (ws : List �
   pub others : (k : ℕ) → (k ≡ directoryWord (unitChunk p u) → ⊥) → (k < unitWord u) ⊎ (unitWord u + length words ≤ k)
       → (getD image k 0 ≡ getD ws k 0) × ((cellAt m k) .newer ≡ [] → (cellAt m′ k) .newer ≡ [])
 
--- a staged entry whose value is ready for a commit: its block stands, and the words that it needs were flushed since they were stored
+-- a staged entry whose value is ready for a commit: its block stands, and the words that it needs were flushed since
+-- they were stored
 abbrev pub Prepared : ℕ → ℕ → List ℕ → Medium → Entry → Type 0
 Prepared p n ws m e = (fine p n ws e ≡ true) × ((k : ℕ) → Needs p ws e k → (cellAt m k) .newer ≡ [])

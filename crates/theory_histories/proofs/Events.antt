@@ -1,5 +1,5 @@
--- Every event keeps the invariant: a call on the record and table that the last one left, a refused formatting, an opening, a power cut;
--- and look-up gives what the book says.
+-- Every event keeps the invariant: a call on the record and table that the last one left, a refused formatting, an
+-- opening, a power cut; and look-up gives what the book says.
 -- Assumes nothing.
 use mathlib.Core.Path.{_≡_, refl, sym, _∙_, ap}
 use mathlib.Core.Logic.{_⊎_, inl, inr, ⊎-elim}
@@ -40,7 +40,8 @@ module _ (p limit : ℕ) (laws : Laws p limit) {S : Type 0} (Proper : S → Type
   same-lent w b none s table e h = absurd e
   same-lent w b (some l) s table e h = rw (← (e .0), ← (e .1)) h
 
-  -- what a call has that keeps the invariant: `Fits` is all it asks of its record, memory fits again, it leaves the table's bound, and its next state holds
+  -- what a call has that keeps the invariant: `Fits` is all it asks of its record, memory fits again, it leaves the
+  -- table's bound, and its next state holds
   pub record Usual (k : Call) : Type 0 where
     pub ready : (s : S) (ws table : List ℕ) → Fits s ws table → Ready Proper stateOf Fits p limit k s ws table
     pub again : (s : S) (ws table : List ℕ) (r : Report) → Again k r (Fits s ws table) → Fits s ws table

@@ -1,13 +1,15 @@
--- What holds of a world and its desk book before and after every event of a list. Invariants 1 to 3, on an open register, are those of Kept.
+-- What holds of a world and its desk book before and after every event of a list. Invariants 1 to 3, on an open
+-- register, are those of Kept.
 --
---   4. The image's words are what the processor reads from the medium: `agrees`; `image-follows` after a call, `cut-kept` after a cut.
+--   4. The image's words are what the processor reads from the medium: `agrees`; `image-follows` after a call,
+--      `cut-kept` after a cut.
 --   5. The image has as many bytes as at the start, whole chunks: `sized`; the same two lemmas.
---   6. With nothing lent (after a formatting, after a cut) the medium stands with the book's register, the batch in hand dropped
---      or done: `Either`; `format-start`, `cut-kept`.
---   7. Else record and table fit the image, the table has as many words as at the opening before, and the record's state holds by
---      the book: `HeldAt`; `opened`, `usual-kept`, and for a refused formatting `format-kept`.
--- From 6 or 7 an opening succeeds (`opened`), and after it, as whenever no call is unfinished, look-up gives the book's register (`looks`).
--- The lemmas on events are in Events, that on the first start in Starts.
+--   6. With nothing lent (after a formatting, after a cut) the medium stands with the book's register, the batch in
+--      hand dropped or done: `Either`; `format-start`, `cut-kept`.
+--   7. Else record and table fit the image, the table has as many words as at the opening before, and the record's
+--      state holds by the book: `HeldAt`; `opened`, `usual-kept`, and for a refused formatting `format-kept`.
+-- From 6 or 7 an opening succeeds (`opened`), and after it, as whenever no call is unfinished, look-up gives the book's
+-- register (`looks`). The lemmas on events are in Events, that on the first start in Starts.
 -- Assumes nothing.
 use mathlib.Core.Path.{_≡_, refl, sym, _∙_, ap}
 use mathlib.Core.Logic.{_⊎_}

@@ -1,13 +1,17 @@
--- What holds of an open register between calls and while one is unfinished, by the state that the record stands for; and that the
--- answer and the next state of every call but a formatting and an opening keep it.
+-- What holds of an open register between calls and while one is unfinished, by the state that the record stands for;
+-- and that the answer and the next state of every call but a formatting and an opening keep it.
 --
--- `bytes` is the image's length, n = chunksIn p bytes its chunks, `least` the table's words at the opening before. `Holds` says:
+-- `bytes` is the image's length, n = chunksIn p bytes its chunks, `least` the table's words at the opening before.
+-- `Holds` says:
 --   1. a register is open, no formatting is unfinished, and the state's lengths are `bytes` and `least`;
---   2. with no call unfinished no batch is in hand, and the medium stands with the book's register and tray: `Standing`;
---   3. with actions still to come, every cut up to the end shows the register as it is or with the batch in hand done, and at
---      the end the medium stands with the latter and the tray, the state's items being those that the end leaves: `Going`.
--- Kept, a lemma for each call: `put-kept`, `delete-kept`, `commit-kept`, `abandon-kept`, `look-kept`, `choose-kept`, `clean-kept`, `step-kept`.
--- From 2 look-up answers what the book says: `look-right`.
+--   2. with no call unfinished no batch is in hand, and the medium stands with the book's register and tray:
+--       `Standing`;
+--   3. with actions still to come, every cut up to the end shows the register as it is or with the batch in hand done,
+--       and at
+--      the end the medium stands with the latter and the tray, the state's items being those that the end leaves:
+--      `Going`.
+-- Kept, a lemma for each call: `put-kept`, `delete-kept`, `commit-kept`, `abandon-kept`, `look-kept`, `choose-kept`,
+-- `clean-kept`, `step-kept`. From 2 look-up answers what the book says: `look-right`.
 -- Assumes nothing.
 use mathlib.Core.Path.{_≡_, refl, sym, _∙_}
 use mathlib.Core.Bool.{Bool, true, false}

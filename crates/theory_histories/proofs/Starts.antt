@@ -1,4 +1,5 @@
--- The two starts: what holds right after the reported end of a formatting, and right after the opening that accepted an image.
+-- The two starts: what holds right after the reported end of a formatting, and right after the opening that accepted an
+-- image.
 -- Assumes nothing.
 use mathlib.Core.Path.{_≡_, refl, sym, _∙_, ap}
 use mathlib.Core.Logic.{inl}

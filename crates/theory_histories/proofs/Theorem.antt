@@ -1,5 +1,6 @@
 -- Demand 3, from the laws of the calls: each event's claim, the induction over the list, the two starts put together.
--- It holds of any reading of the record as a state and of anything that `Fits` may say: only that `Called` hands them on is used.
+-- It holds of any reading of the record as a state and of anything that `Fits` may say: only that `Called` hands them
+-- on is used.
 -- Assumes nothing.
 use mathlib.Core.Path.{_≡_, refl}
 use mathlib.Core.Option.{none, some}

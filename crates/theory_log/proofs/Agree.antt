@@ -1,4 +1,5 @@
--- Agreement of top entries: what the test says, and that it still holds after a batch and after cleaning; publishing copies keeps the contents.
+-- Agreement of top entries: what the test says, and that it still holds after a batch and after cleaning; publishing
+-- copies keeps the contents.
 -- Assumes nothing.
 use mathlib.Core.Path.{_≡_, refl, sym, _∙_, ap, ap₂}
 use mathlib.Core.Bool.{true}

@@ -314,7 +314,8 @@ chosen-none k es h = go (chosen k es) (chosen-is k es)
     go none c = refl
     go (some e) c = let d = c e refl in absurd (h e (d .in-list) (d .of-key))
 
--- Entries that are the same have one key and one version, and mean the same where the meaning does not depend on the place.
+-- Entries that are the same have one key and one version, and mean the same where the meaning does not depend on the
+-- place.
 pub same-key : (e f : Entry) → Same e f → e .key ≡ f .key
 same-key e f s = ap (λ (x : Entry). x .key) s
 
@@ -324,7 +325,8 @@ same-version e f s = ap (λ (x : Entry). x .version) s
 pub same-means : (mean : Entry → Held) → ((a : ℕ) (e : Entry) → mean (moved a e) ≡ mean e) → (e f : Entry) → Same e f → mean e ≡ mean f
 same-means mean free e f s = sym (free 0 e) ∙ ap mean s ∙ free 0 f
 
--- The frame of cleaning: a list whose entries are all the same as some entry of the old one, and which has for each key what the old one chose, or nothing where that is absent.
+-- The frame of cleaning: a list whose entries are all the same as some entry of the old one, and which has for each key
+-- what the old one chose, or nothing where that is absent.
 pub contents-same : (mean : Entry → Held) → ((a : ℕ) (e : Entry) → mean (moved a e) ≡ mean e) → (old new : List Entry) → Agree old
     → ((f : Entry) → Mem f new → (e : Entry) × Mem e old × Same f e)
     → ((k : ℕ) (e : Entry) → chosen k old ≡ some e → ((f : Entry) × Mem f new × Same f e) ⊎ ((mean e ≡ Absent) × ((f : Entry) → Mem f new → f .key ≡ k → ⊥)))

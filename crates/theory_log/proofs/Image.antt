@@ -50,7 +50,8 @@ join-inv Wrong q es h = absurd (let z : _≡_ {A = ℕ} 0 1 = cc in omega arith)
 join-inv (Entries xs) Wrong es h = absurd (let w = sym (prepend-wrong xs) ∙ h in let z : _≡_ {A = ℕ} 0 1 = cc in omega arith)
 join-inv (Entries xs) (Entries ys) es h = record { left = xs; right = ys; is-left = refl; is-right = refl; whole = (let w = sym (prepend-entries xs ys) ∙ h in cc) }
 
--- An image whose chunk d has a batch more behind its committed words, and which else is as before, holds what the batch's items make of it.
+-- An image whose chunk d has a batch more behind its committed words, and which else is as before, holds what the
+-- batch's items make of it.
 pub commit-contents : (mean : Entry → Held) (p i j c n d z : ℕ) (ws vs : List ℕ) (es fs : List Entry) → n ≡ i + suc j → d ≡ c + i
     → ((e : ℕ) → (e ≡ d → ⊥) → chunkEntries p vs e ≡ chunkEntries p ws e)
     → slice (base p d) (base p d + 8 * linesOf p vs d) vs ≡ slice (base p d) (base p d + 8 * linesOf p ws d) ws ++ (encodeAll fs ++ replicate z 0)

@@ -1,4 +1,5 @@
--- Top entries: the test and the claim are one, contents look at their meaning alone, and those of a key that agree are the same.
+-- Top entries: the test and the claim are one, contents look at their meaning alone, and those of a key that agree are
+-- the same.
 -- Assumes nothing.
 use mathlib.Core.Path.{_≡_, refl, sym, _∙_, ap}
 use mathlib.Core.Logic.{inl, inr}

@@ -1,4 +1,5 @@
--- Staging: an accepted put or delete puts its item last into the book's staged items and keeps the contents, cut or not.
+-- Staging: an accepted put or delete puts its item last into the book's staged items and keeps the contents, cut or
+-- not.
 -- Assumes nothing.
 use mathlib.Core.Path.{_≡_, refl, sym, _∙_, ap}
 use mathlib.Core.Bool.{Bool, true, false}

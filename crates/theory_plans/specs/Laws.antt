@@ -1,5 +1,6 @@
--- The laws of the calls that the theorem on histories stands on, each over plain variables. n: the image's chunks; table: the key table's
--- words at the opening before; C, D: contents before and after a call; book: the desk book's staged items; items: the entries staged.
+-- The laws of the calls that the theorem on histories stands on, each over plain variables. n: the image's chunks;
+-- table: the key table's words at the opening before; C, D: contents before and after a call; book: the desk book's
+-- staged items; items: the entries staged.
 -- Assumes nothing.
 use mathlib.Core.Path.{_≡_}
 use mathlib.Core.Logic.{_⊎_}

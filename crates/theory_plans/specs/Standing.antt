@@ -1,4 +1,5 @@
--- What holds between calls: the medium at rest, with the contents that the desk book says, and the staged items ready to be committed.
+-- What holds between calls: the medium at rest, with the contents that the desk book says, and the staged items ready
+-- to be committed.
 -- Assumes nothing.
 use mathlib.Core.Path.{_≡_}
 use mathlib.Core.Bool.{true}
@@ -26,8 +27,8 @@ keyList es = map (λ (e : Entry). e .key) es
 abbrev pub itemOf : List ℕ → Entry → Item
 itemOf ws e = record { key = e .key; gets = meaning ws e }
 
--- the staged items among the entries es of the image ws: versions count on; the blocks that they point to are right, their words
--- were flushed since they were stored (the commit's first fence settles them), and they are nobody else's
+-- the staged items among the entries es of the image ws: versions count on; the blocks that they point to are right,
+-- their words were flushed since they were stored (the commit's first fence settles them), and they are nobody else's
 pub record Staged (p n : ℕ) (ws : List ℕ) (es : List Entry) (items : List Entry) (m : Medium) : Type 0 where
   pub counts : CountsOn es items
   pub right : AllRight items
@@ -38,7 +39,8 @@ pub record Staged (p n : ℕ) (ws : List ℕ) (es : List Entry) (items : List En
   pub dead : (e f : Entry) → Mem e items → Top es f → pointed e ≡ true → pointed f ≡ true → e .field ≡ f .field → ⊥
   pub own : (e f : Entry) → Mem e items → Mem f items → pointed e ≡ true → pointed f ≡ true → e .field ≡ f .field → e ≡ f
 
--- between calls, on an image of n chunks opened with a table of so many words: contents C, the book's staged items, the entries staged
+-- between calls, on an image of n chunks opened with a table of so many words: contents C, the book's staged items, the
+-- entries staged
 pub record Standing (p n table : ℕ) (C : ℕ → Held) (book : List Item) (items : List Entry) (m : Medium) : Type 0 where
   pub words : List ℕ
   pub entries : List Entry
@@ -49,6 +51,7 @@ pub record Standing (p n table : ℕ) (C : ℕ → Held) (book : List Item) (ite
   pub staged : Staged p n words entries items m
   pub booked : map (itemOf words) items ≡ book
 
--- while a call is unfinished: every cut gives the contents before or those after, and at the end it stands with those after
+-- while a call is unfinished: every cut gives the contents before or those after, and at the end it stands with those
+-- after
 abbrev pub Going : (p n table : ℕ) (C D : ℕ → Held) (book : List Item) (items : List Entry) (rest : List Action) (m : Medium) → Type 0
 Going p n table C D book items rest m = Through (Cuts p n (capacity table) C D) (Standing p n table D book items) rest m

@@ -1,4 +1,5 @@
--- The laws of a table that holds the entries: what a look-up finds, and one more entry, behind all others or above all of its key.
+-- The laws of a table that holds the entries: what a look-up finds, and one more entry, behind all others or above all
+-- of its key.
 -- Assumes nothing.
 use mathlib.Core.Path.{_≡_, refl, sym, _∙_, ap}
 use mathlib.Core.Logic.{by-cases, _⊎_, inl, inr}

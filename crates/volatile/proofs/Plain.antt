@@ -1,4 +1,5 @@
--- The laws of entries of which a second pass has nothing to find: they pass its tests, and one pass shows that they are such.
+-- The laws of entries of which a second pass has nothing to find: they pass its tests, and one pass shows that they are
+-- such.
 -- Assumes nothing.
 use mathlib.Core.Path.{_≡_, refl, sym, _∙_, ap}
 use mathlib.Core.Logic.{_⊎_, inl, inr}

@@ -1,4 +1,5 @@
--- What holds while a second pass over the entries checks the blocks and the agreement of the top entries, and marks the live blocks.
+-- What holds while a second pass over the entries checks the blocks and the agreement of the top entries, and marks the
+-- live blocks.
 -- Assumes nothing.
 use mathlib.Core.Path.{_≡_}
 use mathlib.Core.Bool.{Bool, true, false}
@@ -27,7 +28,8 @@ pub record Clash (es : List Entry) : Type 0 where
   pub block : one .field ≡ other .field
   pub keys : one .key ≡ other .key → ⊥
 
--- the blocks marked after xs, a front part of es: those of the chosen entries; `apart`: no two keys of xs share one, else two of es do
+-- the blocks marked after xs, a front part of es: those of the chosen entries; `apart`: no two keys of xs share one,
+-- else two of es do
 pub record Marks (es xs : List Entry) (has : ℕ → Bool) (apart : Bool) : Type 0 where
   pub marked : (e : Entry) → Live es xs e → has (e .field) ≡ true
   pub only : (u : ℕ) → has u ≡ true → (e : Entry) × Live es xs e × (e .field ≡ u)

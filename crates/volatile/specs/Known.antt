@@ -22,11 +22,13 @@ entryCount k es = length (filter (λ (e : Entry). eqb (e .key) k) es)
 abbrev pub several : ℕ → List Entry → ℕ
 several k es = pick (leb 2 (length (tops k es))) 1 0
 
--- one less than the bytes of a value in the log that is longer than a byte; 0 for every other entry: it must be read itself
+-- one less than the bytes of a value in the log that is longer than a byte; 0 for every other entry: it must be read
+-- itself
 abbrev pub extentOf : (placement field : ℕ) → ℕ
 extentOf placement field = pick (eqb placement 0) (field - 1) 0
 
--- what the table holds of a key: its chosen entry's extent, place and version, and those two; nothing of a key that is not known
+-- what the table holds of a key: its chosen entry's extent, place and version, and those two; nothing of a key that is
+-- not known
 abbrev pub infoFor : Option Entry → ℕ → ℕ → ℕ
 infoFor none entries twins = 0
 infoFor (some e) entries twins = packOf (record { extent = extentOf (e .placement) (e .field); place = e .at; version = e .version; entries = entries; several = twins })

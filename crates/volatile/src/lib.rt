@@ -1,4 +1,5 @@
-// What the key table and the block bits hold of an image, and the laws by which one pass over the log builds them: the crate is its definitions and proofs.
+// What the key table and the block bits hold of an image, and the laws by which one pass over the log builds them: the
+// crate is its definitions and proofs.
 ghost use mathlib.Core.Path.{_≡_};
 ghost use Rattle.volatile.specs.Known.{extentOf, alone, noted};
 use index::Info;
@@ -28,7 +29,8 @@ pub fn alone(extent: u64, place: usize, version: u64) -> u64
     })
 }
 
-// What the table is to hold of a key, of which it holds `word`, with one more entry: `own` is what it would hold with that one alone.
+// What the table is to hold of a key, of which it holds `word`, with one more entry: `own` is what it would hold with
+// that one alone.
 pub fn noted(word: u64, own: u64) -> u64
     ensures { λ r. ⌜ r ≡ noted word own ⌝ }
 {

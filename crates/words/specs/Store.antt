@@ -1,4 +1,5 @@
--- The image's bytes after a store of a word, and the laws of such a store: the word is read back, every other is as it was, and the image is as long.
+-- The image's bytes after a store of a word, and the laws of such a store: the word is read back, every other is as it
+-- was, and the image is as long.
 -- Assumes nothing.
 use mathlib.Core.Path.{_≡_, refl, sym, _∙_, ap}
 use mathlib.Core.List.{List, [], _∷_, _++_}

@@ -1,4 +1,5 @@
--- `joining::join` meets its contract. The loop's invariant: what was left of the batch at the beginning says what is left of it now.
+-- `joining::join` meets its contract. The loop's invariant: what was left of the batch at the beginning says what is
+-- left of it now.
 -- Assumes nothing.
 use Prim.Native.Nat.{_-_}
 use mathlib.Core.Path.{refl}

@@ -1,4 +1,5 @@
--- `batch::last_staged` meets its contract. The loop's invariant: the last item of all is the last so far, passed on over the items not yet reached.
+-- `batch::last_staged` meets its contract. The loop's invariant: the last item of all is the last so far, passed on
+-- over the items not yet reached.
 -- Assumes nothing.
 use Prim.Native.Nat.{_-_}
 use mathlib.Core.Path.{sym}

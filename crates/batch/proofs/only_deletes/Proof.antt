@@ -1,4 +1,5 @@
--- `batch::only_deletes` meets its contract. The loop's invariant: all items are deletes exactly if those not yet reached are.
+-- `batch::only_deletes` meets its contract. The loop's invariant: all items are deletes exactly if those not yet
+-- reached are.
 -- Assumes nothing.
 use Prim.Native.Nat.{_-_}
 use mathlib.Core.Path.{sym, _∙_}

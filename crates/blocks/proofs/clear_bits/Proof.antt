@@ -1,4 +1,5 @@
--- `clear_bits` meets its contract. The loop's invariant: the words before `i` that hold bits are 0, the others as they were. Assumes nothing.
+-- `clear_bits` meets its contract. The loop's invariant: the words before `i` that hold bits are 0, the others as they
+-- were. Assumes nothing.
 use mathlib.Core.Path.{_≡_}
 use Prim.Native.Nat.{_≤_, _-_}
 use native.Mathlib.Omega.{arith}

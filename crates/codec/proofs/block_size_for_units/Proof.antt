@@ -1,4 +1,5 @@
--- `codec::block_size_for_units` meets its contract: each entry of the table is the definition's, by the one test of the table.
+-- `codec::block_size_for_units` meets its contract: each entry of the table is the definition's, by the one test of the
+-- table.
 -- Assumes nothing.
 use mathlib.Core.Path.{sym, _∙_}
 use Prim.Native.Nat.{_≤_, _<_}

@@ -1,4 +1,5 @@
--- `tops::check` meets its contract. The loop's invariant: the tests and the marks of the entries passed, of which none has failed.
+-- `tops::check` meets its contract. The loop's invariant: the tests and the marks of the entries passed, of which none
+-- has failed.
 -- Assumes nothing.
 use Rattle.spec.specs.Words.{wordsOf}
 use Rattle.log.specs.Cursor.{left}

@@ -1,4 +1,5 @@
--- `fast_path::store_batch` meets its contract. The loop's invariant: the stores up to the next one are made, wherever a setup says that the batch begins there.
+-- `fast_path::store_batch` meets its contract. The loop's invariant: the stores up to the next one are made, wherever a
+-- setup says that the batch begins there.
 -- Assumes nothing.
 use mathlib.Core.Path.{_≡_}
 use Prim.Native.Nat.{_+_, _-_, _*_}

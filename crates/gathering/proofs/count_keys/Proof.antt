@@ -1,4 +1,5 @@
--- `gathering::count_keys` meets its contract. The loop's invariant: the counts so far, and those of the entries left, are those of all.
+-- `gathering::count_keys` meets its contract. The loop's invariant: the counts so far, and those of the entries left,
+-- are those of all.
 -- Assumes nothing.
 use lib.ListN.{length}
 use borrow.Author.Needs.{needs}

@@ -1,4 +1,5 @@
--- `log::best_of` meets its contract. The loop's invariant: the pass over the whole log is the pass over what remains, from the best so far.
+-- `log::best_of` meets its contract. The loop's invariant: the pass over the whole log is the pass over what remains,
+-- from the best so far.
 -- Assumes nothing.
 use mathlib.Core.Path.{_≡_, sym, _∙_, ap}
 use Rattle.spec.specs.Words.{wordsOf}

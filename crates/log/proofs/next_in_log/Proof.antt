@@ -1,4 +1,5 @@
--- `log::next_in_log` meets its contract. The loop's invariant: the same remains from the place reached as from the cursor given, and it is no farther from the end.
+-- `log::next_in_log` meets its contract. The loop's invariant: the same remains from the place reached as from the
+-- cursor given, and it is no farther from the end.
 -- Assumes nothing.
 use Prim.Native.Nat.{_≤_}
 use mathlib.Core.Path.{_≡_, refl, sym, _∙_}

@@ -1,4 +1,5 @@
--- `recovery::directory_fits` meets its contract. The loop's invariant: the test of the whole directory is that of the words from chunk c's on.
+-- `recovery::directory_fits` meets its contract. The loop's invariant: the test of the whole directory is that of the
+-- words from chunk c's on.
 -- Assumes nothing.
 use mathlib.Core.Path.{_≡_, refl, sym, _∙_}
 use Prim.Native.Nat.{_-_, _≤_}

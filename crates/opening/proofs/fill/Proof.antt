@@ -1,4 +1,5 @@
--- `recovery::fill` meets its contract. The loop's invariant: the table holds the entries passed so far, or their keys do not fit it.
+-- `recovery::fill` meets its contract. The loop's invariant: the table holds the entries passed so far, or their keys
+-- do not fit it.
 -- Assumes nothing.
 use mathlib.Core.Path.{sym, _∙_, ap}
 use native.Mathlib.Omega.{arith}

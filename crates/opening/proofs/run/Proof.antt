@@ -1,4 +1,5 @@
--- `recovery::run` meets its contract. The loop's invariant: the pass has come to `place`, with the table's numbers as they are.
+-- `recovery::run` meets its contract. The loop's invariant: the pass has come to `place`, with the table's numbers as
+-- they are.
 -- Assumes nothing.
 use Prim.Native.Nat.{_-_}
 use native.Mathlib.Omega.{arith}

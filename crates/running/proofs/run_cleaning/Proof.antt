@@ -1,4 +1,5 @@
--- `running::run_cleaning` meets its contract. The loop's invariant: all actions up to the next one were stores, and are made.
+-- `running::run_cleaning` meets its contract. The loop's invariant: all actions up to the next one were stores, and are
+-- made.
 -- Assumes nothing.
 use mathlib.Core.Path.{_≡_, refl, sym, _∙_, ap}
 use Prim.Native.Nat.{_+_, _-_}

@@ -1,4 +1,5 @@
--- `running::run_steps` meets its contract. The loop's invariant: the steps so far each stored a word; each step leaves one fewer.
+-- `running::run_steps` meets its contract. The loop's invariant: the steps so far each stored a word; each step leaves
+-- one fewer.
 -- Assumes nothing.
 use mathlib.Core.Path.{sym, _∙_}
 use native.Mathlib.Omega.{arith}

@@ -1,5 +1,5 @@
--- `script::number` meets its contract. What is spelled from the start on is what is spelled from here on behind the value so far.
--- The measure is what is left of the text. Assumes nothing.
+-- `script::number` meets its contract. What is spelled from the start on is what is spelled from here on behind the
+-- value so far. The measure is what is left of the text. Assumes nothing.
 use borrow.Author.Needs.{needs}
 use mathlib.Core.Path.{_≡_, _∙_, sym, ap}
 use native.Mathlib.Omega.{arith}

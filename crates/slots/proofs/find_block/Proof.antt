@@ -1,5 +1,5 @@
--- `slots::find_block` meets its contract. The loops' invariants: the first spare block of all is the first of those from chunk c on, and
--- within a chunk the first of those from its block j on.
+-- `slots::find_block` meets its contract. The loops' invariants: the first spare block of all is the first of those
+-- from chunk c on, and within a chunk the first of those from its block j on.
 -- Assumes nothing.
 use mathlib.Core.Path.{_≡_, refl, sym, _∙_}
 use Prim.Native.Nat.{_+_, _-_, _*_, _/_, _≤_, _<_}

@@ -1,4 +1,5 @@
--- `slots::is_staged` meets its contract. The loop's invariant: an item points to the block exactly if one not yet reached does.
+-- `slots::is_staged` meets its contract. The loop's invariant: an item points to the block exactly if one not yet
+-- reached does.
 -- Assumes nothing.
 use Prim.Native.Nat.{_-_}
 use mathlib.Core.Path.{sym}

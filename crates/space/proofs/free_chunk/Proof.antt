@@ -1,4 +1,5 @@
--- `placing::free_chunk` meets its contract. The loop's invariant: of the chunks before c so many are free, too few, and `lowest` is the first of them.
+-- `placing::free_chunk` meets its contract. The loop's invariant: of the chunks before c so many are free, too few, and
+-- `lowest` is the first of them.
 -- Assumes nothing.
 use Prim.Native.Nat.{ℕ, _+_, _-_, _≤_, _<_}
 use mathlib.Core.Path.{sym, _∙_, ap}

@@ -1,4 +1,5 @@
--- `words::last_word` meets its contract. The loop's invariant: the bytes from `at` on are joined; there are at most seven, and 0 stands behind them.
+-- `words::last_word` meets its contract. The loop's invariant: the bytes from `at` on are joined; there are at most
+-- seven, and 0 stands behind them.
 -- Assumes nothing.
 use mathlib.Core.Path.{_≡_, refl, sym, _∙_, ap}
 use mathlib.Core.List.{List}
