@@ -29,7 +29,8 @@ use Rattle.volatile.specs.Known.{Indexed}
 use Rattle.session.specs.State.{batchRoom, batchWords, stateOf}
 use Rattle.session.specs.Cleaned.{before, copiesOf, after, Cleaned, Stand}
 
--- a value of the type `Session`: antt's list has no length, the array has so many words
+-- A value of the type `Session`: antt's list has no length, the array has so many words. Every record that is lent is
+-- one: `blocks::buffer_length` shows it of any such array.
 abbrev pub bufferWords : ℕ
 bufferWords = 1152
 

@@ -3,7 +3,7 @@
 use mathlib.Core.List.{List, [], _∷_, _++_}
 use Prim.Native.Nat.{ℕ, zero, suc, _+_, _-_, _*_, _/_}
 use lib.ListN.{length, replicate}
-use Rattle.spec.specs.Places.{base, firstLine, firstUnit, unitWord, lineOf, directoryWord, maxChunks}
+use Rattle.spec.specs.Places.{base, firstLine, unitWord, lineOf, directoryWord, maxChunks}
 use Rattle.spec.specs.Medium.{Action, Store, Flush, Fence}
 use Rattle.spec.specs.Header.{headerMap, headerTail}
 use Rattle.spec.specs.Directory.{logWord, dataWord, freedWord}

@@ -3,15 +3,15 @@
 --
 --   block at unit u | word 32 · u: the value's length in bytes, then the value, zero-filled to 8 bytes; the rest is
 --   free
-use mathlib.Core.Bool.{Bool, true, false}
+use mathlib.Core.Bool.{Bool, true}
 use mathlib.Core.List.{List, [], _∷_, _++_}
-use Prim.Native.Nat.{ℕ, zero, suc, _+_, _-_, _*_, _/_, _%_, _^_}
+use Prim.Native.Nat.{ℕ, _+_, _-_, _*_, _/_, _%_, _^_}
 use lib.Dec.{eqb, leb, ltb}
-use lib.ListN.{length, getD}
+use lib.ListN.{getD}
 use lib.Seq.{slice}
 use Rattle.spec.specs.Basics.{pick, both, every}
 use Rattle.spec.specs.Words.{valueBytes}
-use Rattle.spec.specs.Places.{chunkUnits, unitChunk, unitIn, unitWord, firstUnit}
+use Rattle.spec.specs.Places.{chunkUnits, unitChunk, unitIn, unitWord}
 use Rattle.spec.specs.Directory.{sizeOf, sizeFor}
 use Rattle.spec.specs.Log.{Entry, maxInLog}
 

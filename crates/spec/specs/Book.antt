@@ -5,7 +5,7 @@ use mathlib.Core.Option.{Option, none, some}
 use mathlib.Core.List.{List, [], _∷_, _++_}
 use Prim.Native.Nat.{ℕ}
 use lib.Dec.{eqb}
-use Rattle.spec.specs.Basics.{pick, negate}
+use Rattle.spec.specs.Basics.{pick}
 use Rattle.spec.specs.Contents.{Held, Absent, Value}
 use Rattle.spec.specs.Reports.{isRefused}
 use Rattle.spec.specs.Machine.{Call, Format, Open, Put, Delete, Commit, Abandon, LookUp, Choose, Clean, Step}

@@ -2,11 +2,10 @@
 -- Assumes nothing.
 use mathlib.Core.Bool.{Bool, true, false}
 use mathlib.Core.Option.{Option, none, some}
-use mathlib.Core.List.{List, [], _∷_, _++_, map}
-use Prim.Native.Nat.{ℕ, zero, suc, _+_, _-_, _*_, _/_, _%_, min}
-use lib.Dec.{eqb, leb, ltb}
-use lib.ListN.{length, getD}
-use Rattle.spec.specs.Basics.{pick, both, either, negate, larger, filter, first, isSome, any, sameList, distinct}
+use mathlib.Core.List.{List, [], _∷_, map}
+use Prim.Native.Nat.{ℕ, _/_, min}
+use lib.Dec.{eqb}
+use Rattle.spec.specs.Basics.{pick, both, either, negate, larger, filter, first, isSome, sameList, distinct}
 use Rattle.spec.specs.Words.{valueBytes}
 use Rattle.spec.specs.Places.{wordChunk}
 use Rattle.spec.specs.Log.{Entry, Parsed, Wrong, Entries, imageEntries, encode}

@@ -2,10 +2,10 @@
 -- Assumes nothing.
 use mathlib.Core.Path.{_≡_}
 use mathlib.Core.Logic.{_⊎_}
-use mathlib.Core.Bool.{Bool, true, false}
+use mathlib.Core.Bool.{false}
 use mathlib.Core.Option.{Option, none, some}
 use mathlib.Core.List.{List, [], _∷_, _++_, map}
-use Prim.Native.Nat.{ℕ, zero, suc, _+_, _*_, _/_, _≤_, _<_}
+use Prim.Native.Nat.{ℕ, suc, _+_, _*_, _/_, _≤_, _<_}
 use lib.ListN.{length, drop, replicate, set}
 use Rattle.spec.specs.Words.{wordsOf}
 use Rattle.spec.specs.Places.{chunksIn}
@@ -85,8 +85,9 @@ Anyway p limit (Clean c) σ σ′ ws bytes table r = Refuses r ⊎ Begins (Clean
 Anyway p limit Step σ σ′ ws bytes table r = (r ≡ answer p limit Step σ ws bytes table) × (σ′ ≡ next p limit Step σ ws bytes table)
 
 -- An implementation has records of a type S. It tells which of them are proper values of that type, reads one as a
--- state, and keeps record and table fitting the image's words: "memory as our calls left it". Nothing is to be believed
--- of any of these: an opening and a formatting ask no more of the record than that it is proper.
+-- state, and keeps record and table fitting the image's words: "memory as our calls left it". An opening and a
+-- formatting ask no more of the record than that it is proper. To be believed is that every record which can be lent is
+-- proper (of a record with an array: that it has the array's length), and nothing of the other two.
 module _ {S : Type 0} (Proper : S → Type 0) (stateOf : S → State) (Fits : S → List ℕ → List ℕ → Type 0) (p limit : ℕ) where
   abbrev pub ReadyBy : Kind → S → List ℕ → List ℕ → Type 0
   ReadyBy ToFormat s ws table = Proper s

@@ -9,9 +9,9 @@ use mathlib.Core.Bool.{Bool, true, false}
 use mathlib.Core.List.{List, [], _∷_}
 use Prim.Native.Nat.{ℕ, zero, suc, _+_, _-_, _*_, _/_, _%_}
 use lib.Dec.{eqb, leb, ltb}
-use lib.ListN.{length, getD}
-use Rattle.spec.specs.Basics.{pick, both, either, filter, upFrom, all}
-use Rattle.spec.specs.Places.{chunkLines, chunkUnits, directoryWord, maxChunks}
+use lib.ListN.{getD}
+use Rattle.spec.specs.Basics.{pick, both, filter, upFrom}
+use Rattle.spec.specs.Places.{chunkLines, chunkUnits, directoryWord}
 use Rattle.spec.specs.declared.Role.{Role}
 use Rattle.spec.specs.declared.Role.the-variants as R
 

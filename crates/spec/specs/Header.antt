@@ -6,11 +6,11 @@
 --   1..  | the fields whose bit stands, in bit order; the count is first
 --   ..6  | unused words: 0
 --   7    | makes the eight words, summed modulo 2^64, give 0
-use mathlib.Core.Bool.{Bool, true, false}
+use mathlib.Core.Bool.{Bool}
 use mathlib.Core.List.{List, [], _∷_, _++_}
-use Prim.Native.Nat.{ℕ, zero, suc, _+_, _-_, _*_, _/_, _%_}
+use Prim.Native.Nat.{ℕ, _+_, _-_, _%_}
 use lib.Dec.{eqb}
-use lib.ListN.{getD, replicate}
+use lib.ListN.{getD}
 use Rattle.spec.specs.Basics.{pick, both, either}
 use Rattle.spec.specs.declared.Given.{Given}
 use Rattle.spec.specs.declared.Given.the-variants as G

@@ -5,7 +5,7 @@ use mathlib.Core.Path.{_≡_}
 use mathlib.Core.Bool.{Bool, true, false}
 use mathlib.Core.Option.{Option, none, some}
 use mathlib.Core.List.{List, [], _∷_, _++_}
-use Prim.Native.Nat.{ℕ, zero, suc, _+_, _≤_, _<_}
+use Prim.Native.Nat.{ℕ, _+_, _≤_}
 use lib.Dec.{eqb}
 use lib.ListN.{length}
 use Rattle.spec.specs.Basics.{pick}
@@ -15,7 +15,7 @@ use Rattle.spec.specs.Medium.{Medium, cut, settledAt, latest}
 use Rattle.spec.specs.Contents.{Held, Absent, Value, contents}
 use Rattle.spec.specs.Reports.{number, refusalOf, partIn, mediumAfter, isRefused}
 use Rattle.spec.specs.Machine.{Kind, ToFormat, ToOpen, ToWork, ToStep, kindOf, isOpening, Call, Format, Open, Put, Delete, Commit, Abandon, LookUp, Choose, Clean, Step, State}
-use Rattle.spec.specs.Book.{Book, newBook, nothing, note, noteCut, noteOpen, isEnd}
+use Rattle.spec.specs.Book.{Book, newBook, nothing, note, noteCut, noteOpen}
 use Rattle.spec.specs.Contract.{Called}
 use Rattle.spec.specs.declared.Given.{Given}
 use Rattle.spec.specs.declared.Refusal.{Refusal}

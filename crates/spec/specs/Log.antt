@@ -9,13 +9,13 @@
 --   bits 4–23  | version, 1 to 1,048,575
 --   bits 24 up | the value's length (0–256) or the pointer, in units from the image's start; 0 for a delete
 --   second word: the key. A value in the log follows, zero-filled to 8 bytes.
-use mathlib.Core.Bool.{Bool, true, false}
+use mathlib.Core.Bool.{Bool, true}
 use mathlib.Core.List.{List, [], _∷_, _++_}
 use Prim.Native.Nat.{ℕ, zero, suc, _+_, _-_, _*_, _/_, _%_, _^_}
 use lib.Dec.{eqb, leb, ltb}
 use lib.ListN.{length, getD, take, drop}
 use lib.Seq.{slice}
-use Rattle.spec.specs.Basics.{pick, both}
+use Rattle.spec.specs.Basics.{pick}
 use Rattle.spec.specs.Places.{base}
 use Rattle.spec.specs.Directory.{linesOf}
 use Rattle.spec.specs.declared.FirstWord.{FirstWord}

@@ -4,10 +4,10 @@
 use mathlib.Core.Bool.{Bool, true, false}
 use mathlib.Core.Option.{Option, none, some}
 use mathlib.Core.List.{List, [], _∷_}
-use Prim.Native.Nat.{ℕ, suc, _-_}
+use Prim.Native.Nat.{ℕ, suc}
 use lib.Dec.{eqb}
 use lib.ListN.{length}
-use Rattle.spec.specs.Basics.{pick, both, negate, first, isEmpty}
+use Rattle.spec.specs.Basics.{pick, both, negate, isEmpty}
 use Rattle.spec.specs.Places.{chunksIn, lengthAllowed}
 use Rattle.spec.specs.Medium.{Action}
 use Rattle.spec.specs.Log.{Entry}

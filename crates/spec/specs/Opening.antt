@@ -1,11 +1,11 @@
 -- Opening: the refusal 1 to 7, or the entries of an accepted image.
 -- Assumes nothing.
-use mathlib.Core.Bool.{Bool, true, false}
+use mathlib.Core.Bool.{Bool, true}
 use mathlib.Core.Option.{Option, none, some}
-use mathlib.Core.List.{List, [], _∷_}
-use Prim.Native.Nat.{ℕ, zero, suc, _+_, _-_, _*_, _/_, _%_}
-use lib.Dec.{eqb, leb, ltb}
-use lib.ListN.{length, getD, drop}
+use mathlib.Core.List.{List}
+use Prim.Native.Nat.{ℕ}
+use lib.Dec.{eqb, leb}
+use lib.ListN.{length, drop}
 use Rattle.spec.specs.Basics.{pick, both, all}
 use Rattle.spec.specs.Places.{lengthAllowed, chunksIn, maxChunks}
 use Rattle.spec.specs.Header.{headerRight}

@@ -6,7 +6,7 @@
 --
 --   line l of the image is words 8 · l to 8 · l + 7; unit u of the image is words 32 · u to 32 · u + 31
 use mathlib.Core.Bool.{Bool}
-use Prim.Native.Nat.{ℕ, zero, suc, _+_, _-_, _*_, _/_, _%_, _^_}
+use Prim.Native.Nat.{ℕ, _+_, _-_, _*_, _/_, _%_, _^_}
 use lib.Dec.{eqb, leb}
 use Rattle.spec.specs.Basics.{both}
 

@@ -20,7 +20,6 @@ use Rattle.spec.specs.declared.Refusal.{Refusal}
 use Rattle.spec.specs.declared.Refusal.the-variants as N
 use Rattle.spec.specs.declared.Report.{Report}
 use Rattle.spec.specs.declared.Report.the-variants as R
-use Rattle.spec.specs.Reports.{number}
 
 -- what was begun on an open register; a cleaning has the number of entries that it copies
 pub data Task : Type 0 where

@@ -3,12 +3,11 @@
 use mathlib.Core.Bool.{Bool}
 use mathlib.Core.Option.{Option, none, some}
 use mathlib.Core.List.{List, [], _∷_}
-use Prim.Native.Nat.{ℕ, _+_, _-_}
-use lib.ListN.{length, set}
+use Prim.Native.Nat.{ℕ, _+_}
+use lib.ListN.{set}
 use lib.Seq.{slice}
-use Rattle.spec.specs.Basics.{first, isSome}
+use Rattle.spec.specs.Basics.{isSome}
 use Rattle.spec.specs.Medium.{Action, Store, Flush, Fence, Medium, apply}
-use Rattle.spec.specs.Contents.{chosen}
 use Rattle.spec.specs.declared.Refusal.{Refusal}
 use Rattle.spec.specs.declared.Refusal.the-variants as N
 use Rattle.spec.specs.declared.Report.{Report}
