@@ -1,0 +1,100 @@
+// Instructions of the public calls, counted by callgrind between two marks: they do not depend on the machine's speed.
+// instructions ROW      makes the calls of one row, and prints how many operations stand between the marks
+#include <stdint.h>
+#include <stdio.h>
+#include <stdlib.h>
+#include <string.h>
+#include <valgrind/callgrind.h>
+
+#include "zitskvoze.h"
+
+enum { CHUNKS = 504, BYTES = CHUNKS * ZKV_CHUNK_BYTES, TABLE = 262144, KEYS = 100, LOOKS = 400, ENTRIES = 60000 };
+
+static _Alignas(4096) uint8_t image[BYTES];
+static uint64_t table[TABLE];
+static zkv_record record;
+static uint8_t value[ZKV_VALUE_MAX];
+static int by_steps;
+
+#define LENT &record, image, BYTES, table, TABLE
+
+static void finish(zkv_report r)
+{
+    while (r.kind >= ZKV_BEGUN && r.kind <= ZKV_FENCE) {
+        r = by_steps ? zkv_step(LENT) : zkv_run(LENT);
+    }
+    if (r.kind == ZKV_REFUSED) {
+        fprintf(stderr, "refused %d\n", (int)r.first);
+        exit(1);
+    }
+}
+
+// A batch of puts and its commit: so many keys, spread by a multiplication, from number `first` on.
+static void batch(uint64_t first, size_t items, size_t length)
+{
+    for (size_t i = 0; i < items; i++) {
+        finish(zkv_put(LENT, (first + i) * 0x9E3779B97F4A7C15u, value, length));
+    }
+    finish(zkv_commit(LENT));
+}
+
+static int puts_counted(size_t items, size_t length)
+{
+    for (uint64_t k = 0; k < KEYS; k++) {
+        batch(items * k, items, length);
+    }
+    CALLGRIND_START_INSTRUMENTATION;
+    for (uint64_t i = 0; i < KEYS; i++) {
+        batch(items * (37 * i % KEYS), items, length);
+    }
+    CALLGRIND_STOP_INSTRUMENTATION;
+    return KEYS;
+}
+
+static int looks_counted(size_t length)
+{
+    uint64_t start, size, sum = 0;
+    for (uint64_t k = 0; k < LOOKS; k++) {
+        batch(k, 1, length);
+    }
+    CALLGRIND_START_INSTRUMENTATION;
+    for (uint64_t k = 0; k < LOOKS; k++) {
+        sum += zkv_look_up(LENT, k * 0x9E3779B97F4A7C15u, &start, &size) + start + size;
+    }
+    CALLGRIND_STOP_INSTRUMENTATION;
+    return sum != 0 ? LOOKS : 0;
+}
+
+static int opening_counted(void)
+{
+    for (uint64_t k = 0; k < ENTRIES / 16; k++) {
+        batch(16 * k, 16, 8);
+    }
+    CALLGRIND_START_INSTRUMENTATION;
+    finish(zkv_open(LENT));
+    CALLGRIND_STOP_INSTRUMENTATION;
+    return ENTRIES;
+}
+
+int main(int count, char **words)
+{
+    const char *row = count == 2 ? words[1] : "";
+    int operations = 0;
+    memset(value, 7, sizeof value);
+    finish(zkv_format(LENT, 0, 0, 0, 0));
+    finish(zkv_open(LENT));
+    by_steps = strcmp(row, "step16") == 0;
+    if (strncmp(row, "put", 3) == 0) {
+        operations = puts_counted(1, (size_t)atoi(row + 3));
+    } else if (by_steps) {
+        operations = puts_counted(1, 16);
+    } else if (strcmp(row, "batch16") == 0) {
+        operations = puts_counted(16, 16);
+    } else if (strncmp(row, "look", 4) == 0) {
+        operations = looks_counted((size_t)atoi(row + 4));
+    } else if (strcmp(row, "open") == 0) {
+        operations = opening_counted();
+    }
+    printf("%d\n", operations);
+    return operations == 0;
+}

@@ -1,0 +1,42 @@
+#!/usr/bin/env bash
+# Counts the instructions of the public calls (callgrind) and compares them with the kept figures, bench/instructions.txt:
+# more than 3 % above one of them is an error. They do not depend on the machine's speed. No part of the gate.
+#   bench/instructions.sh            compare
+#   bench/instructions.sh --keep     write the figures anew
+set -euo pipefail
+cd "$(dirname "${BASH_SOURCE[0]}")/.."
+[ -f /usr/include/valgrind/callgrind.h ] || { apt-get update && apt-get install -y valgrind; } >&2
+[ -f target/staticlib/libcapi.a ] || rt staticlib capi
+mkdir -p target/bench
+gcc -std=c11 -O2 -Wall -Wextra -Iinclude -o target/bench/instructions bench/instructions.c target/staticlib/libcapi.a
+kept=bench/instructions.txt
+now=$(mktemp)
+trap 'rm -f "$now" "$now.out" "$now.ops"' EXIT
+while read -r row what; do
+    valgrind --tool=callgrind --instr-atstart=no --callgrind-out-file="$now.out" target/bench/instructions "$row" \
+        > "$now.ops" 2> /dev/null
+    total=$(awk '/^totals:/ {print $2; exit}' "$now.out")
+    echo "$row $((total / $(cat "$now.ops"))) $what"
+done > "$now" <<'END'
+put16 put of 16 bytes with its commit, a known key
+step16 the same by zkv_step
+put256 put of 256 bytes
+put1000 put of 1,000 bytes, in a block
+put4088 put of 4,088 bytes, in a block
+batch16 batch of 16 puts of 16 bytes
+look16 look-up of a value in the log
+look4088 look-up of a value in a block
+open opening, an entry
+END
+[ "${1:-}" != --keep ] || cp "$now" "$kept"
+worse=0
+while read -r row count what; do
+    before=$(awk -v r="$row" '$1 == r {print $2}' "$kept")
+    mark=""
+    if [ "$count" -gt $((before * 103 / 100)) ]; then
+        mark="   more than 3 % above"
+        worse=1
+    fi
+    printf '%-48s %7d   kept %7d%s\n' "$what" "$count" "$before" "$mark"
+done < "$now"
+exit $worse
