@@ -66,8 +66,10 @@
  * to the end, zkv_commit, step to the end. Up to 16 puts and deletes (4,096 bytes of entries: 16 bytes and the value,
  * rounded up to 8, for each) may be staged before one commit, which makes all of them last; a power cut in it leaves
  * all or none. When a commit gets 13: zkv_abandon, then zkv_choose and zkv_clean with the chunk that it names, stepped
- * to the end, then stage and commit again; when zkv_choose gets 16, or zkv_clean 13, the image is full of present
- * values.
+ * to the end, then stage and commit again; when zkv_choose gets 16, or zkv_clean 13, no log chunk is worth cleaning.
+ * zkv_choose names log chunks alone: a data chunk whose large values were all superseded or deleted is freed by
+ * zkv_clean with its number (3 actions; 16 while one of them is present), as the program zkv does. Else the image is
+ * full of present values.
  *
  * REFUSALS
  *

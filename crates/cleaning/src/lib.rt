@@ -6,6 +6,7 @@ ghost use Rattle.spec.specs.Actions.{padded, freeOf};
 ghost use Rattle.actions.specs.Nth.{nthReport};
 ghost use Rattle.session.specs.State.{sourceIn, keptWords, appendActions, cleanActions};
 ghost use Rattle.cleaning.specs.Record.{copyCount, cleanCount};
+use blocks::Buffer;
 use session::Setup;
 use session::Source;
 use spec::Report;
