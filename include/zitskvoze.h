@@ -223,8 +223,8 @@ typedef struct zkv_report {
     uint64_t kind, first, second;
 } zkv_report;
 
-/* Begins a formatting: the image is to hold an empty register. A number is absent where its `given` is 0. The record may be
- * closed or open; the end of the formatting leaves it closed, with nothing staged. The table is not touched.
+/* Begins a formatting: the image is to hold an empty register. A number is absent where its `given` is 0. The record
+ * may be closed or open; the end of the formatting leaves it closed, with nothing staged. The table is not touched.
  * ZKV_BEGUN 582, or refused: 1, 8. */
 zkv_report zkv_format(zkv_record *record, const uint8_t *image, size_t bytes, const uint64_t *table, size_t words,
                       uint64_t station_given, uint64_t station, uint64_t centre_given, uint64_t centre);
@@ -233,9 +233,10 @@ zkv_report zkv_format(zkv_record *record, const uint8_t *image, size_t bytes, co
  * unfinished call. ZKV_OPENED, or refused: 1 to 7; the table is then all zero and the record closed. */
 zkv_report zkv_open(zkv_record *record, const uint8_t *image, size_t bytes, uint64_t *table, size_t words);
 
-/* Begins staging a put of `length` bytes, which are copied into the record. Look-up does not see it before its commit has ended.
- * ZKV_BEGUN with 0 actions for a value of at most ZKV_LOG_VALUE_MAX bytes, else with those that write its block; or
- * refused: 2, 1, 8, 9, 12, 10, 7, 13. A block that was staged and then abandoned, or superseded, is used again. */
+/* Begins staging a put of `length` bytes, which are copied into the record. Look-up does not see it before its commit
+ * has ended. ZKV_BEGUN with 0 actions for a value of at most ZKV_LOG_VALUE_MAX bytes, else with those that write its
+ * block; or refused: 2, 1, 8, 9, 12, 10, 7, 13. A block that was staged and then abandoned, or superseded, is used
+ * again. */
 zkv_report zkv_put(zkv_record *record, const uint8_t *image, size_t bytes, const uint64_t *table, size_t words,
                    uint64_t key, const uint8_t *value, size_t length);
 
@@ -253,45 +254,45 @@ zkv_report zkv_commit(zkv_record *record, const uint8_t *image, size_t bytes, co
 /* Forgets the staged items. ZKV_ABANDONED, or refused: 2, 1, 8, 14. */
 zkv_report zkv_abandon(zkv_record *record, const uint8_t *image, size_t bytes, const uint64_t *table, size_t words);
 
-/* Chooses the chunk whose cleaning copies the fewest bytes, among log chunks that would take fewer lines afterwards; of equals the
- * one with the most committed lines, and of those the highest number. Staged items play no part. ZKV_CHOSEN with first = chunk, or refused: 2, 1, 8, 16 where none is worth
- * it. */
+/* Chooses the chunk whose cleaning copies the fewest bytes, among log chunks that would take fewer lines afterwards;
+ * of equals the one with the most committed lines, and of those the highest number. Staged items play no part.
+ * ZKV_CHOSEN with first = chunk, or refused: 2, 1, 8, 16 where none is worth it. */
 zkv_report zkv_choose(const zkv_record *record, const uint8_t *image, size_t bytes, const uint64_t *table, size_t words);
 
-/* Begins the cleaning of a chunk: what of it is needed is copied to another chunk, then it is free. The register stays as it is; a
- * power cut in it leaves entries twice, which an opening accepts. Its ZKV_END tells the entries copied. A data chunk is
- * only freed, where no block of it is in use. ZKV_BEGUN 9 b + 7 for b lines to copy, 3 for none, or refused: 2, 1, 8,
- * 15, 16, 13. */
+/* Begins the cleaning of a chunk: what of it is needed is copied to another chunk, then it is free. The register
+ * stays as it is; a power cut in it leaves entries twice, which an opening accepts. Its ZKV_END tells the entries
+ * copied. A data chunk is only freed, where no block of it is in use. ZKV_BEGUN 9 b + 7 for b lines to copy, 3 for
+ * none, or refused: 2, 1, 8, 15, 16, 13. */
 zkv_report zkv_clean(zkv_record *record, const uint8_t *image, size_t bytes, const uint64_t *table, size_t words, size_t chunk);
 
-/* One step of the begun call: see the table of reports above. Idle where nothing is begun, else refused with 1 alone, where a
- * lent length is unlike that at the opening (in a formatting: at its begin). */
+/* One step of the begun call: see the table of reports above. Idle where nothing is begun, else refused with 1 alone,
+ * where a lent length is unlike that at the opening (in a formatting: at its begin). */
 zkv_report zkv_step(zkv_record *record, uint8_t *image, size_t bytes, uint64_t *table, size_t words);
 
-/* Steps of the begun call until one is to be told: those that store a word, as many as come next, and one step more. It answers
- * the last step's report, which is as zkv_step's and never ZKV_STORE; each step before it stored a word, already in the
- * image. At most 513 steps; idle and refused as zkv_step. */
+/* Steps of the begun call until one is to be told: those that store a word, as many as come next, and one step more.
+ * It answers the last step's report, which is as zkv_step's and never ZKV_STORE; each step before it stored a word,
+ * already in the image. At most 513 steps; idle and refused as zkv_step. */
 zkv_report zkv_run(zkv_record *record, uint8_t *image, size_t bytes, uint64_t *table, size_t words);
 
-/* Looks a key up: 0, with the part of the image that holds its value (*length bytes from byte *start on; no copy, so read it
- * before the next call that is begun); or the refusal's number 2, 1, 8 or 11, with 0 in both. Staged items are unseen.
- * An empty value is a part of length 0 and not a refusal. */
+/* Looks a key up: 0, with the part of the image that holds its value (*length bytes from byte *start on; no copy, so
+ * read it before the next call that is begun); or the refusal's number 2, 1, 8 or 11, with 0 in both. Staged items
+ * are unseen. An empty value is a part of length 0 and not a refusal. */
 uint64_t zkv_look_up(const zkv_record *record, const uint8_t *image, size_t bytes, const uint64_t *table, size_t words,
                      uint64_t key, uint64_t *start, uint64_t *length);
 
-/* Lists the present keys: 0, with the keys in rising order in `keys`, as far as its `room` words reach, and in *count how many there
- * are (ZKV_KEYS_MAX at most); the words behind them stay. Or the refusal's number 2, 1 or 8, with 0 in *count and no
- * key. Staged items are unseen. */
+/* Lists the present keys: 0, with the keys in rising order in `keys`, as far as its `room` words reach, and in *count
+ * how many there are (ZKV_KEYS_MAX at most); the words behind them stay. Or the refusal's number 2, 1 or 8, with 0 in
+ * *count and no key. Staged items are unseen. */
 uint64_t zkv_list_keys(const zkv_record *record, const uint8_t *image, size_t bytes, const uint64_t *table, size_t words,
                        uint64_t *keys, size_t room, uint64_t *count);
 
-/* What is listed of a present key: 0, with its version, its value's length, and 1 in *block where the value stands in a block, 0 where
- * it stands in the log; or the refusal's number 2, 1, 8 or 11, with 0 in all three. */
+/* What is listed of a present key: 0, with its version, its value's length, and 1 in *block where the value stands in
+ * a block, 0 where it stands in the log; or the refusal's number 2, 1, 8 or 11, with 0 in all three. */
 uint64_t zkv_list_key(const zkv_record *record, const uint8_t *image, size_t bytes, const uint64_t *table, size_t words,
                       uint64_t key, uint64_t *version, uint64_t *length, uint64_t *block);
 
-/* The known keys of the open register, deleted ones that still have an entry included; 0 where none is open, and while a
- * formatting is unfinished. */
+/* The known keys of the open register, deleted ones that still have an entry included; 0 where none is open, and
+ * while a formatting is unfinished. */
 uint64_t zkv_keys(const zkv_record *record);
 
 /* The chunks of an image whose directory word says free. */
