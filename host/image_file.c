@@ -166,13 +166,17 @@ static const char *reserve(int descriptor, size_t bytes)
     return number == 0 ? NULL : wrong("cannot get its %zu bytes: %s", bytes, strerror(number));
 }
 
+/* Pages of the system's cache need no write-back of lines: the sync takes them as the processor sees them. */
 static const char *settle(const zkv_file *f)
 {
+    if (f->by_pages) {
+        return fsync(f->descriptor) == 0 ? NULL : wrong("cannot be made durable: %s", strerror(errno));
+    }
     for (size_t at = 0; at < f->bytes; at += ZKV_LINE_BYTES) {
         write_back_line((enum write_back)f->how, f->image + at);
     }
     store_fence();
-    return !f->by_pages || fsync(f->descriptor) == 0 ? NULL : wrong("cannot be made durable: %s", strerror(errno));
+    return NULL;
 }
 
 void zkv_file_flush(void *file, const uint8_t *line)
@@ -193,6 +197,42 @@ int zkv_file_fence(void *file)
         f->page[p] = 0;
     }
     return 0;
+}
+
+/* ---- key tables */
+
+enum { HUGE_PAGE = 1 << 21, SHORTEST_ENTRY = 16, WORDS_PER_KEY = 4 };
+
+uint64_t *zkv_table_new(size_t bytes, size_t *words)
+{
+    size_t all = bytes / SHORTEST_ENTRY * WORDS_PER_KEY;
+    *words = all < ZKV_TABLE_WORDS_MAX ? all : ZKV_TABLE_WORDS_MAX;
+    size_t length = 8 * *words + (*words == 0), room = length > HUGE_PAGE / 2 ? length + HUGE_PAGE : length;
+    uint8_t *at = mmap(NULL, room, PROT_READ | PROT_WRITE, MAP_PRIVATE | MAP_ANONYMOUS, -1, 0);
+    if (at == MAP_FAILED) {
+        return NULL;
+    }
+    if (room > length) {
+        /* A table of about a huge page begins where one may lie; what is before and behind it goes back. */
+        size_t before = (HUGE_PAGE - (uintptr_t)at % HUGE_PAGE) % HUGE_PAGE, page = ZKV_CHUNK_BYTES;
+        size_t kept = (length + page - 1) / page * page;
+        if (before > 0) {
+            munmap(at, before);
+        }
+        at += before;
+        if (room - before > kept) {
+            munmap(at + kept, room - before - kept);
+        }
+        madvise(at, kept, MADV_HUGEPAGE);
+    }
+    return (uint64_t *)(void *)at;
+}
+
+void zkv_table_free(uint64_t *table, size_t words)
+{
+    if (table != NULL) {
+        munmap(table, 8 * words + (words == 0));
+    }
 }
 
 /* ---- opening */

@@ -25,6 +25,7 @@ struct station {
     zkv_file file;
     zkv_record record;
     uint64_t *table;
+    size_t words;               /* of the table */
     long pause_us;
     bool in_memory;             /* no file: a copy that is thrown away */
 };
@@ -47,7 +48,7 @@ struct put_so_far {
 };
 
 /* What every call is lent. */
-#define LENT(s) &(s)->record, (s)->file.image, (s)->file.bytes, (s)->table, ZKV_TABLE_WORDS_MAX
+#define LENT(s) &(s)->record, (s)->file.image, (s)->file.bytes, (s)->table, (s)->words
 
 /* zkv_register.c: messages, one form for all: `zkv: FILE: what it is about: what is wrong`. Each answers the exit
  * status. */
@@ -55,7 +56,7 @@ __attribute__((format(printf, 2, 3))) int trouble(const char *file, const char *
 __attribute__((format(printf, 3, 4))) int refused(const char *file, uint64_t number, const char *about, ...);
 
 /* zkv_register.c: opening, and carrying a begun call out. */
-int lend(struct station *s, const struct options *o);                      /* memory for record and table */
+int lend(struct station *s, size_t bytes, const struct options *o);        /* a key table for an image of so many bytes */
 int open_image(struct station *s, const char *name, enum zkv_file_use use, const struct options *o, uint64_t *number);
 int need_register(struct station *s, const char *name, enum zkv_file_use use, const struct options *o);
 int carry_out(struct station *s, zkv_report *report);                       /* to its end, or a refusal, left in *report */

@@ -135,14 +135,15 @@ int command_copy(const char *file, char **word, const struct options *o)
     if (status == DONE) {
         status = need_register(&old, file, ZKV_FILE_READ, o);
     }
+    size_t bytes = word[1] != NULL ? chunks * ZKV_CHUNK_BYTES : old.file.bytes;
     if (status == DONE) {
-        status = lend(&new, o);
+        status = lend(&new, bytes, o);
     }
     if (status == DONE) {
         status = labels_of(&old, &all);
     }
     if (status == DONE) {
-        const char *text = zkv_file_new(&new.file, word[0], word[1] != NULL ? chunks * ZKV_CHUNK_BYTES : old.file.bytes);
+        const char *text = zkv_file_new(&new.file, word[0], bytes);
         status = text == NULL ? copy_to(&old, &new, &all) : trouble(word[0], "%s", text);
         zkv_file_close(&new.file);
     }

@@ -41,9 +41,9 @@ static void waiting(const char *file)
     fprintf(stderr, "zkv: %s: is locked by another program; waiting\n", file);
 }
 
-int lend(struct station *s, const struct options *o)
+int lend(struct station *s, size_t bytes, const struct options *o)
 {
-    s->table = calloc(ZKV_TABLE_WORDS_MAX, sizeof *s->table);
+    s->table = zkv_table_new(bytes, &s->words);
     s->pause_us = o->pause_us;
     return s->table != NULL ? DONE : trouble("key table", "no memory");
 }
@@ -55,7 +55,7 @@ int open_image(struct station *s, const char *name, enum zkv_file_use use, const
     if (text != NULL) {
         return trouble(name, "%s", text);
     }
-    int status = lend(s, o);
+    int status = lend(s, s->file.bytes, o);
     if (status == DONE) {
         zkv_report r = zkv_open(LENT(s));
         *number = r.kind == ZKV_OPENED ? 0 : r.first;

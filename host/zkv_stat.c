@@ -24,14 +24,14 @@ static int begin_trial(struct trial *t, const struct station *of)
     t->s.file.name = of->file.name;
     t->s.file.bytes = of->file.bytes;
     t->s.file.image = aligned_alloc(ZKV_CHUNK_BYTES, of->file.bytes);
-    t->s.table = calloc(ZKV_TABLE_WORDS_MAX, sizeof *t->s.table);
+    t->s.table = zkv_table_new(of->file.bytes, &t->s.words);
     return t->s.file.image != NULL && t->s.table != NULL ? DONE : trouble(of->file.name, "no memory for a copy");
 }
 
 static void end_trial(struct trial *t)
 {
     free(t->s.file.image);
-    free(t->s.table);
+    zkv_table_free(t->s.table, t->s.words);
 }
 
 /* How many labels of so many bytes, under keys that are absent, can be put one by one before a cleaning is needed. */

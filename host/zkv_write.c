@@ -32,7 +32,7 @@ static int is_taken(struct station *old, uint64_t number)
 static int make_register(const char *file, size_t bytes, const struct options *o, const zkv_file *old)
 {
     struct station s = {0};
-    int status = lend(&s, o);
+    int status = lend(&s, bytes, o);
     if (status != DONE) {
         return status;
     }

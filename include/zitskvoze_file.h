@@ -71,6 +71,12 @@ const char *zkv_file_open(zkv_file *f, const char *name, enum zkv_file_use use, 
 void zkv_file_flush(void *file, const uint8_t *line);
 int zkv_file_fence(void *file);
 
+/* A key table for an image of so many bytes, all zero, on huge pages where the system has them: without them half of an
+ * opening's time is spent in getting the table's pages. `words` gets its length, which holds every key that the image
+ * has room for; NULL where there is no memory. zkv_table_free takes both. */
+uint64_t *zkv_table_new(size_t bytes, size_t *words);
+void zkv_table_free(uint64_t *table, size_t words);
+
 /* Makes a new file of so many bytes, all zero, under another name beside the one it is to have, and maps it to be
  * written: for zkv_format. */
 const char *zkv_file_new(zkv_file *f, const char *name, size_t bytes);

@@ -87,11 +87,30 @@ static void clean(void)
     HOLD(zkv_finish(LENT, r, zkv_write_back, zkv_store_fence, &best).kind == ZKV_END && zkv_run(LENT).kind == ZKV_IDLE);
 }
 
+/* Tables for images of several lengths: four words for each of the shortest entries, up to the most that are used. */
+static void tables(void)
+{
+    size_t bytes[3] = {0, CHUNKS * ZKV_CHUNK_BYTES, ZKV_CHUNKS_MAX * ZKV_CHUNK_BYTES};
+    size_t expected[3] = {0, CHUNKS * 1024, ZKV_TABLE_WORDS_MAX};
+    size_t words, i, j;
+    for (i = 0; i < 3; i++) {
+        uint64_t *made = zkv_table_new(bytes[i], &words);
+        HOLD(made != NULL && words == expected[i]);
+        for (j = 0; j < words; j++) {
+            HOLD(made[j] == 0);
+            made[j] = 1;
+        }
+        zkv_table_free(made, words);
+    }
+    zkv_table_free(NULL, 0);
+}
+
 int main(int count, char **argument)
 {
     zkv_file_wait at_once = {0, NULL};
     HOLD(count == 2 && zkv_file_guard("host"));
     HOLD(strcmp(zkv_version(), ZKV_VERSION) == 0 && strcmp(zkv_sentence(ZKV_KEY_ABSENT), "the key is absent") == 0);
+    tables();
     make(argument[1]);
     HOLD(zkv_file_new(&file, argument[1], CHUNKS * ZKV_CHUNK_BYTES) == NULL && zkv_file_take_name(&file, NULL) != NULL);
     zkv_file_close(&file);

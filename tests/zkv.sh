@@ -117,12 +117,13 @@ if mount -t tmpfs -o size=96k none disk 2> /dev/null; then
     cp --sparse=always l.img disk/holes.img
     printf '5\tB-\n' > list
     head -c 81920 /dev/urandom > disk/filler 2> /dev/null
-    for command in 'put disk/holes.img 5 value' 'check disk/holes.img' 'format disk/other.img 16' 'load disk/holes.img list' \
+    for command in 'put disk/holes.img 5 value' 'format disk/other.img 16' 'load disk/holes.img list' \
         'copy l.img disk/other.img'; do
         ends 2 $command
         hold "a message names the file: $(cat err)" grep -q '^zkv: disk/' err
     done
     hold "a format or copy that found no space leaves nothing behind: $(ls -A disk)" [ "$(ls -A disk | tr '\n' ' ')" = 'filler holes.img ' ]
+    ends 0 check disk/holes.img                             # chunks that are free are not read, so their holes need no space
     rm disk/filler
     ends 0 put disk/holes.img 5 value
     ends 0 get disk/holes.img 4711
