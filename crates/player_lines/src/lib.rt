@@ -1,0 +1,260 @@
+// A script's station, and the lines that lend it memory, alter that behind its back, or show what it holds.
+use blocks::BUFFER_WORDS;
+use blocks::Buffer;
+use script::Token;
+use session::Control;
+use session::Setup;
+use spec::Report;
+
+// The station's record, but for its buffer; the lengths lent; whether the last call left image, table and record as
+// they were; and whether lines are shown before they are played.
+pub struct State {
+    pub control: Control,
+    pub setup: Setup,
+    pub bytes: usize,
+    pub words: usize,
+    pub kept: bool,
+    pub aloud: bool,
+}
+
+fn closed() -> Control {
+    Control {
+        phase: 0,
+        next: 0,
+        items: 0,
+        words: 0,
+        keys: 0,
+        fresh: 0,
+    }
+}
+
+fn nothing() -> Setup {
+    Setup {
+        image: 0,
+        table: 0,
+        chunk: 0,
+        old: 0,
+        lines: 0,
+        first: 0,
+        least: 0,
+        fields: 0,
+        station: 0,
+        centre: 0,
+        source: session::no_source(),
+    }
+}
+
+pub fn new_state() -> State {
+    State {
+        control: closed(),
+        setup: nothing(),
+        bytes: 0,
+        words: 0,
+        kept: true,
+        aloud: false,
+    }
+}
+
+// THE LENT MEMORY
+pub fn bad() {
+    player_output::text(b"bad\n");
+}
+
+// An image of so many bytes, all zero; 65,536 at most.
+fn lend_image(state: State, image: &mut [u8], bytes: u64) -> State {
+    player_memory::zero_bytes(image);
+    let mut s = state;
+    s.bytes = if bytes <= 65536 {
+        bytes as usize
+    } else {
+        65536
+    };
+    s
+}
+
+// A key table of so many words, 8,192 at most, that hold what they held.
+fn lend_table(state: State, words: u64) -> State {
+    let mut s = state;
+    s.words = if words <= 8192 { words as usize } else { 8192 };
+    s
+}
+
+pub fn image_line(state: State, image: &mut [u8], bytes: Token) -> State {
+    if 65536 < bytes.value {
+        bad();
+        return state;
+    }
+    player_output::one(b"image", bytes.value);
+    lend_image(state, image, bytes.value)
+}
+
+pub fn table_line(state: State, table: &mut [u64], words: Token) -> State {
+    if 8192 < words.value {
+        bad();
+        return state;
+    }
+    player_output::one(b"table", words.value);
+    player_memory::zero_words(table);
+    lend_table(state, words.value)
+}
+
+pub fn lend_line(state: State, image: &mut [u8], bytes: Token, words: Token) -> State {
+    lend_table(lend_image(state, image, bytes.value), words.value)
+}
+
+// A record with nothing open.
+pub fn record_line(state: State, buffer: &mut Buffer) -> State {
+    *buffer = [0; BUFFER_WORDS];
+    player_output::text(b"record\n");
+    State {
+        control: closed(),
+        setup: nothing(),
+        bytes: state.bytes,
+        words: state.words,
+        kept: true,
+        aloud: state.aloud,
+    }
+}
+
+// Words of the image become a value, behind the station's back.
+fn fill_lent(bytes: usize, image: &mut [u8], from: usize, count: usize, value: u64) {
+    if bytes <= image.len() {
+        player_memory::fill(&mut image[0..bytes], from, count, value);
+    }
+}
+
+pub fn fill_line(bytes: usize, image: &mut [u8], from: Token, count: Token, value: Token) {
+    fill_lent(
+        bytes,
+        image,
+        from.value as usize,
+        count.value as usize,
+        value.value,
+    );
+}
+
+pub fn poke_line(bytes: usize, image: &mut [u8], word: Token, value: Token) {
+    let w = word.value as usize;
+    if bytes / 8 <= w {
+        bad();
+        return;
+    }
+    fill_lent(bytes, image, w, 1, value.value);
+    player_output::text(b"poke\n");
+}
+
+pub fn word_line(bytes: usize, image: &[u8], word: Token) {
+    if bytes <= image.len() {
+        let value = words::load(&image[0..bytes], word.value as usize);
+        player_output::two(b"word", word.value, value);
+    }
+}
+
+pub fn sum_line(bytes: usize, image: &[u8]) {
+    if bytes <= image.len() {
+        let sum = player_output::image_sum(&image[0..bytes]);
+        player_output::one(b"sum", sum);
+    }
+}
+
+// The known keys of an open register.
+pub fn keys_line(c: Control) {
+    if c.phase == 0 {
+        player_output::one(b"refused", 2);
+        return;
+    }
+    player_output::one(b"keys", c.keys as u64);
+}
+
+pub fn kept_line(kept: bool) {
+    if kept {
+        player_output::text(b"kept\n");
+    } else {
+        player_output::text(b"changed\n");
+    }
+}
+
+// LOOK-UP
+fn start_of(report: Report) -> u64 {
+    match report {
+        Report::Part { start, length: _ } => start as u64,
+        _ => 0,
+    }
+}
+
+// Where the value's part starts, its length and its sum.
+fn look(c: Control, s: Setup, image: &[u8], table: &[u64], key: u64) {
+    let mut answer: u64 = 0;
+    let value = lookup::look_up_core(c, s, image, table, key, &mut answer);
+    if answer != 0 {
+        player_output::one(b"refused", answer);
+        return;
+    }
+    let start = start_of(lookup::find(c, s, image, table, key));
+    player_output::three(
+        b"value",
+        start,
+        value.len() as u64,
+        player_output::value_sum(value),
+    );
+}
+
+// The value's length, its sum and its first bytes.
+fn show_value(c: Control, s: Setup, image: &[u8], table: &[u64], key: u64) {
+    let mut answer: u64 = 0;
+    let value = lookup::look_up_core(c, s, image, table, key, &mut answer);
+    if answer == 11 {
+        player_output::one(b"absent", key);
+        return;
+    }
+    if answer != 0 {
+        player_output::one(b"refused", answer);
+        return;
+    }
+    player_output::value(key, value, player_output::value_sum(value));
+}
+
+// A look-up is lent nothing that it could change.
+pub fn untouched(state: State) -> State {
+    let mut s = state;
+    s.kept = true;
+    s
+}
+
+pub fn look_line(state: State, image: &[u8], table: &[u64], key: Token) {
+    let bytes = state.bytes;
+    let words = state.words;
+    if bytes <= image.len() {
+        if words <= table.len() {
+            look(
+                state.control,
+                state.setup,
+                &image[0..bytes],
+                &table[0..words],
+                key.value,
+            );
+        }
+    }
+}
+
+pub fn show_line(state: State, image: &[u8], table: &[u64], key: Token) {
+    let bytes = state.bytes;
+    let words = state.words;
+    if bytes <= image.len() {
+        if words <= table.len() {
+            show_value(
+                state.control,
+                state.setup,
+                &image[0..bytes],
+                &table[0..words],
+                key.value,
+            );
+        }
+    }
+}
+
+pub fn read_aloud(state: State) -> State {
+    let mut s = state;
+    s.aloud = true;
+    s
+}
