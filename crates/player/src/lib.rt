@@ -2,8 +2,8 @@
 // tests/scripts.py has the commands.
 use blocks::BUFFER_WORDS;
 use blocks::Buffer;
-use player_calls::Command;
 use player_lines::State;
+use script::Command;
 use script::Line;
 use session::Control;
 use session::Outcome;
@@ -177,59 +177,16 @@ fn turn(
     at: usize,
     l: Line,
 ) -> State {
-    let command = player_calls::command_of(l.word);
-    let first = l.first;
-    let second = l.second;
-    let third = l.third;
+    let command = script::command_of(l.word);
     echo(state.aloud, text, at, l.next);
-    match command {
-        Command::Image => player_lines::image_line(state, image, first),
-        Command::Table => player_lines::table_line(state, table, first),
-        Command::Lend => player_lines::lend_line(state, image, first, second),
-        Command::Record => player_lines::record_line(state, buffer),
-        Command::Poke => {
-            player_lines::poke_line(state.bytes, image, first, second);
-            state
-        }
-        Command::Fill => {
-            player_lines::fill_line(state.bytes, image, first, second, third);
-            state
-        }
-        Command::Word => {
-            player_lines::word_line(state.bytes, image, first);
-            state
-        }
-        Command::Sum => {
-            player_lines::sum_line(state.bytes, image);
-            state
-        }
-        Command::Keys => {
-            player_lines::keys_line(state.control);
-            state
-        }
-        Command::Kept => {
-            player_lines::kept_line(state.kept);
-            state
-        }
-        Command::Look => {
-            player_lines::look_line(state, image, table, first);
-            player_lines::untouched(state)
-        }
-        Command::Show => {
-            player_lines::show_line(state, image, table, first);
-            state
-        }
-        Command::Aloud => player_lines::read_aloud(state),
-        Command::None => {
-            note_line(text, at, l.next);
-            state
-        }
-        Command::Bad => {
-            player_lines::bad();
-            state
-        }
-        _ => call(state, buffer, image, table, command, l),
+    if script::is_call(command) {
+        return call(state, buffer, image, table, command, l);
     }
+    if l.word == 0 {
+        note_line(text, at, l.next);
+        return state;
+    }
+    player_lines::lent_anew(state, buffer, image, table, command, l)
 }
 
 // Every line of a script, on a station with nothing open and nothing lent.

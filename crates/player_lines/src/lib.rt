@@ -1,6 +1,8 @@
 // A script's station, and the lines that lend it memory, alter that behind its back, or show what it holds.
 use blocks::BUFFER_WORDS;
 use blocks::Buffer;
+use script::Command;
+use script::Line;
 use script::Token;
 use session::Control;
 use session::Setup;
@@ -79,7 +81,7 @@ fn lend_table(state: State, words: u64) -> State {
     s
 }
 
-pub fn image_line(state: State, image: &mut [u8], bytes: Token) -> State {
+fn image_line(state: State, image: &mut [u8], bytes: Token) -> State {
     if 65536 < bytes.value {
         bad();
         return state;
@@ -88,7 +90,7 @@ pub fn image_line(state: State, image: &mut [u8], bytes: Token) -> State {
     lend_image(state, image, bytes.value)
 }
 
-pub fn table_line(state: State, table: &mut [u64], words: Token) -> State {
+fn table_line(state: State, table: &mut [u64], words: Token) -> State {
     if 8192 < words.value {
         bad();
         return state;
@@ -98,12 +100,12 @@ pub fn table_line(state: State, table: &mut [u64], words: Token) -> State {
     lend_table(state, words.value)
 }
 
-pub fn lend_line(state: State, image: &mut [u8], bytes: Token, words: Token) -> State {
+fn lend_line(state: State, image: &mut [u8], bytes: Token, words: Token) -> State {
     lend_table(lend_image(state, image, bytes.value), words.value)
 }
 
 // A record with nothing open.
-pub fn record_line(state: State, buffer: &mut Buffer) -> State {
+fn record_line(state: State, buffer: &mut Buffer) -> State {
     *buffer = [0; BUFFER_WORDS];
     player_output::text(b"record\n");
     State {
@@ -123,7 +125,7 @@ fn fill_lent(bytes: usize, image: &mut [u8], from: usize, count: usize, value: u
     }
 }
 
-pub fn fill_line(bytes: usize, image: &mut [u8], from: Token, count: Token, value: Token) {
+fn fill_line(bytes: usize, image: &mut [u8], from: Token, count: Token, value: Token) {
     fill_lent(
         bytes,
         image,
@@ -133,7 +135,7 @@ pub fn fill_line(bytes: usize, image: &mut [u8], from: Token, count: Token, valu
     );
 }
 
-pub fn poke_line(bytes: usize, image: &mut [u8], word: Token, value: Token) {
+fn poke_line(bytes: usize, image: &mut [u8], word: Token, value: Token) {
     let w = word.value as usize;
     if bytes / 8 <= w {
         bad();
@@ -143,14 +145,14 @@ pub fn poke_line(bytes: usize, image: &mut [u8], word: Token, value: Token) {
     player_output::text(b"poke\n");
 }
 
-pub fn word_line(bytes: usize, image: &[u8], word: Token) {
+fn word_line(bytes: usize, image: &[u8], word: Token) {
     if bytes <= image.len() {
         let value = words::load(&image[0..bytes], word.value as usize);
         player_output::two(b"word", word.value, value);
     }
 }
 
-pub fn sum_line(bytes: usize, image: &[u8]) {
+fn sum_line(bytes: usize, image: &[u8]) {
     if bytes <= image.len() {
         let sum = player_output::image_sum(&image[0..bytes]);
         player_output::one(b"sum", sum);
@@ -158,7 +160,7 @@ pub fn sum_line(bytes: usize, image: &[u8]) {
 }
 
 // The known keys of an open register.
-pub fn keys_line(c: Control) {
+fn keys_line(c: Control) {
     if c.phase == 0 {
         player_output::one(b"refused", 2);
         return;
@@ -166,7 +168,7 @@ pub fn keys_line(c: Control) {
     player_output::one(b"keys", c.keys as u64);
 }
 
-pub fn kept_line(kept: bool) {
+fn kept_line(kept: bool) {
     if kept {
         player_output::text(b"kept\n");
     } else {
@@ -215,13 +217,13 @@ fn show_value(c: Control, s: Setup, image: &[u8], table: &[u64], key: u64) {
 }
 
 // A look-up is lent nothing that it could change.
-pub fn untouched(state: State) -> State {
+fn untouched(state: State) -> State {
     let mut s = state;
     s.kept = true;
     s
 }
 
-pub fn look_line(state: State, image: &[u8], table: &[u64], key: Token) {
+fn look_line(state: State, image: &[u8], table: &[u64], key: Token) {
     let bytes = state.bytes;
     let words = state.words;
     if bytes <= image.len() {
@@ -237,7 +239,7 @@ pub fn look_line(state: State, image: &[u8], table: &[u64], key: Token) {
     }
 }
 
-pub fn show_line(state: State, image: &[u8], table: &[u64], key: Token) {
+fn show_line(state: State, image: &[u8], table: &[u64], key: Token) {
     let bytes = state.bytes;
     let words = state.words;
     if bytes <= image.len() {
@@ -253,8 +255,53 @@ pub fn show_line(state: State, image: &[u8], table: &[u64], key: Token) {
     }
 }
 
-pub fn read_aloud(state: State) -> State {
+fn read_aloud(state: State) -> State {
     let mut s = state;
     s.aloud = true;
     s
+}
+
+// ONE LINE
+// A line that shows something, or alters the image behind the station's back.
+fn shown(state: State, image: &mut [u8], table: &[u64], command: Command, l: Line) {
+    let bytes = state.bytes;
+    let first = l.first;
+    match command {
+        Command::Poke => poke_line(bytes, image, first, l.second),
+        Command::Fill => fill_line(bytes, image, first, l.second, l.third),
+        Command::Word => word_line(bytes, image, first),
+        Command::Sum => sum_line(bytes, image),
+        Command::Keys => keys_line(state.control),
+        Command::Kept => kept_line(state.kept),
+        Command::Look => look_line(state, image, table, first),
+        Command::Show => show_line(state, image, table, first),
+        _ => bad(),
+    }
+}
+
+// A line that lends the station something else, or how it is played; any other is shown.
+pub fn lent_anew(
+    state: State,
+    buffer: &mut Buffer,
+    image: &mut [u8],
+    table: &mut [u64],
+    command: Command,
+    l: Line,
+) -> State {
+    let first = l.first;
+    match command {
+        Command::Image => image_line(state, image, first),
+        Command::Table => table_line(state, table, first),
+        Command::Lend => lend_line(state, image, first, l.second),
+        Command::Record => record_line(state, buffer),
+        Command::Aloud => read_aloud(state),
+        Command::Look => {
+            shown(state, image, table, command, l);
+            untouched(state)
+        }
+        _ => {
+            shown(state, image, table, command, l);
+            state
+        }
+    }
 }
