@@ -5,3 +5,4 @@ pub mod Add
 pub mod Items
 pub mod Count
 pub mod Fits
+pub mod Any

@@ -5,8 +5,9 @@ use mathlib.Core.Bool.{Bool}
 use mathlib.Core.List.{List}
 use Prim.Native.Nat.{ℕ, _+_, min}
 use lib.Dec.{eqb}
-use Rattle.spec.specs.Basics.{pick, all}
-use Rattle.spec.specs.Log.{Entry, wordsFor, encodeAll}
+use Rattle.spec.specs.Basics.{pick, all, negate, isEmpty}
+use Rattle.spec.specs.Log.{Entry, wordsFor, parse, encodeAll}
+use Rattle.spec.specs.Contents.{listed}
 use Rattle.spec.specs.Plans.{isDelete}
 use Rattle.spec.specs.declared.FirstWord.{FirstWord}
 use Rattle.spec.specs.declared.FirstWord.the-variants as F
@@ -46,3 +47,7 @@ LastStaged buffer words key r = (items : List Entry) → StagedIn buffer words i
 
 abbrev pub OnlyDeletes : List ℕ → ℕ → Bool → Type 0
 OnlyDeletes buffer words r = (items : List Entry) → StagedIn buffer words items → r ≡ all isDelete items
+
+-- whether the staged words say an item, whatever they are
+unfoldable pub anyItem : List ℕ → ℕ → Bool
+anyItem buffer words = negate (isEmpty (listed (parse (bufferPart buffer 0 (min words batchRoom)) 0 0)))

@@ -1,12 +1,13 @@
 // The staged entries, kept in words 0 to 511 of the station record's buffer as the very words that a commit writes.
 ghost use mathlib.Core.Path.{_≡_};
 ghost use Prim.Native.Nat.{_+_, _^_, _<_, _≤_, min};
-ghost use lib.ListN.{getD};
+ghost use lib.ListN.{getD, drop};
+ghost use lib.Seq.{slice};
 ghost use Rattle.spec.specs.Words.{packed};
-ghost use Rattle.spec.specs.Log.{firstOf};
+ghost use Rattle.spec.specs.Log.{firstOf, wordsFor, filled, stepOf};
 ghost use Rattle.spec.specs.Plans.{entry};
 ghost use Rattle.session.specs.State.{batchRoom};
-ghost use Rattle.batch.specs.Items.{itemBy, laterOf, LastStaged, OnlyDeletes};
+ghost use Rattle.batch.specs.Items.{itemBy, laterOf, LastStaged, OnlyDeletes, anyItem};
 ghost use Rattle.batch.specs.Added.{Added};
 use blocks::Buffer;
 use blocks::buffer_length;
@@ -14,6 +15,7 @@ use codec::first_of;
 use codec::first_word;
 use log::words_for;
 use spec::FirstWord;
+use spec::LogStep;
 use words::pack_into;
 
 // What the last staged item of a key says, 0 and 0 where there is none.
@@ -116,6 +118,97 @@ pub fn only_deletes(buffer: &Buffer, words: usize) -> bool
         }
     }
     true
+}
+
+// Whether the value of an item at word `at`, which takes so many words and ends within the batch, is zero-filled.
+fn fill_right(buffer: &Buffer, at: usize, placement: u64, field: u64, words: usize) -> bool
+    requires { ⌜ (words ≡ wordsFor placement field) × (at + (2 + words) ≤ batchRoom) ⌝ }
+    ensures { λ r. ⌜ r ≡ filled placement field (drop at (now (buffer .entry))) ⌝ }
+{
+    if placement != 0 {
+        return true;
+    }
+    let odd = field % 8;
+    if odd == 0 {
+        return true;
+    }
+    let last = buffer[at + (1 + words)];
+    last < 1 << (8 * odd)
+}
+
+// What stands at word `at` of the batch, of the words before word `end`.
+fn step_at(buffer: &Buffer, at: usize, end: usize) -> LogStep
+    requires { ⌜ end ≤ batchRoom ⌝ }
+    ensures { λ r. ⌜ r ≡ stepOf (slice at end (now (buffer .entry))) ⌝ }
+{
+    buffer_length(buffer);
+    if end <= at {
+        return LogStep::End;
+    }
+    let f = first_of(buffer[at]);
+    match f {
+        FirstWord::Padding => LogStep::Padding,
+        FirstWord::Wrong => LogStep::Wrong,
+        FirstWord::Entry {
+            op,
+            placement,
+            version,
+            field,
+        } => {
+            let words = words_for(placement, field);
+            if end - at < 2 + words {
+                return LogStep::Wrong;
+            }
+            if fill_right(buffer, at, placement, field, words) {
+                let key = buffer[at + 1];
+                LogStep::Entry {
+                    op,
+                    placement,
+                    version,
+                    field,
+                    key,
+                    words,
+                }
+            } else {
+                LogStep::Wrong
+            }
+        }
+    }
+}
+
+// Whether the staged words say an item, whatever they are: words that are no batch say none.
+pub fn any_item(buffer: &Buffer, words: usize) -> bool
+    ensures { λ r. ⌜ r ≡ anyItem (now (buffer .entry)) words ⌝ }
+{
+    let end = batch_end(words);
+    let mut any = false;
+    let mut at = 0;
+    buffer_length(buffer);
+    loop {
+        let s = step_at(buffer, at, end);
+        match s {
+            LogStep::End => {
+                return any;
+            }
+            LogStep::Wrong => {
+                return false;
+            }
+            LogStep::Padding => {
+                at += 1;
+            }
+            LogStep::Entry {
+                op: _,
+                placement: _,
+                version: _,
+                field: _,
+                key: _,
+                words: more,
+            } => {
+                any = true;
+                at += 2 + more;
+            }
+        }
+    }
 }
 
 // One more staged item, if it fits: its words behind the others. The answer is the number of words then.

@@ -157,12 +157,13 @@ module _ (p limit : ℕ) (s : Session) (bytes table : List ℕ) (n : Refusal) (g
   member = gate-number (stateOf s) (length bytes) (length table) n g
 
   pub turned-down : (k : Call) → Gating k → Called Proper stateOf Fits p limit k s s bytes bytes table table (R.Refused n)
+  unfolding next
   turned-down (Format a b) t = absurd t
   turned-down Open t = absurd t
   turned-down (Put k v) t = refused p limit s bytes table n (Put k v) refl (λ f. f) (λ f. sym (rw g)) only member (refl, refl) (inl (n, refl))
   turned-down (Delete k) t = refused p limit s bytes table n (Delete k) refl (λ f. f) (λ f. sym (rw g)) only member (refl, refl) (inl (n, refl))
   turned-down Commit t = refused p limit s bytes table n Commit refl (λ f. f) (λ f. sym (rw g)) only member (refl, refl) (inl (n, refl))
-  turned-down Abandon t = refused p limit s bytes table n Abandon refl (λ f. f) (λ f. sym (rw g)) only member (refl, refl) (inl (n, refl))
+  turned-down Abandon t = refused p limit s bytes table n Abandon refl (λ f. f) (λ f. sym (rw g)) only member (refl, refl) (sym (rw g), sym (rw g))
   turned-down (LookUp k) t = refused p limit s bytes table n (LookUp k) refl (λ f. f) (λ f. sym (rw g)) only member (refl, refl) (inl (n, refl))
   turned-down Choose t = refused p limit s bytes table n Choose refl (λ f. f) (λ f. sym (rw g)) only member (refl, refl) (inl (n, refl))
   turned-down (Clean c) t = refused p limit s bytes table n (Clean c) refl (λ f. f) (λ f. sym (rw g)) only member (refl, refl) (inl (n, refl))

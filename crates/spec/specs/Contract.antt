@@ -54,8 +54,8 @@ AgainBy ToStep r Fit = Fit
 abbrev pub Again : Call → Report → Type 0 → Type 0
 Again k r Fit = AgainBy (kindOf k) r Fit
 
--- ANY MEMORY AT ALL, by call: which answers the call has, and the state that it leaves. A step is exact, whatever image
--- and table hold.
+-- ANY MEMORY AT ALL, by call: which answers the call has, and the state that it leaves. A step, an abandoning and a
+-- formatting's begin are exact, whatever image and table hold.
 abbrev pub Refuses : Report → Type 0
 Refuses r = (n : Refusal) × (r ≡ R.Refused n)
 
@@ -78,7 +78,7 @@ Anyway p limit Open σ σ′ ws bytes table r = Refuses r ⊎ ((r ≡ R.Opened) 
 Anyway p limit (Put k v) σ σ′ ws bytes table r = Refuses r ⊎ Begins (StagesIn bytes table) σ′ r
 Anyway p limit (Delete k) σ σ′ ws bytes table r = Refuses r ⊎ Begins (StagesIn bytes table) σ′ r
 Anyway p limit Commit σ σ′ ws bytes table r = Refuses r ⊎ Begins (CommitsIn bytes table (itemsOf σ)) σ′ r
-Anyway p limit Abandon σ σ′ ws bytes table r = Refuses r ⊎ ((r ≡ R.Abandoned) × (σ′ ≡ Rest bytes table []))
+Anyway p limit Abandon σ σ′ ws bytes table r = (r ≡ answer p limit Abandon σ ws bytes table) × (σ′ ≡ next p limit Abandon σ ws bytes table)
 Anyway p limit (LookUp k) σ σ′ ws bytes table r = Refuses r ⊎ ((a : ℕ) × ((n : ℕ) × ((r ≡ R.Part a n) × (a + n ≤ bytes))))
 Anyway p limit Choose σ σ′ ws bytes table r = Refuses r ⊎ ((c : ℕ) × ((r ≡ R.Chosen c) × ((1 ≤ c) × (c < chunksIn p bytes))))
 Anyway p limit (Clean c) σ σ′ ws bytes table r = Refuses r ⊎ Begins (CleansIn bytes table) σ′ r

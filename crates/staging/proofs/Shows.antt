@@ -1,17 +1,18 @@
 -- What the code shows at the gate, and at each return of an abandoning, is what the contract says.
 -- Assumes nothing.
-use mathlib.Core.Path.{_≡_, refl, _∙_, ap}
+use mathlib.Core.Path.{_≡_, refl, sym, _∙_, ap}
 use mathlib.Core.Logic.{inl, inr}
 use mathlib.Core.Bool.{true, false}
 use mathlib.Core.Option.{none, some}
-use mathlib.Core.List.{List, [], _∷_}
-use Prim.Native.Nat.{ℕ}
+use mathlib.Core.List.{List, [], _∷_, map}
+use Prim.Native.Nat.{ℕ, min}
 use native.Mathlib.Omega.{arith}
 use lib.ListN.{length}
-use Rattle.spec.specs.Basics.{isEmpty}
+use Rattle.spec.specs.Basics.{pick, negate, isEmpty}
 use Rattle.spec.specs.Words.{wordsOf}
 use Rattle.spec.specs.Places.{chunksIn}
-use Rattle.spec.specs.Log.{Entry}
+use Rattle.spec.specs.Log.{Entry, moved, parse}
+use Rattle.spec.specs.Contents.{listed}
 use Rattle.spec.specs.Machine.{Rest, Call, Abandon, gate, refusedBy, answer, next}
 use Rattle.session.specs.declared.Control.{Control}
 use Rattle.session.specs.declared.Setup.{Setup}
@@ -20,7 +21,8 @@ use Rattle.spec.specs.declared.Refusal.{Refusal}
 use Rattle.spec.specs.declared.Refusal.the-variants as N
 use Rattle.spec.specs.declared.Report.{Report}
 use Rattle.spec.specs.declared.Report.the-variants as R
-use Rattle.session.specs.State.{batchWords, batchItems, stateAt, stateOf, limit}
+use Rattle.session.specs.State.{batchRoom, bufferPart, batchWords, batchItems, stateAt, stateOf, limit}
+use Rattle.batch.specs.Items.{anyItem}
 use Rattle.session.specs.Fits.{RestFits, Fits}
 use Rattle.session.proofs.Kept.{none-fit}
 use Rattle.session.specs.declared.Gated.{Gated}
@@ -55,22 +57,25 @@ module _ (c : Control) (k : Setup) (b bytes table : List ℕ) where
 
       -- ## Abandoning
 
-      empty : (items : List Entry) → length items ≡ 0 → isEmpty items ≡ true
-      empty [] h = refl
-      empty (e ∷ es) h = absurd (omega arith)
-
-      filled : (items : List Entry) → (length items ≡ 0 → ⊥) → isEmpty items ≡ false
-      filled [] h = absurd (h refl)
-      filled (e ∷ es) h = refl
-
-      pub abandon-none : c .items ≡ 0 → Does Abandon s s bytes bytes table table (R.Refused N.NothingStaged)
-      abandon-none h = refused 12 limit s bytes table N.NothingStaged Abandon refl (λ f. f) answered (passed (R.Refused N.NothingStaged)) (inr (inr (inr (inl refl)))) (refl, refl) (inl (N.NothingStaged, refl))
+      -- the items of the record's state are those that its words say, for any memory
+      says : isEmpty (batchItems c b) ≡ negate (anyItem b (c .words))
+      unfolding batchItems batchWords anyItem
+      says = go (listed (parse (bufferPart b 0 (min (c .words) batchRoom)) 0 0))
         where
-          answered : Fits s (wordsOf bytes) table → R.Refused N.NothingStaged ≡ answer 12 limit Abandon (stateOf s) (wordsOf bytes) (length bytes) (length table)
-          answered f =
-              let a = rests f in
-              let n = a .fits .batch .count in
-              rw (opened, a .state, empty (a .items) (omega arith))
+          go : (es : List Entry) → isEmpty (map (moved 0) es) ≡ negate (negate (isEmpty es))
+          go [] = refl
+          go (e ∷ es) = refl
+
+      abandons : (r : Report) → pick (isEmpty (batchItems c b)) (R.Refused N.NothingStaged) R.Abandoned ≡ r → answer 12 limit Abandon (stateOf s) (wordsOf bytes) (length bytes) (length table) ≡ r
+      abandons r h = rw (opened, lengths .state) h
+
+      pub abandon-none : anyItem b (c .words) ≡ false → Does Abandon s s bytes bytes table table (R.Refused N.NothingStaged)
+      unfolding next
+      abandon-none h =
+          refused 12 limit s bytes table N.NothingStaged Abandon refl (λ f. f) (λ f. sym answered) (passed (R.Refused N.NothingStaged)) (inr (inr (inr (inl refl)))) (refl, refl) (sym answered, sym (rw answered))
+        where
+          answered : answer 12 limit Abandon (stateOf s) (wordsOf bytes) (length bytes) (length table) ≡ R.Refused N.NothingStaged
+          answered = abandons (R.Refused N.NothingStaged) (rw (says, h))
 
       -- the record with nothing staged
       abbrev bare : Session
@@ -92,21 +97,27 @@ module _ (c : Control) (k : Setup) (b bytes table : List ℕ) where
             hint = f .hint;
           }
 
-      pub abandon-done : (c .items ≡ 0 → ⊥) → Does Abandon s bare bytes bytes table table R.Abandoned
-      unfolding stateAt batchItems batchWords next
+      bare-state : stateOf bare ≡ Rest (k .image) (k .table) []
+      unfolding stateAt batchItems batchWords
+      bare-state = refl
+
+      pub abandon-done : anyItem b (c .words) ≡ true → Does Abandon s bare bytes bytes table table R.Abandoned
+      unfolding next
       abandon-done h = record {
-        exact = λ f.
-            let a = rests f in
-            let n = a .fits .batch .count in
-            let e = filled (a .items) (λ q. h (n ∙ q)) in
-            record {
-              answered = rw (opened, a .state, e);
-              became = rw (opened, a .state, e);
-              fits = (f .0, bare-fits (a .items) (a .fits));
-            };
+        exact = λ f. record { answered = sym answered; became = became; fits = (f .0, rw bare-state (bare-fits (rests f .items) (rests f .fits))) };
         first = passed R.Abandoned;
         image = refl;
         sized = refl;
-        outcome = (refl, refl);
-        anyway = inr (refl, ap (λ (i : ℕ). Rest i (k .table) []) (lengths .same-bytes) ∙ ap (λ (i : ℕ). Rest (length bytes) i []) (lengths .same-words));
+        outcome = (rw bare-state, refl);
+        anyway = (sym answered, became);
       }
+        where
+          answered : answer 12 limit Abandon (stateOf s) (wordsOf bytes) (length bytes) (length table) ≡ R.Abandoned
+          answered = abandons R.Abandoned (rw (says, h))
+
+          became : stateOf bare ≡ next 12 limit Abandon (stateOf s) (wordsOf bytes) (length bytes) (length table)
+          became =
+              bare-state
+              ∙ ap (λ (i : ℕ). Rest i (k .table) []) (lengths .same-bytes)
+              ∙ ap (λ (i : ℕ). Rest (length bytes) i []) (lengths .same-words)
+              ∙ sym (rw (answered, lengths .state))

@@ -18,7 +18,8 @@ use spec::Refusal;
 use spec::Report;
 
 // ABANDON
-// Forgets the staged items: 14 if there are none.
+// Forgets the staged items: 14 if there are none. It goes by the items that the staged words say, as the state does, so
+// that its answer is the rules' for any memory.
 pub fn abandon_core(
     control: Control,
     setup: Setup,
@@ -36,25 +37,26 @@ pub fn abandon_core(
             report: Report::Refused(n),
         },
         Gated::Open => {
-            if control.items == 0 {
+            let staged = batch::any_item(buffer, control.words);
+            if staged {
+                let next = Control {
+                    phase: 1,
+                    next: 0,
+                    items: 0,
+                    words: 0,
+                    keys: control.keys,
+                    fresh: 0,
+                };
                 return Outcome {
-                    control,
+                    control: next,
                     setup,
-                    report: Report::Refused(Refusal::NothingStaged),
+                    report: Report::Abandoned,
                 };
             }
-            let next = Control {
-                phase: 1,
-                next: 0,
-                items: 0,
-                words: 0,
-                keys: control.keys,
-                fresh: 0,
-            };
             Outcome {
-                control: next,
+                control,
                 setup,
-                report: Report::Abandoned,
+                report: Report::Refused(Refusal::NothingStaged),
             }
         }
     }

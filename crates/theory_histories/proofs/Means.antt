@@ -9,7 +9,7 @@ use mathlib.Core.List.{List, [], _∷_, _++_}
 use Prim.Native.Nat.{ℕ, _*_}
 use lib.Dec.{eqb}
 use lib.ListN.{length}
-use Rattle.spec.specs.Basics.{pick, both}
+use Rattle.spec.specs.Basics.{pick, both, isEmpty}
 use Rattle.spec.specs.Words.{wordsOf, AreBytes}
 use Rattle.spec.specs.Places.{base, chunksIn, lengthAllowed}
 use Rattle.spec.specs.Actions.{formatOf}
@@ -17,7 +17,7 @@ use Rattle.spec.specs.Medium.{Medium, Action, Store, Flush, Fence, latest, sett
 use Rattle.spec.specs.Log.{Entry}
 use Rattle.spec.specs.Contents.{Held, contents, contentsBy, meaning, entriesIn, listed}
 use Rattle.spec.specs.Reports.{mediumAfter, isRefused}
-use Rattle.spec.specs.Machine.{Call, Format, Open, Put, Delete, Commit, Abandon, LookUp, Choose, Clean, Step, State, Closed, Rest, Busy, Formatting, gate, refusedBy, isUnfinished, isOpening, kindOf, stepAnswer, answer}
+use Rattle.spec.specs.Machine.{Call, Format, Open, Put, Delete, Commit, Abandon, LookUp, Choose, Clean, Step, State, Closed, Rest, Busy, Formatting, gate, itemsOf, gated, refusedBy, isUnfinished, isOpening, kindOf, stepAnswer, answer}
 use Rattle.spec.specs.Book.{Item, Book, newBook, nothing, doneItem, doneItems, doneBatch, note, isEnd}
 use Rattle.spec.specs.Contract.{Changed, Refuses, Called}
 use Rattle.spec.specs.History.{Lent, World, SameLent, Stands, Stepped, unfinishedAfter, afterCall, world}
@@ -103,6 +103,10 @@ pick-quiet : (t : Bool) (r q : Report) → isStore r ≡ false → isStore q ≡
 pick-quiet true r q x y = x
 pick-quiet false r q x y = y
 
+gated-quiet : (g : Option Refusal) (r : Report) → isStore r ≡ false → isStore (gated g r) ≡ false
+gated-quiet none r e = e
+gated-quiet (some n) r e = refl
+
 rest-quiet : (σ : State) (x y : ℕ) → isUnfinished σ ≡ false → isStore (stepAnswer σ x y) ≡ false
 rest-quiet Closed x y e = refl
 rest-quiet (Rest l t items) x y e = refl
@@ -127,7 +131,10 @@ module _ (p limit : ℕ) {S : Type 0} (Proper : S → Type 0) (stateOf : S → S
   writes-none (Put k v) u idle t c = ⊎-elim refused (λ q. silent (R.Begun (length (q .0))) (q .1 .1) refl) (c .anyway)
   writes-none (Delete k) u idle t c = ⊎-elim refused (λ q. silent (R.Begun (length (q .0))) (q .1 .1) refl) (c .anyway)
   writes-none Commit u idle t c = ⊎-elim refused (λ q. silent (R.Begun (length (q .0))) (q .1 .1) refl) (c .anyway)
-  writes-none Abandon u idle t c = ⊎-elim refused (λ q. silent R.Abandoned (q .0) refl) (c .anyway)
+  writes-none Abandon u idle t c =
+      silent (answer p limit Abandon (stateOf s) (wordsOf image) (length image) (length table)) (c .anyway .0)
+      (gated-quiet (gate (stateOf s) (length image) (length table)) (pick (isEmpty (itemsOf (stateOf s))) (R.Refused N.NothingStaged) R.Abandoned)
+      (pick-quiet (isEmpty (itemsOf (stateOf s))) (R.Refused N.NothingStaged) R.Abandoned refl refl))
   writes-none (LookUp k) u idle t c = ⊎-elim refused (λ q. silent (R.Part (q .0) (q .1 .0)) (q .1 .1 .0) refl) (c .anyway)
   writes-none Choose u idle t c = ⊎-elim refused (λ q. silent (R.Chosen (q .0)) (q .1 .0) refl) (c .anyway)
   writes-none (Clean k) u idle t c = ⊎-elim refused (λ q. silent (R.Begun (length (q .0))) (q .1 .1) refl) (c .anyway)
