@@ -8,15 +8,15 @@ use mathlib.Core.List.{List, [], _∷_}
 use Prim.Native.Nat.{ℕ, zero, suc}
 use lib.Dec.{eqb, ltb}
 use lib.ListN.{length, getD}
-use Rattle.spec.specs.Basics.{pick, both, either, negate, filter, first}
+use Rattle.spec.specs.Basics.{pick, either}
 use Rattle.spec.specs.Words.{wordsOf}
 use Rattle.spec.specs.Places.{lengthAllowed, chunksIn, maxChunks, directoryWord}
 use Rattle.spec.specs.Header.{headerRight}
 use Rattle.spec.specs.Directory.{directoryRight}
 use Rattle.spec.specs.Log.{Entry}
-use Rattle.spec.specs.Contents.{isTop, chosen}
-use Rattle.spec.specs.Opening.{Opening, Refused, Accepted, opening, eachTop, fine, agreeWith, sharing}
+use Rattle.spec.specs.Opening.{Opening, Refused, Accepted, opening, fine}
 use Rattle.spec.specs.declared.Refusal.the-variants as N
+use Rattle.top_faults.specs.Tops.{firstTop, atOne}
 use Rattle.faults.specs.declared.Fault.{Fault}
 use Rattle.faults.specs.declared.Fault.the-variants as F
 use Rattle.faults.specs.Reading.{Reading, Whole, Upto, readImage}
@@ -52,18 +52,7 @@ wordRight p n ws c = directoryRight p n c (getD ws (directoryWord c) 0)
 abbrev pub directoryFault : ℕ → ℕ → List ℕ → ℕ
 directoryFault p n ws = firstNot (wordRight p n ws) maxChunks 0
 
--- ## 5 and 6: top entries
-
--- the first top entry of which a test does not hold
-abbrev pub firstTop : List Entry → (Entry → Bool) → Option Entry
-firstTop es test = first (filter (λ e. both (isTop es e) (negate (test e))) es)
-
--- it agrees with the chosen one of its key, and shares its block with no other key's top entry
-abbrev pub apartFrom : List Entry → Entry → Bool
-apartFrom es e = eachTop es (λ f. pick (sharing e f) (eqb (e .key) (f .key)) true)
-
-abbrev pub atOne : List Entry → Entry → Bool
-atOne es e = both (agreeWith e (chosen (e .key) es)) (apartFrom es e)
+-- ## 5 and 6: top entries (`top_faults.Tops`)
 
 abbrev pub topsFault : Option Entry → Fault
 topsFault none = F.Nothing
@@ -89,6 +78,10 @@ chunksFault p n ws =
 -- of an image of so many bytes whose words are ws
 unfoldable pub faultOf : ℕ → ℕ → List ℕ → Fault
 faultOf p bytes ws = pick (lengthAllowed p bytes) (chunksFault p (chunksIn p bytes) ws) F.Length
+
+-- by the two places that the pass finds, 0 where it finds none
+abbrev pub spotFault : (block tops : ℕ) → Fault
+spotFault block tops = pick (eqb block 0) (pick (eqb tops 0) F.Nothing (F.Tops tops)) (F.Block block)
 
 -- ## What an opening answers
 

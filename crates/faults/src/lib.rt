@@ -8,9 +8,10 @@ ghost use Rattle.spec.specs.Basics.{pick, either};
 ghost use Rattle.spec.specs.Words.{wordsOf};
 ghost use Rattle.spec.specs.Directory.{isRole};
 ghost use Rattle.faults.specs.Reading.{readImage, stopBy};
-ghost use Rattle.faults.specs.Faults.{failing, headerFault, wordRight, directoryFault};
+ghost use Rattle.faults.specs.Faults.{failing, headerFault, wordRight, directoryFault, spotFault, logFault, Located};
 use spec::LogStep;
 use spec::Role;
+use top_faults::Spots;
 
 // Why an opening refuses an image, and where: the word of the header, the chunk whose directory word is wrong, the
 // first word of the entry; `before` is how many entries stand before it in the log.
@@ -203,4 +204,52 @@ fn read_log(image: &[u8], count: usize) -> Stop
             }
         }
     }
+}
+
+// 5 AND 6, by the two places that the pass over the top entries finds.
+fn spot_fault(s: Spots) -> Fault
+    ensures { λ r. ⌜ r ≡ spotFault (s .block) (s .tops) ⌝ }
+{
+    if s.block == 0 {
+        if s.tops == 0 {
+            return Fault::Nothing;
+        }
+        return Fault::Tops(s.tops);
+    }
+    Fault::Block(s.block)
+}
+
+// 4 to 6, of an image of `count` chunks.
+fn log_fault(image: &[u8], count: usize) -> Fault
+    requires { ⌜ count ≤ 504 ⌝ }
+    ensures { λ r. ⌜ r ≡ logFault 12 count (wordsOf (now (image .entry))) (readImage 12 count (wordsOf (now (image .entry)))) ⌝ }
+{
+    let stop = read_log(image, count);
+    match stop {
+        Stop::At { word, before } => Fault::Entry { word, before },
+        Stop::Nowhere => {
+            let s = top_faults::find_spots(image, count);
+            spot_fault(s)
+        }
+    }
+}
+
+// Why an opening refuses the image, and where.
+pub fn fault_of(image: &[u8]) -> Fault
+    ensures { λ r. ⌜ Located (now (image .entry)) r ⌝ }
+{
+    let bytes = image.len();
+    if opening::length_allowed(bytes) {
+        let count = bytes / 4096;
+        if opening::header_fits(image, count) {
+            let chunk = directory_fault(image, count);
+            if chunk < 504 {
+                return Fault::Directory(chunk);
+            }
+            return log_fault(image, count);
+        }
+        let word = header_fault(image, count);
+        return Fault::Header(word);
+    }
+    Fault::Length
 }
