@@ -12,7 +12,7 @@ use lib.ListN.{length}
 use borrow.Author.Tests.{ne-eqb, lt-ltb, le-ltb}
 use Rattle.spec.specs.Basics.{pick, both, negate, filter, first, all}
 use Rattle.spec.specs.Words.{wordsOf}
-use Rattle.spec.specs.Places.{lengthAllowed, chunksIn, chunkBytes, maxChunks}
+use Rattle.spec.specs.Places.{lengthAllowed, chunksIn, chunkBytes, maxChunks, directoryWord}
 use Rattle.spec.specs.Header.{headerRight}
 use Rattle.spec.specs.Log.{Entry, Parsed, Wrong, Entries, imageEntries}
 use Rattle.spec.specs.Contents.{isTop, chosen}
@@ -90,7 +90,7 @@ chunks-answer : (n table : ℕ) (ws : List ℕ) → Answers (chunksFault 12 n ws
 chunks-answer n table ws = rw (directory-tested n ws) (go (headerRight n ws) (ltb (directoryFault 12 n ws) maxChunks) (readImage 12 n ws) (parsed-image 12 n ws))
   where
     go : (a b : Bool) (r : Reading) → parsedOf r ≡ imageEntries 12 n ws
-        → Answers (pick a (pick b (F.Directory (directoryFault 12 n ws)) (logFault 12 n ws r)) (F.Header (headerFault n ws)))
+        → Answers (pick a (pick b (F.Directory (directoryFault 12 n ws) (directoryWord (directoryFault 12 n ws))) (logFault 12 n ws r)) (F.Header (headerFault n ws)))
         (pick a (pick (negate b) (openLog 12 n ws table (imageEntries 12 n ws)) (Refused N.DirectoryWrong)) (Refused N.NotOpen))
     go false b r e = refl
     go true true r e = refl
@@ -161,9 +161,9 @@ module _ (bytes : List ℕ) (a : Bool) (is-a : a ≡ lengthAllowed 12 (length by
     shows-header w h e = located bytes (F.Header w) (sym (rw (← is-a, yes-a, chunks-are (length bytes), ← is-b, h, ← e)))
 
     module _ (yes-b : b ≡ true) (c : ℕ) (is-c : c ≡ directoryFault 12 n (wordsOf bytes)) where
-      pub shows-directory : c < 504 → Located bytes (F.Directory c)
+      pub shows-directory : c < 504 → Located bytes (F.Directory c (8 + c))
       unfolding faultOf
-      shows-directory h = located bytes (F.Directory c) (sym (rw (← is-a, yes-a, chunks-are (length bytes), ← is-b, yes-b, ← is-c, lt-ltb c 504 h)))
+      shows-directory h = located bytes (F.Directory c (8 + c)) (sym (rw (← is-a, yes-a, chunks-are (length bytes), ← is-b, yes-b, ← is-c, lt-ltb c 504 h)))
 
       pub shows-log : (r : Fault) → 504 ≤ c → r ≡ logFault 12 n (wordsOf bytes) (readImage 12 n (wordsOf bytes)) → Located bytes r
       unfolding faultOf

@@ -5,7 +5,7 @@ use mathlib.Core.Logic.{_⊎_}
 use mathlib.Core.Bool.{Bool, true}
 use mathlib.Core.Option.{Option, none, some}
 use mathlib.Core.List.{List, [], _∷_}
-use Prim.Native.Nat.{ℕ, zero, suc}
+use Prim.Native.Nat.{ℕ, zero, suc, _/_}
 use lib.Dec.{eqb, ltb}
 use lib.ListN.{length, getD}
 use Rattle.spec.specs.Basics.{pick, either}
@@ -19,6 +19,7 @@ use Rattle.spec.specs.declared.Refusal.the-variants as N
 use Rattle.top_faults.specs.Tops.{firstTop, atOne}
 use Rattle.faults.specs.declared.Fault.{Fault}
 use Rattle.faults.specs.declared.Fault.the-variants as F
+use Rattle.faults.specs.declared.FaultPlace.{FaultPlace}
 use Rattle.faults.specs.Reading.{Reading, Whole, Upto, readImage}
 
 -- ## 2: the header
@@ -72,7 +73,7 @@ logFault p n ws (Upto es w) = F.Entry w (length es)
 abbrev pub chunksFault : ℕ → ℕ → List ℕ → Fault
 chunksFault p n ws =
     pick (headerRight n ws)
-    (pick (ltb (directoryFault p n ws) maxChunks) (F.Directory (directoryFault p n ws)) (logFault p n ws (readImage p n ws)))
+    (pick (ltb (directoryFault p n ws) maxChunks) (F.Directory (directoryFault p n ws) (directoryWord (directoryFault p n ws))) (logFault p n ws (readImage p n ws)))
     (F.Header (headerFault n ws))
 
 -- of an image of so many bytes whose words are ws
@@ -90,7 +91,7 @@ abbrev pub Answers : Fault → Opening → Type 0
 Answers F.Nothing o = (o ≡ Refused N.TableFull) ⊎ ((es : List Entry) × (o ≡ Accepted es))
 Answers F.Length o = o ≡ Refused N.ImageLength
 Answers (F.Header w) o = o ≡ Refused N.NotOpen
-Answers (F.Directory c) o = o ≡ Refused N.DirectoryWrong
+Answers (F.Directory c w) o = o ≡ Refused N.DirectoryWrong
 Answers (F.Entry w k) o = o ≡ Refused N.EntryWrong
 Answers (F.Block w) o = o ≡ Refused N.BlockWrong
 Answers (F.Tops w) o = o ≡ Refused N.TopsDisagree
@@ -99,3 +100,23 @@ Answers (F.Tops w) o = o ≡ Refused N.TopsDisagree
 pub record Located (bytes : List ℕ) (r : Fault) : Type 0 where
   pub place : r ≡ faultOf 12 (length bytes) (wordsOf bytes)
   pub refuses : (table : ℕ) → Answers r (opening 12 (length bytes) (wordsOf bytes) table)
+
+-- ## In numbers
+
+-- the refusal's number, the chunk of the word, the word, and how many entries stand before it
+abbrev pub placeAt : (refusal word before : ℕ) → FaultPlace
+placeAt refusal word before = record { refusal = refusal; chunk = word / 512; word = word; before = before }
+
+abbrev pub numbersOf : Fault → FaultPlace
+numbersOf F.Nothing = placeAt 0 0 0
+numbersOf F.Length = placeAt 1 0 0
+numbersOf (F.Header w) = placeAt 2 w 0
+numbersOf (F.Directory c w) = record { refusal = 3; chunk = c; word = w; before = 0 }
+numbersOf (F.Entry w k) = placeAt 4 w k
+numbersOf (F.Block w) = placeAt 5 w 0
+numbersOf (F.Tops w) = placeAt 6 w 0
+
+pub record Told (bytes : List ℕ) (r : FaultPlace) : Type 0 where
+  pub fault : Fault
+  pub located : Located bytes fault
+  pub told : r ≡ numbersOf fault

@@ -8,18 +8,18 @@ ghost use Rattle.spec.specs.Basics.{pick, either};
 ghost use Rattle.spec.specs.Words.{wordsOf};
 ghost use Rattle.spec.specs.Directory.{isRole};
 ghost use Rattle.faults.specs.Reading.{readImage, stopBy};
-ghost use Rattle.faults.specs.Faults.{failing, headerFault, wordRight, directoryFault, spotFault, logFault, Located};
+ghost use Rattle.faults.specs.Faults.{failing, headerFault, wordRight, directoryFault, spotFault, logFault, placeAt, numbersOf, Located, Told};
 use spec::LogStep;
 use spec::Role;
 use top_faults::Spots;
 
-// Why an opening refuses an image, and where: the word of the header, the chunk whose directory word is wrong, the
-// first word of the entry; `before` is how many entries stand before it in the log.
+// Why an opening refuses an image, and where: the word of the header, the chunk whose directory word is wrong and that
+// word, the first word of the entry; `before` is how many entries stand before it in the log.
 pub enum Fault {
     Nothing,
     Length,
     Header(usize),
-    Directory(usize),
+    Directory { chunk: usize, word: usize },
     Entry { word: usize, before: usize },
     Block(usize),
     Tops(usize),
@@ -244,7 +244,10 @@ pub fn fault_of(image: &[u8]) -> Fault
         if opening::header_fits(image, count) {
             let chunk = directory_fault(image, count);
             if chunk < 504 {
-                return Fault::Directory(chunk);
+                return Fault::Directory {
+                    chunk,
+                    word: 8 + chunk,
+                };
             }
             return log_fault(image, count);
         }
@@ -252,4 +255,51 @@ pub fn fault_of(image: &[u8]) -> Fault
         return Fault::Header(word);
     }
     Fault::Length
+}
+
+// In numbers: 0 or the refusal's number; the chunk, the word of the image, and how many entries stand before it, each 0
+// where it is not said.
+#[repr(C)]
+pub struct FaultPlace {
+    pub refusal: u64,
+    pub chunk: u64,
+    pub word: u64,
+    pub before: u64,
+}
+
+fn place_at(refusal: u64, word: usize, before: usize) -> FaultPlace
+    ensures { λ r. ⌜ r ≡ placeAt refusal word before ⌝ }
+{
+    FaultPlace {
+        refusal,
+        chunk: (word / 512) as u64,
+        word: word as u64,
+        before: before as u64,
+    }
+}
+
+fn numbers_of(fault: Fault) -> FaultPlace
+    ensures { λ r. ⌜ r ≡ numbersOf fault ⌝ }
+{
+    match fault {
+        Fault::Nothing => place_at(0, 0, 0),
+        Fault::Length => place_at(1, 0, 0),
+        Fault::Header(word) => place_at(2, word, 0),
+        Fault::Directory { chunk, word } => FaultPlace {
+            refusal: 3,
+            chunk: chunk as u64,
+            word: word as u64,
+            before: 0,
+        },
+        Fault::Entry { word, before } => place_at(4, word, before),
+        Fault::Block(word) => place_at(5, word, 0),
+        Fault::Tops(word) => place_at(6, word, 0),
+    }
+}
+
+pub fn find_fault(image: &[u8]) -> FaultPlace
+    ensures { λ r. ⌜ Told (now (image .entry)) r ⌝ }
+{
+    let fault = fault_of(image);
+    numbers_of(fault)
 }

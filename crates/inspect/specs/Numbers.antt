@@ -1,5 +1,6 @@
 -- The station and the centre that a header names.
 -- Assumes nothing.
+use mathlib.Core.Path.{_≡_}
 use mathlib.Core.List.{List}
 use Prim.Native.Nat.{ℕ}
 use lib.Dec.{eqb}
@@ -23,3 +24,8 @@ stationOf n ws = pick (headerRight n ws) (stationBy (getD ws 0 0) (getD ws 2 0))
 
 unfoldable pub centreOf : ℕ → List ℕ → Given
 centreOf n ws = pick (headerRight n ws) (centreBy (getD ws 0 0) (getD ws 2 0) (getD ws 3 0)) G.Absent
+
+-- in numbers: 1 and the number, or 0 and 0
+abbrev pub ToldAs : Given → (answer number : ℕ) → Type 0
+ToldAs (G.Number x) answer number = (answer ≡ 1) × (number ≡ x)
+ToldAs G.Absent answer number = (answer ≡ 0) × (number ≡ 0)

@@ -4,7 +4,7 @@ ghost use mathlib.Core.Path.{_≡_};
 ghost use lib.ListN.{length};
 ghost use Rattle.spec.specs.Words.{wordsOf};
 ghost use Rattle.spec.specs.Places.{chunksIn};
-ghost use Rattle.inspect.specs.Numbers.{stationBy, centreBy, stationOf, centreOf};
+ghost use Rattle.inspect.specs.Numbers.{stationBy, centreBy, stationOf, centreOf, ToldAs};
 ghost use Rattle.inspect.specs.History.{noteOf, firstIn, markOf, entryFrom};
 use log::Best;
 use log::Next;
@@ -62,6 +62,36 @@ pub fn centre(image: &[u8]) -> Given
         return centre_by(map, first, second);
     }
     Given::Absent
+}
+
+// 1 and the number, or 0 and 0 where it is absent.
+fn tell(given: Given, number: &mut u64) -> u64
+    ensures { λ r. ⌜ ToldAs given r (now (number .exit)) ⌝ }
+{
+    match given {
+        Given::Number(n) => {
+            *number = n;
+            1
+        }
+        Given::Absent => {
+            *number = 0;
+            0
+        }
+    }
+}
+
+pub fn tell_station(image: &[u8], number: &mut u64) -> u64
+    ensures { λ r. ⌜ ToldAs (stationOf (chunksIn 12 (length (now (image .entry)))) (wordsOf (now (image .entry)))) r (now (number .exit)) ⌝ }
+{
+    let given = station(image);
+    tell(given, number)
+}
+
+pub fn tell_centre(image: &[u8], number: &mut u64) -> u64
+    ensures { λ r. ⌜ ToldAs (centreOf (chunksIn 12 (length (now (image .entry)))) (wordsOf (now (image .entry)))) r (now (number .exit)) ⌝ }
+{
+    let given = centre(image);
+    tell(given, number)
 }
 
 // THE ENTRIES OF A KEY

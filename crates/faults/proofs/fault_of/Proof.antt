@@ -14,6 +14,9 @@ header-fits-requires c κs = search needs
 directory-fault-requires : tie.Need-directory-fault-requires
 directory-fault-requires c κs = search needs
 
+add-t9 : tie.Need-add-t9
+add-t9 c = search needs
+
 returns : tie.Need-returns
 returns c = shows-directory (c .before .before .before .before .before .before .before .args .image .now) _ (c .before .before .before .before .before .length-allowed .ensures) (c .before .before .before .before .if1 .taken) _ (c .before .before .before .header-fits .ensures) (c .before .before .if2 .taken) _ (c .before .directory-fault .ensures) (c .if3 .taken)
 
@@ -33,15 +36,4 @@ returns-4 : tie.Need-returns-4
 returns-4 c = shows-length (c .before .before .before .args .image .now) _ (c .before .length-allowed .ensures) (c .if1 .left)
 
 pub fault-of-spec : {M : Type 1} → statement M
-fault-of-spec =
-    tie.close
-    (tie.spec
-    length-allowed-requires
-    header-fits-requires
-    directory-fault-requires
-    returns
-    log-fault-requires
-    returns-2
-    header-fault-requires
-    returns-3
-    returns-4)
+fault-of-spec = tie.close (tie.spec length-allowed-requires header-fits-requires directory-fault-requires add-t9 returns log-fault-requires returns-2 header-fault-requires returns-3 returns-4)
