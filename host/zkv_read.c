@@ -82,10 +82,15 @@ static bool same_digest(const char *given, const char *digest)
     return strlen(given) == strlen(digest) && strcasecmp(given, digest) == 0;
 }
 
+static uint64_t line_in_chunk(uint64_t word)
+{
+    return 8 * word % ZKV_CHUNK_BYTES / ZKV_LINE_BYTES;
+}
+
 /* Where the fault is, and what can be read before it. Bytes count from 0, as in the file. */
 static void print_place(const zkv_place *p)
 {
-    uint64_t line = p->word % (ZKV_CHUNK_BYTES / 8) / 8;
+    uint64_t line = line_in_chunk(p->word);
     switch (p->refusal) {
     case ZKV_NOT_OPEN:
         printf("at the header: word %" PRIu64 ", byte %" PRIu64 "\n", p->word, 8 * p->word);
@@ -117,8 +122,14 @@ static void print_refusal(uint64_t number, const zkv_place *p, bool json)
     }
     printf("{\"accepted\":false,\"refusal\":%" PRIu64 ",\"sentence\":", number);
     print_json(stdout, sentence, strlen(sentence));
+    if (p->refusal >= ZKV_DIRECTORY_WRONG) {
+        printf(",\"chunk\":%" PRIu64, p->chunk);
+    }
+    if (p->refusal >= ZKV_ENTRY_WRONG) {
+        printf(",\"line\":%" PRIu64, line_in_chunk(p->word));
+    }
     if (p->refusal >= ZKV_NOT_OPEN) {
-        printf(",\"chunk\":%" PRIu64 ",\"line\":%" PRIu64 ",\"byte\":%" PRIu64, p->chunk, p->word % (ZKV_CHUNK_BYTES / 8) / 8, 8 * p->word);
+        printf(",\"byte\":%" PRIu64, 8 * p->word);
     }
     if (p->refusal == ZKV_ENTRY_WRONG) {
         printf(",\"entries_before\":%" PRIu64, p->before);
