@@ -689,7 +689,7 @@ prints 'entries 2
 2 delete chunk 1 line 4 current'
 ends 0 history i.img 3
 hold "a superseded value in a block is not told: $(cut -c 1-90 out)" [ "$(sed -n 2p out)" = '1 put chunk 1 line 5 superseded in a block that may hold another value now' ]
-hold "the value that counts is: $(cut -c 1-90 out)" [ "$(sed -n 3p out | cut -c 1-50)" = '2 put chunk 1 line 6 current 999 bytes aaaaaaaaaaaa' ]
+hold "the value that counts is: $(cut -c 1-90 out)" [ "$(sed -n 3p out | cut -c 1-45)" = '2 put chunk 1 line 6 current 999 bytes aaaaaaa' ]
 ends 1 history i.img 9
 says 'zkv: i.img: key 9: refused 11: the key is absent'
 ends 2 history i.img x
@@ -711,7 +711,7 @@ fault 2464 001 'at the directory word of chunk 300: byte 2464'
 fault 4160 003 'at chunk 1, line 1, byte 4160; 1 entries before it are right'
 ends 3 check d.img --json
 prints '{"accepted":false,"refusal":4,"sentence":"an entry of the log is wrong","chunk":1,"line":1,"byte":4160,"entries_before":1}'
-fault 4368 077 'at chunk 1, line 4, byte 4352; 4 entries before it are right'
+fault 4368 077 'at chunk 1, line 4, byte 4368; 5 entries before it are right'
 fault 9217 020 'at the entry in chunk 1, line 6, byte 4480; every entry can be read'
 fault 4160 061 'at the entry in chunk 1, line 2, byte 4224; every entry can be read'
 ends 3 check d.img --json

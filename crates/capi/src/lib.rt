@@ -473,11 +473,12 @@ pub extern "C" fn zkv_chunk(s: &Session, image: &[u8], table: &[u64], chunk: usi
     chunk_stat::describe_chunk(s, image, table, chunk)
 }
 
-// The first data chunk of the open register with no live block, which can be cleaned (`chunk_stat::empty_chunk`).
+// The first data chunk of the open register from a number on with no live block, which can be cleaned
+// (`chunk_stat::empty_chunk`).
 #[no_mangle]
-pub extern "C" fn zkv_empty_chunk(s: &Session, image: &[u8], table: &[u64]) -> Answer
-    ensures { λ r. ⌜ Told (Emptied (now (s .entry)) (now (image .entry)) (now (table .entry))) r ⌝ }
+pub extern "C" fn zkv_empty_chunk(s: &Session, image: &[u8], table: &[u64], from: usize) -> Answer
+    ensures { λ r. ⌜ Told (Emptied (now (s .entry)) from (now (image .entry)) (now (table .entry))) r ⌝ }
 {
-    let report = chunk_stat::empty_chunk(s, image, table);
+    let report = chunk_stat::empty_chunk(s, image, table, from);
     told(report)
 }

@@ -111,15 +111,15 @@ module _ (bytes table : List ℕ) (o : Open bytes table) where
   unfolding rowBy rowOf
   row-exact c = rw (o .same, tally-same c)
 
-  empty-same : (c : ℕ) → emptyBy (wordsOf bytes) table (countIn bytes) c ≡ isEmptyData (wordsOf bytes) (o .entries) c
+  empty-same : (from c : ℕ) → emptyBy (wordsOf bytes) table (countIn bytes) from c ≡ isEmptyData (wordsOf bytes) (o .entries) from c
   unfolding tallyOf
-  empty-same c = ap (both (isData (roleAt 12 (wordsOf bytes) c))) (ap (λ (t : Tally). eqb (t .blocks) 0) (tally-same c) ∙ live-counted (countIn bytes) (wordsOf bytes) (o .entries) (o .ok) c)
+  empty-same from c = ap (both (leb from c)) (ap (both (isData (roleAt 12 (wordsOf bytes) c))) (ap (λ (t : Tally). eqb (t .blocks) 0) (tally-same c) ∙ live-counted (countIn bytes) (wordsOf bytes) (o .entries) (o .ok) c))
 
-  empty-exact : (r : Report) → StoppedAt (wordsOf bytes) table (countIn bytes) r → r ≡ reportOf (emptyChunk (wordsOf bytes) (entriesOf bytes) (countIn bytes))
+  empty-exact : (from : ℕ) (r : Report) → StoppedAt (wordsOf bytes) table (countIn bytes) from r → r ≡ reportOf (emptyChunk (wordsOf bytes) (entriesOf bytes) (countIn bytes) from)
   unfolding emptyChunk
-  empty-exact r s =
-      s .told ∙ sym (stops-first (emptyBy (wordsOf bytes) table (countIn bytes)) (countIn bytes) (s .chunk) (s .stops))
-      ∙ rw (o .same) (ap (λ (xs : List ℕ). reportOf (first xs)) (same-numbers (emptyBy (wordsOf bytes) table (countIn bytes)) (isEmptyData (wordsOf bytes) (o .entries)) (upFrom 1 (countIn bytes - 1)) empty-same))
+  empty-exact from r s =
+      s .told ∙ sym (stops-first (emptyBy (wordsOf bytes) table (countIn bytes) from) (countIn bytes) (s .chunk) (s .stops))
+      ∙ rw (o .same) (ap (λ (xs : List ℕ). reportOf (first xs)) (same-numbers (emptyBy (wordsOf bytes) table (countIn bytes) from) (isEmptyData (wordsOf bytes) (o .entries) from) (upFrom 1 (countIn bytes - 1)) (empty-same from)))
 
 -- ## The calls
 
@@ -144,18 +144,18 @@ module _ (c : Control) (k : Setup) (bytes table : List ℕ) (g : Gated) (asks : 
     exact = λ h f. er ∙ row-exact bytes table (opened c k b bytes table h f) chunk;
   }
 
-  pub empty-refused : (n : Refusal) → g ≡ G.Refused n → EmptiedBy c k bytes table (R.Refused n)
-  empty-refused n e b = record {
+  pub empty-refused : (from : ℕ) (n : Refusal) → g ≡ G.Refused n → EmptiedBy c k from bytes table (R.Refused n)
+  empty-refused from n e b = record {
     gated = λ x h. let q = is-refused n e b in let y : n ≡ x = cc in ap R.Refused y;
     behind = λ h. absurd (let q = is-refused n e b in let z : _≡_ {A = ℕ} 0 1 = cc in omega arith);
     exact = λ h f. absurd (let q = is-refused n e b in let z : _≡_ {A = ℕ} 0 1 = cc in omega arith);
   }
 
-  pub empty-open : (chunk : ℕ) (r : Report) → g ≡ G.Open → Stops (emptyBy (wordsOf bytes) table (length bytes / 4096)) 1 (length bytes / 4096) chunk → r ≡ foundBy chunk (length bytes / 4096) → EmptiedBy c k bytes table r
-  empty-open chunk r e s t b =
-      let stopped : StoppedAt (wordsOf bytes) table (countIn bytes) r = rw (chunks-are (length bytes)) (record { chunk = chunk; stops = s; told = t }) in
+  pub empty-open : (from chunk : ℕ) (r : Report) → g ≡ G.Open → Stops (emptyBy (wordsOf bytes) table (length bytes / 4096) from) 1 (length bytes / 4096) chunk → r ≡ foundBy chunk (length bytes / 4096) → EmptiedBy c k from bytes table r
+  empty-open from chunk r e s t b =
+      let stopped : StoppedAt (wordsOf bytes) table (countIn bytes) from r = rw (chunks-are (length bytes)) (record { chunk = chunk; stops = s; told = t }) in
       record {
         gated = λ x h. absurd (let q = is-open e b in let z : _≡_ {A = ℕ} 0 1 = cc in omega arith);
         behind = λ h. stopped;
-        exact = λ h f. empty-exact bytes table (opened c k b bytes table h f) r stopped;
+        exact = λ h f. empty-exact bytes table (opened c k b bytes table h f) from r stopped;
       }

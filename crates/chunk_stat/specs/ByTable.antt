@@ -56,8 +56,8 @@ tallyBy ws table n c = orNothing (foldP (countNext table c) nothing (imageEntrie
 unfoldable pub rowBy : (ws table : List ℕ) (n c : ℕ) → ChunkRow
 rowBy ws table n c = pick (both (leb 1 c) (ltb c n)) (rowWith (kindOf (roleAt 12 ws c)) (tallyBy ws table n c)) (refusedRow 16)
 
-abbrev pub emptyBy : (ws table : List ℕ) (n c : ℕ) → Bool
-emptyBy ws table n c = both (isData (roleAt 12 ws c)) (eqb (tallyBy ws table n c .blocks) 0)
+abbrev pub emptyBy : (ws table : List ℕ) (n from c : ℕ) → Bool
+emptyBy ws table n from c = both (leb from c) (both (isData (roleAt 12 ws c)) (eqb (tallyBy ws table n c .blocks) 0))
 
 -- the report of a search that stopped at chunk c of n
 abbrev pub foundBy : (c n : ℕ) → Report

@@ -38,20 +38,20 @@ pub record Described (s : Session) (chunk : ℕ) (bytes table : List ℕ) (r : C
 abbrev pub DescribedBy : Control → Setup → (chunk : ℕ) (bytes table : List ℕ) → ChunkRow → Type 0
 DescribedBy c k chunk bytes table r = (b : List ℕ) → Described (sessionOf c k b) chunk bytes table r
 
--- the same of the first data chunk with no live block: 2, 1, 8, the chunk, or 16
+-- the same of the first data chunk from chunk `from` on with no live block: 2, 1, 8, the chunk, or 16
 abbrev pub reportOf : Option ℕ → Report
 reportOf none = R.Refused N.NotCleanable
 reportOf (some c) = R.Chosen c
 
-pub record StoppedAt (ws table : List ℕ) (n : ℕ) (r : Report) : Type 0 where
+pub record StoppedAt (ws table : List ℕ) (n from : ℕ) (r : Report) : Type 0 where
   pub chunk : ℕ
-  pub stops : Stops (emptyBy ws table n) 1 n chunk
+  pub stops : Stops (emptyBy ws table n from) 1 n chunk
   pub told : r ≡ foundBy chunk n
 
-pub record Emptied (s : Session) (bytes table : List ℕ) (r : Report) : Type 0 where
+pub record Emptied (s : Session) (from : ℕ) (bytes table : List ℕ) (r : Report) : Type 0 where
   pub gated : (n : Refusal) → gate (stateOf s) (length bytes) (length table) ≡ some n → r ≡ R.Refused n
-  pub behind : gate (stateOf s) (length bytes) (length table) ≡ none → StoppedAt (wordsOf bytes) table (countIn bytes) r
-  pub exact : gate (stateOf s) (length bytes) (length table) ≡ none → Fits s (wordsOf bytes) table → r ≡ reportOf (emptyChunk (wordsOf bytes) (entriesOf bytes) (countIn bytes))
+  pub behind : gate (stateOf s) (length bytes) (length table) ≡ none → StoppedAt (wordsOf bytes) table (countIn bytes) from r
+  pub exact : gate (stateOf s) (length bytes) (length table) ≡ none → Fits s (wordsOf bytes) table → r ≡ reportOf (emptyChunk (wordsOf bytes) (entriesOf bytes) (countIn bytes) from)
 
-abbrev pub EmptiedBy : Control → Setup → (bytes table : List ℕ) → Report → Type 0
-EmptiedBy c k bytes table r = (b : List ℕ) → Emptied (sessionOf c k b) bytes table r
+abbrev pub EmptiedBy : Control → Setup → (from : ℕ) (bytes table : List ℕ) → Report → Type 0
+EmptiedBy c k from bytes table r = (b : List ℕ) → Emptied (sessionOf c k b) from bytes table r

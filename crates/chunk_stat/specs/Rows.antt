@@ -80,10 +80,11 @@ rowWith k t = record {
 unfoldable pub rowOf : List ℕ → List Entry → (n c : ℕ) → ChunkRow
 rowOf ws es n c = pick (both (leb 1 c) (ltb c n)) (rowWith (kindOf (roleAt 12 ws c)) (tallyOf es c)) (refusedRow 16)
 
--- ## A data chunk to clean: the first of n with no live block (as a cleaning asks it, `Plans.hasLive`)
+-- ## A data chunk to clean: of n the first from chunk `from` on with no live block (as a cleaning asks it,
+-- `Plans.hasLive`)
 
-abbrev pub isEmptyData : List ℕ → List Entry → ℕ → Bool
-isEmptyData ws es c = both (isData (roleAt 12 ws c)) (negate (hasLive 12 es c))
+abbrev pub isEmptyData : List ℕ → List Entry → (from c : ℕ) → Bool
+isEmptyData ws es from c = both (leb from c) (both (isData (roleAt 12 ws c)) (negate (hasLive 12 es c)))
 
-unfoldable pub emptyChunk : List ℕ → List Entry → ℕ → Option ℕ
-emptyChunk ws es n = first (filter (isEmptyData ws es) (upFrom 1 (n - 1)))
+unfoldable pub emptyChunk : List ℕ → List Entry → (n from : ℕ) → Option ℕ
+emptyChunk ws es n from = first (filter (isEmptyData ws es from) (upFrom 1 (n - 1)))

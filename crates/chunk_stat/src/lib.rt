@@ -1,5 +1,5 @@
 // What a chunk of the open register holds: its role, and how many of its entries or blocks the register still goes by;
-// and the first data chunk that holds no live block, which can be cleaned. Nothing is changed.
+// and the first data chunk from a number on that holds no live block, which can be cleaned. Nothing is changed.
 ghost use mathlib.Core.Path.{_≡_};
 ghost use Prim.Native.Nat.{_+_, _%_};
 ghost use lib.Dec.{eqb};
@@ -298,24 +298,26 @@ fn is_data(role: Role) -> bool
     }
 }
 
-// Whether a chunk is a data chunk none of whose blocks is live.
-fn is_empty(image: &[u8], table: &[u64], count: usize, chunk: usize) -> bool
-    ensures { λ r. ⌜ r ≡ emptyBy (wordsOf (now (image .entry))) (now (table .entry)) count chunk ⌝ }
+// Whether a chunk is a data chunk none of whose blocks is live, and not below `from`.
+fn is_empty(image: &[u8], table: &[u64], count: usize, from: usize, chunk: usize) -> bool
+    ensures { λ r. ⌜ r ≡ emptyBy (wordsOf (now (image .entry))) (now (table .entry)) count from chunk ⌝ }
 {
-    if is_data(log::role_at(image, chunk)) {
-        let t = count_all(image, table, count, chunk);
-        return t.blocks == 0;
+    if from <= chunk {
+        if is_data(log::role_at(image, chunk)) {
+            let t = count_all(image, table, count, chunk);
+            return t.blocks == 0;
+        }
     }
     false
 }
 
 // The first such chunk of an image of `count` chunks; where there is none, a number not below the count.
-fn next_empty(image: &[u8], table: &[u64], count: usize) -> usize
-    ensures { λ r. ⌜ Stops (emptyBy (wordsOf (now (image .entry))) (now (table .entry)) count) 1 count r ⌝ }
+fn next_empty(image: &[u8], table: &[u64], count: usize, from: usize) -> usize
+    ensures { λ r. ⌜ Stops (emptyBy (wordsOf (now (image .entry))) (now (table .entry)) count from) 1 count r ⌝ }
 {
     let mut c = 1;
     while c < count {
-        if is_empty(image, table, count, c) {
+        if is_empty(image, table, count, from, c) {
             return c;
         }
         c += 1;
@@ -333,26 +335,33 @@ fn report_of(chunk: usize, count: usize) -> Report
     Report::Refused(Refusal::NotCleanable)
 }
 
-// 2, 1, 8, or the first data chunk of the open register with no live block, or 16; by the record's small parts.
-pub fn find_empty(control: Control, setup: Setup, image: &[u8], table: &[u64]) -> Report
-    ensures { λ r. ⌜ EmptiedBy control setup (now (image .entry)) (now (table .entry)) r ⌝ }
+// 2, 1, 8, or the first data chunk of the open register from chunk `from` on with no live block, or 16; by the record's
+// small parts.
+pub fn find_empty(
+    control: Control,
+    setup: Setup,
+    image: &[u8],
+    table: &[u64],
+    from: usize,
+) -> Report
+    ensures { λ r. ⌜ EmptiedBy control setup from (now (image .entry)) (now (table .entry)) r ⌝ }
 {
     let g = session::gate(control, setup, image.len(), table.len());
     match g {
         Gated::Refused(n) => Report::Refused(n),
         Gated::Open => {
             let count = image.len() / 4096;
-            let chunk = next_empty(image, table, count);
+            let chunk = next_empty(image, table, count, from);
             report_of(chunk, count)
         }
     }
 }
 
 // The same through the record, which is only read.
-pub fn empty_chunk(s: &Session, image: &[u8], table: &[u64]) -> Report
-    ensures { λ r. ⌜ Emptied (now (s .entry)) (now (image .entry)) (now (table .entry)) r ⌝ }
+pub fn empty_chunk(s: &Session, image: &[u8], table: &[u64], from: usize) -> Report
+    ensures { λ r. ⌜ Emptied (now (s .entry)) from (now (image .entry)) (now (table .entry)) r ⌝ }
 {
     let c = s.control;
     let k = s.setup;
-    find_empty(c, k, image, table)
+    find_empty(c, k, image, table, from)
 }

@@ -21,10 +21,10 @@ report-of-requires : tie.Need-report-of-requires
 report-of-requires c κs = search needs
 
 returns : tie.Need-returns
-returns c = empty-refused _ _ _ _ _ (c .before .before .before .gate .ensures) _ (c .before .g .given .1)
+returns c = empty-refused _ _ _ _ _ (c .before .before .before .gate .ensures) _ _ (c .before .g .given .1)
 
 returns-2 : tie.Need-returns-2
-returns-2 c = empty-open _ _ _ _ _ (c .before .before .before .before .gate .ensures) _ _ (c .before .before .enum-told .given .1) (c .before .next-empty .ensures) (c .report-of .ensures)
+returns-2 c = empty-open _ _ _ _ _ (c .before .before .before .before .gate .ensures) _ _ _ (c .before .before .enum-told .given .1) (c .before .next-empty .ensures) (c .report-of .ensures)
 
 pub find-empty-spec : {M : Type 1} → statement M
 find-empty-spec = tie.close (tie.spec gate-requires enum-known-g enum-told next-empty-requires report-of-requires returns returns-2)
