@@ -38,6 +38,7 @@ struct label {
 
 struct cleaned {
     uint64_t chunks, entries;
+    uint64_t freed;             /* the last chunk that was freed because it holds no label */
 };
 
 /* Of labels that are put by batches: those that are in the register, the batches, and how many more all or none are

@@ -204,7 +204,7 @@ static int put_batch(struct station *s, const struct label *label, size_t most, 
 /* The same; where no space is left, chunks are cleaned as long as that is worth it. */
 static int put_batch_with_cleaning(struct station *s, const struct label *label, size_t most, size_t *done, zkv_report *report)
 {
-    struct cleaned cleaned = {0, 0};
+    struct cleaned cleaned = {0, 0, 0};
     for (;;) {
         zkv_report r;
         int status = put_batch(s, label, most, done, report);

@@ -87,9 +87,13 @@ int clean_one(struct station *s, const uint64_t *named, struct cleaned *done, zk
     zkv_report chosen = named != NULL ? (zkv_report){ZKV_CHOSEN, *named, 0} : zkv_choose(LENT(s));
     *report = chosen.kind == ZKV_CHOSEN ? zkv_clean(LENT(s), chosen.first) : chosen;
     if (report->kind == ZKV_REFUSED && named == NULL) {
-        /* zkv_choose names log chunks alone */
-        chosen = zkv_empty_chunk(LENT(s));
-        *report = chosen.kind == ZKV_CHOSEN ? zkv_clean(LENT(s), chosen.first) : *report;
+        /* zkv_choose names log chunks alone. A put that is tried again may take the freed chunk again, so each is freed
+         * once. */
+        chosen = zkv_empty_chunk(LENT(s), done->freed + 1);
+        if (chosen.kind == ZKV_CHOSEN) {
+            done->freed = chosen.first;
+            *report = zkv_clean(LENT(s), chosen.first);
+        }
     }
     if (report->kind == ZKV_REFUSED) {
         return DONE;
@@ -105,12 +109,12 @@ int clean_one(struct station *s, const uint64_t *named, struct cleaned *done, zk
     return status;
 }
 
-/* A chunk that is named, or one after the other until none is worth it: each leaves fewer lines in use or one data chunk
- * less, so that this ends. */
+/* A chunk that is named, or one after the other until none is worth it: each leaves fewer lines in use or is freed and
+ * not looked at again, so that this ends. */
 int command_clean(const char *file, char **word, const struct options *o)
 {
     static struct station s;
-    struct cleaned done = {0, 0};
+    struct cleaned done = {0, 0, 0};
     uint64_t chunk = 0;
     zkv_report r;
     if (word[0] != NULL && !number_of(word[0], &chunk)) {
@@ -167,7 +171,7 @@ int change(struct station *s, uint64_t key, const uint8_t *value, size_t length,
  * left. */
 static int change_with_cleaning(struct station *s, uint64_t key, const uint8_t *value, size_t length, zkv_report *report)
 {
-    struct cleaned done = {0, 0};
+    struct cleaned done = {0, 0, 0};
     for (;;) {
         zkv_report r;
         int status = change(s, key, value, length, report);

@@ -338,10 +338,11 @@ uint64_t zkv_lines_used(const uint8_t *image, size_t bytes);
 zkv_chunk_row zkv_chunk(const zkv_record *record, const uint8_t *image, size_t bytes, const uint64_t *table, size_t words,
                         size_t chunk);
 
-/* The first data chunk of the open register with no present value in it, which zkv_clean frees: ZKV_CHOSEN with its
- * number, or refused: 2, 1, 8, 16. */
+/* The first data chunk of the open register, from chunk `from` on, with no present value in it, which zkv_clean frees:
+ * ZKV_CHOSEN with its number, or refused: 2, 1, 8, 16. A put that was abandoned may leave such a chunk: a host that
+ * cleans and puts again asks from the chunk behind the last one on, so that it comes to an end. */
 zkv_report zkv_empty_chunk(const zkv_record *record, const uint8_t *image, size_t bytes, const uint64_t *table,
-                           size_t words);
+                           size_t words, size_t from);
 
 /* The calls below ask an image alone, open or not, and right or not. */
 

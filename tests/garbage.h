@@ -380,7 +380,11 @@ static void open_call(void)
     remember();
     zkv_report r = zkv_open(the_record(), image.at, image.bytes, the_table(), table_words());
     tally[OPEN][r.kind == ZKV_REFUSED]++;
+    zkv_place p = zkv_fault(image.at, image.bytes);
     image_kept();
+    if (p.refusal != (r.kind == ZKV_OPENED || r.first == ZKV_TABLE_FULL ? 0 : r.first)) {
+        fault("answered kind %" PRIu64 ", %" PRIu64 ", and the fault is %" PRIu64, r.kind, r.first, p.refusal);
+    }
     if (r.kind == ZKV_OPENED) {
         return;
     }
@@ -556,7 +560,8 @@ static void inside_calls(void)
     size_t chunk = (size_t)some_chunk();
     remember();
     zkv_chunk_row row = zkv_chunk(the_record(), image.at, image.bytes, the_table(), table_words(), chunk);
-    zkv_report empty = zkv_empty_chunk(the_record(), image.at, image.bytes, the_table(), table_words());
+    size_t from = (size_t)some_chunk();
+    zkv_report empty = zkv_empty_chunk(the_record(), image.at, image.bytes, the_table(), table_words(), from);
     zkv_key_entry e = zkv_entry(image.at, image.bytes, some_key(), one_in(2) ? 0 : one_in(2) ? below(image.bytes / 8) : (size_t)draw());
     zkv_place p = zkv_fault(image.at, image.bytes);
     image_kept();
@@ -569,7 +574,7 @@ static void inside_calls(void)
     }
     if (empty.kind == ZKV_REFUSED) {
         refused(empty.first, N(1) | N(2) | N(8) | N(16));
-    } else if (empty.kind != ZKV_CHOSEN || empty.first == 0 || empty.first >= image.bytes / ZKV_CHUNK_BYTES) {
+    } else if (empty.kind != ZKV_CHOSEN || empty.first == 0 || empty.first < from || empty.first >= image.bytes / ZKV_CHUNK_BYTES) {
         fault("an empty chunk: %" PRIu64 " %" PRIu64, empty.kind, empty.first);
     }
     if (e.found > 1 || (e.found == 1 && (e.place < 512 || 8 * e.place + 16 > image.bytes || e.chosen > 1))) {

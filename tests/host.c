@@ -71,7 +71,7 @@ static void look_inside(void)
     zkv_key_entry e = zkv_entry(file.image, file.bytes, 5, 0);
     HOLD(row.refused == 0 && row.role == ZKV_LOG_CHUNK && row.size == 2 && row.live == 1 && row.deletes == 1 && row.superseded == 1);
     HOLD(zkv_chunk(LENT, 2).role == ZKV_FREE_CHUNK && zkv_chunk(LENT, CHUNKS).refused == ZKV_NOT_CLEANABLE);
-    HOLD(zkv_empty_chunk(LENT).first == ZKV_NOT_CLEANABLE);
+    HOLD(zkv_empty_chunk(LENT, 0).first == ZKV_NOT_CLEANABLE);
     HOLD(e.found == 1 && e.op == 1 && e.version == 1 && e.block == 0 && e.field == 0 && e.chosen == 0);
     e = zkv_entry(file.image, file.bytes, 5, (size_t)e.place + 1);
     HOLD(e.found == 1 && e.op == 2 && e.version == 2 && e.chosen == 1);

@@ -309,7 +309,8 @@ for command in 'get l.img 4711' 'put l.img 5 value' 'delete l.img 4711' 'stat l.
     says 'zkv: l.img: 65536 bytes: refused 3: a directory word is wrong'
 done
 ends 3 check l.img
-prints 'refused 3: a directory word is wrong'
+prints 'refused 3: a directory word is wrong
+at the directory word of chunk 0: byte 64'
 ends 3 format x.img 3
 says 'zkv: x.img: 3 chunks: refused 1'
 ends 3 check letter
@@ -689,7 +690,7 @@ prints 'entries 2
 2 delete chunk 1 line 4 current'
 ends 0 history i.img 3
 hold "a superseded value in a block is not told: $(cut -c 1-90 out)" [ "$(sed -n 2p out)" = '1 put chunk 1 line 5 superseded in a block that may hold another value now' ]
-hold "the value that counts is: $(cut -c 1-90 out)" [ "$(sed -n 3p out | cut -c 1-45)" = '2 put chunk 1 line 6 current 999 bytes aaaaaaa' ]
+hold "the value that counts is: $(cut -c 1-90 out)" [ "$(sed -n 3p out | cut -c 1-45)" = '2 put chunk 1 line 6 current 999 bytes aaaaaa' ]
 ends 1 history i.img 9
 says 'zkv: i.img: key 9: refused 11: the key is absent'
 ends 2 history i.img x

@@ -200,8 +200,9 @@ impl Register {
         if changes.is_empty() {
             return Ok(());
         }
+        let mut freed = 0;
         while let Err(error) = self.commit(changes) {
-            if error != Error::Refused(Refusal::NoSpace) || self.clean_one()?.is_none() {
+            if error != Error::Refused(Refusal::NoSpace) || self.clean_one(&mut freed)?.is_none() {
                 return Err(error);
             }
         }
@@ -262,8 +263,9 @@ impl Register {
         unsafe { sys::zkv_clean(&mut *self.record, at, bytes, self.table.as_ptr(), words, chunk as usize) }
     }
 
-    /// Cleans the chunk that is worth it most, else one of blocks of which none is in use; None where there is none.
-    fn clean_one(&mut self) -> Result<Option<u64>, Error> {
+    /// Cleans the chunk that is worth it most, else one behind `freed` of blocks of which none is in use; None where
+    /// there is none.
+    fn clean_one(&mut self, freed: &mut u64) -> Result<Option<u64>, Error> {
         let (at, bytes, words) = self.lent();
         // Safety: as above.
         let chosen = unsafe { sys::zkv_choose(&*self.record, at, bytes, self.table.as_ptr(), words) };
@@ -272,19 +274,23 @@ impl Register {
             return self.finish(begun).map(Some);
         }
         match refused(begun.first) {
-            Error::Refused(Refusal::NotCleanable | Refusal::NoSpace) => self.free_one(),
+            Error::Refused(Refusal::NotCleanable | Refusal::NoSpace) => self.free_one(freed),
             error => Err(error),
         }
     }
 
-    /// Frees a chunk of blocks of which none is in use, as choosing names log chunks alone.
-    fn free_one(&mut self) -> Result<Option<u64>, Error> {
+    /// Frees a chunk of blocks of which none is in use, as choosing names log chunks alone. A put that is tried again may
+    /// take the freed chunk again, so each is freed once.
+    fn free_one(&mut self, freed: &mut u64) -> Result<Option<u64>, Error> {
         let (at, bytes, words) = self.lent();
         // Safety: as above.
-        let empty = unsafe { sys::zkv_empty_chunk(&*self.record, at, bytes, self.table.as_ptr(), words) };
+        let empty = unsafe {
+            sys::zkv_empty_chunk(&*self.record, at, bytes, self.table.as_ptr(), words, *freed as usize + 1)
+        };
         if empty.kind != sys::CHOSEN {
             return Ok(None);
         }
+        *freed = empty.first;
         let begun = self.begin_cleaning(empty.first);
         self.finish(begun).map(Some)
     }
@@ -295,7 +301,8 @@ impl Register {
             return Err(Error::ReadOnly);
         }
         let mut done = Cleaned::default();
-        while let Some(entries) = self.clean_one()? {
+        let mut freed = 0;
+        while let Some(entries) = self.clean_one(&mut freed)? {
             done.chunks += 1;
             done.entries += entries;
         }

@@ -121,7 +121,9 @@ extern "C" {
     pub fn zkv_chunk(
         record: *const Record, image: *const u8, bytes: usize, table: *const u64, words: usize, chunk: usize,
     ) -> ChunkRow;
-    pub fn zkv_empty_chunk(record: *const Record, image: *const u8, bytes: usize, table: *const u64, words: usize) -> Report;
+    pub fn zkv_empty_chunk(
+        record: *const Record, image: *const u8, bytes: usize, table: *const u64, words: usize, from: usize,
+    ) -> Report;
     pub fn zkv_station(image: *const u8, bytes: usize, number: *mut u64) -> u64;
     pub fn zkv_centre(image: *const u8, bytes: usize, number: *mut u64) -> u64;
     pub fn zkv_entry(image: *const u8, bytes: usize, key: u64, from: usize) -> KeyEntry;
