@@ -1,9 +1,9 @@
 /* zkv: a label register in a file, from the command line. See host/zkv.1 for what each command does.
  *
  * Here: the command line. The commands are in zkv_write.c (format, put, delete, clean), zkv_load.c, zkv_copy.c,
- * zkv_read.c (get, scan, check), zkv_stat.c and zkv_list.c (list, dump, digest); what they share in zkv_register.c
- * and zkv_labels.c. The file under the image is the library's (zitskvoze_file.h). All that is said of the image's
- * inside comes from the library's calls, but the header's station and centre number. */
+ * zkv_read.c (get, scan, check), zkv_stat.c, zkv_info.c (info, history) and zkv_list.c (list, dump, digest); what they
+ * share in zkv_register.c and zkv_labels.c. The file under the image is the library's (zitskvoze_file.h). All that is
+ * said of the image's inside comes from the library's calls. */
 #define _GNU_SOURCE
 #include <errno.h>
 #include <inttypes.h>
@@ -15,13 +15,13 @@
 
 /* ---- options, by the commands that have them */
 
-enum { FORCE = 1, STATION = 2, CENTRE = 4, EMPTY = 8, NO_CLEAN = 16, PAUSE = 32, WAIT = 64, JSON = 128, AGAINST = 256 };
+enum { FORCE = 1, STATION = 2, CENTRE = 4, EMPTY = 8, NO_CLEAN = 16, PAUSE = 32, WAIT = 64, JSON = 128, AGAINST = 256, SVG = 512 };
 
 static const struct option {
     const char *name;
     unsigned bit;
     const char *behind;         /* what the word behind it is; NULL: it has none */
-    uint64_t most;              /* of a number; 0: it is a digest */
+    uint64_t most;              /* of a number; 0: it is a digest or a file's name */
 } options[] = {
     {"--force", FORCE, NULL, 0},
     {"--station", STATION, "a station number: decimal, below 2^64", UINT64_MAX},
@@ -32,6 +32,7 @@ static const struct option {
     {"--wait", WAIT, "seconds, at most 1000000", 1000000},
     {"--json", JSON, NULL, 0},
     {"--against", AGAINST, "a digest: 64 hexadecimal digits", 0},
+    {"--svg", SVG, "a file's name", 0},
 };
 
 static const struct command {
@@ -51,6 +52,8 @@ static const struct command {
     {"clean", 0, 1, PAUSE | WAIT, command_clean, "FILE [CHUNK] [--pause MICROSECONDS] [--wait SECONDS]"},
     {"list", 0, 0, JSON | WAIT, command_list, "FILE [--json] [--wait SECONDS]"},
     {"stat", 0, 0, JSON | WAIT, command_stat, "FILE [--json] [--wait SECONDS]"},
+    {"info", 0, 0, SVG | WAIT, command_info, "FILE [--svg OUT] [--wait SECONDS]"},
+    {"history", 1, 0, WAIT, command_history, "FILE KEY [--wait SECONDS]"},
     {"check", 0, 0, AGAINST | JSON | WAIT, command_check, "FILE [--against SUM] [--json] [--wait SECONDS]"},
     {"digest", 0, 0, WAIT, command_digest, "FILE [--wait SECONDS]"},
     {"dump", 0, 0, WAIT, command_dump, "FILE [--wait SECONDS]"},
@@ -118,6 +121,9 @@ static void set_option(struct options *o, unsigned bit, uint64_t n, const char *
     case AGAINST:
         o->against = given;
         break;
+    case SVG:
+        o->svg = given;
+        break;
     default:
         o->wait = (long)n;
     }
@@ -136,6 +142,9 @@ static const struct option *option_named(const char *name)
 /* Whether the word behind an option is what it needs; where that is a number, in *n. */
 static bool fits(const struct option *p, const char *given, uint64_t *n)
 {
+    if (p->bit == SVG) {
+        return *given != 0;
+    }
     if (p->most == 0) {
         return strlen(given) == 64 && strspn(given, "0123456789abcdefABCDEF") == 64;
     }

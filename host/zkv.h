@@ -18,6 +18,7 @@ struct options {
     long pause_us;              /* between steps */
     long wait;                  /* seconds for the lock; -1: as long as it takes */
     const char *against;        /* a digest; NULL: none is given */
+    const char *svg;            /* a file for the picture; NULL: none is given */
 };
 
 /* A register in a file, with all that is lent to the calls. */
@@ -38,7 +39,7 @@ struct label {
 
 struct cleaned {
     uint64_t chunks, entries;
-    uint64_t looked;            /* the last chunk that was looked at because it may hold no label */
+    uint64_t freed;             /* the last chunk that was freed because it holds no label */
 };
 
 /* Of labels that are put by batches: those that are in the register, the batches, and how many more all or none are
@@ -62,9 +63,7 @@ int need_register(struct station *s, const char *name, enum zkv_file_use use, co
 int carry_out(struct station *s, zkv_report *report);                       /* to its end, or a refusal, left in *report */
 int confirmed(const struct station *s);                                    /* before a command says that it is done */
 int read_value(const char *from, bool empty_meant, const uint8_t **value, size_t *length);
-bool header_number(const struct station *s, unsigned bit, uint64_t *number);
 
-enum { STATION_BIT = 1, CENTRE_BIT = 2 };
 enum { DIGEST_ROOM = 65 };      /* 64 digits and the end */
 enum { VALUE_ROOM = 65537 };    /* more than any value's limit, so that the library sees what is too long */
 
@@ -94,11 +93,13 @@ int command_clean(const char *file, char **word, const struct options *o);
 /* zkv_load.c, zkv_copy.c: */
 int command_load(const char *file, char **word, const struct options *o);
 int command_copy(const char *file, char **word, const struct options *o);
-/* zkv_read.c, zkv_stat.c: */
+/* zkv_read.c, zkv_stat.c, zkv_info.c: */
 int command_get(const char *file, char **word, const struct options *o);
 int command_scan(const char *file, char **word, const struct options *o);
 int command_check(const char *file, char **word, const struct options *o);
 int command_stat(const char *file, char **word, const struct options *o);
+int command_info(const char *file, char **word, const struct options *o);
+int command_history(const char *file, char **word, const struct options *o);
 /* zkv_list.c: */
 int command_list(const char *file, char **word, const struct options *o);
 int command_dump(const char *file, char **word, const struct options *o);

@@ -33,7 +33,8 @@ static int labels_of(struct station *s, struct labels *all)
 static zkv_report format_like(struct station *old, struct station *new)
 {
     uint64_t station = 0, centre = 0;
-    bool station_given = header_number(old, STATION_BIT, &station), centre_given = header_number(old, CENTRE_BIT, &centre);
+    uint64_t station_given = zkv_station(old->file.image, old->file.bytes, &station);
+    uint64_t centre_given = zkv_centre(old->file.image, old->file.bytes, &centre);
     return zkv_format(LENT(new), station_given, station, centre_given, centre);
 }
 

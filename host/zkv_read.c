@@ -82,15 +82,58 @@ static bool same_digest(const char *given, const char *digest)
     return strlen(given) == strlen(digest) && strcasecmp(given, digest) == 0;
 }
 
-static void print_refusal(uint64_t number, bool json)
+static uint64_t line_in_chunk(uint64_t word)
+{
+    return 8 * word % ZKV_CHUNK_BYTES / ZKV_LINE_BYTES;
+}
+
+/* Where the fault is, and what can be read before it. Bytes count from 0, as in the file. */
+static void print_place(const zkv_place *p)
+{
+    uint64_t line = line_in_chunk(p->word);
+    switch (p->refusal) {
+    case ZKV_NOT_OPEN:
+        printf("at the header: word %" PRIu64 ", byte %" PRIu64 "\n", p->word, 8 * p->word);
+        break;
+    case ZKV_DIRECTORY_WRONG:
+        printf("at the directory word of chunk %" PRIu64 ": byte %" PRIu64 "\n", p->chunk, 8 * p->word);
+        break;
+    case ZKV_ENTRY_WRONG:
+        printf("at chunk %" PRIu64 ", line %" PRIu64 ", byte %" PRIu64 "; %" PRIu64 " entries before it are right\n", p->chunk, line,
+               8 * p->word, p->before);
+        break;
+    case ZKV_BLOCK_WRONG:
+    case ZKV_TOPS_DISAGREE:
+        printf("at the entry in chunk %" PRIu64 ", line %" PRIu64 ", byte %" PRIu64 "; every entry can be read\n", p->chunk, line,
+               8 * p->word);
+        break;
+    default:
+        break;
+    }
+}
+
+static void print_refusal(uint64_t number, const zkv_place *p, bool json)
 {
     const char *sentence = zkv_sentence(number);
     if (!json) {
         printf("refused %" PRIu64 ": %s\n", number, sentence);
+        print_place(p);
         return;
     }
     printf("{\"accepted\":false,\"refusal\":%" PRIu64 ",\"sentence\":", number);
     print_json(stdout, sentence, strlen(sentence));
+    if (p->refusal >= ZKV_DIRECTORY_WRONG) {
+        printf(",\"chunk\":%" PRIu64, p->chunk);
+    }
+    if (p->refusal >= ZKV_ENTRY_WRONG) {
+        printf(",\"line\":%" PRIu64, line_in_chunk(p->word));
+    }
+    if (p->refusal >= ZKV_NOT_OPEN) {
+        printf(",\"byte\":%" PRIu64, 8 * p->word);
+    }
+    if (p->refusal == ZKV_ENTRY_WRONG) {
+        printf(",\"entries_before\":%" PRIu64, p->before);
+    }
     puts("}");
 }
 
@@ -117,8 +160,12 @@ int command_check(const char *file, char **word, const struct options *o)
     static struct station s;
     uint64_t number = 0;
     char digest[DIGEST_ROOM] = "";
+    zkv_place place = {0, 0, 0, 0};
     (void)word;
     int status = open_image(&s, file, ZKV_FILE_READ, o, &number);
+    if (status == DONE && number != 0) {
+        place = zkv_fault(s.file.image, s.file.bytes);
+    }
     if (status == DONE && number == 0 && o->against != NULL) {
         status = digest_of(&s, digest);
     }
@@ -129,7 +176,7 @@ int command_check(const char *file, char **word, const struct options *o)
         return status;
     }
     if (number != 0) {
-        print_refusal(number, o->json);
+        print_refusal(number, &place, o->json);
         return REFUSED;
     }
     bool same = o->against == NULL || same_digest(o->against, digest);

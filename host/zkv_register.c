@@ -147,20 +147,3 @@ int read_value(const char *from, bool empty_meant, const uint8_t **value, size_t
     }
     return *length > 0 || empty_meant ? DONE : trouble(name, "gave 0 bytes; if that is meant, say --empty");
 }
-
-/* A number in the header of a register that is open: its word 0 tells the fields by bits, from bit 0 (the chunk
- * count) on, and those that are there follow. */
-bool header_number(const struct station *s, unsigned bit, uint64_t *number)
-{
-    uint64_t word[4];
-    memcpy(word, s->file.image, sizeof word);
-    if (!(word[0] >> bit & 1)) {
-        return false;
-    }
-    unsigned before = 0;
-    for (unsigned b = 0; b < bit; b++) {
-        before += word[0] >> b & 1;
-    }
-    *number = word[1 + before];
-    return true;
-}

@@ -78,8 +78,8 @@ static int measure(struct station *s, struct stat_row *row)
     row[DELETED].number = row[KNOWN].number - row[LABELS].number;
     row[FREE].number = zkv_free_chunks(image, bytes);
     row[USED].number = zkv_lines_used(image, bytes);
-    row[STATION_NUMBER].absent = !header_number(s, STATION_BIT, &row[STATION_NUMBER].number);
-    row[CENTRE_NUMBER].absent = !header_number(s, CENTRE_BIT, &row[CENTRE_NUMBER].number);
+    row[STATION_NUMBER].absent = zkv_station(image, bytes, &row[STATION_NUMBER].number) == 0;
+    row[CENTRE_NUMBER].absent = zkv_centre(image, bytes, &row[CENTRE_NUMBER].number) == 0;
     int status = begin_trial(&t, s);
     status = status == DONE ? try_puts(&t, LINE_LABEL, &row[LEFT].number) : status;
     status = status == DONE ? try_puts(&t, 16, &row[OF_16].number) : status;

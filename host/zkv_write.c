@@ -21,7 +21,7 @@ static int is_taken(struct station *old, uint64_t number)
         return trouble(old->file.name, "exists: %jd bytes, no register: refused %" PRIu64 ": %s; --force formats it, and they are lost",
                        (intmax_t)old->file.length, number, zkv_sentence(number));
     }
-    if (header_number(old, STATION_BIT, &n)) {
+    if (zkv_station(old->file.image, old->file.bytes, &n) != 0) {
         snprintf(station, sizeof station, ", station %" PRIu64, n);
     }
     return trouble(old->file.name, "exists: a register, %" PRIu64 " labels%s; --force formats it, and they are lost", labels_in(old),
@@ -82,33 +82,20 @@ int command_format(const char *file, char **word, const struct options *o)
 
 /* ---- clean */
 
-enum { FREEING = 3 };           /* the actions of a cleaning that copies nothing */
-
-/* Begins to free a chunk of blocks of which none is in use: zkv_choose names log chunks alone. A begin changes the record
- * and nothing else, so that one that would copy something is taken back with it. Each chunk is looked at once. */
-static bool begin_freeing(struct station *s, struct cleaned *done, uint64_t *chunk, zkv_report *report)
-{
-    zkv_record before = s->record;
-    while (done->looked + 1 < s->file.bytes / ZKV_CHUNK_BYTES) {
-        *chunk = ++done->looked;
-        zkv_report r = zkv_clean(LENT(s), *chunk);
-        if (r.kind == ZKV_BEGUN && r.first == FREEING) {
-            *report = r;
-            return true;
-        }
-        s->record = before;
-    }
-    return false;
-}
-
 int clean_one(struct station *s, const uint64_t *named, struct cleaned *done, zkv_report *report)
 {
-    *report = named != NULL ? (zkv_report){ZKV_CHOSEN, *named, 0} : zkv_choose(LENT(s));
-    uint64_t chunk = report->first;
-    if (report->kind == ZKV_CHOSEN) {
-        *report = zkv_clean(LENT(s), chunk);
+    zkv_report chosen = named != NULL ? (zkv_report){ZKV_CHOSEN, *named, 0} : zkv_choose(LENT(s));
+    *report = chosen.kind == ZKV_CHOSEN ? zkv_clean(LENT(s), chosen.first) : chosen;
+    if (report->kind == ZKV_REFUSED && named == NULL) {
+        /* zkv_choose names log chunks alone. A put that is tried again may take the freed chunk again, so each is freed
+         * once. */
+        chosen = zkv_empty_chunk(LENT(s), done->freed + 1);
+        if (chosen.kind == ZKV_CHOSEN) {
+            done->freed = chosen.first;
+            *report = zkv_clean(LENT(s), chosen.first);
+        }
     }
-    if (report->kind == ZKV_REFUSED && (named != NULL || !begin_freeing(s, done, &chunk, report))) {
+    if (report->kind == ZKV_REFUSED) {
         return DONE;
     }
     int status = carry_out(s, report);
@@ -116,7 +103,7 @@ int clean_one(struct station *s, const uint64_t *named, struct cleaned *done, zk
         done->chunks++;
         done->entries += report->first;
         if (isatty(STDERR_FILENO)) {
-            fprintf(stderr, "zkv: %s: chunk %" PRIu64 ": %" PRIu64 " entries copied\n", s->file.name, chunk, report->first);
+            fprintf(stderr, "zkv: %s: chunk %" PRIu64 ": %" PRIu64 " entries copied\n", s->file.name, chosen.first, report->first);
         }
     }
     return status;

@@ -57,7 +57,7 @@
  * - closed: a zeroed record, after a refused opening, or after the end of a formatting. zkv_open and zkv_format may
  *   follow; other calls get 2.
  * - open, nothing staged: after ZKV_OPENED, the end of a commit or cleaning, or ZKV_ABANDONED. zkv_put, zkv_delete,
- *   zkv_look_up, zkv_choose, zkv_clean, zkv_open and zkv_format may follow; zkv_commit and zkv_abandon get 14.
+ *   zkv_look_up, zkv_choose, zkv_clean, zkv_chunk, zkv_open and zkv_format may follow; zkv_commit and zkv_abandon get 14.
  * - open, something staged: after the end of a staging. All of these may follow but zkv_clean, which gets 15.
  * - unfinished: after ZKV_BEGUN. zkv_step, zkv_run and zkv_open may follow; other calls get 8 (or 2, in a formatting
  *   that was begun on a closed record). In the other states a step or run answers ZKV_IDLE and changes nothing.
@@ -67,9 +67,8 @@
  * rounded up to 8, for each) may be staged before one commit, which makes all of them last; a power cut in it leaves
  * all or none. When a commit gets 13: zkv_abandon, then zkv_choose and zkv_clean with the chunk that it names, stepped
  * to the end, then stage and commit again; when zkv_choose gets 16, or zkv_clean 13, no log chunk is worth cleaning.
- * zkv_choose names log chunks alone: a data chunk whose large values were all superseded or deleted is freed by
- * zkv_clean with its number (3 actions; 16 while one of them is present), as the program zkv does. Else the image is
- * full of present values.
+ * zkv_choose names log chunks alone: a data chunk whose large values were all superseded or deleted is named by
+ * zkv_empty_chunk, and freed by zkv_clean with its number (3 actions). Else the image is full of present values.
  *
  * REFUSALS
  *
@@ -223,6 +222,39 @@ typedef struct zkv_report {
     uint64_t kind, first, second;
 } zkv_report;
 
+/* What a chunk holds (zkv_chunk). `refused` is 0, or a refusal's number with 0 in all others. `role` is zkv_role's;
+ * `size` the committed lines of a log chunk, or the units of 256 bytes of each block of a data chunk. Of a log chunk's
+ * entries `live` are the puts that the register goes by, `deletes` the deletes that it goes by, `superseded` all others
+ * (a copy that is equal to the entry it goes by is one of these too). A data chunk has `blocks`, and `used` of them
+ * hold a present value. */
+typedef struct zkv_chunk_row {
+    uint64_t refused, role, size, live, deletes, superseded, blocks, used;
+} zkv_chunk_row;
+
+enum zkv_role {
+    ZKV_FREE_CHUNK = 0,
+    ZKV_LOG_CHUNK = 1,
+    ZKV_DATA_CHUNK = 2,
+    ZKV_WRONG_CHUNK = 3
+};
+
+/* An entry of a key that stands in the log (zkv_entry). `found` is 1, or 0 with 0 in all others. `place` is its first
+ * word in the image, so byte 8 * place; `op` 1 for a put, 2 for a delete. The value of a put with 0 in `block` is the
+ * `field` bytes from byte 8 * place + 16 on; with 1 its value is in the block at unit `field`, so byte 256 * field,
+ * which holds it only while `chosen` is 1: later another value may be there. `chosen` is 1 where the register goes by
+ * the entry. */
+typedef struct zkv_key_entry {
+    uint64_t found, place, op, version, block, field, chosen;
+} zkv_key_entry;
+
+/* Where a fault is (zkv_fault). `refusal` is 0, or 1 to 6 as an opening answers it. `word` is a word of the image, so
+ * byte 8 * word: of 2 a word of the header (7 where only the sum is wrong), of 3 the first wrong directory word and
+ * `chunk` its chunk; of 4 to 6 the first word of an entry, in `chunk`. Of 4 `before` entries of the log stand before
+ * it, by chunk, then offset, and are right. What is not said is 0. */
+typedef struct zkv_place {
+    uint64_t refusal, chunk, word, before;
+} zkv_place;
+
 /* Begins a formatting: the image is to hold an empty register. A number is absent where its `given` is 0. The record
  * may be closed or open; the end of the formatting leaves it closed, with nothing staged. The table is not touched.
  * ZKV_BEGUN 582, or refused: 1, 8. */
@@ -300,6 +332,33 @@ uint64_t zkv_free_chunks(const uint8_t *image, size_t bytes);
 
 /* The committed lines of all log chunks of an image. */
 uint64_t zkv_lines_used(const uint8_t *image, size_t bytes);
+
+/* What a chunk of the open register holds: by one pass over the log. Refused: 2, 1, 8, and 16 where the image has no
+ * such chunk (chunk 0 has header and directory, and is none). */
+zkv_chunk_row zkv_chunk(const zkv_record *record, const uint8_t *image, size_t bytes, const uint64_t *table, size_t words,
+                        size_t chunk);
+
+/* The first data chunk of the open register, from chunk `from` on, with no present value in it, which zkv_clean frees:
+ * ZKV_CHOSEN with its number, or refused: 2, 1, 8, 16. A put that was abandoned may leave such a chunk: a host that
+ * cleans and puts again asks from the chunk behind the last one on, so that it comes to an end. */
+zkv_report zkv_empty_chunk(const zkv_record *record, const uint8_t *image, size_t bytes, const uint64_t *table,
+                           size_t words, size_t from);
+
+/* The calls below ask an image alone, open or not, and right or not. */
+
+/* 1 with the station number that the header names, or 0 with 0 where it names none or is not right. */
+uint64_t zkv_station(const uint8_t *image, size_t bytes, uint64_t *number);
+
+/* The same of the centre number. */
+uint64_t zkv_centre(const uint8_t *image, size_t bytes, uint64_t *number);
+
+/* The first entry of a key at or behind word `from`, by chunk, then offset; none where an entry of the log is wrong. To
+ * have all: from 0, then from each entry's place + 1, until `found` is 0. Each call reads the whole log twice. */
+zkv_key_entry zkv_entry(const uint8_t *image, size_t bytes, uint64_t key, size_t from);
+
+/* Why an opening refuses the image, and where; 0 where it does not, or only because the keys do not fit the table (7).
+ * Of 5 and 6 it takes time by the square of the entries. */
+zkv_place zkv_fault(const uint8_t *image, size_t bytes);
 
 /* Beside the proved calls, in plain C over them (host/library.c). Images in files: zitskvoze_file.h. */
 

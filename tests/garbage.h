@@ -380,7 +380,11 @@ static void open_call(void)
     remember();
     zkv_report r = zkv_open(the_record(), image.at, image.bytes, the_table(), table_words());
     tally[OPEN][r.kind == ZKV_REFUSED]++;
+    zkv_place p = zkv_fault(image.at, image.bytes);
     image_kept();
+    if (p.refusal != (r.kind == ZKV_OPENED || r.first == ZKV_TABLE_FULL ? 0 : r.first)) {
+        fault("answered kind %" PRIu64 ", %" PRIu64 ", and the fault is %" PRIu64, r.kind, r.first, p.refusal);
+    }
     if (r.kind == ZKV_OPENED) {
         return;
     }
@@ -548,6 +552,42 @@ static void count_calls(void)
     record_kept();
 }
 
+/* What is asked of chunks, entries and header: a number of the table or none, places inside the image. */
+static void inside_calls(void)
+{
+    call = "zkv_chunk, zkv_empty_chunk, zkv_station, zkv_centre, zkv_entry, zkv_fault";
+    uint64_t *number = (uint64_t *)(void *)start.at;
+    size_t chunk = (size_t)some_chunk();
+    remember();
+    zkv_chunk_row row = zkv_chunk(the_record(), image.at, image.bytes, the_table(), table_words(), chunk);
+    size_t from = (size_t)some_chunk();
+    zkv_report empty = zkv_empty_chunk(the_record(), image.at, image.bytes, the_table(), table_words(), from);
+    zkv_key_entry e = zkv_entry(image.at, image.bytes, some_key(), one_in(2) ? 0 : one_in(2) ? below(image.bytes / 8) : (size_t)draw());
+    zkv_place p = zkv_fault(image.at, image.bytes);
+    image_kept();
+    table_kept();
+    record_kept();
+    if (row.refused != 0) {
+        refused(row.refused, N(1) | N(2) | N(8) | N(16));
+    } else if (row.role > ZKV_WRONG_CHUNK || row.size > 64 || row.blocks > 8 || chunk == 0 || chunk >= image.bytes / ZKV_CHUNK_BYTES) {
+        fault("a row of chunk %zu: role %" PRIu64 ", size %" PRIu64 ", blocks %" PRIu64, chunk, row.role, row.size, row.blocks);
+    }
+    if (empty.kind == ZKV_REFUSED) {
+        refused(empty.first, N(1) | N(2) | N(8) | N(16));
+    } else if (empty.kind != ZKV_CHOSEN || empty.first == 0 || empty.first < from || empty.first >= image.bytes / ZKV_CHUNK_BYTES) {
+        fault("an empty chunk: %" PRIu64 " %" PRIu64, empty.kind, empty.first);
+    }
+    if (e.found > 1 || (e.found == 1 && (e.place < 512 || 8 * e.place + 16 > image.bytes || e.chosen > 1))) {
+        fault("an entry at word %" PRIu64, e.place);
+    }
+    if (p.refusal > 6 || (p.word > 0 && 8 * p.word >= image.bytes)) {
+        fault("a fault %" PRIu64 " at word %" PRIu64, p.refusal, p.word);
+    }
+    if (zkv_station(image.at, image.bytes, number) > 1 || zkv_centre(image.at, image.bytes, number) > 1) {
+        fault("a number that is neither given nor absent");
+    }
+}
+
 /* A call that the record may be in the middle of comes to its end. */
 static void finish(void)
 {
@@ -591,6 +631,9 @@ static void all_calls(bool openings)
             break;
         case 7:
             count_calls();
+            if (one_in(3)) {
+                inside_calls();
+            }
             list_call();
             finish();
             break;

@@ -63,6 +63,24 @@ static void write_labels(void)
     HOLD(zkv_keys(&record) == 2 && zkv_free_chunks(file.image, file.bytes) == 2 && zkv_lines_used(file.image, file.bytes) == 2);
 }
 
+/* What is asked of chunks, entries and header, of the labels above: a put, an empty put and its delete in one chunk. */
+static void look_inside(void)
+{
+    uint64_t number = 1;
+    zkv_chunk_row row = zkv_chunk(LENT, 1);
+    zkv_key_entry e = zkv_entry(file.image, file.bytes, 5, 0);
+    HOLD(row.refused == 0 && row.role == ZKV_LOG_CHUNK && row.size == 2 && row.live == 1 && row.deletes == 1 && row.superseded == 1);
+    HOLD(zkv_chunk(LENT, 2).role == ZKV_FREE_CHUNK && zkv_chunk(LENT, CHUNKS).refused == ZKV_NOT_CLEANABLE);
+    HOLD(zkv_empty_chunk(LENT, 0).first == ZKV_NOT_CLEANABLE);
+    HOLD(e.found == 1 && e.op == 1 && e.version == 1 && e.block == 0 && e.field == 0 && e.chosen == 0);
+    e = zkv_entry(file.image, file.bytes, 5, (size_t)e.place + 1);
+    HOLD(e.found == 1 && e.op == 2 && e.version == 2 && e.chosen == 1);
+    HOLD(zkv_entry(file.image, file.bytes, 5, (size_t)e.place + 1).found == 0);
+    HOLD(zkv_station(file.image, file.bytes, &number) == 1 && number == 7);
+    HOLD(zkv_centre(file.image, file.bytes, &number) == 0 && number == 0);
+    HOLD(zkv_fault(file.image, file.bytes).refusal == 0);
+}
+
 /* A fence that failed leaves the call unfinished; with its report it goes on. */
 static void write_with_trouble(void)
 {
@@ -117,6 +135,7 @@ int main(int count, char **argument)
     HOLD(zkv_file_open(&file, argument[1], ZKV_FILE_WRITE, at_once) == NULL);
     HOLD(file.bytes == CHUNKS * ZKV_CHUNK_BYTES && file.length == CHUNKS * ZKV_CHUNK_BYTES);
     write_labels();
+    look_inside();
     write_with_trouble();
     clean();
     HOLD(zkv_file_confirm(&file) == NULL);

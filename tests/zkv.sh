@@ -1,7 +1,7 @@
 #!/usr/bin/env bash
 # The program zkv in bad company: closed descriptors, files exchanged or cut under it, full disks, locks held by others,
 # FIFOs, links, limits, empty input, wrong lists and usage, a disk that breaks; what its exit statuses and messages say;
-# scans, lists, digests, loads and copies.
+# scans, lists, digests, loads and copies; what chunks and keys hold, and where a fault is.
 #
 # tests/zkv.sh [PROGRAM]        host/build/zkv; says every check that does not hold, and ends with 1 if there is one
 set -uo pipefail
@@ -310,7 +310,8 @@ for command in 'get l.img 4711' 'put l.img 5 value' 'delete l.img 4711' 'stat l.
     says 'zkv: l.img: 65536 bytes: refused 3: a directory word is wrong'
 done
 ends 3 check l.img
-prints 'refused 3: a directory word is wrong'
+prints 'refused 3: a directory word is wrong
+at the directory word of chunk 0: byte 64'
 ends 3 format x.img 3
 says 'zkv: x.img: 3 chunks: refused 1'
 ends 3 check letter
@@ -646,6 +647,85 @@ if command -v script > /dev/null; then      # a terminal is told how far it is, 
     script -qec "$zkv copy wide.img farther.img" /dev/null > terminal < /dev/null
     hold "a terminal is told how far it is: $(cat terminal)" grep -q 'zkv: farther.img: 20 of 20 labels' terminal
 fi
+
+# Inside: what each chunk holds, the entries of a key, and where a fault is.
+rm -f i.img p.svg
+"$zkv" format i.img 6 --station 7
+for v in one two three; do printf %s "$v" | "$zkv" put i.img 1 -; done
+printf x | "$zkv" put i.img 2 -
+"$zkv" delete i.img 2
+head -c 1000 /dev/zero | tr '\0' a > large
+"$zkv" put i.img 3 large
+head -c 999 large | "$zkv" put i.img 3 -
+cp i.img before
+ends 0 info i.img --svg p.svg
+prints 'chunk  role  lines  live  superseded  deletes  blocks  bytes  used
+    1  log       7     2           4        1       0      0     0
+    2  data      0     0           0        0       4   1024     1
+    3  free      0     0           0        0       0      0     0
+    4  free      0     0           0        0       0      0     0
+    5  free      0     0           0        0       0      0     0'
+hold "the picture has a box for each chunk" [ "$(grep -c '<title>chunk' p.svg)" -eq 5 ]
+hold "the picture is XML" python3 -c 'import xml.etree.ElementTree as t; t.parse("p.svg")'
+cp p.svg drawn
+for out in p.svg i.img fifo; do
+    ends 2 info i.img --svg "$out"
+    says "zkv: $out: File exists"
+done
+untouched p.svg drawn
+ends 2 info i.img --svg nowhere/p.svg
+ends 2 info i.img --svg
+ends 2 info i.img --json
+if [ -w /dev/full ]; then
+    ln -s /dev/full full.svg
+    ends 2 info i.img --svg full.svg
+fi
+ends 0 history i.img 1
+prints 'entries 3
+1 put chunk 1 line 0 superseded 3 bytes one
+2 put chunk 1 line 1 superseded 3 bytes two
+3 put chunk 1 line 2 current 5 bytes three'
+ends 0 history i.img 2
+prints 'entries 2
+1 put chunk 1 line 3 superseded 1 bytes x
+2 delete chunk 1 line 4 current'
+ends 0 history i.img 3
+hold "a superseded value in a block is not told: $(cut -c 1-90 out)" [ "$(sed -n 2p out)" = '1 put chunk 1 line 5 superseded in a block that may hold another value now' ]
+hold "the value that counts is: $(cut -c 1-90 out)" [ "$(sed -n 3p out | cut -c 1-45)" = '2 put chunk 1 line 6 current 999 bytes aaaaaa' ]
+ends 1 history i.img 9
+says 'zkv: i.img: key 9: refused 11: the key is absent'
+ends 2 history i.img x
+ends 3 history letter 1
+untouched i.img before
+# fault BYTE OCTAL PLACE: a byte of the file changed, and what check says behind the refusal.
+fault() {
+    cp before d.img
+    printf "\\$2" | dd of=d.img bs=1 seek="$1" conv=notrunc status=none
+    ends 3 check d.img
+    hold "byte $1 is $2: '$3', not '$(sed -n 2p out)'" [ "$(sed -n 2p out)" = "$3" ]
+}
+fault 0 002 'at the header: word 0, byte 0'
+fault 8 007 'at the header: word 1, byte 8'
+fault 40 001 'at the header: word 5, byte 40'
+fault 16 010 'at the header: word 7, byte 56'
+fault 96 005 'at the directory word of chunk 4: byte 96'
+fault 2464 001 'at the directory word of chunk 300: byte 2464'
+fault 4160 003 'at chunk 1, line 1, byte 4160; 1 entries before it are right'
+ends 3 check d.img --json
+prints '{"accepted":false,"refusal":4,"sentence":"an entry of the log is wrong","chunk":1,"line":1,"byte":4160,"entries_before":1}'
+fault 4368 077 'at chunk 1, line 4, byte 4368; 5 entries before it are right'
+fault 9217 020 'at the entry in chunk 1, line 6, byte 4480; every entry can be read'
+fault 4160 061 'at the entry in chunk 1, line 2, byte 4224; every entry can be read'
+ends 3 check d.img --json
+prints '{"accepted":false,"refusal":6,"sentence":"the newest entries of a key are not equal in every word, or two keys share a block","chunk":1,"line":2,"byte":4224}'
+cp before i.img
+ends 0 delete i.img 3
+ends 0 clean i.img
+ends 0 info i.img
+hold "a data chunk without a label becomes free: $(cat out)" [ -z "$(grep data out)" ]
+ends 0 history i.img 1
+prints 'entries 1
+3 put chunk '"$(awk '/^3 put/ { print $4 }' out)"' line 0 current 5 bytes three'
 
 if [ "$failures" -gt 0 ]; then
     echo "zkv: $failures of $checks checks do not hold" >&2

@@ -13,8 +13,15 @@ ghost use Rattle.store.specs.Look.{Reported};
 ghost use Rattle.store.specs.Choice.{Chosen};
 ghost use Rattle.store.specs.List.{KeysListed, KeyListed};
 ghost use Rattle.stat.specs.Counts.{linesUsed, Known};
+ghost use Rattle.inspect.specs.Numbers.{stationOf, centreOf, ToldAs};
+ghost use Rattle.inspect.specs.History.{entryFrom};
+ghost use Rattle.faults.specs.Faults.{Told as Located};
+ghost use Rattle.chunk_stat.specs.Contract.{Described, Emptied};
 ghost use Rattle.capi.specs.Answers.{answerOf, Told, isGiven, ShownBy, Shown, CountedBy, CountTold, bit, ListedBy, ListTold};
 ghost use Rattle.session.specs.Promise.{Does};
+use chunk_stat::ChunkRow;
+use faults::FaultPlace;
+use inspect::KeyEntry;
 use listing::Counted;
 use listing::Listed;
 use session::Session;
@@ -423,4 +430,55 @@ pub extern "C" fn zkv_lines_used(image: &[u8]) -> u64
     ensures { λ r. ⌜ r ≡ linesUsed 12 (chunksIn 12 (length (now (image .entry)))) (wordsOf (now (image .entry))) ⌝ }
 {
     stat::lines_used(image)
+}
+
+// INSPECTION
+// The station number that the header names: 1 and the number, or 0 and 0 (`inspect::tell_station`).
+#[no_mangle]
+pub extern "C" fn zkv_station(image: &[u8], number: &mut u64) -> u64
+    ensures { λ r. ⌜ ToldAs (stationOf (chunksIn 12 (length (now (image .entry)))) (wordsOf (now (image .entry)))) r (now (number .exit)) ⌝ }
+{
+    inspect::tell_station(image, number)
+}
+
+// The centre number that the header names: 1 and the number, or 0 and 0 (`inspect::tell_centre`).
+#[no_mangle]
+pub extern "C" fn zkv_centre(image: &[u8], number: &mut u64) -> u64
+    ensures { λ r. ⌜ ToldAs (centreOf (chunksIn 12 (length (now (image .entry)))) (wordsOf (now (image .entry)))) r (now (number .exit)) ⌝ }
+{
+    inspect::tell_centre(image, number)
+}
+
+// The first entry of a key that stands at or behind a word of the image (`inspect::entry_from`).
+#[no_mangle]
+pub extern "C" fn zkv_entry(image: &[u8], key: u64, from: usize) -> KeyEntry
+    ensures { λ r. ⌜ r ≡ entryFrom 12 (chunksIn 12 (length (now (image .entry)))) (wordsOf (now (image .entry))) key from ⌝ }
+{
+    inspect::entry_from(image, key, from)
+}
+
+// Why an opening refuses the image, and where (`faults::find_fault`).
+#[no_mangle]
+pub extern "C" fn zkv_fault(image: &[u8]) -> FaultPlace
+    ensures { λ r. ⌜ Located (now (image .entry)) r ⌝ }
+{
+    faults::find_fault(image)
+}
+
+// What a chunk of the open register holds (`chunk_stat::describe_chunk`).
+#[no_mangle]
+pub extern "C" fn zkv_chunk(s: &Session, image: &[u8], table: &[u64], chunk: usize) -> ChunkRow
+    ensures { λ r. ⌜ Described (now (s .entry)) chunk (now (image .entry)) (now (table .entry)) r ⌝ }
+{
+    chunk_stat::describe_chunk(s, image, table, chunk)
+}
+
+// The first data chunk of the open register from a number on with no live block, which can be cleaned
+// (`chunk_stat::empty_chunk`).
+#[no_mangle]
+pub extern "C" fn zkv_empty_chunk(s: &Session, image: &[u8], table: &[u64], from: usize) -> Answer
+    ensures { λ r. ⌜ Told (Emptied (now (s .entry)) from (now (image .entry)) (now (table .entry))) r ⌝ }
+{
+    let report = chunk_stat::empty_chunk(s, image, table, from);
+    told(report)
 }

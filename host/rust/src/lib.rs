@@ -57,6 +57,30 @@ pub struct Listed {
     pub block: bool,
 }
 
+/// What a chunk holds.
+#[derive(Clone, Copy, Debug, PartialEq, Eq)]
+pub enum Chunk {
+    Free,
+    /// Committed lines; entries that the register goes by, puts and deletes, and all others.
+    Log { lines: u64, live: u64, deletes: u64, superseded: u64 },
+    /// Blocks of so many bytes, and how many hold a present value.
+    Data { block_bytes: u64, blocks: u64, used: u64 },
+}
+
+/// An entry of a key that still stands in the log.
+#[derive(Clone, Copy, Debug, PartialEq, Eq)]
+pub struct Entry {
+    pub version: u64,
+    /// A put, and not a delete.
+    pub put: bool,
+    /// The value stands in a block, and not in the log.
+    pub block: bool,
+    /// The register goes by it.
+    pub current: bool,
+    /// The first word of it in the image.
+    pub place: u64,
+}
+
 /// What a cleaning did.
 #[derive(Clone, Copy, Debug, Default, PartialEq, Eq)]
 pub struct Cleaned {
@@ -176,9 +200,9 @@ impl Register {
         if changes.is_empty() {
             return Ok(());
         }
-        let mut looked = 0;
+        let mut freed = 0;
         while let Err(error) = self.commit(changes) {
-            if error != Error::Refused(Refusal::NoSpace) || self.clean_one(&mut looked)?.is_none() {
+            if error != Error::Refused(Refusal::NoSpace) || self.clean_one(&mut freed)?.is_none() {
                 return Err(error);
             }
         }
@@ -239,8 +263,9 @@ impl Register {
         unsafe { sys::zkv_clean(&mut *self.record, at, bytes, self.table.as_ptr(), words, chunk as usize) }
     }
 
-    /// Cleans the chunk that is worth it most, else one behind `looked` that holds no label; None where there is none.
-    fn clean_one(&mut self, looked: &mut u64) -> Result<Option<u64>, Error> {
+    /// Cleans the chunk that is worth it most, else one behind `freed` of blocks of which none is in use; None where
+    /// there is none.
+    fn clean_one(&mut self, freed: &mut u64) -> Result<Option<u64>, Error> {
         let (at, bytes, words) = self.lent();
         // Safety: as above.
         let chosen = unsafe { sys::zkv_choose(&*self.record, at, bytes, self.table.as_ptr(), words) };
@@ -249,25 +274,25 @@ impl Register {
             return self.finish(begun).map(Some);
         }
         match refused(begun.first) {
-            Error::Refused(Refusal::NotCleanable | Refusal::NoSpace) => self.free_one(looked),
+            Error::Refused(Refusal::NotCleanable | Refusal::NoSpace) => self.free_one(freed),
             error => Err(error),
         }
     }
 
-    /// Frees a chunk of blocks of which none is in use, as choosing names log chunks alone. A begin changes the record
-    /// and nothing else, so that one that would copy something is taken back with it. Each chunk is looked at once.
-    fn free_one(&mut self, looked: &mut u64) -> Result<Option<u64>, Error> {
-        const FREEING: u64 = 3; // the actions of a cleaning that copies nothing
-        let before = self.record.clone();
-        while *looked + 1 < self.chunks() as u64 {
-            *looked += 1;
-            let begun = self.begin_cleaning(*looked);
-            if begun.kind == sys::BEGUN && begun.first == FREEING {
-                return self.finish(begun).map(Some);
-            }
-            self.record.clone_from(&before);
+    /// Frees a chunk of blocks of which none is in use, as choosing names log chunks alone. A put that is tried again may
+    /// take the freed chunk again, so each is freed once.
+    fn free_one(&mut self, freed: &mut u64) -> Result<Option<u64>, Error> {
+        let (at, bytes, words) = self.lent();
+        // Safety: as above.
+        let empty = unsafe {
+            sys::zkv_empty_chunk(&*self.record, at, bytes, self.table.as_ptr(), words, *freed as usize + 1)
+        };
+        if empty.kind != sys::CHOSEN {
+            return Ok(None);
         }
-        Ok(None)
+        *freed = empty.first;
+        let begun = self.begin_cleaning(empty.first);
+        self.finish(begun).map(Some)
     }
 
     /// Frees the space of superseded and deleted labels, chunk by chunk, until no cleaning is worth it.
@@ -276,8 +301,8 @@ impl Register {
             return Err(Error::ReadOnly);
         }
         let mut done = Cleaned::default();
-        let mut looked = 0;
-        while let Some(entries) = self.clean_one(&mut looked)? {
+        let mut freed = 0;
+        while let Some(entries) = self.clean_one(&mut freed)? {
             done.chunks += 1;
             done.entries += entries;
         }
@@ -346,6 +371,51 @@ impl Register {
         unsafe { sys::zkv_lines_used(self.file.image(), self.file.bytes()) }
     }
 
+    /// The station number that the header names.
+    pub fn station(&self) -> Option<u64> {
+        let mut number = 0;
+        // Safety: as above.
+        let given = unsafe { sys::zkv_station(self.file.image(), self.file.bytes(), &mut number) };
+        (given != 0).then_some(number)
+    }
+
+    /// The centre number that the header names.
+    pub fn centre(&self) -> Option<u64> {
+        let mut number = 0;
+        // Safety: as above.
+        let given = unsafe { sys::zkv_centre(self.file.image(), self.file.bytes(), &mut number) };
+        (given != 0).then_some(number)
+    }
+
+    /// What a chunk holds, from chunk 1 on.
+    pub fn chunk(&self, chunk: usize) -> Result<Chunk, Error> {
+        let (at, bytes, words) = self.lent();
+        // Safety: as above.
+        let row = unsafe { sys::zkv_chunk(&*self.record, at, bytes, self.table.as_ptr(), words, chunk) };
+        if row.refused != 0 {
+            return Err(refused(row.refused));
+        }
+        Ok(match row.role {
+            1 => Chunk::Log { lines: row.size, live: row.live, deletes: row.deletes, superseded: row.superseded },
+            2 => Chunk::Data { block_bytes: 256 * row.size, blocks: row.blocks, used: row.used },
+            _ => Chunk::Free,
+        })
+    }
+
+    /// The entries of a key that still stand in the log, by chunk, then offset.
+    pub fn history(&self, key: u64) -> Vec<Entry> {
+        let (mut entries, mut from) = (Vec::new(), 0);
+        loop {
+            // Safety: as above.
+            let e = unsafe { sys::zkv_entry(self.file.image(), self.file.bytes(), key, from) };
+            if e.found == 0 {
+                return entries;
+            }
+            entries.push(Entry { version: e.version, put: e.op == 1, block: e.block != 0, current: e.chosen != 0, place: e.place });
+            from = e.place as usize + 1;
+        }
+    }
+
     /// Whether the file is as long as it was and, where it is written, still the name's. Every write asks it itself.
     pub fn confirm(&self) -> Result<(), Error> {
         self.file.confirm()
@@ -388,12 +458,14 @@ mod tests {
     /// The C compiler's sizes and places, as tests/rust.sh finds them, are those of sys.rs.
     #[test]
     fn layout() {
-        use crate::sys::{File, Record, Report, Wait};
+        use crate::sys::{ChunkRow, File, KeyEntry, Record, Report, Wait};
         use std::mem::{offset_of, size_of};
         let Ok(wanted) = std::env::var("ZKV_LAYOUT") else { return };
         let found = [
             size_of::<Record>(),
             size_of::<Report>(),
+            size_of::<ChunkRow>(),
+            size_of::<KeyEntry>(),
             size_of::<Wait>(),
             size_of::<File>(),
             offset_of!(File, bytes),

@@ -31,6 +31,31 @@ pub struct Report {
 }
 
 #[repr(C)]
+#[derive(Clone, Copy, Debug)]
+pub struct ChunkRow {
+    pub refused: u64,
+    pub role: u64,
+    pub size: u64,
+    pub live: u64,
+    pub deletes: u64,
+    pub superseded: u64,
+    pub blocks: u64,
+    pub used: u64,
+}
+
+#[repr(C)]
+#[derive(Clone, Copy, Debug)]
+pub struct KeyEntry {
+    pub found: u64,
+    pub place: u64,
+    pub op: u64,
+    pub version: u64,
+    pub block: u64,
+    pub field: u64,
+    pub chosen: u64,
+}
+
+#[repr(C)]
 pub struct File {
     pub image: *mut u8,
     pub bytes: usize,
@@ -93,6 +118,15 @@ extern "C" {
     pub fn zkv_keys(record: *const Record) -> u64;
     pub fn zkv_free_chunks(image: *const u8, bytes: usize) -> u64;
     pub fn zkv_lines_used(image: *const u8, bytes: usize) -> u64;
+    pub fn zkv_chunk(
+        record: *const Record, image: *const u8, bytes: usize, table: *const u64, words: usize, chunk: usize,
+    ) -> ChunkRow;
+    pub fn zkv_empty_chunk(
+        record: *const Record, image: *const u8, bytes: usize, table: *const u64, words: usize, from: usize,
+    ) -> Report;
+    pub fn zkv_station(image: *const u8, bytes: usize, number: *mut u64) -> u64;
+    pub fn zkv_centre(image: *const u8, bytes: usize, number: *mut u64) -> u64;
+    pub fn zkv_entry(image: *const u8, bytes: usize, key: u64, from: usize) -> KeyEntry;
     pub fn zkv_sentence(number: u64) -> *const c_char;
     pub fn zkv_version() -> *const c_char;
 

@@ -5,7 +5,7 @@ use std::fs;
 use std::path::PathBuf;
 use std::time::Duration;
 
-use zitskvoze::{Access, Change, Error, Refusal, Register, VALUE_MAX};
+use zitskvoze::{Access, Change, Chunk, Error, Refusal, Register, VALUE_MAX};
 
 /// A folder of its own, removed at the end.
 struct Folder(PathBuf);
@@ -202,4 +202,27 @@ fn refusals_have_numbers() {
     assert_eq!((1..=16).map(|n| Refusal::of_number(n).unwrap().number()).collect::<Vec<_>>(), (1..=16).collect::<Vec<_>>());
     assert_eq!((Refusal::of_number(0), Refusal::of_number(17)), (None, None));
     assert_eq!(Refusal::KeyAbsent.to_string(), "refused 11: the key is absent");
+}
+
+#[test]
+fn chunks_and_entries_are_told() {
+    let folder = Folder::new("inside");
+    let mut register = Register::create(folder.file(), 6, Some(7), None).unwrap();
+    assert_eq!((register.station(), register.centre()), (Some(7), None));
+    register.put(1, b"one").unwrap();
+    register.put(1, b"two").unwrap();
+    register.put(2, b"a").unwrap();
+    register.delete(2).unwrap();
+    register.put(3, &[5; 1000]).unwrap();
+    let log = (1..6).find(|&c| matches!(register.chunk(c).unwrap(), Chunk::Log { .. })).unwrap();
+    assert_eq!(register.chunk(log).unwrap(), Chunk::Log { lines: 5, live: 2, deletes: 1, superseded: 2 });
+    let data = (1..6).find(|&c| matches!(register.chunk(c).unwrap(), Chunk::Data { .. })).unwrap();
+    assert_eq!(register.chunk(data).unwrap(), Chunk::Data { block_bytes: 1024, blocks: 4, used: 1 });
+    assert_eq!(register.chunk(0).err(), Some(Error::Refused(Refusal::NotCleanable)));
+    let told: Vec<_> = register.history(1).iter().map(|e| (e.version, e.put, e.block, e.current)).collect();
+    assert_eq!(told, [(1, true, false, false), (2, true, false, true)]);
+    assert!(register.history(4).is_empty());
+    register.delete(3).unwrap();
+    register.clean().unwrap();
+    assert_eq!(register.chunk(data).unwrap(), Chunk::Free);
 }

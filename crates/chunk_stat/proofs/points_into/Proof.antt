@@ -1,0 +1,19 @@
+-- `chunk_stat::points_into` meets its contract.
+-- Assumes nothing.
+use borrow.Author.Tests.{eq-eqb, ne-eqb}
+use Rattle.spec.specs.Places.{unitChunk, chunkUnits}
+use Rattle.chunk_stat.proofs.points_into.Statement.{statement}
+use Rattle.chunk_stat.proofs.points_into.Tie as tie
+
+returns : tie.Need-returns
+unfolding unitChunk chunkUnits
+returns c = rw (eq-eqb _ 1 (c .before .if1 .taken), eq-eqb _ 1 (c .if2 .taken))
+
+returns-2 : tie.Need-returns-2
+returns-2 c = rw (eq-eqb _ 1 (c .before .if1 .taken), ne-eqb _ 1 (c .if2 .left))
+
+returns-3 : tie.Need-returns-3
+returns-3 c = rw (ne-eqb _ 1 (c .if1 .left))
+
+pub points-into-spec : {M : Type 1} → statement M
+points-into-spec = tie.close (tie.spec returns returns-2 returns-3)

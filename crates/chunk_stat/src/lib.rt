@@ -1,0 +1,367 @@
+// What a chunk of the open register holds: its role, and how many of its entries or blocks the register still goes by;
+// and the first data chunk from a number on that holds no live block, which can be cleaned. Nothing is changed.
+ghost use mathlib.Core.Path.{_≡_};
+ghost use Prim.Native.Nat.{_+_, _%_};
+ghost use lib.Dec.{eqb};
+ghost use lib.ListN.{length};
+ghost use Rattle.spec.specs.Basics.{both, negate};
+ghost use Rattle.spec.specs.Words.{wordsOf};
+ghost use Rattle.spec.specs.Places.{wordChunk, unitChunk, chunksIn};
+ghost use Rattle.spec.specs.Directory.{isData};
+ghost use Rattle.consistency.specs.Heads.{points};
+ghost use Rattle.space.specs.Found.{Stops};
+ghost use Rattle.chunk_stat.specs.Rows.{kindOf, refusedRow};
+ghost use Rattle.chunk_stat.specs.ByTable.{chosenBy, more, pointsInto, countEntry, tallyBy, rowBy, emptyBy, foundBy};
+ghost use Rattle.chunk_stat.specs.Contract.{Described, DescribedBy, Emptied, EmptiedBy};
+use log::Next;
+use session::Control;
+use session::Gated;
+use session::Session;
+use session::Setup;
+use spec::Refusal;
+use spec::Report;
+use spec::Role;
+
+// ONE ENTRY
+fn both(a: bool, b: bool) -> bool
+    ensures { λ r. ⌜ r ≡ both a b ⌝ }
+{
+    if a {
+        return b;
+    }
+    false
+}
+
+fn negate(a: bool) -> bool
+    ensures { λ r. ⌜ r ≡ negate a ⌝ }
+{
+    if a {
+        return false;
+    }
+    true
+}
+
+// Whether the entry at this place is the chosen one of its key.
+fn is_chosen(table: &[u64], key: u64, place: usize) -> bool
+    ensures { λ r. ⌜ r ≡ chosenBy (now (table .entry)) key place ⌝ }
+{
+    let info = index::unpack(index::look(table, key));
+    info.place == place as u64
+}
+
+fn is_put(op: u64) -> bool
+    ensures { λ r. ⌜ r ≡ eqb op 1 ⌝ }
+{
+    op == 1
+}
+
+fn is_here(place: usize, chunk: usize) -> bool
+    ensures { λ r. ⌜ r ≡ eqb (wordChunk 12 place) chunk ⌝ }
+{
+    place / 512 == chunk
+}
+
+// Whether an entry with these parts points to a block of the chunk.
+fn points_into(op: u64, placement: u64, field: u64, chunk: usize) -> bool
+    ensures { λ r. ⌜ r ≡ pointsInto op placement field chunk ⌝ }
+{
+    if op == 1 {
+        if placement == 1 {
+            return field / 16 == chunk as u64;
+        }
+    }
+    false
+}
+
+// One more, if it is so.
+fn count_if(n: u64, so: bool) -> u64
+    ensures { λ r. ⌜ r ≡ more n so ⌝ }
+{
+    if so {
+        return std::num::wrapping_add_u64(n, 1);
+    }
+    n
+}
+
+// How many entries of the chunk are chosen puts, chosen deletes and neither; how many of the chunk's blocks are live.
+pub struct Tally {
+    pub live: u64,
+    pub deletes: u64,
+    pub superseded: u64,
+    pub blocks: u64,
+}
+
+// With one more entry of the log.
+fn count_entry(
+    table: &[u64],
+    chunk: usize,
+    t: Tally,
+    op: u64,
+    placement: u64,
+    field: u64,
+    key: u64,
+    place: usize,
+) -> Tally
+    ensures { λ r. ⌜ r ≡ countEntry (now (table .entry)) chunk t op placement field key place ⌝ }
+{
+    let chosen = is_chosen(table, key, place);
+    let here = is_here(place, chunk);
+    let put = is_put(op);
+    let into = points_into(op, placement, field, chunk);
+    let live = count_if(t.live, both(here, both(chosen, put)));
+    let deletes = count_if(t.deletes, both(here, both(chosen, negate(put))));
+    let superseded = count_if(t.superseded, both(here, negate(chosen)));
+    let blocks = count_if(t.blocks, both(chosen, into));
+    Tally {
+        live,
+        deletes,
+        superseded,
+        blocks,
+    }
+}
+
+// ALL ENTRIES of the log of an image of `count` chunks; nothing where an entry is wrong.
+fn count_all(image: &[u8], table: &[u64], count: usize, chunk: usize) -> Tally
+    ensures { λ r. ⌜ r ≡ tallyBy (wordsOf (now (image .entry))) (now (table .entry)) count chunk ⌝ }
+{
+    let mut t = Tally {
+        live: 0,
+        deletes: 0,
+        superseded: 0,
+        blocks: 0,
+    };
+    let mut cursor = log::first_cursor();
+    loop {
+        let n = log::next_in_log(image, count, cursor);
+        match n {
+            Next::Done => {
+                return t;
+            }
+            Next::Wrong => {
+                return Tally {
+                    live: 0,
+                    deletes: 0,
+                    superseded: 0,
+                    blocks: 0,
+                };
+            }
+            Next::Entry {
+                op,
+                placement,
+                version: _,
+                field,
+                key,
+                words: _,
+                place,
+                cursor: after,
+            } => {
+                t = count_entry(table, chunk, t, op, placement, field, key, place);
+                cursor = after;
+            }
+        }
+    }
+}
+
+// THE ROW OF A CHUNK
+// What the directory says: the role (0 free, 1 log, 2 data, 3 wrong), the committed lines or the block size in units,
+// and how many blocks there are.
+pub struct Kind {
+    pub role: u64,
+    pub size: u64,
+    pub blocks: u64,
+}
+
+fn kind_of(role: Role) -> Kind
+    ensures { λ r. ⌜ r ≡ kindOf role ⌝ }
+{
+    match role {
+        Role::Free => Kind {
+            role: 0,
+            size: 0,
+            blocks: 0,
+        },
+        Role::Log(lines) => Kind {
+            role: 1,
+            size: lines,
+            blocks: 0,
+        },
+        Role::Data(size) => {
+            if size == 0 {
+                return Kind {
+                    role: 2,
+                    size,
+                    blocks: 0,
+                };
+            }
+            Kind {
+                role: 2,
+                size,
+                blocks: 16 / size,
+            }
+        }
+        Role::Wrong => Kind {
+            role: 3,
+            size: 0,
+            blocks: 0,
+        },
+    }
+}
+
+// A row in numbers: `refused` is 0, or the refusal's number with all others 0.
+#[repr(C)]
+pub struct ChunkRow {
+    pub refused: u64,
+    pub role: u64,
+    pub size: u64,
+    pub live: u64,
+    pub deletes: u64,
+    pub superseded: u64,
+    pub blocks: u64,
+    pub used: u64,
+}
+
+fn refused_row(number: u64) -> ChunkRow
+    ensures { λ r. ⌜ r ≡ refusedRow number ⌝ }
+{
+    ChunkRow {
+        refused: number,
+        role: 0,
+        size: 0,
+        live: 0,
+        deletes: 0,
+        superseded: 0,
+        blocks: 0,
+        used: 0,
+    }
+}
+
+// The row of a chunk, 16 where the image has no such chunk.
+fn row_at(image: &[u8], table: &[u64], chunk: usize) -> ChunkRow
+    ensures { λ r. ⌜ r ≡ rowBy (wordsOf (now (image .entry))) (now (table .entry)) (chunksIn 12 (length (now (image .entry)))) chunk ⌝ }
+{
+    let count = image.len() / 4096;
+    if 1 <= chunk {
+        if chunk < count {
+            let role = log::role_at(image, chunk);
+            let kind = kind_of(role);
+            let t = count_all(image, table, count, chunk);
+            return ChunkRow {
+                refused: 0,
+                role: kind.role,
+                size: kind.size,
+                live: t.live,
+                deletes: t.deletes,
+                superseded: t.superseded,
+                blocks: kind.blocks,
+                used: t.blocks,
+            };
+        }
+    }
+    refused_row(16)
+}
+
+// 2, 1, 8, 16, or the row of a chunk of the open register, by the record's small parts.
+pub fn describe(
+    control: Control,
+    setup: Setup,
+    image: &[u8],
+    table: &[u64],
+    chunk: usize,
+) -> ChunkRow
+    ensures { λ r. ⌜ DescribedBy control setup chunk (now (image .entry)) (now (table .entry)) r ⌝ }
+{
+    let g = session::gate(control, setup, image.len(), table.len());
+    match g {
+        Gated::Refused(n) => refused_row(session::number(n)),
+        Gated::Open => row_at(image, table, chunk),
+    }
+}
+
+// The same through the record, which is only read.
+pub fn describe_chunk(s: &Session, image: &[u8], table: &[u64], chunk: usize) -> ChunkRow
+    ensures { λ r. ⌜ Described (now (s .entry)) chunk (now (image .entry)) (now (table .entry)) r ⌝ }
+{
+    let c = s.control;
+    let k = s.setup;
+    describe(c, k, image, table, chunk)
+}
+
+// A DATA CHUNK TO CLEAN
+fn is_data(role: Role) -> bool
+    ensures { λ r. ⌜ r ≡ isData role ⌝ }
+{
+    match role {
+        Role::Free => false,
+        Role::Log(_) => false,
+        Role::Data(_) => true,
+        Role::Wrong => false,
+    }
+}
+
+// Whether a chunk is a data chunk none of whose blocks is live, and not below `from`.
+fn is_empty(image: &[u8], table: &[u64], count: usize, from: usize, chunk: usize) -> bool
+    ensures { λ r. ⌜ r ≡ emptyBy (wordsOf (now (image .entry))) (now (table .entry)) count from chunk ⌝ }
+{
+    if from <= chunk {
+        if is_data(log::role_at(image, chunk)) {
+            let t = count_all(image, table, count, chunk);
+            return t.blocks == 0;
+        }
+    }
+    false
+}
+
+// The first such chunk of an image of `count` chunks; where there is none, a number not below the count.
+fn next_empty(image: &[u8], table: &[u64], count: usize, from: usize) -> usize
+    ensures { λ r. ⌜ Stops (emptyBy (wordsOf (now (image .entry))) (now (table .entry)) count from) 1 count r ⌝ }
+{
+    let mut c = 1;
+    while c < count {
+        if is_empty(image, table, count, from, c) {
+            return c;
+        }
+        c += 1;
+    }
+    c
+}
+
+// The chunk found, or 16.
+fn report_of(chunk: usize, count: usize) -> Report
+    ensures { λ r. ⌜ r ≡ foundBy chunk count ⌝ }
+{
+    if chunk < count {
+        return Report::Chosen(chunk);
+    }
+    Report::Refused(Refusal::NotCleanable)
+}
+
+// 2, 1, 8, or the first data chunk of the open register from chunk `from` on with no live block, or 16; by the record's
+// small parts.
+pub fn find_empty(
+    control: Control,
+    setup: Setup,
+    image: &[u8],
+    table: &[u64],
+    from: usize,
+) -> Report
+    ensures { λ r. ⌜ EmptiedBy control setup from (now (image .entry)) (now (table .entry)) r ⌝ }
+{
+    let g = session::gate(control, setup, image.len(), table.len());
+    match g {
+        Gated::Refused(n) => Report::Refused(n),
+        Gated::Open => {
+            let count = image.len() / 4096;
+            let chunk = next_empty(image, table, count, from);
+            report_of(chunk, count)
+        }
+    }
+}
+
+// The same through the record, which is only read.
+pub fn empty_chunk(s: &Session, image: &[u8], table: &[u64], from: usize) -> Report
+    ensures { λ r. ⌜ Emptied (now (s .entry)) from (now (image .entry)) (now (table .entry)) r ⌝ }
+{
+    let c = s.control;
+    let k = s.setup;
+    find_empty(c, k, image, table, from)
+}

@@ -1,0 +1,77 @@
+-- `faults::header_fault` meets its contract.
+-- Assumes nothing.
+use mathlib.Core.Path.{_∙_}
+use Rattle.faults.specs.Faults.{headerFault}
+use borrow.Author.Needs.{needs}
+use Rattle.faults.proofs.header_fault.Statement.{statement}
+use Rattle.faults.proofs.header_fault.Tie as tie
+
+load-requires : tie.Need-load-requires
+load-requires c κs = search needs
+
+is-map-requires : tie.Need-is-map-requires
+is-map-requires c κs = search needs
+
+load-requires-2 : tie.Need-load-requires-2
+load-requires-2 c κs = search needs
+
+is-count-requires : tie.Need-is-count-requires
+is-count-requires c κs = search needs
+
+load-requires-3 : tie.Need-load-requires-3
+load-requires-3 c κs = search needs
+
+first-right-requires : tie.Need-first-right-requires
+first-right-requires c κs = search needs
+
+load-requires-4 : tie.Need-load-requires-4
+load-requires-4 c κs = search needs
+
+second-right-requires : tie.Need-second-right-requires
+second-right-requires c κs = search needs
+
+load-requires-5 : tie.Need-load-requires-5
+load-requires-5 c κs = search needs
+
+is-zero-requires : tie.Need-is-zero-requires
+is-zero-requires c κs = search needs
+
+load-requires-6 : tie.Need-load-requires-6
+load-requires-6 c κs = search needs
+
+is-zero-requires-2 : tie.Need-is-zero-requires-2
+is-zero-requires-2 c κs = search needs
+
+load-requires-7 : tie.Need-load-requires-7
+load-requires-7 c κs = search needs
+
+is-zero-requires-3 : tie.Need-is-zero-requires-3
+is-zero-requires-3 c κs = search needs
+
+first-failing-requires : tie.Need-first-failing-requires
+first-failing-requires c κs = search needs
+
+returns : tie.Need-returns
+unfolding headerFault
+returns c = c .first-failing .ensures ∙ rw (c .before .before .before .before .before .before .before .before .before .before .before .before .before .is-map .ensures, c .before .before .before .before .before .before .before .before .before .before .before .is-count .ensures, c .before .before .before .before .before .before .before .before .before .first-right .ensures, c .before .before .before .before .before .before .before .second-right .ensures, c .before .before .before .before .before .is-zero .ensures, c .before .before .before .is-zero2 .ensures, c .before .is-zero3 .ensures, c .before .before .before .before .before .before .before .before .before .before .before .before .before .before .load .ensures, c .before .before .before .before .before .before .before .before .before .before .before .before .load2 .ensures, c .before .before .before .before .before .before .before .before .before .before .load3 .ensures, c .before .before .before .before .before .before .before .before .load4 .ensures, c .before .before .before .before .before .before .load5 .ensures, c .before .before .before .before .load6 .ensures, c .before .before .load7 .ensures)
+
+pub header-fault-spec : {M : Type 1} → statement M
+header-fault-spec =
+    tie.close
+    (tie.spec
+    load-requires
+    is-map-requires
+    load-requires-2
+    is-count-requires
+    load-requires-3
+    first-right-requires
+    load-requires-4
+    second-right-requires
+    load-requires-5
+    is-zero-requires
+    load-requires-6
+    is-zero-requires-2
+    load-requires-7
+    is-zero-requires-3
+    first-failing-requires
+    returns)

@@ -1,0 +1,41 @@
+-- `faults::log_fault` meets its contract.
+-- Assumes nothing.
+use mathlib.Core.Path.{sym, _∙_}
+use Rattle.spec.specs.Words.{wordsOf}
+use Rattle.faults.proofs.Answers.{stops-at, stops-nowhere}
+use borrow.Author.Needs.{needs}
+use Rattle.faults.proofs.log_fault.Statement.{statement}
+use Rattle.faults.proofs.log_fault.Tie as tie
+
+read-log-requires : tie.Need-read-log-requires
+read-log-requires c κs = search needs
+
+enum-known-stop : tie.Need-enum-known-stop
+enum-known-stop c = search needs
+
+enum-told : tie.Need-enum-told
+enum-told c = search needs
+
+find-spots-requires : tie.Need-find-spots-requires
+find-spots-requires c κs = search needs
+
+spot-fault-requires : tie.Need-spot-fault-requires
+spot-fault-requires c κs = search needs
+
+returns : tie.Need-returns
+returns c = stops-at (c .before .before .before .before .before .args .count) (wordsOf (c .before .before .before .before .before .args .image .now)) _ _ (sym (c .before .before .before .read-log .ensures) ∙ c .before .stop .given .1)
+
+returns-2 : tie.Need-returns-2
+returns-2 c = stops-nowhere (c .before .before .before .before .before .before .args .count) (wordsOf (c .before .before .before .before .before .before .args .image .now)) _ _ (sym (c .before .before .before .before .read-log .ensures) ∙ c .before .before .enum-told .given .1) (c .before .find-spots .ensures) (c .spot-fault .ensures)
+
+pub log-fault-spec : {M : Type 1} → statement M
+log-fault-spec =
+    tie.close
+    (tie.spec
+    read-log-requires
+    enum-known-stop
+    enum-told
+    find-spots-requires
+    spot-fault-requires
+    returns
+    returns-2)

@@ -1,0 +1,123 @@
+-- `faults::read_log` meets its contract. The loop's invariant: what is left from the place reached stops where the
+-- whole stops; and there are no more entries before it than words.
+-- Assumes nothing.
+use mathlib.Core.Path.{_≡_, refl, sym, _∙_}
+use Prim.Native.Nat.{_+_, _-_, _*_, _≤_}
+use native.Mathlib.Omega.{arith}
+use Rattle.spec.specs.Words.{wordsOf}
+use Rattle.words.specs.Image.{length-wordsOf}
+use Rattle.theory_log.proofs.Walk.{room-padding, room-entry}
+use Rattle.faults.specs.Reading.{readImage, stopBy}
+use Rattle.faults.proofs.Left.{leftFrom, stops-not, stops-here, goes-padding, goes-entry, goes-chunk}
+use borrow.Author.Needs.{needs}
+use Rattle.faults.proofs.read_log.Statement.{statement}
+use Rattle.faults.proofs.read_log.Tie as tie
+
+abbrev Inv-loop : tie.InvT-loop
+Inv-loop image count before₀ chunk₀ at₀ end₀ before chunk at end = (stopBy 0 (readImage 12 count (wordsOf image)) ≡ stopBy before (leftFrom count (wordsOf image) chunk at end)) × (before + ((count - chunk) * 600 + (end - at)) ≤ 302400) × (chunk ≤ 504)
+
+abbrev μ-loop : tie.MeasureT-loop
+μ-loop image count before₀ chunk₀ at₀ end₀ before chunk at end = (count - chunk) * 600 + (end - at)
+
+loop-holds : tie.Need-loop-holds Inv-loop μ-loop
+loop-holds c = (refl, omega arith, omega arith)
+
+next-entry-requires : tie.Need-next-entry-requires Inv-loop μ-loop
+next-entry-requires c κs = search needs
+
+enum-told : tie.Need-enum-told Inv-loop μ-loop
+enum-told c = search needs
+
+add-if1 : tie.Need-add-if1 Inv-loop μ-loop
+add-if1 c = omega arith
+
+returns : tie.Need-returns Inv-loop μ-loop
+returns c = sym (c .before .before .before .before .loop .inv .0 ∙ stops-not (c .before .before .before .before .before .before .args .count) (wordsOf (c .before .before .before .before .before .before .args .image .now)) (c .before .before .before .before .loop .before) (c .before .before .before .before .loop .chunk) (c .before .before .before .before .loop .at) (c .before .before .before .before .loop .end) (sym (c .before .before .before .next-entry .ensures) ∙ c .before .enum-told .given .1) (omega arith))
+
+add-chunk : tie.Need-add-chunk Inv-loop μ-loop
+add-chunk c = omega arith
+
+mul-at : tie.Need-mul-at Inv-loop μ-loop
+mul-at c = omega arith
+
+lines-of-requires : tie.Need-lines-of-requires Inv-loop μ-loop
+lines-of-requires c κs = search needs
+
+mul-end : tie.Need-mul-end Inv-loop μ-loop
+mul-end c = omega arith
+
+add-end : tie.Need-add-end Inv-loop μ-loop
+add-end c = omega arith
+
+loop-less : tie.Need-loop-less Inv-loop μ-loop
+loop-less c = omega arith
+
+loop-again : tie.Need-loop-again Inv-loop μ-loop
+loop-again c = (c .before .before .before .before .before .loop .inv .0 ∙ goes-chunk (c .before .before .before .before .before .before .before .args .count) (wordsOf (c .before .before .before .before .before .before .before .args .image .now)) (c .before .before .before .before .before .loop .before) (c .before .before .before .before .before .loop .chunk) (c .before .before .before .before .before .loop .at) (c .before .before .before .before .before .loop .end) _ (sym (c .before .before .before .before .next-entry .ensures) ∙ c .before .before .enum-told .given .1) (omega arith) (c .lines-of .ensures .0), omega arith, omega arith)
+
+enum-told-2 : tie.Need-enum-told-2 Inv-loop μ-loop
+enum-told-2 c = search needs
+
+returns-2 : tie.Need-returns-2 Inv-loop μ-loop
+returns-2 c = sym (c .before .before .before .loop .inv .0 ∙ stops-here (c .before .before .before .before .before .args .count) (wordsOf (c .before .before .before .before .before .args .image .now)) (c .before .before .before .loop .before) (c .before .before .before .loop .chunk) (c .before .before .before .loop .at) (c .before .before .before .loop .end) (sym (c .before .before .next-entry .ensures) ∙ c .enum-told2 .given .1))
+
+enum-told-3 : tie.Need-enum-told-3 Inv-loop μ-loop
+enum-told-3 c = search needs
+
+add-at : tie.Need-add-at Inv-loop μ-loop
+add-at c = let r = room-padding (wordsOf (c .before .before .before .before .before .args .image .now)) (c .before .before .before .loop .at) (c .before .before .before .loop .end) (sym (c .before .before .next-entry .ensures) ∙ c .enum-told3 .given .1) in let n = length-wordsOf (c .before .before .before .before .before .args .image .now) in omega arith
+
+loop-less-2 : tie.Need-loop-less-2 Inv-loop μ-loop
+loop-less-2 c = let r = room-padding (wordsOf (c .before .before .before .before .before .args .image .now)) (c .before .before .before .loop .at) (c .before .before .before .loop .end) (sym (c .before .before .next-entry .ensures) ∙ c .enum-told3 .given .1) in omega arith
+
+loop-again-2 : tie.Need-loop-again-2 Inv-loop μ-loop
+loop-again-2 c = let r = room-padding (wordsOf (c .before .before .before .before .before .args .image .now)) (c .before .before .before .loop .at) (c .before .before .before .loop .end) (sym (c .before .before .next-entry .ensures) ∙ c .enum-told3 .given .1) in (c .before .before .before .loop .inv .0 ∙ goes-padding (c .before .before .before .before .before .args .count) (wordsOf (c .before .before .before .before .before .args .image .now)) (c .before .before .before .loop .before) (c .before .before .before .loop .chunk) (c .before .before .before .loop .at) (c .before .before .before .loop .end) (sym (c .before .before .next-entry .ensures) ∙ c .enum-told3 .given .1), omega arith, omega arith)
+
+enum-known-s : tie.Need-enum-known-s Inv-loop μ-loop
+enum-known-s c = search needs
+
+add-before : tie.Need-add-before Inv-loop μ-loop
+add-before c = omega arith
+
+add-at-2 : tie.Need-add-at-2 Inv-loop μ-loop
+add-at-2 c = let r = room-entry (wordsOf (c .before .before .before .before .before .before .args .image .now)) (c .before .before .before .before .loop .at) (c .before .before .before .before .loop .end) _ _ _ _ _ (c .before .s .given .0 .1 .1 .1 .1 .1 .0) (sym (c .before .before .before .next-entry .ensures) ∙ c .before .s .given .1) in let n = length-wordsOf (c .before .before .before .before .before .before .args .image .now) in omega arith
+
+add-at-3 : tie.Need-add-at-3 Inv-loop μ-loop
+add-at-3 c = let r = room-entry (wordsOf (c .before .before .before .before .before .before .args .image .now)) (c .before .before .before .before .loop .at) (c .before .before .before .before .loop .end) _ _ _ _ _ (c .before .s .given .0 .1 .1 .1 .1 .1 .0) (sym (c .before .before .before .next-entry .ensures) ∙ c .before .s .given .1) in let n = length-wordsOf (c .before .before .before .before .before .before .args .image .now) in omega arith
+
+loop-less-3 : tie.Need-loop-less-3 Inv-loop μ-loop
+loop-less-3 c = let r = room-entry (wordsOf (c .before .before .before .before .before .before .args .image .now)) (c .before .before .before .before .loop .at) (c .before .before .before .before .loop .end) _ _ _ _ _ (c .before .s .given .0 .1 .1 .1 .1 .1 .0) (sym (c .before .before .before .next-entry .ensures) ∙ c .before .s .given .1) in omega arith
+
+loop-again-3 : tie.Need-loop-again-3 Inv-loop μ-loop
+loop-again-3 c = let r = room-entry (wordsOf (c .before .before .before .before .before .before .args .image .now)) (c .before .before .before .before .loop .at) (c .before .before .before .before .loop .end) _ _ _ _ _ (c .before .s .given .0 .1 .1 .1 .1 .1 .0) (sym (c .before .before .before .next-entry .ensures) ∙ c .before .s .given .1) in (c .before .before .before .before .loop .inv .0 ∙ goes-entry (c .before .before .before .before .before .before .args .count) (wordsOf (c .before .before .before .before .before .before .args .image .now)) (c .before .before .before .before .loop .before) (c .before .before .before .before .loop .chunk) (c .before .before .before .before .loop .at) (c .before .before .before .before .loop .end) _ _ _ _ _ (c .before .s .given .0 .1 .1 .1 .1 .1 .0) (sym (c .before .before .before .next-entry .ensures) ∙ c .before .s .given .1), omega arith, omega arith)
+
+pub read-log-spec : {M : Type 1} → statement M
+read-log-spec =
+    tie.close
+    (tie.spec
+    Inv-loop
+    μ-loop
+    loop-holds
+    next-entry-requires
+    enum-told
+    add-if1
+    returns
+    add-chunk
+    mul-at
+    lines-of-requires
+    mul-end
+    add-end
+    loop-less
+    loop-again
+    enum-told-2
+    returns-2
+    enum-told-3
+    add-at
+    loop-less-2
+    loop-again-2
+    enum-known-s
+    add-before
+    add-at-2
+    add-at-3
+    loop-less-3
+    loop-again-3)

@@ -1,0 +1,122 @@
+-- The place of the fault for which an opening refuses an image: the first of its kind.
+-- Assumes nothing.
+use mathlib.Core.Path.{_≡_}
+use mathlib.Core.Logic.{_⊎_}
+use mathlib.Core.Bool.{Bool, true}
+use mathlib.Core.Option.{Option, none, some}
+use mathlib.Core.List.{List, [], _∷_}
+use Prim.Native.Nat.{ℕ, zero, suc, _/_}
+use lib.Dec.{eqb, ltb}
+use lib.ListN.{length, getD}
+use Rattle.spec.specs.Basics.{pick, either}
+use Rattle.spec.specs.Words.{wordsOf}
+use Rattle.spec.specs.Places.{lengthAllowed, chunksIn, maxChunks, directoryWord}
+use Rattle.spec.specs.Header.{headerRight}
+use Rattle.spec.specs.Directory.{directoryRight}
+use Rattle.spec.specs.Log.{Entry}
+use Rattle.spec.specs.Opening.{Opening, Refused, Accepted, opening, fine}
+use Rattle.spec.specs.declared.Refusal.the-variants as N
+use Rattle.top_faults.specs.Tops.{firstTop, atOne}
+use Rattle.faults.specs.declared.Fault.{Fault}
+use Rattle.faults.specs.declared.Fault.the-variants as F
+use Rattle.faults.specs.declared.FaultPlace.{FaultPlace}
+use Rattle.faults.specs.Reading.{Reading, Whole, Upto, readImage}
+
+-- ## 2: the header
+
+-- what each word of a header is asked by itself: the bit map, the chunk count, the fields, the unused words
+abbrev pub wordTests : (n a b c d e f g : ℕ) → List Bool
+wordTests n a b c d e f g =
+    either (eqb a 1) (either (eqb a 3) (either (eqb a 5) (eqb a 7)))
+    ∷ eqb b n ∷ pick (eqb a 1) (eqb c 0) true ∷ pick (eqb a 7) true (eqb d 0) ∷ eqb e 0 ∷ eqb f 0 ∷ eqb g 0 ∷ []
+
+-- the number of the first test that fails; past the last where none does
+abbrev pub failing : List Bool → ℕ
+failing [] = 0
+failing (b ∷ bs) = pick b (suc (failing bs)) 0
+
+-- the first word that is wrong by itself; word 7, of the sum, where none is
+unfoldable pub headerFault : ℕ → List ℕ → ℕ
+headerFault n ws = failing (wordTests n (getD ws 0 0) (getD ws 1 0) (getD ws 2 0) (getD ws 3 0) (getD ws 4 0) (getD ws 5 0) (getD ws 6 0))
+
+-- ## 3: the directory
+
+-- of i numbers from c the first of which a test does not hold; past the last where it holds of all
+unfoldable pub firstNot : (ℕ → Bool) → ℕ → ℕ → ℕ
+firstNot test zero c = c
+firstNot test (suc i) c = pick (test c) (firstNot test i (suc c)) c
+
+abbrev pub wordRight : ℕ → ℕ → List ℕ → ℕ → Bool
+wordRight p n ws c = directoryRight p n c (getD ws (directoryWord c) 0)
+
+-- the first chunk whose directory word is wrong
+abbrev pub directoryFault : ℕ → ℕ → List ℕ → ℕ
+directoryFault p n ws = firstNot (wordRight p n ws) maxChunks 0
+
+-- ## 5 and 6: top entries (`top_faults.Tops`)
+
+abbrev pub topsFault : Option Entry → Fault
+topsFault none = F.Nothing
+topsFault (some e) = F.Tops (e .at)
+
+abbrev pub blockFault : Option Entry → Option Entry → Fault
+blockFault none f = topsFault f
+blockFault (some e) f = F.Block (e .at)
+
+-- ## The fault
+
+-- 4 to 6, by the log as far as it can be read
+abbrev pub logFault : ℕ → ℕ → List ℕ → Reading → Fault
+logFault p n ws (Whole es) = blockFault (firstTop es (fine p n ws)) (firstTop es (atOne es))
+logFault p n ws (Upto es w) = F.Entry w (length es)
+
+abbrev pub chunksFault : ℕ → ℕ → List ℕ → Fault
+chunksFault p n ws =
+    pick (headerRight n ws)
+    (pick (ltb (directoryFault p n ws) maxChunks) (F.Directory (directoryFault p n ws) (directoryWord (directoryFault p n ws))) (logFault p n ws (readImage p n ws)))
+    (F.Header (headerFault n ws))
+
+-- of an image of so many bytes whose words are ws
+unfoldable pub faultOf : ℕ → ℕ → List ℕ → Fault
+faultOf p bytes ws = pick (lengthAllowed p bytes) (chunksFault p (chunksIn p bytes) ws) F.Length
+
+-- by the two places that the pass finds, 0 where it finds none
+abbrev pub spotFault : (block tops : ℕ) → Fault
+spotFault block tops = pick (eqb block 0) (pick (eqb tops 0) F.Nothing (F.Tops tops)) (F.Block block)
+
+-- ## What an opening answers
+
+-- with a fault its refusal; without one the image is accepted, or has more keys than the table holds
+abbrev pub Answers : Fault → Opening → Type 0
+Answers F.Nothing o = (o ≡ Refused N.TableFull) ⊎ ((es : List Entry) × (o ≡ Accepted es))
+Answers F.Length o = o ≡ Refused N.ImageLength
+Answers (F.Header w) o = o ≡ Refused N.NotOpen
+Answers (F.Directory c w) o = o ≡ Refused N.DirectoryWrong
+Answers (F.Entry w k) o = o ≡ Refused N.EntryWrong
+Answers (F.Block w) o = o ≡ Refused N.BlockWrong
+Answers (F.Tops w) o = o ≡ Refused N.TopsDisagree
+
+-- THE CALL: the fault, and that it is why an opening refuses the image, whatever the key table's length
+pub record Located (bytes : List ℕ) (r : Fault) : Type 0 where
+  pub place : r ≡ faultOf 12 (length bytes) (wordsOf bytes)
+  pub refuses : (table : ℕ) → Answers r (opening 12 (length bytes) (wordsOf bytes) table)
+
+-- ## In numbers
+
+-- the refusal's number, the chunk of the word, the word, and how many entries stand before it
+abbrev pub placeAt : (refusal word before : ℕ) → FaultPlace
+placeAt refusal word before = record { refusal = refusal; chunk = word / 512; word = word; before = before }
+
+abbrev pub numbersOf : Fault → FaultPlace
+numbersOf F.Nothing = placeAt 0 0 0
+numbersOf F.Length = placeAt 1 0 0
+numbersOf (F.Header w) = placeAt 2 w 0
+numbersOf (F.Directory c w) = record { refusal = 3; chunk = c; word = w; before = 0 }
+numbersOf (F.Entry w k) = placeAt 4 w k
+numbersOf (F.Block w) = placeAt 5 w 0
+numbersOf (F.Tops w) = placeAt 6 w 0
+
+pub record Told (bytes : List ℕ) (r : FaultPlace) : Type 0 where
+  pub fault : Fault
+  pub located : Located bytes fault
+  pub told : r ≡ numbersOf fault

@@ -1,0 +1,244 @@
+/* zkv: the commands info, what each chunk holds, as a table and as a picture, and history, the entries of a key. */
+#define _GNU_SOURCE
+#include <errno.h>
+#include <inttypes.h>
+#include <stdio.h>
+#include <stdlib.h>
+#include <string.h>
+#include <unistd.h>
+
+#include "zkv.h"
+
+/* ---- info */
+
+static const char *const roles[] = {"free", "log", "data", "wrong"};
+
+struct chunks {
+    size_t count;               /* with chunk 0, of which nothing is told */
+    zkv_chunk_row row[ZKV_CHUNKS_MAX];
+};
+
+static int measure(struct station *s, struct chunks *all)
+{
+    all->count = s->file.bytes / ZKV_CHUNK_BYTES;
+    for (size_t c = 1; c < all->count; c++) {
+        all->row[c] = zkv_chunk(LENT(s), c);
+        if (all->row[c].refused != 0) {
+            return refused(s->file.name, all->row[c].refused, "chunk %zu: ", c);
+        }
+    }
+    return DONE;
+}
+
+static void print_table(const struct chunks *all)
+{
+    puts("chunk  role  lines  live  superseded  deletes  blocks  bytes  used");
+    for (size_t c = 1; c < all->count; c++) {
+        const zkv_chunk_row *r = &all->row[c];
+        bool data = r->role == ZKV_DATA_CHUNK;
+        printf("%5zu  %-5s%6" PRIu64 "%6" PRIu64 "%12" PRIu64 "%9" PRIu64 "%8" PRIu64 "%7" PRIu64 "%6" PRIu64 "\n", c, roles[r->role & 3],
+               data ? 0 : r->size, r->live, r->superseded, r->deletes, r->blocks, data ? 256 * r->size : 0, r->used);
+    }
+}
+
+/* ---- the picture: a box for each chunk; of a log chunk as much of its height as is committed, shared by what its
+ * entries are; of a data chunk a part for each block */
+
+enum { BOX = 44, GAP = 6, BOXES = 16, LINES = ZKV_CHUNK_BYTES / ZKV_LINE_BYTES, HEAD = 40 };
+
+static void print_box(FILE *to, double x, double y, double height, const char *colour)
+{
+    if (height > 0) {
+        fprintf(to, "<rect x=\"%.1f\" y=\"%.1f\" width=\"%d\" height=\"%.1f\" fill=\"%s\"/>\n", x, y, BOX, height, colour);
+    }
+}
+
+static void print_log_chunk(FILE *to, const zkv_chunk_row *r, double x, double y)
+{
+    uint64_t entries = r->live + r->superseded + r->deletes;
+    double used = (double)BOX * (double)r->size / LINES, each = entries > 0 ? used / (double)entries : 0;
+    double live = each * (double)r->live, gone = each * (double)r->deletes;
+    print_box(to, x, y, live, "#4c9f70");
+    print_box(to, x, y + live, gone, "#8f8f8f");
+    print_box(to, x, y + live + gone, used - live - gone, "#e0a030");
+}
+
+static void print_data_chunk(FILE *to, const zkv_chunk_row *r, double x, double y)
+{
+    double used = r->blocks > 0 ? (double)BOX * (double)r->used / (double)r->blocks : 0;
+    print_box(to, x, y, used, "#3f6fb5");
+    print_box(to, x, y + used, BOX - used, "#c9d8ee");
+}
+
+static void print_chunk(FILE *to, const zkv_chunk_row *r, size_t c)
+{
+    double x = GAP + (double)((c - 1) % BOXES) * (BOX + GAP), y = HEAD + (double)((c - 1) / BOXES) * (BOX + GAP);
+    fprintf(to, "<g><title>chunk %zu: %s", c, roles[r->role & 3]);
+    if (r->role == ZKV_LOG_CHUNK) {
+        fprintf(to, ", %" PRIu64 " lines: %" PRIu64 " live, %" PRIu64 " superseded, %" PRIu64 " deletes", r->size, r->live, r->superseded,
+                r->deletes);
+    } else if (r->role == ZKV_DATA_CHUNK) {
+        fprintf(to, ", %" PRIu64 " blocks of %" PRIu64 " bytes: %" PRIu64 " used", r->blocks, 256 * r->size, r->used);
+    }
+    fputs("</title>\n", to);
+    print_box(to, x, y, BOX, "#ffffff");
+    if (r->role == ZKV_LOG_CHUNK) {
+        print_log_chunk(to, r, x, y);
+    } else if (r->role == ZKV_DATA_CHUNK) {
+        print_data_chunk(to, r, x, y);
+    }
+    fprintf(to, "<rect x=\"%.1f\" y=\"%.1f\" width=\"%d\" height=\"%d\" fill=\"none\" stroke=\"#404040\"/>\n", x, y, BOX, BOX);
+    fprintf(to, "<text x=\"%.1f\" y=\"%.1f\">%zu</text></g>\n", x + 3, y + 12, c);
+}
+
+static void print_picture(FILE *to, const struct chunks *all)
+{
+    size_t rows = (all->count - 1 + BOXES - 1) / BOXES;
+    fprintf(to, "<svg xmlns=\"http://www.w3.org/2000/svg\" width=\"%d\" height=\"%zu\" font-family=\"sans-serif\" font-size=\"10\">\n",
+            GAP + BOXES * (BOX + GAP), HEAD + rows * (BOX + GAP));
+    fputs("<rect width=\"100%\" height=\"100%\" fill=\"#f4f4f4\"/>\n"
+          "<text x=\"6\" y=\"24\" font-size=\"12\">"
+          "<tspan fill=\"#4c9f70\">live</tspan> <tspan fill=\"#e0a030\">superseded</tspan> <tspan fill=\"#8f8f8f\">deletes</tspan> "
+          "<tspan fill=\"#3f6fb5\">blocks used</tspan> <tspan fill=\"#7d9cc9\">blocks free</tspan></text>\n", to);
+    for (size_t c = 1; c < all->count; c++) {
+        print_chunk(to, &all->row[c], c);
+    }
+    fputs("</svg>\n", to);
+}
+
+/* A file that exists is left alone; one that cannot be written whole is removed. */
+static int write_picture(const char *name, const struct chunks *all)
+{
+    FILE *to = fopen(name, "wx");
+    if (to == NULL) {
+        return trouble(name, "%s", strerror(errno));
+    }
+    print_picture(to, all);
+    bool whole = fflush(to) == 0 && !ferror(to);
+    int error = errno;
+    if (fclose(to) != 0 && whole) {
+        whole = false;
+        error = errno;
+    }
+    if (!whole) {
+        unlink(name);
+        return trouble(name, "cannot be written: %s", strerror(error));
+    }
+    return DONE;
+}
+
+int command_info(const char *file, char **word, const struct options *o)
+{
+    static struct station s;
+    static struct chunks all;
+    (void)word;
+    int status = need_register(&s, file, ZKV_FILE_READ, o);
+    status = status == DONE ? measure(&s, &all) : status;
+    status = status == DONE ? confirmed(&s) : status;
+    if (status == DONE && o->svg != NULL) {
+        status = write_picture(o->svg, &all);
+    }
+    if (status == DONE) {
+        print_table(&all);
+    }
+    return status;
+}
+
+/* ---- history */
+
+static int by_version(const void *a, const void *b)
+{
+    const zkv_key_entry *x = a, *y = b;
+    if (x->version != y->version) {
+        return x->version < y->version ? -1 : 1;
+    }
+    return x->place < y->place ? -1 : x->place > y->place;
+}
+
+/* The key's entries, in memory that the caller frees. */
+static int entries_of(struct station *s, uint64_t key, zkv_key_entry **entry, size_t *count)
+{
+    size_t room = 0;
+    *entry = NULL;
+    *count = 0;
+    zkv_key_entry e = zkv_entry(s->file.image, s->file.bytes, key, 0);
+    for (; e.found != 0; e = zkv_entry(s->file.image, s->file.bytes, key, e.place + 1)) {
+        if (*count == room) {
+            room = 2 * room + 64;
+            zkv_key_entry *more = realloc(*entry, room * sizeof *more);
+            if (more == NULL) {
+                return trouble(s->file.name, "no memory for the entries");
+            }
+            *entry = more;
+        }
+        (*entry)[(*count)++] = e;
+    }
+    if (*count > 0) {
+        qsort(*entry, *count, sizeof **entry, by_version);
+    }
+    return DONE;
+}
+
+static void print_value(FILE *to, const uint8_t *value, uint64_t length)
+{
+    fprintf(to, " %" PRIu64 " bytes", length);
+    bool printable = length > 0;
+    for (uint64_t i = 0; i < length; i++) {
+        printable = printable && value[i] >= ' ' && value[i] <= '~';
+    }
+    if (printable) {
+        fprintf(to, " %.*s", (int)length, (const char *)value);
+    }
+}
+
+/* A line for an entry. What a superseded entry says of a block is not read: another value may be there. */
+static int print_entry(struct station *s, FILE *to, uint64_t key, const zkv_key_entry *e)
+{
+    const uint8_t *image = s->file.image;
+    uint64_t start, length;
+    fprintf(to, "%" PRIu64 " %s chunk %" PRIu64 " line %" PRIu64 " %s", e->version, e->op == 1 ? "put" : "delete",
+            8 * e->place / ZKV_CHUNK_BYTES, 8 * e->place % ZKV_CHUNK_BYTES / ZKV_LINE_BYTES, e->chosen ? "current" : "superseded");
+    if (e->op == 1 && e->block == 0) {
+        print_value(to, image + 8 * e->place + 16, e->field);
+    } else if (e->op == 1 && e->chosen) {
+        uint64_t number = zkv_look_up(LENT(s), key, &start, &length);
+        if (number != 0) {
+            return refused(s->file.name, number, "key %" PRIu64 ": ", key);
+        }
+        print_value(to, image + start, length);
+    } else if (e->op == 1) {
+        fputs(" in a block that may hold another value now", to);
+    }
+    fputc('\n', to);
+    return DONE;
+}
+
+static uint64_t history_key;
+
+static int print_history(struct station *s, FILE *to)
+{
+    zkv_key_entry *entry;
+    size_t count;
+    int status = entries_of(s, history_key, &entry, &count);
+    if (status == DONE && count == 0) {
+        status = refused(s->file.name, ZKV_KEY_ABSENT, "key %" PRIu64 ": ", history_key);
+    }
+    if (status == DONE) {
+        fprintf(to, "entries %zu\n", count);
+    }
+    for (size_t i = 0; status == DONE && i < count; i++) {
+        status = print_entry(s, to, history_key, &entry[i]);
+    }
+    free(entry);
+    return status;
+}
+
+int command_history(const char *file, char **word, const struct options *o)
+{
+    static struct station s;
+    if (!number_of(word[0], &history_key)) {
+        return trouble(file, "%s is no key: a key is a decimal number below 2^64", word[0]);
+    }
+    int status = need_register(&s, file, ZKV_FILE_READ, o);
+    return status == DONE ? print_whole(&s, print_history) : status;
+}
