@@ -82,7 +82,7 @@ own-alone pl x extent a v own is-extent is-own = is-own ∙ ap (λ (y : ℕ). al
 -- ## The pass
 
 -- entries that are passed over with no marks are of other classes
-marked-none : (key : ℕ) → marked [] key ≡ true
+pub marked-none : (key : ℕ) → marked [] key ≡ true
 marked-none key = rw (le-ltb (classOf key / 0x8_0000) 0 (omega arith))
 
 class-over : (low high : ℕ) (xs over : List Entry) → ((e : Entry) → Mem e over → asked [] low high (e .key) ≡ false) → classIn low high (xs ++ over) ≡ classIn low high xs
@@ -112,8 +112,7 @@ module _ (n : ℕ) (ws : List ℕ) (low high : ℕ) where
     reached-over = record {
       sized = inv .sized;
       holds = λ most es h.
-          let i = inv .holds most es h in
-          (
+          let i = inv .holds most es h in (
             i .0 ++ run .over,
             run .passes n chunk es (i .0) (i .1),
             rw (class-over low high (i .0) (run .over) (λ e m. rw none-marked at (run .unasked e m))) (i .2),

@@ -98,18 +98,12 @@ fn enter(table: &mut [u64], keys: usize, low: u64, high: u64, key: u64, own: u64
                     keys: keys + 1,
                 };
             }
-            return Collected {
-                fits: false,
-                keys,
-            };
+            return Collected { fits: false, keys };
         }
         let info = volatile::noted(old, own);
         index::put_at(table, slot, key, info);
     }
-    Collected {
-        fits: true,
-        keys,
-    }
+    Collected { fits: true, keys }
 }
 
 // The entries of a range of classes go into the table, as far as it holds their keys: it is theirs alone.
@@ -126,16 +120,10 @@ pub fn collect(image: &[u8], count: usize, table: &mut [u64], low: u64, high: u6
         let n = log::next_in_log(image, count, Cursor { chunk, at, end });
         match n {
             Next::Done => {
-                return Collected {
-                    fits: true,
-                    keys,
-                };
+                return Collected { fits: true, keys };
             }
             Next::Wrong => {
-                return Collected {
-                    fits: false,
-                    keys,
-                };
+                return Collected { fits: false, keys };
             }
             Next::Entry {
                 op: _,
