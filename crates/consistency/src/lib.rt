@@ -15,6 +15,7 @@ use blocks::Buffer;
 use blocks::clear_bits;
 use blocks::has_bit;
 use blocks::set_bit;
+use classes::MARKS;
 use classes::collect;
 use classes::is_within;
 use classes::mark_twins;
@@ -316,7 +317,7 @@ fn check_class(
     ensures { λ r. ⌜ ClassChecked count (wordsOf (now (image .entry))) (now (table .entry)) fits low high so (now (buffer .entry)) (now (buffer .exit)) r ⌝ }
 {
     if fits {
-        let mut marks: [u8; 8192] = [0; 8192];
+        let mut marks: [u8; MARKS] = [0; MARKS];
         mark_twins(table, &mut marks);
         return sweep(image, count, table, fits, &marks, low, high, buffer, so);
     }
