@@ -3,13 +3,13 @@
 use mathlib.Core.Path.{_≡_}
 use mathlib.Core.Bool.{Bool, true, false}
 use mathlib.Core.List.{List, [], _∷_, _++_}
-use Prim.Native.Nat.{ℕ, _≤_}
+use Prim.Native.Nat.{ℕ, _+_, _≤_, _<_}
 use lib.ListN.{length}
 use Rattle.spec.specs.Places.{maxChunks}
 use Rattle.spec.specs.Log.{Entry, Entries, imageEntries}
 use Rattle.spec.specs.Blocks.{pointed}
 use Rattle.theory_log.specs.Contents.{Mem}
-use Rattle.index.specs.Index.{get}
+use Rattle.index.specs.Index.{slots, infoAt, get}
 use Rattle.log.specs.declared.Cursor.{Cursor}
 use Rattle.log.specs.Cursor.{cursorAt, remaining, left}
 use Rattle.volatile.specs.Known.{ownOf, Bounded, Indexed, FillInv}
@@ -46,6 +46,11 @@ pub record Collecting (n : ℕ) (ws table table′ : List ℕ) (low high : ℕ) 
 pub record OneMarked (marks marks′ : List ℕ) (key info : ℕ) : Type 0 where
   pub own : 0x8000_0000_0000_0000 ≤ info → marked marks′ key ≡ true
   pub others : (k : ℕ) → marked marks k ≡ true → marked marks′ k ≡ true
+
+-- none of four slots from s on has the bit of several top entries
+pub record QuietFrom (table : List ℕ) (s : ℕ) (r : Bool) : Type 0 where
+  pub fits : r ≡ true → s + 4 ≤ slots table
+  pub low : r ≡ true → (j : ℕ) → s ≤ j → j < s + 4 → infoAt table j < 0x8000_0000_0000_0000
 
 -- every key that has several top entries by the table has its mark
 pub record TwinsMarked (table marks : List ℕ) : Type 0 where

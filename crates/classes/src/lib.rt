@@ -1,10 +1,11 @@
 // Classes of keys, for passes over the log that look at some keys only: the keys of a range of classes, collected into
 // a table of any size, and marks that say which of them have several top entries.
 ghost use mathlib.Core.Path.{_≡_};
-ghost use Prim.Native.Nat.{_/_};
+ghost use Prim.Native.Nat.{_/_, _<_};
+ghost use lib.ListN.{length};
 ghost use Rattle.spec.specs.Words.{wordsOf};
 ghost use Rattle.classes.specs.Classes.{classOf, within, asked};
-ghost use Rattle.classes.specs.Passing.{PassedOver, Entering, Collecting, OneMarked, TwinsMarked};
+ghost use Rattle.classes.specs.Passing.{PassedOver, Entering, Collecting, OneMarked, QuietFrom, TwinsMarked};
 use log::Cursor;
 use log::Next;
 use log::Short;
@@ -164,14 +165,33 @@ fn mark_slot(marks: &mut [u8], key: u64, info: u64)
     }
 }
 
-// The marks of the keys of a table that have several top entries are set.
+// Whether four slots from s on are there, and none of them is of a key with several top entries.
+fn is_quiet(table: &[u64], s: usize) -> bool
+    requires { ⌜ s < length (now table) / 2 ⌝ }
+    ensures { λ r. ⌜ QuietFrom (now (table .entry)) s r ⌝ }
+{
+    let at = 2 * s;
+    if table.len() < at + 8 {
+        return false;
+    }
+    let a = table[at + 1] | table[at + 3];
+    let b = table[at + 5] | table[at + 7];
+    (a | b) < 0x8000_0000_0000_0000
+}
+
+// The marks of the keys of a table that have several top entries are set. Four slots are looked at together, so that
+// the pass over a table with few such keys is short.
 pub fn mark_twins(table: &[u64], marks: &mut [u8])
     ensures { λ _. ⌜ TwinsMarked (now (table .entry)) (now (marks .exit)) ⌝ }
 {
     let n = table.len() / 2;
     let mut s = 0;
     while s < n {
-        mark_slot(marks, table[2 * s], table[2 * s + 1]);
-        s += 1;
+        if is_quiet(table, s) {
+            s += 4;
+        } else {
+            mark_slot(marks, table[2 * s], table[2 * s + 1]);
+            s += 1;
+        }
     }
 }

@@ -4,7 +4,7 @@ use mathlib.Core.Path.{_≡_, refl}
 use Prim.Native.Nat.{_-_, _/_, _≤_}
 use native.Mathlib.Omega.{arith}
 use lib.ListN.{length}
-use Rattle.classes.proofs.Twins.{Seen, seen-none, seen-next, seen-all}
+use Rattle.classes.proofs.Twins.{Seen, seen-none, seen-next, seen-quiet, seen-all}
 use Rattle.classes.proofs.mark_twins.Statement.{statement}
 use Rattle.classes.proofs.mark_twins.Tie as tie
 
@@ -16,6 +16,24 @@ abbrev μ-loop : tie.MeasureT-loop
 
 loop-holds : tie.Need-loop-holds Inv-loop μ-loop
 loop-holds c = (omega arith, refl, refl, seen-none _ _)
+
+is-quiet-requires : tie.Need-is-quiet-requires Inv-loop μ-loop
+is-quiet-requires c κs = search needs
+
+add-s : tie.Need-add-s Inv-loop μ-loop
+add-s c =
+    let f = c .before .is-quiet .ensures .fits (c .if1 .taken) in
+    omega arith
+
+loop-less : tie.Need-loop-less Inv-loop μ-loop
+loop-less c =
+    let f = c .before .is-quiet .ensures .fits (c .if1 .taken) in
+    omega arith
+
+loop-again : tie.Need-loop-again Inv-loop μ-loop
+loop-again c =
+    let f = c .before .is-quiet .ensures .fits (c .if1 .taken) in
+    (omega arith, refl, c .before .before .before .loop .inv .2, seen-quiet _ _ _ (c .before .before .before .loop .inv .3) _ (c .before .is-quiet .ensures) (c .if1 .taken))
 
 mul-mark-slot : tie.Need-mul-mark-slot Inv-loop μ-loop
 mul-mark-slot c = search needs
@@ -41,14 +59,14 @@ shared-slice-read-mark-slot-2 c = search needs
 mark-slot-requires : tie.Need-mark-slot-requires Inv-loop μ-loop
 mark-slot-requires c κs = search needs
 
-add-s : tie.Need-add-s Inv-loop μ-loop
-add-s c = search needs
+add-s-2 : tie.Need-add-s-2 Inv-loop μ-loop
+add-s-2 c = search needs
 
-loop-less : tie.Need-loop-less Inv-loop μ-loop
-loop-less c = search needs
+loop-less-2 : tie.Need-loop-less-2 Inv-loop μ-loop
+loop-less-2 c = search needs
 
-loop-again : tie.Need-loop-again Inv-loop μ-loop
-loop-again c = (omega arith, refl, omega arith, seen-next _ _ _ _ _ _ (c .before .before .before .before .before .before .before .loop .inv .3) refl refl (c .before .before .mark-slot .ensures))
+loop-again-2 : tie.Need-loop-again-2 Inv-loop μ-loop
+loop-again-2 c = (omega arith, refl, omega arith, seen-next _ _ _ _ _ _ (c .before .before .before .before .before .before .before .before .before .loop .inv .3) refl refl (c .before .before .mark-slot .ensures))
 
 same-length : tie.Need-same-length Inv-loop μ-loop
 same-length c = c .before .loop .inv .2
@@ -63,6 +81,10 @@ mark-twins-spec =
     Inv-loop
     μ-loop
     loop-holds
+    is-quiet-requires
+    add-s
+    loop-less
+    loop-again
     mul-mark-slot
     mul-mark-slot-2
     shared-slice-read-mark-slot
@@ -71,8 +93,8 @@ mark-twins-spec =
     mul-mark-slot-4
     shared-slice-read-mark-slot-2
     mark-slot-requires
-    add-s
-    loop-less
-    loop-again
+    add-s-2
+    loop-less-2
+    loop-again-2
     same-length
     returns)
