@@ -19,6 +19,8 @@ use Rattle.log.proofs.Scan.{best-chosen}
 use Rattle.volatile.specs.Known.{Bounded}
 use Rattle.volatile.proofs.Grow.{found-none, found-chosen}
 use Rattle.volatile.proofs.Image.{image-bounded}
+use Rattle.classes.specs.Classes.{classIn}
+use Rattle.classes.proofs.Classes.{class-bounded, class-chosen}
 use Rattle.consistency.specs.Pass.{TopIs}
 
 abbrev bestIs : Info → Best
@@ -26,17 +28,17 @@ bestIs i = record { version = i .version; place = i .place }
 
 module _ (n : ℕ) (ws table : List ℕ) (fits : Bool) (key : ℕ) where
   pub shows-table : fits ≡ true → (word : ℕ) (info : Info) → word ≡ get table key → info ≡ unpackOf word → TopIs n ws table fits key (bestIs info)
-  shows-table t word info is-word is-info es l = ap bestIs is-info ∙ go (ℕ-discrete word 0)
+  shows-table t word info is-word is-info low high es l own = ap bestIs is-info ∙ go (ℕ-discrete word 0) ∙ ap bestOf (class-chosen low high key own es)
     where
-      small : Bounded es
-      small = image-bounded n ws es (l .entries) (l .few)
+      small : Bounded (classIn low high es)
+      small = class-bounded low high es (image-bounded n ws es (l .entries) (l .few))
 
-      go : Dec (word ≡ 0) → bestIs (unpackOf word) ≡ bestOf (chosen key es)
-      go (yes z) = rw (found-none table (l .keys) es (l .indexed t) small key word is-word z, z)
-      go (no z) = let f = found-chosen table (l .keys) es (l .indexed t) small key word is-word z in ap bestIs (f .2) ∙ sym (ap bestOf (f .1))
+      go : Dec (word ≡ 0) → bestIs (unpackOf word) ≡ bestOf (chosen key (classIn low high es))
+      go (yes z) = rw (found-none table (l .keys) (classIn low high es) (l .indexed t) small key word is-word z, z)
+      go (no z) = let f = found-chosen table (l .keys) (classIn low high es) (l .indexed t) small key word is-word z in ap bestIs (f .2) ∙ sym (ap bestOf (f .1))
 
   pub shows-scan : (r : Best) → r ≡ bestIn 12 n ws key → TopIs n ws table fits key r
-  shows-scan r is es l = is ∙ best-chosen 12 (omega arith) (omega arith) n key ws es (l .entries)
+  shows-scan r is low high es l own = is ∙ best-chosen 12 (omega arith) (omega arith) n key ws es (l .entries)
 
 pub version-highest : (k : ℕ) (es : List Entry) → bestOf (chosen k es) .version ≡ highest k es
 version-highest k es = version (chosen k es) ∙ ap versionOf (chosen-best k es) ∙ highest-best k es

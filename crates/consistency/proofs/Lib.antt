@@ -1,6 +1,7 @@
 pub mod Blocks
 pub mod Same
 pub mod Found
-pub mod Passed
 pub mod Marks
+pub mod Visits
+pub mod Sweeps
 pub mod Tests

@@ -1,4 +1,4 @@
--- What the second pass of an opening tells of the entries of an image.
+-- What an opening's passes over the top entries tell of the entries of an image.
 -- Assumes nothing.
 use mathlib.Core.Path.{_≡_}
 use mathlib.Core.Bool.{Bool, true, false}
@@ -16,9 +16,10 @@ use Rattle.blocks.specs.Bits.{hasBit, WordsKept}
 use Rattle.log.specs.declared.Best.{Best}
 use Rattle.log.specs.Best.{bestOf}
 use Rattle.log.specs.Stands.{StandsIn}
-use Rattle.volatile.specs.Known.{Indexed}
+use Rattle.volatile.specs.Known.{several, Indexed}
 use Rattle.volatile.specs.Check.{Marks, CheckInv}
 use Rattle.volatile.specs.Plain.{Plain}
+use Rattle.classes.specs.Classes.{within, marked, classIn}
 use Rattle.consistency.specs.Heads.{entryOf, points}
 use Rattle.consistency.specs.declared.Head.{Head}
 use Rattle.consistency.specs.declared.Checked.{Checked}
@@ -31,13 +32,20 @@ pub record Listed (n : ℕ) (ws table : List ℕ) (fits : Bool) (es : List Entry
   pub keys : ℕ
   pub indexed : fits ≡ true → Indexed table keys es
 
+-- The same for a range of classes: if `fits` the table is that of its entries.
+pub record ListedIn (n : ℕ) (ws table : List ℕ) (fits : Bool) (low high : ℕ) (es : List Entry) : Type 0 where
+  pub few : n ≤ maxChunks
+  pub entries : imageEntries 12 n ws ≡ Entries es
+  pub keys : ℕ
+  pub indexed : fits ≡ true → Indexed table keys (classIn low high es)
+
 -- whether the entry with these parts agrees with the one that stands at a place
 abbrev pub AgreesWith : List ℕ → Head → ℕ → Bool → Type 0
 AgreesWith ws h place r = (words : ℕ) (f : Entry) → StandsIn ws (entryOf ws h words) → StandsIn ws f → f .at ≡ place → r ≡ agree (entryOf ws h words) f
 
 -- the chosen top entry of a key
 abbrev pub TopIs : ℕ → List ℕ → List ℕ → Bool → ℕ → Best → Type 0
-TopIs n ws table fits key r = (es : List Entry) → Listed n ws table fits es → r ≡ bestOf (chosen key es)
+TopIs n ws table fits key r = (low high : ℕ) (es : List Entry) → ListedIn n ws table fits low high es → within low high key ≡ true → r ≡ bestOf (chosen key es)
 
 -- whether top entries agree, with one more, where they did `so`; the chosen entry of its key stands at `place`
 pub record AgreedIs (ws : List ℕ) (so : Bool) (h : Head) (place : ℕ) (r : Bool) : Type 0 where
@@ -45,34 +53,63 @@ pub record AgreedIs (ws : List ℕ) (so : Bool) (h : Head) (place : ℕ) (r : Bo
   pub before : so ≡ false → r ≡ false
   pub other : (h .place ≡ place → ⊥) → so ≡ true → AgreesWith ws h place r
 
+-- every entry of xs is one of es
+abbrev pub Part : List Entry → List Entry → Type 0
+Part xs es = (e : Entry) → Mem e xs → Mem e es
+
 -- the marks with one more top entry, whose block has a bit; the chosen entry of its key stands at `place`
 pub record MarkedIs (apart : Bool) (h : Head) (place : ℕ) (before after : List ℕ) (r : Bool) : Type 0 where
-  pub kept : length before ≡ 1152 → WordsKept before after
-  pub marks : (ws : List ℕ) (es xs ys : List Entry) (words : ℕ) (f : Entry) → Apart es → es ≡ xs ++ entryOf ws h words ∷ ys → (Mem (entryOf ws h words) xs → ⊥)
+  pub kept : WordsKept before before → WordsKept before after
+  pub marks : (ws : List ℕ) (es xs : List Entry) (words : ℕ) (f : Entry) → Apart es → Mem (entryOf ws h words) es → Part xs es → (Mem (entryOf ws h words) xs → ⊥)
       → chosen (h .key) es ≡ some f → f .at ≡ place → (points (h .op) (h .placement) ≡ true → h .field < 8064)
       → Marks es xs (hasBit before) apart → Marks es (xs ++ entryOf ws h words ∷ []) (hasBit after) r
 
--- the tests with one more entry, after none failed
-pub record VisitedIs (n : ℕ) (ws table : List ℕ) (fits : Bool) (s : Checked) (h : Head) (before after : List ℕ) (r : Checked) : Type 0 where
-  pub kept : length before ≡ 1152 → WordsKept before after
-  pub right : (es xs ys : List Entry) (words : ℕ) → Listed n ws table fits es → es ≡ xs ++ entryOf ws h words ∷ ys → CheckInv 12 n ws es xs (hasBit before) true (s .agreeing) (s .apart)
-      → r .blocks ≡ true → CheckInv 12 n ws es (xs ++ entryOf ws h words ∷ []) (hasBit after) true (r .agreeing) (r .apart)
-  pub wrong : (es xs ys : List Entry) (words : ℕ) → Listed n ws table fits es → es ≡ xs ++ entryOf ws h words ∷ ys → s .blocks ≡ true → r .blocks ≡ false → blocksTest 12 n ws es ≡ false
+-- the tests with one more entry, if its key's class is within the range, after none failed
+pub record VisitedIs (n : ℕ) (ws table : List ℕ) (fits : Bool) (low high : ℕ) (s : Checked) (h : Head) (before after : List ℕ) (r : Checked) : Type 0 where
+  pub kept : WordsKept before before → WordsKept before after
+  pub right : (es xs : List Entry) (words : ℕ) → ListedIn n ws table fits low high es → Mem (entryOf ws h words) es → Part xs es
+      → (within low high (h .key) ≡ true → Mem (entryOf ws h words) xs → ⊥) → CheckInv 12 n ws es xs (hasBit before) true (s .agreeing) (s .apart) → r .blocks ≡ true
+      → CheckInv 12 n ws es (xs ++ classIn low high (entryOf ws h words ∷ [])) (hasBit after) true (r .agreeing) (r .apart)
+  pub wrong : (es : List Entry) (words : ℕ) → ListedIn n ws table fits low high es → Mem (entryOf ws h words) es → s .blocks ≡ true → r .blocks ≡ false → blocksTest 12 n ws es ≡ false
 
--- THE PASS: refusal 5, where it does not hold refusal 6, and where the top entries agree the blocks in use as bits
-pub record CheckedAs (n : ℕ) (ws table : List ℕ) (fits : Bool) (before after : List ℕ) (r : Checked) : Type 0 where
-  pub kept : WordsKept before after
-  pub blocks : (es : List Entry) → Listed n ws table fits es → r .blocks ≡ blocksTest 12 n ws es
-  pub tops : (es : List Entry) → Listed n ws table fits es → r .blocks ≡ true → both (r .agreeing) (r .apart) ≡ both (agreeTest es) (apartTest es)
-  pub bits : (es : List Entry) → Listed n ws table fits es → r .blocks ≡ true → r .agreeing ≡ true → (u : ℕ) → hasBit after u ≡ isIn u (liveBlocks es)
+-- the entries xs are checked, and a range of classes is to be: none of xs is in it
+pub record Ahead (n : ℕ) (ws table : List ℕ) (fits : Bool) (low high : ℕ) (es xs : List Entry) : Type 0 where
+  pub listed : ListedIn n ws table fits low high es
+  pub inside : Part xs es
+  pub others : (e : Entry) → Mem e xs → within low high (e .key) ≡ false
 
--- what the tests tell of the entries es, with the blocks in use as bits
+-- every key of the range that has no mark has one top entry at most
+abbrev pub Noted : List ℕ → (low high : ℕ) → List Entry → Type 0
+Noted marks low high es = (k : ℕ) → within low high k ≡ true → marked marks k ≡ false → several k es ≡ 0
+
+-- A pass for a range of classes: none of its blocks is wrong, and then the tests are those of its entries too.
+pub record SweptAs (n : ℕ) (ws table : List ℕ) (fits : Bool) (marks : List ℕ) (low high : ℕ) (so : Checked) (before after : List ℕ) (r : Checked) : Type 0 where
+  pub kept : WordsKept before before → WordsKept before after
+  pub right : (es xs : List Entry) → Ahead n ws table fits low high es xs → Noted marks low high es → CheckInv 12 n ws es xs (hasBit before) true (so .agreeing) (so .apart)
+      → r .blocks ≡ true → CheckInv 12 n ws es (xs ++ classIn low high es) (hasBit after) true (r .agreeing) (r .apart)
+  pub wrong : (es xs : List Entry) → Ahead n ws table fits low high es xs → Noted marks low high es → so .blocks ≡ true → CheckInv 12 n ws es xs (hasBit before) true (so .agreeing) (so .apart)
+      → r .blocks ≡ false → blocksTest 12 n ws es ≡ false
+
+-- the same, whatever the marks
+pub record ClassChecked (n : ℕ) (ws table : List ℕ) (fits : Bool) (low high : ℕ) (so : Checked) (before after : List ℕ) (r : Checked) : Type 0 where
+  pub kept : WordsKept before before → WordsKept before after
+  pub right : (es xs : List Entry) → Ahead n ws table fits low high es xs → CheckInv 12 n ws es xs (hasBit before) true (so .agreeing) (so .apart)
+      → r .blocks ≡ true → CheckInv 12 n ws es (xs ++ classIn low high es) (hasBit after) true (r .agreeing) (r .apart)
+  pub wrong : (es xs : List Entry) → Ahead n ws table fits low high es xs → so .blocks ≡ true → CheckInv 12 n ws es xs (hasBit before) true (so .agreeing) (so .apart)
+      → r .blocks ≡ false → blocksTest 12 n ws es ≡ false
+
+-- THE TESTS: refusal 5, where it does not hold refusal 6, and where the top entries agree the blocks in use as bits
 pub record Tested (n : ℕ) (ws : List ℕ) (es : List Entry) (after : List ℕ) (r : Checked) : Type 0 where
   pub blocks : r .blocks ≡ blocksTest 12 n ws es
   pub tops : r .blocks ≡ true → both (r .agreeing) (r .apart) ≡ both (agreeTest es) (apartTest es)
   pub bits : r .blocks ≡ true → r .agreeing ≡ true → (u : ℕ) → hasBit after u ≡ isIn u (liveBlocks es)
 
--- the pass, or none where the entries are known to be plain
+-- all classes, from no bit on
+pub record AllChecked (n : ℕ) (ws : List ℕ) (before after : List ℕ) (r : Checked) : Type 0 where
+  pub kept : WordsKept before before → WordsKept before after
+  pub tested : (es : List Entry) → n ≤ maxChunks → imageEntries 12 n ws ≡ Entries es → ((u : ℕ) → hasBit before u ≡ false) → Tested n ws es after r
+
+-- with the keys in the table or not; no pass where the entries are known to be plain
 pub record Examined (n : ℕ) (ws table : List ℕ) (fits plain : Bool) (before after : List ℕ) (r : Checked) : Type 0 where
   pub kept : WordsKept before after
   pub tested : (es : List Entry) → Listed n ws table fits es → (plain ≡ true → Plain es) → Tested n ws es after r

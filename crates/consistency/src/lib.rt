@@ -1,21 +1,30 @@
-// The second pass of an opening: whether the top entries' blocks are right, whether top entries agree and share no
-// block with another key, and the blocks in use as bits.
+// What an opening asks of the top entries: whether their blocks are right, whether they agree and share no block with
+// another key, and the blocks in use as bits. A second pass looks at the entries that can tell it: values in blocks, and
+// keys with several top entries. Where the key table does not hold the keys, there is a pass for each of some ranges of
+// classes of keys, with a table of the call's own.
 ghost use mathlib.Core.Path.{_≡_};
 ghost use Prim.Native.Nat.{_+_, _-_, _*_, _^_, _≤_, _<_, min};
 ghost use mathlib.Core.Bool.{true};
-ghost use Rattle.spec.specs.Basics.{pick, every};
+ghost use lib.Dec.{ltb};
+ghost use Rattle.spec.specs.Basics.{pick, either, every};
 ghost use Rattle.spec.specs.Words.{wordsOf};
 ghost use Rattle.spec.specs.Blocks.{startTests, lengthTests, blockRight};
 ghost use Rattle.consistency.specs.Heads.{sameFrom, points};
-ghost use Rattle.consistency.specs.Pass.{AgreesWith, TopIs, AgreedIs, MarkedIs, VisitedIs, CheckedAs, Examined};
+ghost use Rattle.consistency.specs.Pass.{AgreesWith, TopIs, AgreedIs, MarkedIs, VisitedIs, SweptAs, ClassChecked, AllChecked, Examined};
 use blocks::Buffer;
 use blocks::clear_bits;
 use blocks::has_bit;
 use blocks::set_bit;
+use classes::MARKS;
+use classes::collect;
+use classes::is_within;
+use classes::mark_twins;
+use classes::pass_over;
 use codec::Unit;
 use index::look;
 use index::unpack;
 use log::Best;
+use log::Cursor;
 use log::Next;
 use log::best_of;
 use log::first_cursor;
@@ -199,52 +208,65 @@ fn agreed(image: &[u8], so: bool, e: Head, place: usize) -> bool
     false
 }
 
-// One entry of the pass.
+// One entry of the pass, which looks at a range of classes.
 fn visit(
     image: &[u8],
     count: usize,
     table: &[u64],
     fits: bool,
+    low: u64,
+    high: u64,
     buffer: &mut Buffer,
     s: Checked,
     e: Head,
 ) -> Checked
-    ensures { λ r. ⌜ VisitedIs count (wordsOf (now (image .entry))) (now (table .entry)) fits s e (now (buffer .entry)) (now (buffer .exit)) r ⌝ }
+    ensures { λ r. ⌜ VisitedIs count (wordsOf (now (image .entry))) (now (table .entry)) fits low high s e (now (buffer .entry)) (now (buffer .exit)) r ⌝ }
 {
-    let top = top_of(image, count, table, fits, e.key);
-    if e.version != top.version {
-        return s;
-    }
-    if block_fine(image, count, e.op, e.placement, e.field) {
-        let agreeing = agreed(image, s.agreeing, e, top.place);
-        let apart = marked(buffer, s.apart, e, top.place);
+    if is_within(low, high, e.key) {
+        let top = top_of(image, count, table, fits, e.key);
+        if e.version != top.version {
+            return s;
+        }
+        if block_fine(image, count, e.op, e.placement, e.field) {
+            let agreeing = agreed(image, s.agreeing, e, top.place);
+            let apart = marked(buffer, s.apart, e, top.place);
+            return Checked {
+                blocks: true,
+                agreeing,
+                apart,
+            };
+        }
         return Checked {
-            blocks: true,
-            agreeing,
-            apart,
+            blocks: false,
+            agreeing: s.agreeing,
+            apart: s.apart,
         };
     }
-    Checked {
-        blocks: false,
-        agreeing: s.agreeing,
-        apart: s.apart,
-    }
+    s
 }
 
-// The pass over the log of an image of `count` chunks. The table holds the keys where `fits`; the bits become the
-// blocks in use.
-pub fn check(image: &[u8], count: usize, table: &[u64], fits: bool, buffer: &mut Buffer) -> Checked
-    ensures { λ r. ⌜ CheckedAs count (wordsOf (now (image .entry))) (now (table .entry)) fits (now (buffer .entry)) (now (buffer .exit)) r ⌝ }
+// The pass over the log of an image of `count` chunks, for a range of classes. The table holds their keys where `fits`.
+// Puts with their values in the log are passed over where no mark is set for their keys: such a key has one top entry.
+fn sweep(
+    image: &[u8],
+    count: usize,
+    table: &[u64],
+    fits: bool,
+    marks: &[u8],
+    low: u64,
+    high: u64,
+    buffer: &mut Buffer,
+    so: Checked,
+) -> Checked
+    ensures { λ r. ⌜ SweptAs count (wordsOf (now (image .entry))) (now (table .entry)) fits (now (marks .entry)) low high so (now (buffer .entry)) (now (buffer .exit)) r ⌝ }
 {
-    clear_bits(buffer);
-    let mut s = Checked {
-        blocks: true,
-        agreeing: true,
-        apart: true,
-    };
+    let mut s = so;
     let mut cursor = first_cursor();
     loop {
-        let n = next_in_log(image, count, cursor);
+        let chunk = cursor.chunk;
+        let end = cursor.end;
+        let at = pass_over(image, cursor.at, end, marks, low, high);
+        let n = next_in_log(image, count, Cursor { chunk, at, end });
         match n {
             Next::Done => {
                 return s;
@@ -270,7 +292,7 @@ pub fn check(image: &[u8], count: usize, table: &[u64], fits: bool, buffer: &mut
                     key,
                     place,
                 };
-                s = visit(image, count, table, fits, buffer, s, e);
+                s = visit(image, count, table, fits, low, high, buffer, s, e);
                 if s.blocks {
                     cursor = after;
                 } else {
@@ -281,8 +303,107 @@ pub fn check(image: &[u8], count: usize, table: &[u64], fits: bool, buffer: &mut
     }
 }
 
-// What the pass finds. Where the log is `plain`, with one top entry a key and no value in a block, nothing is left to
-// find and none is made.
+// A range of classes, of which the table holds the keys where `fits`; else each top entry is found by a scan.
+fn check_class(
+    image: &[u8],
+    count: usize,
+    table: &[u64],
+    fits: bool,
+    low: u64,
+    high: u64,
+    buffer: &mut Buffer,
+    so: Checked,
+) -> Checked
+    ensures { λ r. ⌜ ClassChecked count (wordsOf (now (image .entry))) (now (table .entry)) fits low high so (now (buffer .entry)) (now (buffer .exit)) r ⌝ }
+{
+    if fits {
+        let mut marks: [u8; MARKS] = [0; MARKS];
+        mark_twins(table, &mut marks);
+        return sweep(image, count, table, fits, &marks, low, high, buffer, so);
+    }
+    sweep(
+        image,
+        count,
+        table,
+        fits,
+        &image[0..0],
+        low,
+        high,
+        buffer,
+        so,
+    )
+}
+
+// ALL CLASSES
+// Where a range of so many classes ends.
+fn range_end(low: u64, width: u64) -> u64
+    requires { ⌜ (low < 2 ^ 32) × (1 ≤ width) × (width ≤ 2 ^ 32) ⌝ }
+    ensures { λ r. ⌜ (low < r) × (r ≤ 2 ^ 32) ⌝ }
+{
+    if low + width < 0x1_0000_0000 {
+        low + width
+    } else {
+        0x1_0000_0000
+    }
+}
+
+// How many classes the next range is to have, where one of so many had so many keys: so many as are likely to have
+// seven eighths of the keys that a table of 4,096 words holds.
+fn next_width(width: u64, keys: usize) -> u64
+    requires { ⌜ (1 ≤ width) × (width ≤ 2 ^ 32) ⌝ }
+    ensures { λ r. ⌜ (1 ≤ r) × (r ≤ 2 ^ 32) ⌝ }
+{
+    let many = lesser(keys, 1024) as u64;
+    let w = width * 1024 / (many + 128);
+    if w < 1 {
+        return 1;
+    }
+    if w < 0x1_0000_0000 { w } else { 0x1_0000_0000 }
+}
+
+// Whether a range is done as it is: its keys fit, or it is one class.
+fn is_enough(fits: bool, width: u64) -> bool
+    ensures { λ r. ⌜ r ≡ either fits (ltb width 2) ⌝ }
+{
+    if fits {
+        return true;
+    }
+    width < 2
+}
+
+// All classes, with a table of the call's own for one range of them after the other. A range whose keys do not fit it
+// is halved; one class alone whose keys do not fit is checked by scans.
+fn check_classes(image: &[u8], count: usize, buffer: &mut Buffer) -> Checked
+    ensures { λ r. ⌜ AllChecked count (wordsOf (now (image .entry))) (now (buffer .entry)) (now (buffer .exit)) r ⌝ }
+{
+    let mut own: [u64; 4096] = [0; 4096];
+    let mut s = Checked {
+        blocks: true,
+        agreeing: true,
+        apart: true,
+    };
+    let mut low: u64 = 0;
+    let mut width: u64 = 0x1_0000_0000;
+    while low < 0x1_0000_0000 {
+        let high = range_end(low, width);
+        let c = collect(image, count, &mut own, low, high);
+        if is_enough(c.fits, width) {
+            s = check_class(image, count, &own, c.fits, low, high, buffer, s);
+            if s.blocks {
+                low = high;
+                width = next_width(width, c.keys);
+            } else {
+                return s;
+            }
+        } else {
+            width = width / 2;
+        }
+    }
+    s
+}
+
+// What is found. Where the log is `plain`, with one top entry a key and no value in a block, nothing is left to find
+// and no pass is made.
 pub fn examine(
     image: &[u8],
     count: usize,
@@ -293,13 +414,17 @@ pub fn examine(
 ) -> Checked
     ensures { λ r. ⌜ Examined count (wordsOf (now (image .entry))) (now (table .entry)) fits plain (now (buffer .entry)) (now (buffer .exit)) r ⌝ }
 {
+    clear_bits(buffer);
+    let s = Checked {
+        blocks: true,
+        agreeing: true,
+        apart: true,
+    };
     if plain {
-        clear_bits(buffer);
-        return Checked {
-            blocks: true,
-            agreeing: true,
-            apart: true,
-        };
+        return s;
     }
-    check(image, count, table, fits, buffer)
+    if fits {
+        return check_class(image, count, table, fits, 0, 0x1_0000_0000, buffer, s);
+    }
+    check_classes(image, count, buffer)
 }

@@ -17,7 +17,7 @@ use Rattle.spec.specs.Contents.{isTop, chosen, liveBlocks}
 use Rattle.spec.specs.Opening.{sharing, eachTop, apartTest}
 use Rattle.theory_base.proofs.Lists.{not-both, both-l, both-r, both-i, either-l, either-r, either-cases, pick-i, pick-e, isIn-mem, mem-isIn}
 use Rattle.theory_log.specs.Contents.{Mem, Agree, Top}
-use Rattle.theory_log.proofs.Contents.{mem-l, mem-r, mem-cases, mem-filter, filter-mem}
+use Rattle.theory_log.proofs.Contents.{mem-l, mem-r, mem-cases, mem-filter, filter-mem, chosen-is}
 use Rattle.theory_log.proofs.Tops.{chosen-top, top-is, is-top, top-chosen, tops-same, top-each, each-top}
 use Rattle.volatile.specs.Check.{Live, Clash, Marks}
 
@@ -104,9 +104,9 @@ module _ (es xs : List Entry) (e : Entry) (has : ℕ → Bool) (apart : Bool) (i
           go (inl m) = m
           go (inr q) = absurd (n (rw q at (l .first)) (rw q at (l .points)))
 
-  module _ (ys : List Entry) (split : es ≡ xs ++ e ∷ ys) (is-first : chosen (e .key) es ≡ some e) (points : pointed e ≡ true) where
+  module _ (within : (f : Entry) → Mem f xs → Mem f es) (is-first : chosen (e .key) es ≡ some e) (points : pointed e ≡ true) where
     inside : (f : Entry) → Live es xs f → Live es es f
-    inside f l = record { member = rw split (mem-l f xs (e ∷ ys) (l .member)); first = l .first; points = l .points }
+    inside f l = record { member = within f (l .member); first = l .first; points = l .points }
 
     last : (zs : List Entry) → Mem e zs → Live es zs e
     last zs m = record { member = m; first = is-first; points = points }
@@ -150,7 +150,7 @@ module _ (es xs : List Entry) (e : Entry) (has : ℕ → Bool) (apart : Bool) (i
         found : Clash es
         found =
             let r = inv .only (e .field) h in
-            let l = last es (rw split (mem-r e xs (e ∷ ys) (inl refl))) in
+            let l = last es (chosen-is (e .key) es e is-first .in-list) in
             record {
               one = r .0;
               other = e;

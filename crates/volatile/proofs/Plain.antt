@@ -40,7 +40,7 @@ tops-nil : (k : ℕ) (es : List Entry) → chosen k es ≡ none → tops k es �
 unfolding chosen
 tops-nil k es h = first-nil (tops k es) h
 
-low-single : (k : ℕ) (es : List Entry) → infoOf k es < 0x8000_0000_0000_0000 → several k es ≡ 0
+pub low-single : (k : ℕ) (es : List Entry) → infoOf k es < 0x8000_0000_0000_0000 → several k es ≡ 0
 low-single k es l = go (chosen k es) refl
   where
     go : (q : Option Entry) → chosen k es ≡ q → several k es ≡ 0
@@ -55,7 +55,7 @@ alone f (g ∷ rest) h =
     let z : _≡_ {A = ℕ} 1 0 = rw l at h in
     absurd (omega arith)
 
-own-top : (es : List Entry) (e f : Entry) → ((k : ℕ) → several k es ≡ 0) → Mem e es → isTop es e ≡ true → chosen (e .key) es ≡ some f → e ≡ f
+own-top : (es : List Entry) (e f : Entry) → several (e .key) es ≡ 0 → Mem e es → isTop es e ≡ true → chosen (e .key) es ≡ some f → e ≡ f
 unfolding tops
 own-top es e f single m t h = go (rw (q .1, r) at in-tops)
   where
@@ -66,7 +66,7 @@ own-top es e f single m t h = go (rw (q .1, r) at in-tops)
     q = chosen-first (e .key) es f h
 
     r : q .0 ≡ []
-    r = alone f (q .0) (rw (q .1) at (single (e .key)))
+    r = alone f (q .0) (rw (q .1) at single)
 
     go : Mem e (f ∷ []) → e ≡ f
     go (inl d) = d
@@ -74,17 +74,17 @@ own-top es e f single m t h = go (rw (q .1, r) at in-tops)
 
 -- ## The tests of the second pass
 
-plain-agrees : (es : List Entry) → Plain es → (e : Entry) → Mem e es → isTop es e ≡ true → agreeWith e (chosen (e .key) es) ≡ true
-plain-agrees es plain e m t = go (chosen (e .key) es) refl
+pub single-agrees : (es : List Entry) (e : Entry) → several (e .key) es ≡ 0 → Mem e es → isTop es e ≡ true → agreeWith e (chosen (e .key) es) ≡ true
+single-agrees es e single m t = go (chosen (e .key) es) refl
   where
     go : (q : Option Entry) → chosen (e .key) es ≡ q → agreeWith e q ≡ true
     go none h = refl
-    go (some f) h = same-agrees e f (ap (moved 0) (own-top es e f (plain .single) m t h))
+    go (some f) h = same-agrees e f (ap (moved 0) (own-top es e f single m t h))
 
 pub plain-check : (p n : ℕ) (ws : List ℕ) (es : List Entry) (has : ℕ → Bool) → ((u : ℕ) → has u ≡ false) → Plain es → CheckInv p n ws es es has true true true
 plain-check p n ws es has z plain = record {
   right = sym (in-all _ es (λ e m. pick-i (isTop es e) (fine p n ws e) (λ t. rw (plain .unpointed e m))));
-  agreed = sym (in-all _ es (λ e m. pick-i (isTop es e) _ (plain-agrees es plain e m)));
+  agreed = sym (in-all _ es (λ e m. pick-i (isTop es e) _ (single-agrees es e (plain .single (e .key)) m)));
   marks = record {
     marked = λ e l. absurd (not-both (pointed e) (l .points) (plain .unpointed e (l .member)));
     only = λ u h. absurd (not-both (has u) h (z u));

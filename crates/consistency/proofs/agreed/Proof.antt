@@ -1,7 +1,7 @@
 -- `tops::agreed` meets its contract, case by case.
 -- Assumes nothing.
 use Rattle.spec.specs.Words.{wordsOf}
-use Rattle.consistency.proofs.Tests.{agreed-chosen, agreed-compared, agreed-not}
+use Rattle.consistency.proofs.Visits.{agreed-chosen, agreed-compared, agreed-not}
 use borrow.Author.Needs.{needs}
 use Rattle.consistency.proofs.agreed.Statement.{statement}
 use Rattle.consistency.proofs.agreed.Tie as tie

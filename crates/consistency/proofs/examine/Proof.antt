@@ -1,7 +1,7 @@
--- `tops::examine` meets its contract.
+-- `consistency::examine` meets its contract.
 -- Assumes nothing.
 use borrow.Author.Needs.{needs}
-use Rattle.consistency.proofs.Tests.{examined-passed, examined-plain}
+use Rattle.consistency.proofs.Tests.{examined-plain, examined-table, examined-classes}
 use Rattle.consistency.proofs.examine.Statement.{statement}
 use Rattle.consistency.proofs.examine.Tie as tie
 
@@ -9,13 +9,27 @@ clear-bits-requires : tie.Need-clear-bits-requires
 clear-bits-requires c κs = search needs
 
 returns : tie.Need-returns
-returns c = examined-plain _ _ _ _ _ _ _ (c .before .before .if1 .taken) (c .clear-bits .ensures)
+returns c = examined-plain _ _ _ _ _ _ _ (c .before .clear-bits .ensures) (c .if1 .taken)
 
-check-requires : tie.Need-check-requires
-check-requires c κs = search needs
+check-class-requires : tie.Need-check-class-requires
+check-class-requires c κs = search needs
 
 returns-2 : tie.Need-returns-2
-returns-2 c = examined-passed _ _ _ _ _ _ _ _ (c .check .ensures)
+returns-2 c = examined-table _ _ _ _ _ _ _ (c .before .before .before .before .clear-bits .ensures) _ _ (c .check-class .ensures)
+
+check-classes-requires : tie.Need-check-classes-requires
+check-classes-requires c κs = search needs
+
+returns-3 : tie.Need-returns-3
+returns-3 c = examined-classes _ _ _ _ _ _ _ (c .before .before .before .before .clear-bits .ensures) _ _ (c .check-classes .ensures)
 
 pub examine-spec : {M : Type 1} → statement M
-examine-spec = tie.close (tie.spec clear-bits-requires returns check-requires returns-2)
+examine-spec =
+    tie.close
+    (tie.spec
+    clear-bits-requires
+    returns
+    check-class-requires
+    returns-2
+    check-classes-requires
+    returns-3)

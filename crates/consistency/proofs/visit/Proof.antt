@@ -1,21 +1,23 @@
--- `tops::visit` meets its contract, case by case.
+-- `consistency::visit` meets its contract, case by case.
 -- Assumes nothing.
+use borrow.Author.Needs.{needs}
 use mathlib.Core.Path.{sym, _∙_}
 use native.Mathlib.Omega.{arith}
 use Rattle.spec.specs.Words.{wordsOf}
-use Rattle.consistency.proofs.Tests.{visited-below, visited-wrong, visited-top}
-use borrow.Author.Needs.{needs}
+use Rattle.consistency.proofs.Visits.{visited-out, visited-below, visited-wrong, visited-top}
 use Rattle.consistency.proofs.visit.Statement.{statement}
 use Rattle.consistency.proofs.visit.Tie as tie
+
+is-within-requires : tie.Need-is-within-requires
+is-within-requires c κs = search needs
 
 top-of-requires : tie.Need-top-of-requires
 top-of-requires c κs = search needs
 
 returns : tie.Need-returns
 returns c =
-    let a = c .before .before .before .before .before .before .args in
-    let ws = wordsOf (a .image .now) in
-    visited-below (a .count) ws (a .table .now) (a .fits) (a .e) (c .before .before .before .top-of .result) (c .before .before .before .top-of .ensures) (a .s) (a .buffer .now) (omega arith)
+    let a = c .before .before .before .before .before .before .before .before .args in
+    visited-below (a .count) (wordsOf (a .image .now)) (a .table .now) (a .fits) (a .low) (a .high) (a .e) (sym (c .before .before .before .before .before .is-within .ensures) ∙ c .before .before .before .before .if1 .taken) (c .before .before .before .top-of .result) (c .before .before .before .top-of .ensures) (a .s) (a .buffer .now) (omega arith)
 
 block-fine-requires : tie.Need-block-fine-requires
 block-fine-requires c κs = search needs
@@ -28,24 +30,30 @@ marked-requires c κs = search needs
 
 returns-2 : tie.Need-returns-2
 returns-2 c =
-    let a = c .before .before .before .before .before .before .before .before .before .before .before .args in
-    let ws = wordsOf (a .image .now) in
-    visited-top (a .count) ws (a .table .now) (a .fits) (a .e) (c .before .before .before .before .before .before .before .before .top-of .result) (c .before .before .before .before .before .before .before .before .top-of .ensures) (a .s) (a .buffer .now) (omega arith) (sym (c .before .before .before .before .block-fine .ensures) ∙ c .before .before .before .if2 .taken) (c .before .before .agreed .result) (c .marked .result) _ (c .before .before .agreed .ensures) (c .marked .ensures)
+    let a = c .before .before .before .before .before .before .before .before .before .before .before .before .before .args in
+    visited-top (a .count) (wordsOf (a .image .now)) (a .table .now) (a .fits) (a .low) (a .high) (a .e) (sym (c .before .before .before .before .before .before .before .before .before .before .is-within .ensures) ∙ c .before .before .before .before .before .before .before .before .before .if1 .taken) (c .before .before .before .before .before .before .before .before .top-of .result) (c .before .before .before .before .before .before .before .before .top-of .ensures) (a .s) (a .buffer .now) (omega arith)
+    (sym (c .before .before .before .before .block-fine .ensures) ∙ c .before .before .before .if3 .taken) (c .before .before .agreed .result) (c .marked .result) _ (c .before .before .agreed .ensures) (c .marked .ensures)
 
 returns-3 : tie.Need-returns-3
 returns-3 c =
-    let a = c .before .before .before .before .before .before .before .before .args in
-    let ws = wordsOf (a .image .now) in
-    visited-wrong (a .count) ws (a .table .now) (a .fits) (a .e) (c .before .before .before .before .before .top-of .result) (c .before .before .before .before .before .top-of .ensures) (a .s) (a .buffer .now) (omega arith) (sym (c .before .block-fine .ensures) ∙ c .if2 .left)
+    let a = c .before .before .before .before .before .before .before .before .before .before .args in
+    visited-wrong (a .count) (wordsOf (a .image .now)) (a .table .now) (a .fits) (a .low) (a .high) (a .e) (sym (c .before .before .before .before .before .before .before .is-within .ensures) ∙ c .before .before .before .before .before .before .if1 .taken) (c .before .before .before .before .before .top-of .result) (c .before .before .before .before .before .top-of .ensures) (a .s) (a .buffer .now) (omega arith) (sym (c .before .block-fine .ensures) ∙ c .if3 .left)
+
+returns-4 : tie.Need-returns-4
+returns-4 c =
+    let a = c .before .before .before .before .args in
+    visited-out (a .count) (wordsOf (a .image .now)) (a .table .now) (a .fits) (a .low) (a .high) (a .e) (sym (c .before .is-within .ensures) ∙ c .if1 .left) (a .s) (a .buffer .now)
 
 pub visit-spec : {M : Type 1} → statement M
 visit-spec =
     tie.close
     (tie.spec
+    is-within-requires
     top-of-requires
     returns
     block-fine-requires
     agreed-requires
     marked-requires
     returns-2
-    returns-3)
+    returns-3
+    returns-4)

@@ -1,0 +1,31 @@
+-- What the code shows of a key's class: whether it is within a range, and asked for.
+-- Assumes nothing.
+use mathlib.Core.Path.{_≡_, sym, _∙_}
+use mathlib.Core.Bool.{true, false}
+use mathlib.Core.List.{List}
+use Prim.Native.Nat.{ℕ, _/_, _≤_, _<_}
+use lib.Dec.{ltb}
+use lib.ListN.{length, getD}
+use borrow.Author.Tests.{le-leb, lt-leb, lt-ltb, le-ltb}
+use Rattle.classes.specs.Classes.{classOf, within, asked}
+
+module _ (low high key class : ℕ) (is-class : class ≡ classOf key) where
+  pub shows-below : class < low → false ≡ within low high key
+  shows-below l = rw (← is-class, lt-leb low class l)
+
+  pub shows-above : low ≤ class → ltb class high ≡ within low high key
+  shows-above l = rw (← is-class, le-leb low class l)
+
+  module _ (marks : List ℕ) where
+    pub asked-below : class < low → false ≡ asked marks low high key
+    asked-below l = rw (← is-class, lt-leb low class l)
+
+    pub asked-above : low ≤ class → high ≤ class → false ≡ asked marks low high key
+    asked-above l m = rw (← is-class, le-leb low class l, le-ltb class high m)
+
+    module _ (l : low ≤ class) (m : class < high) (at : ℕ) (is-at : at ≡ class / 0x2_0000) where
+      pub asked-out : length marks ≤ at → true ≡ asked marks low high key
+      asked-out o = rw (← is-class, le-leb low class l, lt-ltb class high m, ← is-at, le-ltb at (length marks) o)
+
+      pub asked-mark : at < length marks → ltb 0 (getD marks at 0) ≡ asked marks low high key
+      asked-mark o = rw (← is-class, le-leb low class l, lt-ltb class high m, ← is-at, lt-ltb at (length marks) o)

@@ -1,0 +1,5 @@
+pub mod Classes
+pub mod Asked
+pub mod Passed
+pub mod Collects
+pub mod Twins
