@@ -123,6 +123,7 @@ module _ (c : Control) (k : Setup) (b ws table : List ℕ) (f : Entry) (fs : Lis
       right = r .batch .right;
       counts = rw (ahead .split) at (r .batch .counts);
       fit = subst (λ (l : List Action). ItemsFit (chunksIn basePower (k .image)) (runWords l ws) (ahead .front ++ ahead .back) items) (sym todo) (rw (ahead .split) at (ahead .fit));
+      marked = r .batch .marked;
       keys = rw (ahead .split) at (r .batch .keys);
     };
     agree = rw (ahead .split) at (ahead .agree);

@@ -259,6 +259,7 @@ module _ (c : Control) (k : Setup) (buffer bytes table table′ buffer′ : List
               right = tt;
               counts = tt;
               fit = none-fit (chunksIn 12 (length bytes)) (wordsOf bytes) es;
+              marked = tt;
               keys = omega arith;
             };
             table-room = omega arith;

@@ -6,7 +6,7 @@ use mathlib.Core.Bool.{true, false}
 use mathlib.Core.List.{List, [], _∷_, _++_, map}
 use Prim.Native.Nat.{ℕ, _+_, _*_, _/_, _≤_, _<_}
 use lib.Dec.{eqb}
-use lib.ListN.{length}
+use lib.ListN.{length, getD}
 use Rattle.spec.specs.Basics.{isIn, distinct}
 use Rattle.spec.specs.Places.{basePower, base, chunksIn}
 use Rattle.spec.specs.Medium.{Action}
@@ -27,6 +27,7 @@ use Rattle.theory_log.specs.Contents.{CountsOn, Mem, Top, Agree}
 use Rattle.blocks.specs.Bits.{hasBit}
 use Rattle.volatile.specs.Known.{Indexed}
 use Rattle.session.specs.State.{batchRoom, batchWords, stateOf}
+use Rattle.session.specs.Filter.{filterPlace, AllMarked}
 use Rattle.session.specs.Cleaned.{before, copiesOf, after, Cleaned, Stand}
 
 -- A value of the type `Session`: antt's list has no length, the array has so many words. Every record that is lent is
@@ -48,7 +49,8 @@ pub record ItemsFit (n : ℕ) (ws : List ℕ) (es items : List Entry) : Type 0 w
   pub own : (e f : Entry) → Mem e items → Mem f items → pointed e ≡ true → pointed f ≡ true → e .field ≡ f .field → e ≡ f
 
 -- the staged items among the entries es, in an image of n chunks with the words ws: the staged words are theirs,
--- versions count on, their blocks are right, and the staged keys that are not known are counted
+-- versions count on, their blocks are right, the filter has their keys, and the staged keys that are not known are
+-- counted
 pub record BatchFits (c : Control) (buffer : List ℕ) (n : ℕ) (ws : List ℕ) (es items : List Entry) : Type 0 where
   pub room : c .words ≤ batchRoom
   pub written : batchWords c buffer ≡ encodeAll items
@@ -57,6 +59,7 @@ pub record BatchFits (c : Control) (buffer : List ℕ) (n : ℕ) (ws : List ℕ)
   pub right : AllRight items
   pub counts : CountsOn es items
   pub fit : ItemsFit n ws es items
+  pub marked : AllMarked (getD buffer filterPlace 0) items
   pub keys : c .keys + c .fresh ≡ length (distinct (keyList items ++ keyList es))
 
 -- the table and the block bits are those of the entries es
