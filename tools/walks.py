@@ -15,6 +15,8 @@ TOLD = '(r-report, (e-report, e))'
 LISTED = '(r-listed, (e-listed, e))'
 FAST = '(r-report, (e-report .within (e-fast .0 (is-true r-fast held)), e))'
 STAGING = '(r-report, (e-report .within (e-staging .0 (is-true r-staging held)), e))'
+LATE_STEP = '(r-report, (e-report .within (e-late .0 (is-true r-late held)) .0, e))'
+LATE_RUN = '(r-report, (((0, e-report .within (e-late .0 (is-true r-late held)) .0), e-report .within (e-late .0 (is-true r-late held)) .1), e))'
 RUNS = 'subst (Told (RunsOn x-s z-s x-image z-image x-table z-table)) (sym e) e-answer'
 STEPS = 'subst (Told (Does Step x-s z-s x-image z-image x-table z-table)) (sym e) e-answer'
 WALKS = [
@@ -31,14 +33,17 @@ WALKS = [
     ('thin', 'store', 'stage_put', ['e'], []),
     ('thin', 'store', 'step', ['e'], []),
     ('thin', 'store', 'step_fast', ['e'], []),
+    ('thin', 'store', 'step_late', ['e'], []),
     ('read', 'stat', 'keys', ['e (h .setup) (h .buffer)'], []),
     ('read', 'store', 'choose', ['record { called = e .called (h .buffer); inside = e .inside }'], []),
     ('read', 'store', 'find', ['record { called = e .called (h .buffer); located = e .located; is-report = e .is-report; inside = e .inside }'], []),
     ('read', 'store', 'list_key', ['record { listed = e }'], []),
     ('read', 'store', 'look_up', ['record { located = e .located; called = e .called (h .buffer); inside = e .inside; is-part = e .is-part; is-number = e .is-number }'], []),
     ('calls', 'capi', 'run_any', [TOLD], []),
+    ('calls', 'capi', 'run_late', [LATE_RUN, RUNS], []),
     ('calls', 'capi', 'run_whole', [STAGING, RUNS], []),
-    ('calls', 'capi', 'step_whole', [TOLD], []),
+    ('calls', 'capi', 'step_any', [TOLD], []),
+    ('calls', 'capi', 'step_whole', [LATE_STEP, STEPS], []),
     ('calls', 'capi', 'zkv_abandon', [TOLD], []),
     ('calls', 'capi', 'zkv_choose', [TOLD], []),
     ('calls', 'capi', 'zkv_clean', [TOLD], []),

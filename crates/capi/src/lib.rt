@@ -190,11 +190,28 @@ pub extern "C" fn zkv_clean(s: &mut Session, image: &[u8], table: &[u64], chunk:
 
 // STEPS
 // The step in numbers, whatever is begun (`store::step`).
-fn step_whole(s: &mut Session, image: &mut [u8], table: &mut [u64]) -> Answer
+fn step_any(s: &mut Session, image: &mut [u8], table: &mut [u64]) -> Answer
     ensures { λ r. ⌜ Told (Does Step (now (s .entry)) (now (s .exit)) (now (image .entry)) (now (image .exit)) (now (table .entry)) (now (table .exit))) r ⌝ }
 {
     let report = store::step(s, image, table);
     told(report)
+}
+
+// The step in numbers, where no commit has more than its last action to come: then `store::step_late`, else
+// `store::step`.
+fn step_whole(s: &mut Session, image: &mut [u8], table: &mut [u64]) -> Answer
+    ensures { λ r. ⌜ Told (Does Step (now (s .entry)) (now (s .exit)) (now (image .entry)) (now (image .exit)) (now (table .entry)) (now (table .exit))) r ⌝ }
+{
+    let c = s.control;
+    let k = s.setup;
+    let late = fast_path::is_late(c, k, image.len(), table.len());
+    if late {
+        let report = store::step_late(s, image, table);
+        return told(report);
+    } else {
+        let answer = step_any(s, image, table);
+        return same(answer);
+    }
 }
 
 // The same numbers, taken out of the place where a call left them: those of the fast path then need no place in memory.
@@ -233,7 +250,24 @@ fn run_any(s: &mut Session, image: &mut [u8], table: &mut [u64]) -> Answer
     told(report)
 }
 
-// A run in numbers, where no commit is on the fast path: in a staging `store::run_staging`, else `store::run_rest`.
+// A run in numbers, where nothing is to be stored: at a commit's last action and its end `store::step_late`, else
+// `store::run_rest`.
+fn run_late(s: &mut Session, image: &mut [u8], table: &mut [u64]) -> Answer
+    ensures { λ r. ⌜ Told (RunsOn (now (s .entry)) (now (s .exit)) (now (image .entry)) (now (image .exit)) (now (table .entry)) (now (table .exit))) r ⌝ }
+{
+    let c = s.control;
+    let k = s.setup;
+    let late = fast_path::is_late(c, k, image.len(), table.len());
+    if late {
+        let report = store::step_late(s, image, table);
+        return told(report);
+    } else {
+        let answer = run_any(s, image, table);
+        return same(answer);
+    }
+}
+
+// A run in numbers, where no commit is on the fast path: in a staging `store::run_staging`, else as above.
 fn run_whole(s: &mut Session, image: &mut [u8], table: &mut [u64]) -> Answer
     ensures { λ r. ⌜ Told (RunsOn (now (s .entry)) (now (s .exit)) (now (image .entry)) (now (image .exit)) (now (table .entry)) (now (table .exit))) r ⌝ }
 {
@@ -244,7 +278,7 @@ fn run_whole(s: &mut Session, image: &mut [u8], table: &mut [u64]) -> Answer
         let report = store::run_staging(s, image, table);
         return told(report);
     } else {
-        let answer = run_any(s, image, table);
+        let answer = run_late(s, image, table);
         return same(answer);
     }
 }

@@ -214,7 +214,7 @@ module _ (c : Control) (k : Setup) (b bytes table : List ℕ) where
         place-is : (items : List Entry) → RestFits s (wordsOf bytes) table items → k .image ≡ length bytes
             → Searched (wordsOf bytes) (chunksIn 12 (length bytes)) (linesFor (length (encodeAll items))) (freeNeeded items) placed
         unfolding batchWords
-        place-is items r same = searched items (record { written = r .batch .written; right = r .batch .right }) (rw same at (r .hint))
+        place-is items r same = searched items (record { written = r .batch .written; right = r .batch .right; marked = r .batch .marked }) (rw same at (r .hint))
 
         -- 13
         pub no-space : place .found ≡ false → Does Commit s s bytes bytes table table (R.Refused N.NoSpace)
