@@ -17,6 +17,8 @@ FAST = '(r-report, (e-report .within (e-fast .0 (is-true r-fast held)), e))'
 STAGING = '(r-report, (e-report .within (e-staging .0 (is-true r-staging held)), e))'
 LATE_STEP = '(r-report, (e-report .within (e-late .0 (is-true r-late held)) .0, e))'
 LATE_RUN = '(r-report, (((0, e-report .within (e-late .0 (is-true r-late held)) .0), e-report .within (e-late .0 (is-true r-late held)) .1), e))'
+SHORT = '(r-report, (e-report .within (e-short .0 (is-true r-short held)), e))'
+LONG = 'subst (Told (Does (Put x-key x-value) x-s z-s x-image x-image x-table x-table)) (sym e) (e-answer .0, (e-answer .1 .0 .within (e-short .1 (is-false r-short failed)), e-answer .1 .1))'
 RUNS = 'subst (Told (RunsOn x-s z-s x-image z-image x-table z-table)) (sym e) e-answer'
 STEPS = 'subst (Told (Does Step x-s z-s x-image z-image x-table z-table)) (sym e) e-answer'
 WALKS = [
@@ -30,7 +32,9 @@ WALKS = [
     ('thin', 'store', 'run_rest', ['e'], []),
     ('thin', 'store', 'run_staging', ['e'], []),
     ('thin', 'store', 'stage_delete', ['e'], []),
+    ('thin', 'store', 'stage_long', ['e'], []),
     ('thin', 'store', 'stage_put', ['e'], []),
+    ('thin', 'store', 'stage_short', ['e'], []),
     ('thin', 'store', 'step', ['e'], []),
     ('thin', 'store', 'step_fast', ['e'], []),
     ('thin', 'store', 'step_late', ['e'], []),
@@ -55,7 +59,8 @@ WALKS = [
     ('calls', 'capi', 'zkv_list_keys', [LISTED], []),
     ('calls', 'capi', 'zkv_look_up', [TOLD], []),
     ('calls', 'capi', 'zkv_open', [TOLD], []),
-    ('calls', 'capi', 'zkv_put', [TOLD], []),
+    ('calls', 'capi', 'put_long', [TOLD], []),
+    ('calls', 'capi', 'zkv_put', [SHORT, LONG], []),
     ('calls', 'capi', 'zkv_run', [FAST, RUNS], []),
     ('calls', 'capi', 'zkv_step', [FAST, STEPS], []),
 ]

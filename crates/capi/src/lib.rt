@@ -8,6 +8,7 @@ ghost use Rattle.spec.specs.Places.{chunksIn};
 ghost use Rattle.spec.specs.Directory.{freeChunks};
 ghost use Rattle.spec.specs.Machine.{Format, Open, Put, Delete, Commit, Abandon, Clean, Step};
 ghost use Rattle.formatting.specs.Begun.{given};
+ghost use Rattle.staging.specs.Staging.{PutWhere, Short, Long};
 ghost use Rattle.fast_path.specs.Run.{RunsOn};
 ghost use Rattle.store.specs.Look.{Reported};
 ghost use Rattle.store.specs.Choice.{Chosen};
@@ -128,7 +129,27 @@ pub extern "C" fn zkv_open(s: &mut Session, image: &[u8], table: &mut [u64]) -> 
     told(report)
 }
 
-// Begins staging a put (`store::stage_put`).
+// The same numbers, taken out of the place where a call left them: those of the fast path then need no place in memory.
+fn same(a: Answer) -> Answer
+    ensures { λ r. ⌜ r ≡ a ⌝ }
+{
+    Answer {
+        kind: a.kind,
+        first: a.first,
+        second: a.second,
+    }
+}
+
+// A put of a longer value in numbers (`store::stage_long`); of a short one nothing is done.
+fn put_long(s: &mut Session, image: &[u8], table: &[u64], key: u64, value: &[u8]) -> Answer
+    ensures { λ r. ⌜ Told (PutWhere Long key (now (value .entry)) (now (s .entry)) (now (s .exit)) (now (image .entry)) (now (table .entry))) r ⌝ }
+{
+    let report = store::stage_long(s, image, table, key, value);
+    told(report)
+}
+
+// Begins staging a put, as `store::stage_put` does: of a short value by `store::stage_short`, which alters less of the
+// record, else by `store::stage_long`.
 #[no_mangle]
 pub extern "C" fn zkv_put(
     s: &mut Session,
@@ -139,8 +160,15 @@ pub extern "C" fn zkv_put(
 ) -> Answer
     ensures { λ r. ⌜ Told (Does (Put key (now (value .entry))) (now (s .entry)) (now (s .exit)) (now (image .entry)) (now (image .entry)) (now (table .entry)) (now (table .entry))) r ⌝ }
 {
-    let report = store::stage_put(s, image, table, key, value);
-    told(report)
+    let c = s.control;
+    let short = staging::is_short(c, value.len());
+    if short {
+        let report = store::stage_short(s, image, table, key, value);
+        return told(report);
+    } else {
+        let answer = put_long(s, image, table, key, value);
+        return same(answer);
+    }
 }
 
 // Begins staging a delete (`store::stage_delete`).
@@ -211,17 +239,6 @@ fn step_whole(s: &mut Session, image: &mut [u8], table: &mut [u64]) -> Answer
     } else {
         let answer = step_any(s, image, table);
         return same(answer);
-    }
-}
-
-// The same numbers, taken out of the place where a call left them: those of the fast path then need no place in memory.
-fn same(a: Answer) -> Answer
-    ensures { λ r. ⌜ r ≡ a ⌝ }
-{
-    Answer {
-        kind: a.kind,
-        first: a.first,
-        second: a.second,
     }
 }
 

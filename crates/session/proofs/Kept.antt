@@ -3,7 +3,7 @@
 -- Assumes nothing.
 use mathlib.Core.Path.{_≡_, refl, _∙_, ap}
 use mathlib.Core.List.{List, [], _++_, map}
-use Prim.Native.Nat.{ℕ, _+_, min}
+use Prim.Native.Nat.{ℕ, _+_, _<_, min}
 use native.Mathlib.Omega.{arith}
 use lib.ListN.{getD}
 use Rattle.spec.specs.Places.{basePower, chunksIn}
@@ -16,7 +16,7 @@ use Rattle.session.specs.declared.Session.{Session}
 use Rattle.blocks.specs.Bits.{WordsKept}
 use Rattle.session.specs.State.{batchRoom, batchWords, batchItems, chunkIn, linesIn, commitActions}
 use Rattle.session.specs.Filter.{filterPlace}
-use Rattle.session.specs.Fits.{ItemsFit, BatchFits, Built, RestFits, batchPlace, CommitFits}
+use Rattle.session.specs.Fits.{NoneBelow, soleMark, Hint, ItemsFit, BatchFits, Built, RestFits, batchPlace, CommitFits}
 use Rattle.session.proofs.Part.{part-agree}
 
 -- THE STAGED WORDS stay where the buffer's first words do.
@@ -54,6 +54,11 @@ batch-kept c c′ b b′ n ws es items ew ei e em ek f = record {
 
 pub built-kept : (c c′ : Control) (b table : List ℕ) (es : List Entry) → c′ .keys ≡ c .keys → Built c b table es → Built c′ b table es
 built-kept c c′ b table es e f = record { indexed = rw e (f .indexed); blocks = f .blocks }
+
+-- a hint that says nothing of the chunks behind it
+pub plain-hint : (n : ℕ) (ws : List ℕ) (first least : ℕ) → first < soleMark → NoneBelow n ws first least → Hint n ws first least
+plain-hint n ws first least l h =
+    record { below = λ c a b m. h c a (omega arith) m; above = λ s. absurd (omega arith); taken = λ s. absurd (omega arith) }
 
 -- at rest with nothing staged; at rest with what is staged
 abbrev pub emptied : Control → Control
