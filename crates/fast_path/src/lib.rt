@@ -297,8 +297,8 @@ fn staged(control: Control) -> Stepped
     }
 }
 
-// The stores that come next, and then the flush behind them, or the end. Elsewhere nothing is done. A flush comes by
-// few comparisons.
+// The stores that come next, and then the flush behind them, or the end. Elsewhere nothing is done. The end of a
+// staging without actions comes first, and a flush by few comparisons.
 pub fn staging_run(
     control: Control,
     setup: Setup,
@@ -310,6 +310,9 @@ pub fn staging_run(
 {
     if is_staging(control, setup, image.len(), table.len()) {
         let at = control.next;
+        if 1024 <= at {
+            return staged(control);
+        }
         let held = block_acts::held_words(buffer);
         let behind = take_count(setup) + held;
         if at < behind {
