@@ -15,6 +15,10 @@ TOLD = '(r-report, (e-report, e))'
 LISTED = '(r-listed, (e-listed, e))'
 FAST = '(r-report, (e-report .within (e-fast .0 (is-true r-fast held)), e))'
 STAGING = '(r-report, (e-report .within (e-staging .0 (is-true r-staging held)), e))'
+LATE_STEP = '(r-report, (e-report .within (e-late .0 (is-true r-late held)) .0, e))'
+LATE_RUN = '(r-report, (((0, e-report .within (e-late .0 (is-true r-late held)) .0), e-report .within (e-late .0 (is-true r-late held)) .1), e))'
+SHORT = '(r-report, (e-report .within (e-short .0 (is-true r-short held)), e))'
+LONG = 'subst (Told (Does (Put x-key x-value) x-s z-s x-image x-image x-table x-table)) (sym e) (e-answer .0, (e-answer .1 .0 .within (e-short .1 (is-false r-short failed)), e-answer .1 .1))'
 RUNS = 'subst (Told (RunsOn x-s z-s x-image z-image x-table z-table)) (sym e) e-answer'
 STEPS = 'subst (Told (Does Step x-s z-s x-image z-image x-table z-table)) (sym e) e-answer'
 WALKS = [
@@ -28,9 +32,12 @@ WALKS = [
     ('thin', 'store', 'run_rest', ['e'], []),
     ('thin', 'store', 'run_staging', ['e'], []),
     ('thin', 'store', 'stage_delete', ['e'], []),
+    ('thin', 'store', 'stage_long', ['e'], []),
     ('thin', 'store', 'stage_put', ['e'], []),
+    ('thin', 'store', 'stage_short', ['e'], []),
     ('thin', 'store', 'step', ['e'], []),
     ('thin', 'store', 'step_fast', ['e'], []),
+    ('thin', 'store', 'step_late', ['e'], []),
     ('read', 'chunk_stat', 'describe_chunk', ['e (h .buffer)'], []),
     ('read', 'chunk_stat', 'empty_chunk', ['e (h .buffer)'], []),
     ('read', 'stat', 'keys', ['e (h .setup) (h .buffer)'], []),
@@ -39,8 +46,10 @@ WALKS = [
     ('read', 'store', 'list_key', ['record { listed = e }'], []),
     ('read', 'store', 'look_up', ['record { located = e .located; called = e .called (h .buffer); inside = e .inside; is-part = e .is-part; is-number = e .is-number }'], []),
     ('calls', 'capi', 'run_any', [TOLD], []),
+    ('calls', 'capi', 'run_late', [LATE_RUN, RUNS], []),
     ('calls', 'capi', 'run_whole', [STAGING, RUNS], []),
-    ('calls', 'capi', 'step_whole', [TOLD], []),
+    ('calls', 'capi', 'step_any', [TOLD], []),
+    ('calls', 'capi', 'step_whole', [LATE_STEP, STEPS], []),
     ('calls', 'capi', 'zkv_abandon', [TOLD], []),
     ('calls', 'capi', 'zkv_choose', [TOLD], []),
     ('calls', 'capi', 'zkv_chunk', ['e'], []),
@@ -54,7 +63,8 @@ WALKS = [
     ('calls', 'capi', 'zkv_list_keys', [LISTED], []),
     ('calls', 'capi', 'zkv_look_up', [TOLD], []),
     ('calls', 'capi', 'zkv_open', [TOLD], []),
-    ('calls', 'capi', 'zkv_put', [TOLD], []),
+    ('calls', 'capi', 'put_long', [TOLD], []),
+    ('calls', 'capi', 'zkv_put', [SHORT, LONG], []),
     ('calls', 'capi', 'zkv_run', [FAST, RUNS], []),
     ('calls', 'capi', 'zkv_step', [FAST, STEPS], []),
 ]

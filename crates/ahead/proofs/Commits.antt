@@ -72,7 +72,7 @@ pub record Forward (bytes table : ℕ) (ws : List ℕ) (es items : List Entry) (
   pub fit : ItemsFit (chunksIn basePower bytes) (runWords (appendOf basePower d old (linesOf basePower ws d) (encodeAll items)) ws) es items
   pub accepted : opening basePower bytes (runWords (appendOf basePower d old (linesOf basePower ws d) (encodeAll items)) ws) table
       ≡ Accepted (front ++ (placed (base basePower d + 8 * linesOf basePower ws d) items ++ back))
-  pub kept : (c : ℕ) → 1 ≤ c → c < d → getD (runWords (appendOf basePower d old (linesOf basePower ws d) (encodeAll items)) ws) (directoryWord c) 0 ≡ getD ws (directoryWord c) 0
+  pub kept : (c : ℕ) → 1 ≤ c → c < chunksIn basePower bytes → (c ≡ d → ⊥) → getD (runWords (appendOf basePower d old (linesOf basePower ws d) (encodeAll items)) ws) (directoryWord c) 0 ≡ getD ws (directoryWord c) 0
 
 module _ (bytes table : ℕ) (ws : List ℕ) (es : List Entry) (f : Entry) (fs : List Entry) (accepted : opening basePower bytes ws table ≡ Accepted es) (long : length ws ≡ bytes / 8)
     (right : AllRight (f ∷ fs)) (counts : CountsOn es (f ∷ fs)) (fit : ItemsFit (chunksIn basePower bytes) ws es (f ∷ fs)) (small : length (encodeAll (f ∷ fs)) ≤ batchRoom)
@@ -166,5 +166,5 @@ module _ (bytes table : ℕ) (ws : List ℕ) (es : List Entry) (f : Entry) (fs :
     accepted =
         rw (← image-is)
         (ok-opens basePower lo hi n bytes table (ended .image) (ended .entries) size (ended .rests .ok) (fits-keys table (ended .entries) (ended .few′)) ∙ ap Accepted (ended .joined));
-    kept = λ c l u. rw (← image-is) (ended .chunks c l (let a = place .high in omega arith) (λ e. omega arith) .1);
+    kept = λ c l u o. rw (← image-is) (ended .chunks c l u o .1);
   }

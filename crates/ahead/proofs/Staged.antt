@@ -41,7 +41,7 @@ use Rattle.theory_crash.proofs.Stage.{slot-moves, stage-through, take-stage-thr
 use Rattle.theory_crash.proofs.Staged.{staged-prepared, prepared-stays}
 use Rattle.theory_plans.proofs.Slots.{slot-data, slot-free}
 use Rattle.space.proofs.Hint.{same-space}
-use Rattle.session.specs.Fits.{ItemsFit, NoneBelow}
+use Rattle.session.specs.Fits.{ItemsFit, Hint}
 use Rattle.ahead.specs.Ahead.{Ahead}
 
 -- WORDS are what the processor reads.
@@ -74,6 +74,12 @@ no-space R.Free b h = refl
 no-space (R.Log n) b h = absurd (omega arith)
 no-space (R.Data s) b h = refl
 no-space R.Wrong b h = refl
+
+sized-taken : (r : Role) → 1 ≤ sizeIn r → isFree r ≡ false
+sized-taken R.Free h = absurd (omega arith)
+sized-taken (R.Log n) h = refl
+sized-taken (R.Data s) h = refl
+sized-taken R.Wrong h = refl
 
 -- a block lies behind the directory
 behind : (u : ℕ) → 1 ≤ unitChunk basePower u → 512 ≤ unitWord u
@@ -165,8 +171,8 @@ module _ (bytes table : ℕ) (ws : List ℕ) (es items : List Entry) (accepted :
           one e f (inr x) (inr y) p q z = x ∙ sym y
 
       -- no log chunk has more space
-      space : (first least : ℕ) → NoneBelow n ws first least → NoneBelow n (st .image) first least
-      space first least h c l f u′ = go (ℕ-discrete c (unitChunk basePower u))
+      space : (least c : ℕ) → 1 ≤ c → c < n → hasSpace basePower ws least 0 c ≡ false → hasSpace basePower (st .image) least 0 c ≡ false
+      space least c l u′ h = go (ℕ-discrete c (unitChunk basePower u))
         where
           go : Dec (c ≡ unitChunk basePower u) → hasSpace basePower (st .image) least 0 c ≡ false
           go (yes e) =
@@ -175,14 +181,34 @@ module _ (bytes table : ℕ) (ws : List ℕ) (es items : List Entry) (accepted :
           go (no d) =
               let a = ok .most in
               let b = behind u (sl .low) in
-              same-space ws (st .image) least 0 c (st .others (directoryWord c) (λ q. d (omega arith)) (inl (omega arith)) .0) ∙ h c l f u′
+              same-space ws (st .image) least 0 c (st .others (directoryWord c) (λ q. d (omega arith)) (inl (omega arith)) .0) ∙ h
+
+      -- no chunk is freed
+      not-freed : (c : ℕ) → 1 ≤ c → c < n → isFree (roleAt basePower ws c) ≡ false → isFree (roleAt basePower (st .image) c) ≡ false
+      not-freed c l u′ h = go (ℕ-discrete c (unitChunk basePower u))
+        where
+          go : Dec (c ≡ unitChunk basePower u) → isFree (roleAt basePower (st .image) c) ≡ false
+          go (yes e) =
+              let z : 1 ≤ sizeIn (roleAt basePower (st .image) c) = rw (e, sym (size-is basePower (st .image) (unitChunk basePower u)), sl .size) some in
+              sized-taken (roleAt basePower (st .image) c) z
+          go (no d) =
+              let a = ok .most in
+              let b = behind u (sl .low) in
+              rw (st .others (directoryWord c) (λ q. d (omega arith)) (inl (omega arith)) .0) h
+
+      hinted : (first least : ℕ) → Hint n ws first least → Hint n (st .image) first least
+      hinted first least h = record {
+        below = λ c l f m. space least c l m (h .below c l f m);
+        above = λ x c l m. space least c (omega arith) m (h .above x c l m);
+        taken = λ x c l f m. not-freed c l m (h .taken x c l f m);
+      }
 
       stored-ahead : Ahead bytes table ws es (items ++ (new ∷ [])) acts
       stored-ahead = record {
         accepted = rw (← image-is) (ok-opens basePower lo hi n bytes table (st .image) es size (st .rests .ok) (fits-keys table es few));
         placed = rw (← image-is) placed;
         long = rw (← image-is) (st .rests .ok .long ∙ sym (ok .long) ∙ long);
-        hint = λ first least h. rw (← image-is) (space first least h);
+        hint = λ first least h. rw (← image-is) (hinted first least h);
       }
 
     -- INTO A BLOCK OF A DATA CHUNK

@@ -17,11 +17,11 @@ use Rattle.session.specs.declared.Session.{Session}
 use Rattle.theory_log.specs.Batch.{AllRight}
 use Rattle.theory_log.specs.Contents.{CountsOn}
 use Rattle.session.specs.State.{batchRoom, batchWords}
-use Rattle.session.specs.Fits.{keyList, ItemsFit, Built, NoneBelow}
+use Rattle.session.specs.Fits.{keyList, ItemsFit, Built, Hint}
 
 -- what the actions of a staging do to words at rest with the entries es
 pub record Ahead (bytes table : ℕ) (ws : List ℕ) (es items : List Entry) (acts : List Action) : Type 0 where
   pub accepted : opening basePower bytes (runWords acts ws) table ≡ Accepted es
   pub placed : ItemsFit (chunksIn basePower bytes) (runWords acts ws) es items
   pub long : length (runWords acts ws) ≡ bytes / 8
-  pub hint : (first least : ℕ) → NoneBelow (chunksIn basePower bytes) ws first least → NoneBelow (chunksIn basePower bytes) (runWords acts ws) first least
+  pub hint : (first least : ℕ) → Hint (chunksIn basePower bytes) ws first least → Hint (chunksIn basePower bytes) (runWords acts ws) first least

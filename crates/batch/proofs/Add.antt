@@ -1,12 +1,15 @@
 -- One more item written behind the staged ones: the code's stores lay its words over the buffer.
 -- Assumes nothing.
 use mathlib.Core.Path.{_≡_, refl, sym, _∙_, ap}
+use mathlib.Core.Logic.{by-cases}
 use mathlib.Core.List.{List, [], _∷_, _++_, append-nil, append-assoc}
 use Prim.Native.Nat.{ℕ, suc, _+_, _-_, _/_, _%_, _^_, _≤_, _<_}
 use native.Mathlib.Omega.{arith}
+use native.Mathlib.Decide.{decLt}
+use borrow.Author.Tests.{le-ltb}
 use lib.Dec.{eqb, ltb}
-use lib.ListN.{length, getD, set, take}
-use lib.Seq.{take-all}
+use lib.ListN.{length, getD, set, take, length-set}
+use lib.Seq.{take-all, getD-set-same, getD-set-other}
 use Rattle.spec.specs.Basics.{both}
 use Rattle.spec.specs.Log.{Entry, headOf, encode, encodeAll}
 use Rattle.spec.specs.Plans.{entry}
@@ -15,8 +18,12 @@ use Rattle.codec.specs.Firsts.{headWord}
 use Rattle.words.specs.Overlay.{overlay, length-overlay, getD-overlay-outside}
 use Rattle.blocks.specs.Bits.{wordOf, hasBit}
 use Rattle.session.specs.State.{bufferPart}
+use Rattle.session.specs.Filter.{filterPlace}
+use Rattle.session.proofs.Part.{part-agree}
 use Rattle.batch.specs.Added.{Added}
+use Rattle.batch.specs.Marks.{marksOf, MarkedWith}
 use Rattle.batch.proofs.Part.{part-overlay}
+use Rattle.batch.proofs.Marks.{marked-more}
 
 pub encode-append : (xs ys : List Entry) → encodeAll (xs ++ ys) ≡ encodeAll xs ++ encodeAll ys
 encode-append [] ys = refl
@@ -38,9 +45,11 @@ head-same op pl v x k h l =
     rw (a, b, c, d)
 
 -- the bits lie above the batch
-bits-kept : (b d : List ℕ) → ((i : ℕ) → 512 ≤ i → getD d i 0 ≡ getD b i 0) → (u : ℕ) → hasBit d u ≡ hasBit b u
+bits-kept : (b d : List ℕ) → ((i : ℕ) → 512 ≤ i → i < 1150 → getD d i 0 ≡ getD b i 0) → (u : ℕ) → hasBit d u ≡ hasBit b u
 unfolding hasBit
-bits-kept b d h u = ap (λ (w : ℕ). both (ltb u 8064) (eqb (w / 2 ^ (u % 64) % 2) 1)) (h (wordOf u) (omega arith))
+bits-kept b d h u = by-cases (decLt u 8064)
+    (λ l. ap (λ (w : ℕ). both (ltb u 8064) (eqb (w / 2 ^ (u % 64) % 2) 1)) (h (wordOf u) (omega arith) (omega arith)))
+    (λ l. rw (le-ltb u 8064 (omega arith)))
 
 -- no room
 pub add-none : (b : List ℕ) (words : ℕ) (e : Entry) → length b ≡ 1152 → 512 < words + (2 + length (e .value)) → Added b b words words e
@@ -48,36 +57,52 @@ add-none b words e n h =
     record {
       size = n;
       long = refl;
-      above = λ i l. refl;
+      above = λ i l h. refl;
       bits = λ u. refl;
       full = λ l. (refl, refl);
       count = λ l. absurd (omega arith);
       written = λ l. absurd (omega arith);
+      marked = λ l. absurd (omega arith);
     }
 
-module _ (b d : List ℕ) (words next op pl v x key head : ℕ) (vs : List ℕ) (n : length b ≡ 1152) (room : words + (2 + length vs) ≤ 512)
+-- the filter's word is stored first, and then the item's
+module _ (b d : List ℕ) (words next op pl v x key head marks : ℕ) (vs : List ℕ) (n : length b ≡ 1152) (room : words + (2 + length vs) ≤ 512)
     (counted : next ≡ words + (2 + length vs))
-    (told : head ≡ headWord (op % 4) (pl % 4) (v % 1048576) (x % 2 ^ 40))
-    (stored : d ≡ overlay (set (set b words head) (words + 1) key) (words + 2) (take (1152 - (words + 2)) vs)) where
-  laid : d ≡ overlay b words (head ∷ key ∷ vs)
+    (told : head ≡ headWord (op % 4) (pl % 4) (v % 1048576) (x % 2 ^ 40)) (mark : MarkedWith (marksOf b words) marks key)
+    (stored : d ≡ overlay (set (set (set b filterPlace marks) words head) (words + 1) key) (words + 2) (take (1152 - (words + 2)) vs)) where
+  abbrev m : List ℕ
+  m = set b filterPlace marks
+
+  laid : d ≡ overlay m words (head ∷ key ∷ vs)
   laid =
       let one : words + 1 ≡ suc words = omega arith in
       let two : words + 2 ≡ suc (suc words) = omega arith in
       stored ∙ rw (take-all (1152 - (words + 2)) vs (omega arith), one, two)
 
-  above-kept : (i : ℕ) → 512 ≤ i → getD d i 0 ≡ getD b i 0
-  above-kept i l = ap (λ (xs : List ℕ). getD xs i 0) laid ∙ getD-overlay-outside (head ∷ key ∷ vs) b words i (λ p q. omega arith)
+  long-m : length m ≡ length b
+  long-m = length-set b filterPlace marks
+
+  outside : (i : ℕ) → 512 ≤ i → getD d i 0 ≡ getD m i 0
+  outside i l = ap (λ (xs : List ℕ). getD xs i 0) laid ∙ getD-overlay-outside (head ∷ key ∷ vs) m words i (λ p q. omega arith)
+
+  above-kept : (i : ℕ) → 512 ≤ i → i < 1150 → getD d i 0 ≡ getD b i 0
+  above-kept i l h = outside i l ∙ getD-set-other b filterPlace i marks 0 (λ q. omega arith)
+
+  filter-is : getD d filterPlace 0 ≡ marks
+  filter-is = outside filterPlace (omega arith) ∙ getD-set-same b filterPlace marks 0 (omega arith)
 
   written-behind : bufferPart d 0 next ≡ bufferPart b 0 words ++ (head ∷ key ∷ vs)
   written-behind =
       let s : next ≡ words + suc (suc (length vs)) = omega arith in
-      rw (laid, s) (part-overlay b (head ∷ key ∷ vs) words (omega arith))
+      let e = long-m in
+      rw (laid, s) (part-overlay m (head ∷ key ∷ vs) words (omega arith))
+      ∙ ap (λ (xs : List ℕ). xs ++ (head ∷ key ∷ vs)) (part-agree m b 0 words (λ j l u. getD-set-other b filterPlace j marks 0 (λ q. omega arith)))
 
   pub add-more : Added b d words next (entry op pl v x key vs)
   add-more =
       record {
         size = n;
-        long = ap length laid ∙ length-overlay b words (head ∷ key ∷ vs);
+        long = ap length laid ∙ length-overlay m words (head ∷ key ∷ vs) ∙ long-m;
         above = above-kept;
         bits = bits-kept b d above-kept;
         full = λ l. absurd (omega arith);
@@ -89,4 +114,5 @@ module _ (b d : List ℕ) (words next op pl v x key head : ℕ) (vs : List ℕ) 
             ∙ ap (λ (xs : List ℕ). xs ++ (head ∷ key ∷ vs)) w
             ∙ ap (λ (k : ℕ). encodeAll items ++ (k ∷ key ∷ vs)) h
             ∙ sym (encode-append items (e ∷ []) ∙ ap (λ (xs : List ℕ). encodeAll items ++ xs) (append-nil (encode e)));
+        marked = λ l items w a. rw filter-is (marked-more b words marks items (entry op pl v x key vs) mark w a);
       }

@@ -68,7 +68,7 @@ items-more n ws es items e log f = record {
 module _ (c : Control) (b : List ℕ) (n : ℕ) (ws : List ℕ) (es items : List Entry) (fits : BatchFits c b n ws es items) where
   pub fits-staged : StagedIn b (c .words) items
   unfolding batchWords
-  fits-staged = record { written = fits .written; right = fits .right }
+  fits-staged = record { written = fits .written; right = fits .right; marked = fits .marked }
 
   -- 10, as the code asks it
   pub fits-batch : (m : ℕ) → fitsBatch items m ≡ both (ltb (c .items) maxItems) (leb (c .words + m) batchRoom)
@@ -96,5 +96,6 @@ module _ (c : Control) (b : List ℕ) (n : ℕ) (ws : List ℕ) (es items : List
         right = right-more items e (fits .right) r;
         counts = counts-more es items e (fits .counts) v;
         fit = items-more n ws es items e log (fits .fit);
+        marked = a .marked room items (sym (words-within c b (fits .room)) ∙ fits .written) (fits .marked);
         keys = rw (k, f) (keys-more (c .keys) (c .fresh) es items (fits .keys) e);
       }

@@ -1,5 +1,6 @@
 pub mod Part
 pub mod Pass
+pub mod Marks
 pub mod Last
 pub mod Add
 pub mod Items

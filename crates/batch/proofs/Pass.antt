@@ -3,20 +3,20 @@
 -- Assumes nothing.
 use mathlib.Core.Path.{_≡_, refl, sym, _∙_, ap}
 use mathlib.Core.List.{List, [], _∷_, _++_}
-use Prim.Native.Nat.{ℕ, suc, _+_, _-_, _≤_, _<_, min}
+use Prim.Native.Nat.{ℕ, suc, _+_, _-_, _*_, _/_, _%_, _≤_, _<_, min}
 use native.Mathlib.Omega.{arith}
 use lib.ListN.{length, getD, length-append}
 use Rattle.spec.specs.Log.{Entry, firstOf, wordsFor, headOf, encode, encodeAll}
 use Rattle.spec.specs.declared.FirstWord.{FirstWord}
 use Rattle.spec.specs.declared.FirstWord.the-variants as F
-use Rattle.theory_log.specs.Batch.{AllRight}
+use Rattle.theory_log.specs.Batch.{Kind, put, block, delete, Right, AllRight}
 use Rattle.theory_log.specs.Fold.{foldE}
 use Rattle.theory_log.proofs.Batch.{first-right}
 use Rattle.session.specs.State.{batchRoom, bufferPart}
 use Rattle.session.proofs.Part.{length-part}
 use Rattle.batch.specs.declared.Item.{Item}
 use Rattle.batch.specs.declared.Latest.{Latest}
-use Rattle.batch.specs.Items.{StagedIn, itemBy, laterOf, pass}
+use Rattle.batch.specs.Items.{StagedIn, itemBy, itemOf, laterOf, pass}
 use Rattle.batch.proofs.Part.{part-behind}
 
 -- from word `at` to word `end` stand these items
@@ -47,10 +47,15 @@ pub record Headed (b : List ℕ) (end at : ℕ) (items : List Entry) (i : Item) 
   pub key : i .key ≡ head .key
   pub behind : Reached b end (at + i .size) tail
 
-pub reached-next : (b : List ℕ) (end at : ℕ) (items : List Entry) (i : Item) → at < end → i ≡ itemBy (firstOf (getD b at 0)) (getD b (at + 1) 0)
+-- an item read at that word, as the words of an entry say it
+abbrev itemFor : Entry → Item
+itemFor e = record { op = e .op; version = e .version; key = e .key; size = 2 + wordsFor (e .placement) (e .field) }
+
+headed : (b : List ℕ) (end at : ℕ) (items : List Entry) (i : Item) → at < end
+    → ((e : Entry) → Right e → getD b at 0 ≡ headOf e → getD b (at + 1) 0 ≡ e .key → i ≡ itemFor e)
     → Reached b end at items → Headed b end at items i
-reached-next b end at [] i l q r = absurd (let n = length-part b at (end - at) in let z = ap length (r .written) in omega arith)
-reached-next b end at (e ∷ items) i l q r =
+headed b end at [] i l q r = absurd (let n = length-part b at (end - at) in let z = ap length (r .written) in omega arith)
+headed b end at (e ∷ items) i l q r =
     let n : length (e .value) ≡ wordsFor (e .placement) (e .field) = r .right .0 .words in
     let w = r .written in
     let m : end - at ≡ suc (end - suc at) = omega arith in
@@ -65,11 +70,7 @@ reached-next b end at (e ∷ items) i l q r =
     let behind = part-behind b at (end - at) (encode e) (encodeAll items) w in
     let s : at + 1 ≡ suc at = omega arith in
     let next : getD b (at + 1) 0 ≡ e .key = ap (λ (j : ℕ). getD b j 0) s ∙ second in
-    let says : i ≡ record { op = e .op; version = e .version; key = e .key; size = 2 + wordsFor (e .placement) (e .field) } =
-    q
-    ∙ ap (λ (w : ℕ). itemBy (firstOf w) (getD b (at + 1) 0)) first
-    ∙ ap (λ (f : FirstWord). itemBy f (getD b (at + 1) 0)) (first-right (e .op) (e .placement) (e .version) (e .field) (r .right .0 .kind) (r .right .0 .low) (r .right .0 .high))
-    ∙ ap (itemBy (F.Entry (e .op) (e .placement) (e .version) (e .field))) next in
+    let says : i ≡ itemFor e = q e (r .right .0) first next in
     let size : i .size ≡ 2 + wordsFor (e .placement) (e .field) = ap (λ (x : Item). x .size) says in
     let from : at + i .size ≡ at + suc (suc (length (e .value))) = omega arith in
     let left : end - (at + i .size) ≡ end - at - suc (suc (length (e .value))) = omega arith in
@@ -87,6 +88,48 @@ reached-next b end at (e ∷ items) i l q r =
       };
     }
 
+-- read through the first word's parts, each tested
+pub reached-next : (b : List ℕ) (end at : ℕ) (items : List Entry) (i : Item) → at < end → i ≡ itemBy (firstOf (getD b at 0)) (getD b (at + 1) 0)
+    → Reached b end at items → Headed b end at items i
+reached-next b end at items i l q r =
+    headed b end at items i l
+    (λ e right first next.
+    q
+    ∙ ap (λ (w : ℕ). itemBy (firstOf w) (getD b (at + 1) 0)) first
+    ∙ ap (λ (f : FirstWord). itemBy f (getD b (at + 1) 0)) (first-right (e .op) (e .placement) (e .version) (e .field) (right .kind) (right .low) (right .high))
+    ∙ ap (itemBy (F.Entry (e .op) (e .placement) (e .version) (e .field))) next)
+    r
+
+-- read as if the word began an item
+parts : (op pl v x key : ℕ) → op < 4 → pl < 4 → v < 1048576
+    → itemOf (op + 4 * pl + 16 * v + 16777216 * x) key ≡ record { op = op; version = v; key = key; size = 2 + wordsFor pl x }
+parts op pl v x key ho hp hv =
+    let w = op + 4 * pl + 16 * v + 16777216 * x in
+    let a : w % 4 ≡ op = omega arith in
+    let q : w / 4 ≡ pl + 4 * (v + 1048576 * x) = omega arith in
+    let b : w / 4 % 4 ≡ pl = rw q (omega arith) in
+    let s : w / 16 ≡ v + 1048576 * x = omega arith in
+    let c : w / 16 % 1048576 ≡ v = rw s (omega arith) in
+    let d : w / 16777216 ≡ x = omega arith in
+    rw (a, b, c, d)
+
+item-right : (op pl v x key : ℕ) → Kind op pl x → v < 1048576
+    → itemOf (op + 4 * pl + 16 * v + 16777216 * x) key ≡ record { op = op; version = v; key = key; size = 2 + wordsFor pl x }
+item-right op pl v x key (put h) u = parts 1 0 v x key (omega arith) (omega arith) u
+item-right op pl v x key block u = parts 1 1 v x key (omega arith) (omega arith) u
+item-right op pl v x key delete u = parts 2 0 v 0 key (omega arith) (omega arith) u
+
+pub reached-by : (b : List ℕ) (end at : ℕ) (items : List Entry) (i : Item) → at < end → i ≡ itemOf (getD b at 0) (getD b (at + 1) 0)
+    → Reached b end at items → Headed b end at items i
+reached-by b end at items i l q r =
+    headed b end at items i l
+    (λ e right first next.
+    q
+    ∙ ap (λ (w : ℕ). itemOf w (getD b (at + 1) 0)) first
+    ∙ ap (itemOf (headOf e)) next
+    ∙ item-right (e .op) (e .placement) (e .version) (e .field) (e .key) (right .kind) (right .high))
+    r
+
 -- A pass: what is sought of all items is what is sought of those not yet reached.
 module _ {S : Type 0} (b : List ℕ) (words : ℕ) (whole : List Entry → S) where
   abbrev pub Passing : ℕ → (List Entry → S) → Type 0
@@ -99,18 +142,18 @@ module _ {S : Type 0} (b : List ℕ) (words : ℕ) (whole : List Entry → S) wh
   pass-end at rest l p items s = let q = p items s in q .2 ∙ ap rest (reached-end b (min words batchRoom) at (q .0) l (q .1))
 
   -- at the next item
-  module _ (at : ℕ) (rest : List Entry → S) (i : Item) (l : at < min words batchRoom) (told : i ≡ itemBy (firstOf (getD b at 0)) (getD b (at + 1) 0)) (p : Passing at rest) where
+  module _ (at : ℕ) (rest : List Entry → S) (i : Item) (l : at < min words batchRoom) (told : i ≡ itemOf (getD b at 0) (getD b (at + 1) 0)) (p : Passing at rest) where
     pub pass-next : (rest′ : List Entry → S) → ((e : Entry) (tail : List Entry) → i .op ≡ e .op → i .version ≡ e .version → i .key ≡ e .key → rest (e ∷ tail) ≡ rest′ tail)
         → Passing (at + i .size) rest′
     pass-next rest′ h items s =
         let q = p items s in
-        let n = reached-next b (min words batchRoom) at (q .0) i l told (q .1) in
+        let n = reached-by b (min words batchRoom) at (q .0) i l told (q .1) in
         (n .tail, n .behind, q .2 ∙ ap rest (n .split) ∙ h (n .head) (n .tail) (n .op) (n .version) (n .key))
 
     pub pass-stop : (r : S) → ((e : Entry) (tail : List Entry) → i .op ≡ e .op → rest (e ∷ tail) ≡ r) → (items : List Entry) → StagedIn b words items → whole items ≡ r
     pass-stop r h items s =
         let q = p items s in
-        let n = reached-next b (min words batchRoom) at (q .0) i l told (q .1) in
+        let n = reached-by b (min words batchRoom) at (q .0) i l told (q .1) in
         q .2 ∙ ap rest (n .split) ∙ h (n .head) (n .tail) (n .op)
 
 -- what the code does with the item: the last of a key

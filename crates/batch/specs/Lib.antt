@@ -1,2 +1,3 @@
 pub mod Items
+pub mod Marks
 pub mod Added

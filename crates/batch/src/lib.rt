@@ -4,10 +4,12 @@ ghost use Prim.Native.Nat.{_+_, _^_, _<_, _≤_, min};
 ghost use lib.ListN.{getD, drop};
 ghost use lib.Seq.{slice};
 ghost use Rattle.spec.specs.Words.{packed};
-ghost use Rattle.spec.specs.Log.{firstOf, wordsFor, filled, stepOf};
+ghost use Rattle.spec.specs.Log.{wordsFor, filled, stepOf};
 ghost use Rattle.spec.specs.Plans.{entry};
 ghost use Rattle.session.specs.State.{batchRoom};
-ghost use Rattle.batch.specs.Items.{itemBy, laterOf, LastStaged, OnlyDeletes, anyItem};
+ghost use Rattle.session.specs.Filter.{filterBit, isMarked};
+ghost use Rattle.batch.specs.Items.{itemOf, laterOf, LastStaged, OnlyDeletes, anyItem};
+ghost use Rattle.batch.specs.Marks.{marksOf, MarkedWith};
 ghost use Rattle.batch.specs.Added.{Added};
 use blocks::Buffer;
 use blocks::buffer_length;
@@ -24,8 +26,7 @@ pub struct Latest {
     pub version: u64,
 }
 
-// What stands at a word of the batch: `size` is the number of words to the next item. A word that begins no item counts
-// as one.
+// What stands at a word of the batch: `size` is the number of words to the next item.
 pub struct Item {
     pub op: u64,
     pub version: u64,
@@ -40,40 +41,26 @@ fn batch_end(words: usize) -> usize
     if words < 512 { words } else { 512 }
 }
 
+// What two words say, of an item's: of others something, and a size.
+fn item_of(word: u64, key: u64) -> Item
+    ensures { λ r. ⌜ (r ≡ itemOf word key) × (1 ≤ r .size) × (r .size < 2 ^ 62) ⌝ }
+{
+    let value = words_for(word / 4 % 4, word / 16777216);
+    Item {
+        op: word % 4,
+        version: word / 16 % 1048576,
+        key,
+        size: 2 + value,
+    }
+}
+
 fn item_at(buffer: &Buffer, at: usize) -> Item
     requires { ⌜ at < 512 ⌝ }
-    ensures { λ r. ⌜ (r ≡ itemBy (firstOf (getD (now (buffer .entry)) at 0)) (getD (now (buffer .entry)) (at + 1) 0)) × (1 ≤ r .size) × (r .size < 2 ^ 62) ⌝ }
+    ensures { λ r. ⌜ (r ≡ itemOf (getD (now (buffer .entry)) at 0) (getD (now (buffer .entry)) (at + 1) 0)) × (1 ≤ r .size) × (r .size < 2 ^ 62) ⌝ }
 {
-    let f = first_of(buffer[at]);
-    match f {
-        FirstWord::Padding => Item {
-            op: 0,
-            version: 0,
-            key: 0,
-            size: 1,
-        },
-        FirstWord::Wrong => Item {
-            op: 0,
-            version: 0,
-            key: 0,
-            size: 1,
-        },
-        FirstWord::Entry {
-            op,
-            placement,
-            version,
-            field,
-        } => {
-            let key = buffer[at + 1];
-            let size = 2 + words_for(placement, field);
-            Item {
-                op,
-                version,
-                key,
-                size,
-            }
-        }
-    }
+    let word = buffer[at];
+    let key = buffer[at + 1];
+    item_of(word, key)
 }
 
 fn later(latest: Latest, key: u64, item: Item) -> Latest
@@ -88,8 +75,39 @@ fn later(latest: Latest, key: u64, item: Item) -> Latest
     latest
 }
 
-// The last staged item of a key.
-pub fn last_staged(buffer: &Buffer, words: usize, key: u64) -> Latest
+// THE FILTER of the staged keys: a word with a bit for each
+// The number of a key's bit.
+fn filter_bit(key: u64) -> u64
+    ensures { λ r. ⌜ (r ≡ filterBit key) × (r < 64) ⌝ }
+{
+    let halves = (key % 0x1_0000_0000 + key / 0x1_0000_0000) % 0x1_0000_0000;
+    halves * 2_654_435_761 % 0x1_0000_0000 / 0x400_0000
+}
+
+// The filter; where nothing is staged, its word is not read.
+fn marks_of(buffer: &Buffer, words: usize) -> u64
+    ensures { λ r. ⌜ r ≡ marksOf (now (buffer .entry)) words ⌝ }
+{
+    if words == 0 {
+        return 0;
+    }
+    buffer[1150]
+}
+
+fn is_marked(marks: u64, key: u64) -> bool
+    ensures { λ r. ⌜ r ≡ isMarked marks key ⌝ }
+{
+    (marks >> filter_bit(key)) % 2 == 1
+}
+
+fn marked_with(marks: u64, key: u64) -> u64
+    ensures { λ r. ⌜ MarkedWith marks r key ⌝ }
+{
+    marks | 1 << filter_bit(key)
+}
+
+// The last staged item of a key, looked for in all of them.
+fn last_of(buffer: &Buffer, words: usize, key: u64) -> Latest
     ensures { λ r. ⌜ LastStaged (now (buffer .entry)) words key r ⌝ }
 {
     let end = batch_end(words);
@@ -101,6 +119,17 @@ pub fn last_staged(buffer: &Buffer, words: usize, key: u64) -> Latest
         at += item.size;
     }
     latest
+}
+
+// The last staged item of a key: a key that the filter has not is not looked for.
+pub fn last_staged(buffer: &Buffer, words: usize, key: u64) -> Latest
+    ensures { λ r. ⌜ LastStaged (now (buffer .entry)) words key r ⌝ }
+{
+    let marks = marks_of(buffer, words);
+    if is_marked(marks, key) {
+        return last_of(buffer, words, key);
+    }
+    Latest { op: 0, version: 0 }
 }
 
 // Whether all staged items are deletes.
@@ -211,7 +240,8 @@ pub fn any_item(buffer: &Buffer, words: usize) -> bool
     }
 }
 
-// One more staged item, if it fits: its words behind the others. The answer is the number of words then.
+// One more staged item, if it fits: its words behind the others, its key in the filter. The answer is the number of
+// words then.
 pub fn add_entry(
     buffer: &mut Buffer,
     words: usize,
@@ -232,6 +262,8 @@ pub fn add_entry(
     if 512 - words < more {
         return words;
     }
+    let marks = marks_of(buffer, words);
+    buffer[1150] = marked_with(marks, key);
     buffer[words] = first_word(op, placement, version, field);
     buffer[words + 1] = key;
     pack_into(value, buffer, words + 2);

@@ -8,6 +8,7 @@ ghost use Rattle.spec.specs.Places.{chunksIn};
 ghost use Rattle.spec.specs.Directory.{freeChunks};
 ghost use Rattle.spec.specs.Machine.{Format, Open, Put, Delete, Commit, Abandon, Clean, Step};
 ghost use Rattle.formatting.specs.Begun.{given};
+ghost use Rattle.staging.specs.Staging.{PutWhere, Short, Long};
 ghost use Rattle.fast_path.specs.Run.{RunsOn};
 ghost use Rattle.store.specs.Look.{Reported};
 ghost use Rattle.store.specs.Choice.{Chosen};
@@ -135,7 +136,27 @@ pub extern "C" fn zkv_open(s: &mut Session, image: &[u8], table: &mut [u64]) -> 
     told(report)
 }
 
-// Begins staging a put (`store::stage_put`).
+// The same numbers, taken out of the place where a call left them: those of the fast path then need no place in memory.
+fn same(a: Answer) -> Answer
+    ensures { λ r. ⌜ r ≡ a ⌝ }
+{
+    Answer {
+        kind: a.kind,
+        first: a.first,
+        second: a.second,
+    }
+}
+
+// A put of a longer value in numbers (`store::stage_long`); of a short one nothing is done.
+fn put_long(s: &mut Session, image: &[u8], table: &[u64], key: u64, value: &[u8]) -> Answer
+    ensures { λ r. ⌜ Told (PutWhere Long key (now (value .entry)) (now (s .entry)) (now (s .exit)) (now (image .entry)) (now (table .entry))) r ⌝ }
+{
+    let report = store::stage_long(s, image, table, key, value);
+    told(report)
+}
+
+// Begins staging a put, as `store::stage_put` does: of a short value by `store::stage_short`, which alters less of the
+// record, else by `store::stage_long`.
 #[no_mangle]
 pub extern "C" fn zkv_put(
     s: &mut Session,
@@ -146,8 +167,15 @@ pub extern "C" fn zkv_put(
 ) -> Answer
     ensures { λ r. ⌜ Told (Does (Put key (now (value .entry))) (now (s .entry)) (now (s .exit)) (now (image .entry)) (now (image .entry)) (now (table .entry)) (now (table .entry))) r ⌝ }
 {
-    let report = store::stage_put(s, image, table, key, value);
-    told(report)
+    let c = s.control;
+    let short = staging::is_short(c, value.len());
+    if short {
+        let report = store::stage_short(s, image, table, key, value);
+        return told(report);
+    } else {
+        let answer = put_long(s, image, table, key, value);
+        return same(answer);
+    }
 }
 
 // Begins staging a delete (`store::stage_delete`).
@@ -197,21 +225,27 @@ pub extern "C" fn zkv_clean(s: &mut Session, image: &[u8], table: &[u64], chunk:
 
 // STEPS
 // The step in numbers, whatever is begun (`store::step`).
-fn step_whole(s: &mut Session, image: &mut [u8], table: &mut [u64]) -> Answer
+fn step_any(s: &mut Session, image: &mut [u8], table: &mut [u64]) -> Answer
     ensures { λ r. ⌜ Told (Does Step (now (s .entry)) (now (s .exit)) (now (image .entry)) (now (image .exit)) (now (table .entry)) (now (table .exit))) r ⌝ }
 {
     let report = store::step(s, image, table);
     told(report)
 }
 
-// The same numbers, taken out of the place where a call left them: those of the fast path then need no place in memory.
-fn same(a: Answer) -> Answer
-    ensures { λ r. ⌜ r ≡ a ⌝ }
+// The step in numbers, where no commit has more than its last action to come: then `store::step_late`, else
+// `store::step`.
+fn step_whole(s: &mut Session, image: &mut [u8], table: &mut [u64]) -> Answer
+    ensures { λ r. ⌜ Told (Does Step (now (s .entry)) (now (s .exit)) (now (image .entry)) (now (image .exit)) (now (table .entry)) (now (table .exit))) r ⌝ }
 {
-    Answer {
-        kind: a.kind,
-        first: a.first,
-        second: a.second,
+    let c = s.control;
+    let k = s.setup;
+    let late = fast_path::is_late(c, k, image.len(), table.len());
+    if late {
+        let report = store::step_late(s, image, table);
+        return told(report);
+    } else {
+        let answer = step_any(s, image, table);
+        return same(answer);
     }
 }
 
@@ -240,7 +274,24 @@ fn run_any(s: &mut Session, image: &mut [u8], table: &mut [u64]) -> Answer
     told(report)
 }
 
-// A run in numbers, where no commit is on the fast path: in a staging `store::run_staging`, else `store::run_rest`.
+// A run in numbers, where nothing is to be stored: at a commit's last action and its end `store::step_late`, else
+// `store::run_rest`.
+fn run_late(s: &mut Session, image: &mut [u8], table: &mut [u64]) -> Answer
+    ensures { λ r. ⌜ Told (RunsOn (now (s .entry)) (now (s .exit)) (now (image .entry)) (now (image .exit)) (now (table .entry)) (now (table .exit))) r ⌝ }
+{
+    let c = s.control;
+    let k = s.setup;
+    let late = fast_path::is_late(c, k, image.len(), table.len());
+    if late {
+        let report = store::step_late(s, image, table);
+        return told(report);
+    } else {
+        let answer = run_any(s, image, table);
+        return same(answer);
+    }
+}
+
+// A run in numbers, where no commit is on the fast path: in a staging `store::run_staging`, else as above.
 fn run_whole(s: &mut Session, image: &mut [u8], table: &mut [u64]) -> Answer
     ensures { λ r. ⌜ Told (RunsOn (now (s .entry)) (now (s .exit)) (now (image .entry)) (now (image .exit)) (now (table .entry)) (now (table .exit))) r ⌝ }
 {
@@ -251,7 +302,7 @@ fn run_whole(s: &mut Session, image: &mut [u8], table: &mut [u64]) -> Answer
         let report = store::run_staging(s, image, table);
         return told(report);
     } else {
-        let answer = run_any(s, image, table);
+        let answer = run_late(s, image, table);
         return same(answer);
     }
 }

@@ -5,7 +5,7 @@ use mathlib.Core.Path.{_≡_, refl, sym, _∙_, ap, subst}
 use mathlib.Core.Bool.{true, false}
 use mathlib.Core.Option.{some}
 use mathlib.Core.List.{List, [], _∷_, _++_}
-use Prim.Native.Nat.{ℕ, zero, suc, _+_, _-_, _*_, _/_, _≤_, _<_, min}
+use Prim.Native.Nat.{ℕ, zero, suc, _+_, _-_, _*_, _/_, _%_, _≤_, _<_, min}
 use native.Mathlib.Omega.{arith}
 use lib.ListN.{length, getD, drop, length-append}
 use Rattle.spec.specs.Places.{directoryWord, chunksIn}
@@ -23,7 +23,8 @@ use Rattle.theory_crash.proofs.Opening.{opens-ok}
 use Rattle.theory_crash.proofs.Append.{padding}
 use Rattle.blocks.specs.Bits.{hasBit}
 use Rattle.session.specs.State.{batchRoom, sourceIn, keptWords, appendActions, cleanActions}
-use Rattle.session.specs.Fits.{NoneBelow, RestFits, batchPlace, CleanFits}
+use Rattle.session.specs.Fits.{NoneBelow, soleMark, RestFits, batchPlace, CleanFits}
+use Rattle.session.proofs.Kept.{plain-hint}
 use Rattle.session.proofs.Part.{chunk-in, lines-in}
 use Rattle.actions.specs.Nth.{nth}
 use Rattle.leaving.proofs.Fence.{lines-few, cleaned, stands-here, stands-copied}
@@ -65,7 +66,7 @@ module _ (c : Control) (k : Setup) (b ws table : List ℕ) (r : RestFits (record
   source-is = let h = small in omega arith
 
   -- with what is ahead, the record fits
-  module _ (chunk old lines first least : ℕ) (in-chunks : chunk ≤ 503) (in-lines : lines ≤ 64) (d z : ℕ) (below : NoneBelow (chunksIn 12 (k .image)) ws first least) (under : first ≤ d) where
+  module _ (chunk old lines first least : ℕ) (in-chunks : chunk ≤ 503) (in-lines : lines ≤ 64) (d z : ℕ) (below : NoneBelow (chunksIn 12 (k .image)) ws first least) (under : first ≤ d) (plain : first < soleMark) where
     abbrev k′ : Setup
     k′ = copyingTo k chunk old lines first least g
 
@@ -94,7 +95,7 @@ module _ (c : Control) (k : Setup) (b ws table : List ℕ) (r : RestFits (record
       here = stands-here lo hi n s (batchPlace k′) (linesFor words) z ws vs es (a .xs) (a .mid) (a .ys) (a .as′) (a .bs) (a .freed);
       copied = stands-copied lo hi n s (batchPlace k′) (linesFor words) z ws vs es (a .xs) (a .mid) (a .ys) (a .as′) (a .bs) (a .freed);
       built = record { indexed = rw (a .freed .parts .whole) at (r .built .indexed); blocks = λ u. bits u ∙ (rw (a .freed .parts .whole) at (r .built .blocks)) u };
-      hint = below-ahead (k .image) (k .table) s (batchPlace k′) (linesFor words) z d ws vs es a first least under below;
+      hint = plain-hint n vs first least plain (below-ahead (k .image) (k .table) s (batchPlace k′) (linesFor words) z d ws vs es a first least under below);
     }
       where
         n : ℕ
@@ -108,7 +109,7 @@ module _ (c : Control) (k : Setup) (b ws table : List ℕ) (r : RestFits (record
 
   -- SOME COPIED, to chunk d
   module _ (log : isLog (roleAt 12 ws s) ≡ true) (some-kept : kept ≡ [] → ⊥) (written : keptWords words b′ ≡ encodeAll kept) (d : ℕ)
-      (found : logPlace 12 (chunksIn 12 (k .image)) ws (linesFor (length (encodeAll kept))) s 1 ≡ some d) (first least : ℕ) (below : NoneBelow (chunksIn 12 (k .image)) ws first least) (under : first ≤ d) where
+      (found : logPlace 12 (chunksIn 12 (k .image)) ws (linesFor (length (encodeAll kept))) s 1 ≡ some d) (first least : ℕ) (below : NoneBelow (chunksIn 12 (k .image)) ws first least) (under : first ≤ d) (plain : first < soleMark) where
     abbrev old : ℕ
     old = getD ws (directoryWord d) 0
 
@@ -131,26 +132,26 @@ module _ (c : Control) (k : Setup) (b ws table : List ℕ) (r : RestFits (record
 
     pub copies-fit : CleanFits (cleaning c) k-copies f b′ ws table (nth (cleanActions k-copies f b′) 0 ∷ drop 1 (cleanActions k-copies f b′))
     copies-fit =
-        fits-all d old lines first least in-chunks (lines-few ws d) d (padding kept) below under
+        fits-all d old lines first least in-chunks (lines-few ws d) d (padding kept) below under plain
         (rw (copies-acts, counted) (clean-forward (k .image) (k .table) ws es (r .accepted) (r .long) s (getD ws (directoryWord s) 0) low high log d old some-kept found))
 
   -- NOTHING COPIED
   module _ (none : words ≡ 0) (chunk old lines : ℕ) (in-chunks : chunk ≤ 503) (in-lines : lines ≤ 64) where
     abbrev k-none : Setup
-    k-none = copyingTo k chunk old lines (k .first) (k .least) g
+    k-none = copyingTo k chunk old lines (k .first % soleMark) (k .least) g
 
     pub none-acts : cleanActions k-none f b′ ≡ free s ws
     unfolding cleanActions
     none-acts = rw (copied-none k-none words b′ none, source-is)
 
-    freed-fits : Ahead lo hi (k .image) (k .table) s (batchPlace k-none) 0 0 (k .first) ws (runWords (free s ws) ws) es
+    freed-fits : Ahead lo hi (k .image) (k .table) s (batchPlace k-none) 0 0 (k .first % soleMark) ws (runWords (free s ws) ws) es
         → CleanFits (cleaning c) k-none f b′ ws table (nth (cleanActions k-none f b′) 0 ∷ drop 1 (cleanActions k-none f b′))
-    freed-fits a = fits-all chunk old lines (k .first) (k .least) in-chunks in-lines (k .first) 0 (r .hint) (omega arith) (rw (none-acts, none) a)
+    freed-fits a = fits-all chunk old lines (k .first % soleMark) (k .least) in-chunks in-lines (k .first % soleMark) 0 (r .hint .below) (omega arith) (omega arith) (rw (none-acts, none) a)
 
     -- a log chunk of which nothing is kept
     pub none-fits : isLog (roleAt 12 ws s) ≡ true → kept ≡ [] → CleanFits (cleaning c) k-none f b′ ws table (nth (cleanActions k-none f b′) 0 ∷ drop 1 (cleanActions k-none f b′))
-    none-fits log e = freed-fits (clean-forward-none (k .image) (k .table) ws es (r .accepted) (r .long) s (getD ws (directoryWord s) 0) low high log (batchPlace k-none) (k .first) e)
+    none-fits log e = freed-fits (clean-forward-none (k .image) (k .table) ws es (r .accepted) (r .long) s (getD ws (directoryWord s) 0) low high log (batchPlace k-none) (k .first % soleMark) e)
 
     -- a data chunk with no live block
     pub data-fits : isLog (roleAt 12 ws s) ≡ false → hasLive 12 es s ≡ false → CleanFits (cleaning c) k-none f b′ ws table (nth (cleanActions k-none f b′) 0 ∷ drop 1 (cleanActions k-none f b′))
-    data-fits log e = freed-fits (clean-forward-data (k .image) (k .table) ws es (r .accepted) (r .long) s (getD ws (directoryWord s) 0) low high log (batchPlace k-none) (k .first) e)
+    data-fits log e = freed-fits (clean-forward-data (k .image) (k .table) ws es (r .accepted) (r .long) s (getD ws (directoryWord s) 0) low high log (batchPlace k-none) (k .first % soleMark) e)

@@ -141,7 +141,7 @@ module _ (c : Control) (k : Setup) (f : Source) (b ws table : List ℕ) where
         long = t .long;
         lent = t .lent;
         built = record { indexed = t .built .indexed; blocks = t .built .blocks };
-        batch = record { room = omega arith; written = refl; count = refl; few = omega arith; right = tt; counts = tt; fit = none-fit (chunksIn 12 (k .image)) ws (after (t .xs) (t .mid) (t .ys) (t .as′) (t .bs) (batchPlace k)); keys = omega arith };
+        batch = record { room = omega arith; written = refl; count = refl; few = omega arith; right = tt; counts = tt; fit = none-fit (chunksIn 12 (k .image)) ws (after (t .xs) (t .mid) (t .ys) (t .as′) (t .bs) (batchPlace k)); marked = tt; keys = omega arith };
         table-room = omega arith;
         hint = t .hint;
       }

@@ -3,7 +3,7 @@
 use mathlib.Core.Path.{_≡_, refl, sym, _∙_, ap, subst}
 use mathlib.Core.Logic.{_⊎_, inl, inr}
 use mathlib.Core.List.{List, [], _∷_}
-use Prim.Native.Nat.{ℕ, min}
+use Prim.Native.Nat.{ℕ, _%_, min}
 use native.Mathlib.Omega.{arith}
 use lib.ListN.{length}
 use Rattle.spec.specs.Words.{wordsOf}
@@ -13,7 +13,7 @@ use Rattle.session.specs.declared.Control.{Control}
 use Rattle.session.specs.declared.Setup.{Setup}
 use Rattle.spec.specs.declared.Refusal.{Refusal}
 use Rattle.spec.specs.declared.Report.the-variants as R
-use Rattle.session.specs.Fits.{RestFits}
+use Rattle.session.specs.Fits.{soleMark, RestFits}
 use Rattle.gathering.specs.Gathering.{Copied}
 use Rattle.gathering.proofs.Words.{stored-gathered}
 use Rattle.session.specs.declared.Source.{Source}
@@ -55,7 +55,7 @@ module _ (c : Control) (k : Setup) (b image table words : List ℕ) (s : ℕ) (p
         go (inl a) = ap length (a .1)
         go (inr a) = a .4 .long
 
-    began : (r : RestFits (record { control = c; setup = k; buffer = b }) ws table []) → Beginning ws (r .entries) (chunksIn 12 (k .image)) s chunk old lines (k .first) first g actions → KeptStored g words b b′
+    began : (r : RestFits (record { control = c; setup = k; buffer = b }) ws table []) → Beginning ws (r .entries) (chunksIn 12 (k .image)) s chunk old lines (k .first % soleMark) first g actions → KeptStored g words b b′
         → (g .words ≡ 0) ⊎ KeptAt g ws table words → Begun c k′ g b′ ws table (r .entries) (chunksIn 12 (k .image)) s actions
     began r q (inl a) h = subst (λ (x : List ℕ). Begun c k′ g x ws table (r .entries) (chunksIn 12 (k .image)) s actions) (sym (a .1)) (begins-bare c k b ws table r s chunk old lines first g actions q (a .0))
     began r q (inr a) (inl z) = absurd (a .0 z)
@@ -65,7 +65,7 @@ module _ (c : Control) (k : Setup) (b image table words : List ℕ) (s : ℕ) (p
         let n-is : n ≡ h .tally .words = omega arith in
         begins-copies c k b ws table r s chunk old lines first g actions q b′ (h .at) (h .end) (h .tally) (h .at-is) (h .end-is) (stored-gathered ws table words b b′ (h .at) (h .end) n (h .tally) (h .collected) n-is size copied) z
 
-    all : (items : List Entry) (q : RestFits (record { control = c; setup = k; buffer = b }) ws table items) → (items ≡ []) × Beginning ws (q .entries) (chunksIn 12 (k .image)) s chunk old lines (k .first) first g actions
+    all : (items : List Entry) (q : RestFits (record { control = c; setup = k; buffer = b }) ws table items) → (items ≡ []) × Beginning ws (q .entries) (chunksIn 12 (k .image)) s chunk old lines (k .first % soleMark) first g actions
         → (items ≡ []) × Begun c k′ g b′ ws table (q .entries) (chunksIn 12 (k .image)) s actions
     all [] q h = (h .0, began q (h .1) kept (p .keeps))
     all (i ∷ items) q h = absurd (let z : _≡_ {A = ℕ} 0 1 = let y = h .0 in cc in omega arith)

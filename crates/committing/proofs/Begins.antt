@@ -5,7 +5,7 @@ use mathlib.Core.Logic.{inl, inr}
 use mathlib.Core.Bool.{Bool, true, false}
 use mathlib.Core.Option.{Option, none, some}
 use mathlib.Core.List.{List, [], _∷_, _++_}
-use Prim.Native.Nat.{ℕ, suc, _/_, _≤_, _<_, min}
+use Prim.Native.Nat.{ℕ, suc, _/_, _%_, _≤_, _<_, min}
 use native.Mathlib.Omega.{arith}
 use lib.Dec.{eqb}
 use lib.ListN.{length, getD, drop}
@@ -30,7 +30,7 @@ use Rattle.spec.specs.declared.Report.{Report}
 use Rattle.spec.specs.declared.Report.the-variants as R
 use Rattle.theory_base.proofs.Lists.{not-both}
 use Rattle.session.specs.State.{batchRoom, batchWords, batchItems, commitActions, stateOf, limit}
-use Rattle.session.specs.Fits.{ItemsFit, NoneBelow, RestFits, CommitFits, Fits}
+use Rattle.session.specs.Fits.{ItemsFit, Hint, soleMark, RestFits, CommitFits, Fits}
 use Rattle.session.proofs.Phases.{rest-items}
 use Rattle.session.proofs.Part.{length-part, chunk-in, lines-in, words-counted}
 use Rattle.batch.specs.Items.{OnlyDeletes}
@@ -60,7 +60,7 @@ same-items c b = refl
 -- THE BEGIN on words at rest, with the place d found for the items f ∷ fs
 module _ (c : Control) (k : Setup) (b ws table : List ℕ) (f : Entry) (fs : List Entry) (r : RestFits (record { control = c; setup = k; buffer = b }) ws table (f ∷ fs))
     (d : ℕ) (found : logPlace basePower (chunksIn basePower (k .image)) ws (linesFor (length (encodeAll (f ∷ fs)))) 0 (freeNeeded (f ∷ fs)) ≡ some d)
-    (first′ least′ : ℕ) (below : NoneBelow (chunksIn basePower (k .image)) ws first′ least′) (low : first′ ≤ d) where
+    (first′ least′ : ℕ) (hint : Hint (chunksIn basePower (k .image)) ws first′ least′) (low : first′ % soleMark ≤ d) (sole : soleMark ≤ first′ → d ≡ first′ % soleMark) where
   abbrev items : List Entry
   items = f ∷ fs
 
@@ -102,9 +102,16 @@ module _ (c : Control) (k : Setup) (b ws table : List ℕ) (f : Entry) (fs : Lis
   todo : nth (commitActions c′ k′ b) 0 ∷ drop 1 (commitActions c′ k′ b) ≡ appendOf basePower d old lines (encodeAll items)
   todo = sym begun-first ∙ begun-acts
 
-  -- the directory words below chunk d stay
-  still-below : NoneBelow (chunksIn basePower (k .image)) (runWords (appendOf basePower d old lines (encodeAll items)) ws) first′ least′
-  still-below e l u m = same-space ws (runWords (appendOf basePower d old lines (encodeAll items)) ws) least′ 0 e (ahead .kept e l (omega arith)) ∙ below e l u m
+  -- the directory words of all chunks but d stay
+  abbrev then : List ℕ
+  then = runWords (appendOf basePower d old lines (encodeAll items)) ws
+
+  still : Hint (chunksIn basePower (k .image)) then first′ least′
+  still = record {
+    below = λ e l u m. same-space ws then least′ 0 e (ahead .kept e l m (λ q. omega arith)) ∙ hint .below e l u m;
+    above = λ s e l m. same-space ws then least′ 0 e (ahead .kept e (omega arith) m (λ q. let z = sole s in omega arith)) ∙ hint .above s e l m;
+    taken = λ s e l u m. rw (ahead .kept e l m (λ q. let z = sole s in omega arith)) (hint .taken s e l u m);
+  }
 
   pub begun-fits : CommitFits (record { control = c′; setup = k′; buffer = b }) ws table items (nth (commitActions c′ k′ b) 0 ∷ drop 1 (commitActions c′ k′ b))
   begun-fits = record {
@@ -123,13 +130,14 @@ module _ (c : Control) (k : Setup) (b ws table : List ℕ) (f : Entry) (fs : Lis
       right = r .batch .right;
       counts = rw (ahead .split) at (r .batch .counts);
       fit = subst (λ (l : List Action). ItemsFit (chunksIn basePower (k .image)) (runWords l ws) (ahead .front ++ ahead .back) items) (sym todo) (rw (ahead .split) at (ahead .fit));
+      marked = r .batch .marked;
       keys = rw (ahead .split) at (r .batch .keys);
     };
     agree = rw (ahead .split) at (ahead .agree);
     apart = rw (ahead .split) at (ahead .apart);
     built = record { indexed = rw (ahead .split) at (r .built .indexed); blocks = rw (ahead .split) at (r .built .blocks) };
     table-room = r .table-room;
-    hint = subst (λ (l : List Action). NoneBelow (chunksIn basePower (k .image)) (runWords l ws) first′ least′) (sym todo) still-below;
+    hint = subst (λ (l : List Action). Hint (chunksIn basePower (k .image)) (runWords l ws) first′ least′) (sym todo) still;
   }
 
 -- THE PLAN, by the place that was found
@@ -213,7 +221,7 @@ module _ (c : Control) (k : Setup) (b bytes table : List ℕ) where
         place-is : (items : List Entry) → RestFits s (wordsOf bytes) table items → k .image ≡ length bytes
             → Searched (wordsOf bytes) (chunksIn 12 (length bytes)) (linesFor (length (encodeAll items))) (freeNeeded items) placed
         unfolding batchWords
-        place-is items r same = searched items (record { written = r .batch .written; right = r .batch .right }) (rw same at (r .hint))
+        place-is items r same = searched items (record { written = r .batch .written; right = r .batch .right; marked = r .batch .marked }) (rw same at (r .hint))
 
         -- 13
         pub no-space : place .found ≡ false → Does Commit s s bytes bytes table table (R.Refused N.NoSpace)
@@ -231,21 +239,21 @@ module _ (c : Control) (k : Setup) (b bytes table : List ℕ) where
         began x = record { control = committing c; setup = writingTo k (x .chunk) (x .old) (x .committed) (placed .first) (placed .least); buffer = b }
 
         module _ (f : Entry) (fs : List Entry) (q : Fits s (wordsOf bytes) table) (σ : stateOf s ≡ Rest (k .image) (k .table) (f ∷ fs)) (r : RestFits s (wordsOf bytes) table (f ∷ fs)) (same : k .image ≡ length bytes)
-            (d : ℕ) (found : at-place (f ∷ fs) ≡ some d) (low : placed .first ≤ d) where
+            (d : ℕ) (found : at-place (f ∷ fs) ≡ some d) (low : placed .first % soleMark ≤ d) (sole : soleMark ≤ placed .first → d ≡ placed .first % soleMark) where
           abbrev s′ : Session
           s′ = began (placeOf (wordsOf bytes) (some d))
 
           found′ : logPlace basePower (chunksIn basePower (k .image)) (wordsOf bytes) (linesFor (length (encodeAll (f ∷ fs)))) 0 (freeNeeded (f ∷ fs)) ≡ some d
           found′ = rw same found
 
-          below : NoneBelow (chunksIn basePower (k .image)) (wordsOf bytes) (placed .first) (placed .least)
-          below = rw same (place-is (f ∷ fs) r same .none)
+          hint : Hint (chunksIn basePower (k .image)) (wordsOf bytes) (placed .first) (placed .least)
+          hint = rw same (place-is (f ∷ fs) r same .hint)
 
           abbrev acts : List Action
           acts = appendOf basePower d (getD (wordsOf bytes) (directoryWord d) 0) (linesOf basePower (wordsOf bytes) d) (encodeAll (f ∷ fs))
 
           acts-are : commitActions (s′ .control) (s′ .setup) b ≡ acts
-          acts-are = begun-acts c k b (wordsOf bytes) table f fs r d found′ (placed .first) (placed .least) below low
+          acts-are = begun-acts c k b (wordsOf bytes) table f fs r d found′ (placed .first) (placed .least) hint low sole
 
           items-are : batchItems (s′ .control) b ≡ f ∷ fs
           unfolding batchItems batchWords
@@ -262,7 +270,7 @@ module _ (c : Control) (k : Setup) (b bytes table : List ℕ) where
           exact-at = record {
             answered = rw (opened, σ, plan-is) (ap R.Begun (sym (length-commit (s′ .control) (s′ .setup) b) ∙ ap length acts-are));
             became = rw (opened, σ, plan-is) state-is;
-            fits = (q .0, rw (at-3 (s′ .control) (s′ .setup) b refl, items-are, begun-first c k b (wordsOf bytes) table f fs r d found′ (placed .first) (placed .least) below low) (begun-fits c k b (wordsOf bytes) table f fs r d found′ (placed .first) (placed .least) below low));
+            fits = (q .0, rw (at-3 (s′ .control) (s′ .setup) b refl, items-are, begun-first c k b (wordsOf bytes) table f fs r d found′ (placed .first) (placed .least) hint low sole) (begun-fits c k b (wordsOf bytes) table f fs r d found′ (placed .first) (placed .least) hint low sole));
           }
 
         pub begins : place .found ≡ true → (a : ℕ) → a ≡ commitCount (c .words) → Does Commit s (began place) bytes bytes table table (R.Begun a)
@@ -290,5 +298,5 @@ module _ (c : Control) (k : Setup) (b bytes table : List ℕ) where
                 let p = place-is (f ∷ fs) r same in
                 let t = found-some (wordsOf bytes) (at-place (f ∷ fs)) place (p .place) h in
                 let e : place .chunk ≡ t .0 = ap (λ (x : Place). x .chunk) (t .2) in
-                let l : placed .first ≤ place .chunk = p .low h in
-                subst (λ (x : Place). Exact Proper stateOf Fits 12 limit Commit s (began x) bytes bytes table table (R.Begun (commitCount (c .words)))) (sym (t .2)) (exact-at f fs q σ r same (t .0) (t .1) (omega arith))
+                let l : placed .first % soleMark ≤ place .chunk = p .low h in
+                subst (λ (x : Place). Exact Proper stateOf Fits 12 limit Commit s (began x) bytes bytes table table (R.Begun (commitCount (c .words)))) (sym (t .2)) (exact-at f fs q σ r same (t .0) (t .1) (omega arith) (λ y. sym e ∙ p .sole h y))

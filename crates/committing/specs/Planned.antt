@@ -12,7 +12,7 @@ use Rattle.spec.specs.Machine.{Commit}
 use Rattle.session.specs.declared.Control.{Control}
 use Rattle.session.specs.declared.Setup.{Setup}
 use Rattle.spec.specs.declared.Report.the-variants as R
-use Rattle.session.specs.Fits.{NoneBelow}
+use Rattle.session.specs.Fits.{Hint}
 use Rattle.batch.specs.Items.{StagedIn}
 use Rattle.space.specs.declared.Placed.{Placed}
 use Rattle.space.specs.Found.{Searched}
@@ -23,7 +23,7 @@ use Rattle.session.specs.Promise.{Does}
 -- the place that the definition finds for the staged items, where the hint holds
 abbrev pub PlaceFor : (buffer : List ℕ) (words : ℕ) (image : List ℕ) (first least : ℕ) → Placed → Type 0
 PlaceFor buffer words image first least r =
-    (items : List Entry) → StagedIn buffer words items → NoneBelow (chunksIn 12 (length image)) (wordsOf image) first least
+    (items : List Entry) → StagedIn buffer words items → Hint (chunksIn 12 (length image)) (wordsOf image) first least
     → Searched (wordsOf image) (chunksIn 12 (length image)) (linesFor (length (encodeAll items))) (freeNeeded items) r
 
 -- the record's small parts at a commit's begin: no action done yet, where it writes, and where the next one looks for

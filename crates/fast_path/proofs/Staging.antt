@@ -20,7 +20,7 @@ use Rattle.session.specs.declared.Session.{Session}
 use Rattle.spec.specs.declared.Report.{Report}
 use Rattle.spec.specs.declared.Report.the-variants as R
 use Rattle.words.specs.Image.{Saved}
-use Rattle.session.specs.State.{areaStart, heldCount, heldWords, chunkIn, unitOf, blockActions}
+use Rattle.session.specs.State.{areaStart, heldCount, heldWords, chunkIn, unitOf, blockActions, behindAll}
 use Rattle.session.proofs.Kept.{staged}
 use Rattle.actions.specs.Nth.{nthReport}
 use Rattle.actions.proofs.Performed.{changed-store, changed-length}
@@ -174,3 +174,9 @@ module _ (c : Control) (k : Setup) (b bytes : List ℕ) where
     pub flush-ends : (c′ : Control) (r : Report) → c′ ≡ staged c → r ≡ R.End 0 → first + held + linesFor held ≤ c .next
         → RunsOn (record { control = c; setup = k; buffer = b }) (record { control = c′; setup = k; buffer = b }) bytes bytes table table r
     flush-ends c′ r ec er l = let a = all in rw (ec, er) (run-ends bytes (c .next) (behind-all first held ef eh past) table h (omega arith))
+
+-- a staging without actions, or with none left: its next number lies behind them all
+pub past-ends : (c : Control) (k : Setup) (b bytes table : List ℕ) → InStaging c k (length bytes) (length table) → (c′ : Control) (r : Report) → c′ ≡ staged c → r ≡ R.End 0 → behindAll ≤ c .next
+    → RunsOn (record { control = c; setup = k; buffer = b }) (record { control = c′; setup = k; buffer = b }) bytes bytes table table r
+past-ends c k b bytes table h c′ r ec er l =
+    rw (ec, er) ((zero, staging-ends c k b bytes table (h .1 .0) (h .1 .1) (h .0) (B.none-left k b (c .next) l)), refl)

@@ -22,6 +22,10 @@ use Rattle.fast_path.specs.Stores.{Before}
 abbrev pub FastStep : Control → Setup → (bytes words : ℕ) → Type 0
 FastStep c k bytes words = (c .phase ≡ 3) × ((k .image ≡ bytes) × ((k .table ≡ words) × (c .next + 1 < commitCount (c .words))))
 
+-- A commit has its last action to come or none, and the lent lengths are those at its begin.
+abbrev pub Late : Control → Setup → (bytes words : ℕ) → Type 0
+Late c k bytes words = (c .phase ≡ 3) × ((k .image ≡ bytes) × ((k .table ≡ words) × (commitCount (c .words) ≤ c .next + 1)))
+
 -- A staging is begun, and the lent lengths are those at its begin.
 abbrev pub InStaging : Control → Setup → (bytes words : ℕ) → Type 0
 InStaging c k bytes words = (c .phase ≡ 2) × ((k .image ≡ bytes) × (k .table ≡ words))

@@ -23,10 +23,6 @@ Ran (suc n) s s′ bytes bytes′ table table′ r =
     (s₁ : Session) × ((bytes₁ : List ℕ) × ((table₁ : List ℕ) × ((w : ℕ) × ((v : ℕ)
     × (Does Step s s₁ bytes bytes₁ table table₁ (R.Store w v) × Ran n s₁ s′ bytes₁ bytes′ table₁ table′ r)))))
 
--- some steps that each store a word, and then one with this report
-abbrev pub Runs : (s s′ : Session) (bytes bytes′ table table′ : List ℕ) → Report → Type 0
-Runs s s′ bytes bytes′ table table′ r = (n : ℕ) × Ran n s s′ bytes bytes′ table table′ r
-
 abbrev pub isStore : Report → Bool
 isStore (R.Refused n) = false
 isStore (R.Begun a) = false
@@ -39,6 +35,14 @@ isStore R.Opened = false
 isStore R.Abandoned = false
 isStore (R.Chosen c) = false
 isStore (R.Part a n) = false
+
+-- one step, whose report tells of no store
+abbrev pub StepsOn : (s s′ : Session) (bytes bytes′ table table′ : List ℕ) → Report → Type 0
+StepsOn s s′ bytes bytes′ table table′ r = Does Step s s′ bytes bytes′ table table′ r × (isStore r ≡ false)
+
+-- some steps that each store a word, and then one with this report
+abbrev pub Runs : (s s′ : Session) (bytes bytes′ table table′ : List ℕ) → Report → Type 0
+Runs s s′ bytes bytes′ table table′ r = (n : ℕ) × Ran n s s′ bytes bytes′ table table′ r
 
 -- the stores that come next, and then the action behind them, which is none and is told
 abbrev pub RunsOn : (s s′ : Session) (bytes bytes′ table table′ : List ℕ) → Report → Type 0

@@ -4,10 +4,10 @@ ghost use mathlib.Core.Path.{_≡_};
 ghost use mathlib.Core.Bool.{true, false};
 ghost use Prim.Native.Nat.{_-_, _^_, _≤_, _<_};
 ghost use Rattle.spec.specs.Machine.{Step};
-ghost use Rattle.fast_path.specs.Run.{RunsOn};
+ghost use Rattle.fast_path.specs.Run.{StepsOn, RunsOn};
 ghost use Rattle.fast_path.specs.Stores.{areaWord, Filled};
-ghost use Rattle.fast_path.specs.Fast.{FastStep, InStaging, OnFastPath, FastPath, Stores, takeCount, BlockStores, StagingRun};
-ghost use Rattle.session.proofs.Kept.{staged};
+ghost use Rattle.fast_path.specs.Fast.{FastStep, Late, InStaging, OnFastPath, FastPath, Stores, takeCount, BlockStores, StagingRun};
+ghost use Rattle.session.proofs.Kept.{emptied, staged};
 ghost use Rattle.spec.specs.declared.Report.the-variants.{End};
 ghost use Rattle.session.specs.Promise.{Does};
 use blocks::Buffer;
@@ -120,6 +120,75 @@ pub fn fast_run(
     }
 }
 
+// Whether a commit has its last action to come, or none.
+pub fn is_late(control: Control, setup: Setup, bytes: usize, words: usize) -> bool
+    ensures { λ r. ⌜ (r ≡ true → Late control setup bytes words) × (r ≡ false → Late control setup bytes words → ⊥) ⌝ }
+{
+    if control.phase == 3 {
+        if setup.image == bytes {
+            if setup.table == words {
+                if actions::commit_count(control.words) - 1 <= control.next {
+                    return true;
+                }
+            }
+        }
+    }
+    false
+}
+
+// The end of a commit: nothing is staged.
+fn ended(control: Control) -> Stepped
+    ensures { λ r. ⌜ (r .control ≡ emptied control) × (r .report ≡ End 0) ⌝ }
+{
+    let ended = Control {
+        phase: 1,
+        next: 0,
+        items: 0,
+        words: 0,
+        keys: control.keys,
+        fresh: 0,
+    };
+    Stepped {
+        control: ended,
+        report: Report::End(0),
+    }
+}
+
+// The last action of a commit, a fence, with which the batch joins the key table; then the end. Elsewhere nothing is
+// done.
+pub fn late_step(
+    control: Control,
+    setup: Setup,
+    buffer: &mut Buffer,
+    image: &mut [u8],
+    table: &mut [u64],
+) -> Stepped
+    ensures { λ r. ⌜ OnFastPath Late StepsOn (record { control = control; setup = setup; buffer = now (buffer .entry) }) (record { control = r .control; setup = setup; buffer = now (buffer .exit) }) (now (image .entry)) (now (image .exit)) (now (table .entry)) (now (table .exit)) (r .report) ⌝ }
+{
+    if is_late(control, setup, image.len(), table.len()) {
+        if actions::commit_count(control.words) <= control.next {
+            return ended(control);
+        }
+        let keys = apply::join(control, setup, buffer, image, table);
+        let joined = Control {
+            phase: 3,
+            next: control.next + 1,
+            items: control.items,
+            words: control.words,
+            keys,
+            fresh: 0,
+        };
+        return Stepped {
+            control: joined,
+            report: Report::Fence,
+        };
+    }
+    Stepped {
+        control,
+        report: Report::Idle,
+    }
+}
+
 // WORDS OF THE SECOND AREA
 // Those numbered `from` up to `end` into the image, counted from its word `start`.
 pub fn store_area(buffer: &Buffer, image: &mut [u8], start: usize, from: usize, end: usize)
@@ -228,8 +297,8 @@ fn staged(control: Control) -> Stepped
     }
 }
 
-// The stores that come next, and then the flush behind them, or the end. Elsewhere nothing is done. A flush comes by
-// few comparisons.
+// The stores that come next, and then the flush behind them, or the end. Elsewhere nothing is done. The end of a
+// staging without actions comes first, and a flush by few comparisons.
 pub fn staging_run(
     control: Control,
     setup: Setup,
@@ -241,6 +310,9 @@ pub fn staging_run(
 {
     if is_staging(control, setup, image.len(), table.len()) {
         let at = control.next;
+        if 1024 <= at {
+            return staged(control);
+        }
         let held = block_acts::held_words(buffer);
         let behind = take_count(setup) + held;
         if at < behind {

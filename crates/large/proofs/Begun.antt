@@ -22,6 +22,7 @@ use Rattle.theory_log.specs.Batch.{block, Right}
 use Rattle.theory_base.proofs.Sizes as Z
 use Rattle.codec.specs.declared.Unit.{Unit as UnitNumber}
 use Rattle.session.specs.State.{bufferPart}
+use Rattle.session.specs.Filter.{filterPlace}
 use Rattle.session.proofs.Part.{part-agree}
 use Rattle.batch.specs.Items.{StagedIn}
 use Rattle.batch.specs.Added.{Added}
@@ -34,13 +35,13 @@ use Rattle.block_acts.proofs.Plan.{data-plan, free-plan}
 use Rattle.large.specs.declared.Large.{Large}
 use Rattle.large.specs.Large.{placedAt, BlockBegun, Begins, Planned, LargeStaged}
 
--- THE VALUE HELD stays where the words from 512 on do
-same-held : (b d : List ℕ) → ((i : ℕ) → 512 ≤ i → getD d i 0 ≡ getD b i 0) → heldWords d ≡ heldWords b
+-- THE VALUE HELD stays where the words from 512 up to the filter do
+same-held : (b d : List ℕ) → ((i : ℕ) → 512 ≤ i → i < 1150 → getD d i 0 ≡ getD b i 0) → heldWords d ≡ heldWords b
 unfolding heldWords
 same-held b d h =
-    let e : getD d 512 0 ≡ getD b 512 0 = h 512 (omega arith) in
+    let e : getD d 512 0 ≡ getD b 512 0 = h 512 (omega arith) (omega arith) in
     let f : heldCount d ≡ heldCount b = ap (λ (x : ℕ). 1 + (min x 4088 + 7) / 8) e in
-    ap (bufferPart d 512) f ∙ part-agree d b 512 (heldCount b) (λ j l u. h j l)
+    ap (bufferPart d 512) f ∙ part-agree d b 512 (heldCount b) (λ j l u. h j l (omega arith))
 
 -- THE BLOCK BEGUN
 pub begun : (before mid after : List ℕ) (k : Setup) (words version key : ℕ) (v : List ℕ) (u old size end count ch pl : ℕ) → Kept before mid v → Added mid after words end (entry 1 1 version u key [])
@@ -57,6 +58,7 @@ begun before mid after k words version key v u old size end count ch pl h a ec e
   held = λ l. same-held mid after (a .above) ∙ h .held l;
   words′ = λ l. a .count l;
   written = λ l r s items w. a .written l r s items (part-agree mid before 0 words (λ j x y. h .below j (omega arith)) ∙ w);
+  marked = λ l items w m. a .marked l items (part-agree mid before 0 words (λ j x y. h .below j (omega arith)) ∙ w) (rw (h .above filterPlace (omega arith)) m);
 }
 
 -- the parts of the setup that say nothing of the block stay
@@ -142,6 +144,7 @@ module _ (image before after : List ℕ) (k : Setup) (words version key : ℕ) (
         item = item u;
         plan′ = ap (stageLarge 12 ws items version key v) eq ∙ plan ∙ ap (Begin (items ++ (item u ∷ [])) Staging) same;
         written = b .written room (block-right version u key low high) small items (staged-words items es room g);
+        marked = b .marked room items (staged-words items es room g) (g .staged .marked);
       } in
       rw (ap (λ (x : Bool). Planned x (stageLarge 12 ws items version key v (slotFor 12 n ws es items s)) after items r) (b .found)) made
 

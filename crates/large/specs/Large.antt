@@ -16,6 +16,7 @@ use Rattle.spec.specs.declared.Refusal.the-variants as N
 use Rattle.theory_log.specs.Batch.{Right}
 use Rattle.blocks.specs.Bits.{hasBit}
 use Rattle.session.specs.State.{batchRoom, bufferPart, mostBytes, heldWords, blockActions}
+use Rattle.session.specs.Filter.{filterPlace, AllMarked}
 use Rattle.slots.specs.Blocks.{Says}
 use Rattle.large.specs.declared.Large.{Large}
 
@@ -45,12 +46,15 @@ pub record BlockBegun (before after : List ℕ) (k : Setup) (words version key :
   pub words′ : words + 2 ≤ batchRoom → r .words ≡ words + 2
   pub written : words + 2 ≤ batchRoom → Right (entry 1 1 version u key []) → u < 2 ^ 40 → (items : List Entry) → bufferPart before 0 words ≡ encodeAll items
       → bufferPart after 0 (r .words) ≡ encodeAll (items ++ (entry 1 1 version u key [] ∷ []))
+  pub marked : words + 2 ≤ batchRoom → (items : List Entry) → bufferPart before 0 words ≡ encodeAll items → AllMarked (getD before filterPlace 0) items
+      → AllMarked (getD after filterPlace 0) (items ++ (entry 1 1 version u key [] ∷ []))
 
 -- the plan is begun by the record, or turned down
 pub record Begins (plan : Plan) (after : List ℕ) (items : List Entry) (r : Large) : Type 0 where
   pub item : Entry
   pub plan′ : plan ≡ Begin (items ++ (item ∷ [])) Staging (blockActions (r .setup) after)
   pub written : bufferPart after 0 (r .words) ≡ encodeAll (items ++ (item ∷ []))
+  pub marked : AllMarked (getD after filterPlace 0) (items ++ (item ∷ []))
 
 abbrev pub Planned : Bool → Plan → List ℕ → List Entry → Large → Type 0
 Planned true plan after items r = Begins plan after items r

@@ -259,10 +259,11 @@ module _ (c : Control) (k : Setup) (buffer bytes table table′ buffer′ : List
               right = tt;
               counts = tt;
               fit = none-fit (chunksIn 12 (length bytes)) (wordsOf bytes) es;
+              marked = tt;
               keys = omega arith;
             };
             table-room = omega arith;
-            hint = λ c l u m. absurd (omega arith);
+            hint = record { below = λ c l u m. absurd (omega arith); above = λ l. absurd (omega arith); taken = λ l. absurd (omega arith) };
           }
 
   pub opens-accepted : (keys : ℕ) (f : Source) → v ≡ J.Accepted keys → f ≡ noSource

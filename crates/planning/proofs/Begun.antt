@@ -5,7 +5,7 @@ use mathlib.Core.Path.{_≡_, refl, sym, _∙_, ap, subst}
 use mathlib.Core.Logic.{_⊎_, inl, inr}
 use mathlib.Core.Bool.{true, false}
 use mathlib.Core.List.{List, [], _∷_, _++_}
-use Prim.Native.Nat.{ℕ, _+_, _*_, _%_, _≤_, min}
+use Prim.Native.Nat.{ℕ, _+_, _*_, _%_, _≤_, _<_, min}
 use native.Mathlib.Omega.{arith}
 use lib.ListN.{length, getD, drop, length-append}
 use Rattle.spec.specs.Places.{directoryWord, chunksIn}
@@ -18,7 +18,7 @@ use Rattle.session.specs.declared.Setup.{Setup}
 use Rattle.theory_crash.specs.Accepted.{Ok}
 use Rattle.theory_crash.proofs.Opening.{opens-ok}
 use Rattle.session.specs.State.{bufferPart, batchRoom, sourceIn, sourceLines, keptWords, cleanActions}
-use Rattle.session.specs.Fits.{NoneBelow, RestFits, CleanFits}
+use Rattle.session.specs.Fits.{NoneBelow, soleMark, RestFits, CleanFits}
 use Rattle.session.proofs.Part.{length-part}
 use Rattle.actions.specs.Nth.{nth}
 use Rattle.leaving.proofs.Fence.{lines-few}
@@ -41,7 +41,7 @@ pub record Begun (c : Control) (k′ : Setup) (f : Source) (b′ ws table : List
   pub fits : CleanFits (cleaning c) k′ f b′ ws table (nth (cleanActions k′ f b′) 0 ∷ drop 1 (cleanActions k′ f b′))
 
 module _ (c : Control) (k : Setup) (b ws table : List ℕ) (r : RestFits (record { control = c; setup = k; buffer = b }) ws table []) (s chunk old lines first : ℕ) (f : Source) (actions : ℕ)
-    (q : Beginning ws (r .entries) (chunksIn 12 (k .image)) s chunk old lines (k .first) first f actions) where
+    (q : Beginning ws (r .entries) (chunksIn 12 (k .image)) s chunk old lines (k .first % soleMark) first f actions) where
   abbrev n : ℕ
   n = chunksIn 12 (k .image)
 
@@ -70,7 +70,7 @@ module _ (c : Control) (k : Setup) (b ws table : List ℕ) (r : RestFits (record
   }
 
   -- NOTHING COPIED: the buffer stays
-  begun-bare : Bare ws es s chunk old lines (k .first) first f → Begun c k′ f b ws table es n s actions
+  begun-bare : Bare ws es s chunk old lines (k .first % soleMark) first f → Begun c k′ f b ws table es n s actions
   begun-bare a = all b (plan (a .why)) (fit (a .why))
     where
       small-chunk : chunk ≤ 503
@@ -79,7 +79,7 @@ module _ (c : Control) (k : Setup) (b ws table : List ℕ) (r : RestFits (record
       small-lines : lines ≤ 64
       small-lines = let e = a .lines-is in omega arith
 
-      k-is : k′ ≡ copyingTo k chunk old lines (k .first) (k .least) f
+      k-is : k′ ≡ copyingTo k chunk old lines (k .first % soleMark) (k .least) f
       k-is = ap (λ (x : ℕ). copyingTo k chunk old lines x (k .least) f) (a .same)
 
       acts-are : cleanActions k′ g b ≡ free s ws
@@ -101,7 +101,7 @@ module _ (c : Control) (k : Setup) (b ws table : List ℕ) (r : RestFits (record
   pub begins-bare : f .words ≡ 0 → Begun c k′ f b ws table es n s actions
   begins-bare z = go (q .how)
     where
-      go : Copies ws es n s chunk old lines (k .first) first f ⊎ Bare ws es s chunk old lines (k .first) first f → Begun c k′ f b ws table es n s actions
+      go : Copies ws es n s chunk old lines (k .first % soleMark) first f ⊎ Bare ws es s chunk old lines (k .first % soleMark) first f → Begun c k′ f b ws table es n s actions
       go (inl a) = absurd (some-words kept (a .some-kept) (sym (a .words) ∙ z))
       go (inr a) = begun-bare a
 
@@ -116,7 +116,7 @@ module _ (c : Control) (k : Setup) (b ws table : List ℕ) (r : RestFits (record
     words-are : (bufferPart b′ 512 (t .words) ≡ encodeAll kept) × (t .entries ≡ length kept)
     words-are = chunk-gathered n s at end (c .keys) ws table es ok (r .built .indexed) (q .low) (q .high) at-is end-is b b′ t gathered
 
-    begun-copies : Copies ws es n s chunk old lines (k .first) first f → Begun c k′ f b′ ws table es n s actions
+    begun-copies : Copies ws es n s chunk old lines (k .first % soleMark) first f → Begun c k′ f b′ ws table es n s actions
     unfolding keptWords
     begun-copies a = all b′ plan fit
       where
@@ -129,24 +129,27 @@ module _ (c : Control) (k : Setup) (b ws table : List ℕ) (r : RestFits (record
         k-is : k′ ≡ copyingTo k chunk (getD ws (directoryWord chunk) 0) (linesOf 12 ws chunk) first (k .least) f
         k-is = rw (a .old-is, a .lines-is)
 
+        plain : first < soleMark
+        plain = let h = a .below in omega arith
+
         below : NoneBelow (chunksIn 12 (k .image)) ws first (k .least)
-        below d l u m = r .hint d l (let h = a .below in omega arith) m
+        below d l u m = r .hint .below d l (let h = a .below in omega arith) m
 
         acts-are : cleanActions k′ g b′ ≡ appendTo 12 ws (encodeAll kept) chunk ++ free s ws
         acts-are =
             ap (λ (x : Setup). cleanActions x g b′) k-is
-            ∙ copies-acts c k b ws table r s (q .low) (q .high) (f .words) (f .entries) (q .room) b′ (area-bits b b′ (gathered .area)) f (a .log) (a .some-kept) written chunk (a .found) first (k .least) below (a .under)
+            ∙ copies-acts c k b ws table r s (q .low) (q .high) (f .words) (f .entries) (q .room) b′ (area-bits b b′ (gathered .area)) f (a .log) (a .some-kept) written chunk (a .found) first (k .least) below (a .under) plain
 
         plan : planClean 12 n ws es [] s ≡ Begin [] (Cleaning (f .entries)) (cleanActions k′ g b′)
         plan = rw (acts-are, a .entries) (plan-copies n ws es s (q .low) (q .high) (q .used) (a .log) (a .some-kept) chunk (a .found))
 
         fit : CleanFits (cleaning c) k′ g b′ ws table (nth (cleanActions k′ g b′) 0 ∷ drop 1 (cleanActions k′ g b′))
-        fit = rw k-is (copies-fit c k b ws table r s (q .low) (q .high) (f .words) (f .entries) (q .room) b′ (area-bits b b′ (gathered .area)) f (a .log) (a .some-kept) written chunk (a .found) first (k .least) below (a .under))
+        fit = rw k-is (copies-fit c k b ws table r s (q .low) (q .high) (f .words) (f .entries) (q .room) b′ (area-bits b b′ (gathered .area)) f (a .log) (a .some-kept) written chunk (a .found) first (k .least) below (a .under) plain)
 
     -- THE BEGIN, where it keeps some, and they were gathered
     pub begins-copies : (f .words ≡ 0 → ⊥) → Begun c k′ f b′ ws table es n s actions
     begins-copies z = go (q .how)
       where
-        go : Copies ws es n s chunk old lines (k .first) first f ⊎ Bare ws es s chunk old lines (k .first) first f → Begun c k′ f b′ ws table es n s actions
+        go : Copies ws es n s chunk old lines (k .first % soleMark) first f ⊎ Bare ws es s chunk old lines (k .first % soleMark) first f → Begun c k′ f b′ ws table es n s actions
         go (inl a) = begun-copies a
         go (inr a) = absurd (z (a .words))

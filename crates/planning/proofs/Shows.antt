@@ -27,7 +27,7 @@ use Rattle.spec.specs.declared.Refusal.the-variants as N
 use Rattle.theory_crash.specs.Accepted.{Ok}
 use Rattle.theory_crash.proofs.Opening.{opens-ok}
 use Rattle.volatile.specs.Known.{Indexed}
-use Rattle.session.specs.Fits.{RestFits, Built}
+use Rattle.session.specs.Fits.{soleMark, RestFits, Built}
 use Rattle.space.specs.declared.Place.{Place}
 use Rattle.space.specs.Found.{placeOf}
 use Rattle.space.proofs.Answer.{placed-at, placed-nowhere}
@@ -281,21 +281,21 @@ module _ (c : Control) (k : Setup) (buffer image table words : List ℕ) (s : �
         ok : (items : List Entry) (q : RestFits (record { control = c; setup = k; buffer = buffer }) ws table items) → Ok 12 (chunksIn 12 (k .image)) ws (q .entries)
         ok items q = opens-ok 12 lo hi (k .image) (k .table) ws (q .entries) (q .long) (q .accepted) .0
 
-        pub chunk-data : (lines : ℕ) → lines ≡ linesOf 12 ws s → lines ≡ 0 → (r : CleanPlan) → DataPlanned ws buffer s (k .first) r → CleanPlanned c k buffer image table words s r
+        pub chunk-data : (lines : ℕ) → lines ≡ linesOf 12 ws s → lines ≡ 0 → (r : CleanPlan) → DataPlanned ws buffer s (k .first % soleMark) r → CleanPlanned c k buffer image table words s r
         chunk-data lines el e r d = record {
           sound = d .sound;
           keeps = d .keeps table words;
           plans = λ same items q.
-              right r (q .entries) items (chunksIn 12 (k .image)) (k .first) (none-staged items q)
+              right r (q .entries) items (chunksIn 12 (k .image)) (k .first % soleMark) (none-staged items q)
               (d .plans c table (q .entries) (chunksIn 12 (k .image)) (ok items q) (q .built) (omega (arith, low)) (rw (chunks-are n en same) high) (sym used) (rw (log-lines 12 ws s, ← el, e)));
         }
 
-        pub chunk-log : (lines : ℕ) → lines ≡ linesOf 12 ws s → (lines ≡ 0 → ⊥) → (r : CleanPlan) → LogPlanned ws table words n s (k .first) r → CleanPlanned c k buffer image table words s r
+        pub chunk-log : (lines : ℕ) → lines ≡ linesOf 12 ws s → (lines ≡ 0 → ⊥) → (r : CleanPlan) → LogPlanned ws table words n s (k .first % soleMark) r → CleanPlanned c k buffer image table words s r
         chunk-log lines el ne r d = record {
           sound = d .sound;
           keeps = d .keeps;
           plans = λ same items q.
-              right r (q .entries) items (chunksIn 12 (k .image)) (k .first) (none-staged items q)
+              right r (q .entries) items (chunksIn 12 (k .image)) (k .first % soleMark) (none-staged items q)
               (rw (chunks-are n en same) (d .plans (c .keys) (q .entries) (rw (chunks-are n en same) at (ok items q)) (q .built .indexed) (omega (arith, low)) high (sym used)
               (log-lines 12 ws s ∙ le-leb 1 (linesOf 12 ws s) (omega (arith, ne)))));
         }

@@ -5,7 +5,7 @@ use mathlib.Core.Logic.{_⊎_}
 use mathlib.Core.Bool.{Bool, true, false}
 use mathlib.Core.Option.{some}
 use mathlib.Core.List.{List, []}
-use Prim.Native.Nat.{ℕ, zero, suc, _+_, _*_, _≤_, _<_}
+use Prim.Native.Nat.{ℕ, zero, suc, _+_, _*_, _%_, _≤_, _<_}
 use lib.ListN.{length, getD}
 use Rattle.spec.specs.Basics.{either}
 use Rattle.spec.specs.Words.{wordsOf}
@@ -23,7 +23,7 @@ use Rattle.theory_crash.specs.Accepted.{Ok}
 use Rattle.blocks.specs.Bits.{hasBit}
 use Rattle.volatile.specs.Known.{Indexed}
 use Rattle.session.specs.State.{batchRoom, sourceIn, sourceLines}
-use Rattle.session.specs.Fits.{RestFits, Built}
+use Rattle.session.specs.Fits.{soleMark, RestFits, Built}
 use Rattle.gathering.specs.declared.Tally.{Tally}
 use Rattle.gathering.specs.Reading.{Collected}
 use Rattle.session.specs.declared.Source.{Source}
@@ -107,4 +107,4 @@ pub record CleanPlanned (c : Control) (k : Setup) (buffer image table kept : Lis
   pub sound : Sound r
   pub keeps : Keeps r (wordsOf image) table kept
   pub plans : k .image ≡ length image → (items : List Entry) (q : RestFits (record { control = c; setup = k; buffer = buffer }) (wordsOf image) table items)
-      → Right (wordsOf image) (q .entries) items (chunksIn 12 (k .image)) s (k .first) r
+      → Right (wordsOf image) (q .entries) items (chunksIn 12 (k .image)) s (k .first % soleMark) r

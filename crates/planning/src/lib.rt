@@ -198,9 +198,9 @@ pub fn plan_clean(
             return CleanPlan::Refused(Refusal::NotCleanable);
         }
         if lines_of(image, chunk) == 0 {
-            return plan_data(buffer, image, chunk, setup.first);
+            return plan_data(buffer, image, chunk, setup.first % 512);
         }
-        return plan_log(image, table, kept, count, chunk, setup.first);
+        return plan_log(image, table, kept, count, chunk, setup.first % 512);
     }
     CleanPlan::Refused(Refusal::BatchStaged)
 }

@@ -3,8 +3,9 @@
 -- Assumes nothing.
 use mathlib.Core.Path.{_≡_, refl, _∙_, ap}
 use mathlib.Core.List.{List, [], _++_, map}
-use Prim.Native.Nat.{ℕ, _+_, min}
+use Prim.Native.Nat.{ℕ, _+_, _<_, min}
 use native.Mathlib.Omega.{arith}
+use lib.ListN.{getD}
 use Rattle.spec.specs.Places.{basePower, chunksIn}
 use Rattle.spec.specs.Log.{Entry, moved, placed, parse}
 use Rattle.spec.specs.Contents.{listed}
@@ -14,7 +15,8 @@ use Rattle.session.specs.declared.Setup.{Setup}
 use Rattle.session.specs.declared.Session.{Session}
 use Rattle.blocks.specs.Bits.{WordsKept}
 use Rattle.session.specs.State.{batchRoom, batchWords, batchItems, chunkIn, linesIn, commitActions}
-use Rattle.session.specs.Fits.{ItemsFit, BatchFits, Built, RestFits, batchPlace, CommitFits}
+use Rattle.session.specs.Filter.{filterPlace}
+use Rattle.session.specs.Fits.{NoneBelow, soleMark, Hint, ItemsFit, BatchFits, Built, RestFits, batchPlace, CommitFits}
 use Rattle.session.proofs.Part.{part-agree}
 
 -- THE STAGED WORDS stay where the buffer's first words do.
@@ -35,10 +37,10 @@ same-acts c c′ k b b′ e = ap (appendOf basePower (chunkIn k) (k .old) (lines
 pub none-fit : (n : ℕ) (ws : List ℕ) (es : List Entry) → ItemsFit n ws es []
 none-fit n ws es = record { blocks = λ e m. absurd m; dead = λ e f m. absurd m; own = λ e f m. absurd m }
 
--- a batch in another record with the same words and items, and as many keys
+-- a batch in another record with the same words, items and filter, and as many keys
 pub batch-kept : (c c′ : Control) (b b′ : List ℕ) (n : ℕ) (ws : List ℕ) (es items : List Entry) → c′ .words ≡ c .words → c′ .items ≡ c .items → batchWords c′ b′ ≡ batchWords c b
-    → c′ .keys + c′ .fresh ≡ c .keys + c .fresh → BatchFits c b n ws es items → BatchFits c′ b′ n ws es items
-batch-kept c c′ b b′ n ws es items ew ei e ek f = record {
+    → getD b′ filterPlace 0 ≡ getD b filterPlace 0 → c′ .keys + c′ .fresh ≡ c .keys + c .fresh → BatchFits c b n ws es items → BatchFits c′ b′ n ws es items
+batch-kept c c′ b b′ n ws es items ew ei e em ek f = record {
   room = rw ew (f .room);
   written = e ∙ f .written;
   count = ei ∙ f .count;
@@ -46,11 +48,17 @@ batch-kept c c′ b b′ n ws es items ew ei e ek f = record {
   right = f .right;
   counts = f .counts;
   fit = f .fit;
+  marked = rw em (f .marked);
   keys = ek ∙ f .keys;
 }
 
 pub built-kept : (c c′ : Control) (b table : List ℕ) (es : List Entry) → c′ .keys ≡ c .keys → Built c b table es → Built c′ b table es
 built-kept c c′ b table es e f = record { indexed = rw e (f .indexed); blocks = f .blocks }
+
+-- a hint that says nothing of the chunks behind it
+pub plain-hint : (n : ℕ) (ws : List ℕ) (first least : ℕ) → first < soleMark → NoneBelow n ws first least → Hint n ws first least
+plain-hint n ws first least l h =
+    record { below = λ c a b m. h c a (omega arith) m; above = λ s. absurd (omega arith); taken = λ s. absurd (omega arith) }
 
 -- at rest with nothing staged; at rest with what is staged
 abbrev pub emptied : Control → Control
@@ -75,7 +83,7 @@ module _ (c : Control) (k : Setup) (b ws table : List ℕ) (items : List Entry) 
         long = f .long;
         lent = f .lent;
         built = record { indexed = f .built .indexed; blocks = f .built .blocks };
-        batch = record { room = omega arith; written = refl; count = refl; few = omega arith; right = tt; counts = tt; fit = none-fit (chunksIn basePower (k .image)) ws (f .front ++ (placed (batchPlace k) items ++ f .back)); keys = omega arith };
+        batch = record { room = omega arith; written = refl; count = refl; few = omega arith; right = tt; counts = tt; fit = none-fit (chunksIn basePower (k .image)) ws (f .front ++ (placed (batchPlace k) items ++ f .back)); marked = tt; keys = omega arith };
         table-room = omega arith;
         hint = f .hint;
       }
@@ -89,7 +97,7 @@ module _ (c : Control) (k : Setup) (b ws table : List ℕ) (items : List Entry) 
     long = f .long;
     lent = f .lent;
     built = record { indexed = f .built .indexed; blocks = f .built .blocks };
-    batch = batch-kept c (staged c) b b (chunksIn basePower (k .image)) ws (f .entries) items refl refl refl refl (f .batch);
+    batch = batch-kept c (staged c) b b (chunksIn basePower (k .image)) ws (f .entries) items refl refl refl refl refl (f .batch);
     table-room = f .table-room;
     hint = f .hint;
   }

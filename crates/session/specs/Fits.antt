@@ -4,12 +4,13 @@
 use mathlib.Core.Path.{_≡_}
 use mathlib.Core.Bool.{true, false}
 use mathlib.Core.List.{List, [], _∷_, _++_, map}
-use Prim.Native.Nat.{ℕ, _+_, _*_, _/_, _≤_, _<_}
+use Prim.Native.Nat.{ℕ, _+_, _*_, _/_, _%_, _≤_, _<_}
 use lib.Dec.{eqb}
-use lib.ListN.{length}
+use lib.ListN.{length, getD}
 use Rattle.spec.specs.Basics.{isIn, distinct}
 use Rattle.spec.specs.Places.{basePower, base, chunksIn}
 use Rattle.spec.specs.Medium.{Action}
+use Rattle.spec.specs.Directory.{roleAt, isFree}
 use Rattle.spec.specs.Log.{Entry, encodeAll, placed}
 use Rattle.spec.specs.Blocks.{pointed}
 use Rattle.spec.specs.Contents.{capacity, liveBlocks}
@@ -27,6 +28,7 @@ use Rattle.theory_log.specs.Contents.{CountsOn, Mem, Top, Agree}
 use Rattle.blocks.specs.Bits.{hasBit}
 use Rattle.volatile.specs.Known.{Indexed}
 use Rattle.session.specs.State.{batchRoom, batchWords, stateOf}
+use Rattle.session.specs.Filter.{filterPlace, AllMarked}
 use Rattle.session.specs.Cleaned.{before, copiesOf, after, Cleaned, Stand}
 
 -- A value of the type `Session`: antt's list has no length, the array has so many words. Every record that is lent is
@@ -48,7 +50,8 @@ pub record ItemsFit (n : ℕ) (ws : List ℕ) (es items : List Entry) : Type 0 w
   pub own : (e f : Entry) → Mem e items → Mem f items → pointed e ≡ true → pointed f ≡ true → e .field ≡ f .field → e ≡ f
 
 -- the staged items among the entries es, in an image of n chunks with the words ws: the staged words are theirs,
--- versions count on, their blocks are right, and the staged keys that are not known are counted
+-- versions count on, their blocks are right, the filter has their keys, and the staged keys that are not known are
+-- counted
 pub record BatchFits (c : Control) (buffer : List ℕ) (n : ℕ) (ws : List ℕ) (es items : List Entry) : Type 0 where
   pub room : c .words ≤ batchRoom
   pub written : batchWords c buffer ≡ encodeAll items
@@ -57,6 +60,7 @@ pub record BatchFits (c : Control) (buffer : List ℕ) (n : ℕ) (ws : List ℕ)
   pub right : AllRight items
   pub counts : CountsOn es items
   pub fit : ItemsFit n ws es items
+  pub marked : AllMarked (getD buffer filterPlace 0) items
   pub keys : c .keys + c .fresh ≡ length (distinct (keyList items ++ keyList es))
 
 -- the table and the block bits are those of the entries es
@@ -69,6 +73,25 @@ pub record Built (c : Control) (buffer table : List ℕ) (es : List Entry) : Typ
 abbrev pub NoneBelow : (n : ℕ) (ws : List ℕ) (first least : ℕ) → Type 0
 NoneBelow n ws first least = (c : ℕ) → 1 ≤ c → c < first → c < n → hasSpace basePower ws least 0 c ≡ false
 
+-- no log chunk behind chunk `at` has space for `least` lines
+abbrev pub NoneAbove : (n : ℕ) (ws : List ℕ) (at least : ℕ) → Type 0
+NoneAbove n ws at least = (c : ℕ) → at < c → c < n → hasSpace basePower ws least 0 c ≡ false
+
+-- no chunk below chunk `at` is free
+abbrev pub NoneFree : (n : ℕ) (ws : List ℕ) (at : ℕ) → Type 0
+NoneFree n ws at = (c : ℕ) → 1 ≤ c → c < at → c < n → isFree (roleAt basePower ws c) ≡ false
+
+-- THE HINT where the next commit looks for space: a chunk below which no log chunk has space for `least` lines. Where
+-- `first` is that chunk's number and 512 more, no log chunk behind it has either, and no chunk below it is free: then a
+-- commit that it has no space for looks at no other log chunk, and at no chunk below it.
+abbrev pub soleMark : ℕ
+soleMark = 512
+
+pub record Hint (n : ℕ) (ws : List ℕ) (first least : ℕ) : Type 0 where
+  pub below : NoneBelow n ws (first % soleMark) least
+  pub above : soleMark ≤ first → NoneAbove n ws (first % soleMark) least
+  pub taken : soleMark ≤ first → NoneFree n ws (first % soleMark)
+
 -- at rest
 pub record RestFits (s : Session) (ws table : List ℕ) (items : List Entry) : Type 0 where
   pub entries : List Entry
@@ -78,7 +101,7 @@ pub record RestFits (s : Session) (ws table : List ℕ) (items : List Entry) : T
   pub built : Built (s .control) (s .buffer) table entries
   pub batch : BatchFits (s .control) (s .buffer) (chunksIn basePower (s .setup .image)) ws entries items
   pub table-room : s .control .keys + s .control .fresh ≤ capacity (s .setup .table)
-  pub hint : NoneBelow (chunksIn basePower (s .setup .image)) ws (s .setup .first) (s .setup .least)
+  pub hint : Hint (chunksIn basePower (s .setup .image)) ws (s .setup .first) (s .setup .least)
 
 -- In a staging, looking forward: with the actions still to come done on these words, memory is at rest with the new
 -- item among the staged ones. Entries, key table and bits are those before. Nothing is said of the block's words in
@@ -113,7 +136,7 @@ pub record CommitFits (s : Session) (ws table : List ℕ) (items : List Entry) (
   pub apart : BlocksApart (front ++ back)
   pub built : BuiltBy rest s table (front ++ back) (front ++ (placed (batchPlace (s .setup)) items ++ back))
   pub table-room : s .control .keys + s .control .fresh ≤ capacity (s .setup .table)
-  pub hint : NoneBelow (chunksIn basePower (s .setup .image)) (runWords rest ws) (s .setup .first) (s .setup .least)
+  pub hint : Hint (chunksIn basePower (s .setup .image)) (runWords rest ws) (s .setup .first) (s .setup .least)
 
 -- In a cleaning, looking forward: with the actions still to come done on these words, the image is accepted, and its
 -- entries are those before without the cleaned chunk's, with the copies of the kept ones among them. Until the last
@@ -136,7 +159,7 @@ pub record CleanFits (c : Control) (k : Setup) (f : Source) (b ws table : List �
   pub here : Stand (runWords rest ws) (base basePower (f .chunk)) (base basePower (f .chunk) + 8 * f .lines) mid
   pub copied : Stand (runWords rest ws) (batchPlace k) (batchPlace k + 8 * linesFor (f .words)) (copiesOf xs mid ys (batchPlace k))
   pub built : BuiltBy rest (record { control = c; setup = k; buffer = b }) table (before xs mid ys) (after xs mid ys as′ bs (batchPlace k))
-  pub hint : NoneBelow (chunksIn basePower (k .image)) (runWords rest ws) (k .first) (k .least)
+  pub hint : Hint (chunksIn basePower (k .image)) (runWords rest ws) (k .first) (k .least)
 
 abbrev pub FitsAt : State → Session → List ℕ → List ℕ → Type 0
 FitsAt Closed s ws table = Unit {0}

@@ -34,8 +34,9 @@ pub struct Source {
 
 // The numbers that a step only reads: the image's bytes and the table's words at the opening (at a formatting's begin,
 // once that is begun), where the begun call writes (chunk, its directory word, its committed lines), where the next
-// commit looks for space (no log chunk below `first` has space for `least` lines), what a formatting was told (the
-// header's map of fields, station and centre number), and what a cleaning has begun with. In the staging of a large
+// commit looks for space (`first` and `least`, the hint), what a formatting was told (the header's map of fields,
+// station and centre number), and what a cleaning has begun with. Below chunk `first % 512` no log chunk has space for
+// `least` lines; where `first` is 512 or more, none behind it has either, and no chunk below it is free. In the staging of a large
 // value `lines` is the block's first unit in its chunk, and `fields` the block size that a free chunk is taken for, 0
 // where the chunk has it already.
 #[repr(C)]
@@ -55,7 +56,7 @@ pub struct Setup {
 
 // The station record: 64-bit numbers alone, in this order, so that a host in C may lend any memory of its size. Its
 // buffer has the staged entries (512 words), a large value on its way or the entries that a cleaning keeps (512 words),
-// and a bit for each unit that starts a block in use (126 words).
+// a bit for each unit that starts a block in use (126 words), and the filter of the staged keys (1 word).
 #[repr(C)]
 pub struct Session {
     pub control: Control,

@@ -13,7 +13,7 @@ use lib.ListN.{length, getD, length-append, List·getD-append}
 use borrow.Author.Tests.{le-leb, lt-leb}
 use Rattle.spec.specs.Basics.{pick, upFrom, filter, first}
 use Rattle.theory_base.proofs.Lists.{pick-same}
-use Rattle.space.proofs.Search.{taken, taken-start, taken-part, taken-more, taken-fewer}
+use Rattle.space.proofs.Search.{taken, taken-before, taken-part, taken-more, taken-fewer}
 
 -- the first of a list, if it has so many members
 abbrev pub ifSeveral : ℕ → List ℕ → Option ℕ
@@ -29,9 +29,9 @@ module _ (test : ℕ → Bool) (a : ℕ) where
     pub count : seen ≡ length (taken test a c)
     pub head : lowest ≡ getD (taken test a c) 0 0
 
-  pub counted-start : Counted a 0 0
-  counted-start =
-      let e = taken-start test a in
+  pub counted-behind : (c : ℕ) → ((d : ℕ) → a ≤ d → d < c → test d ≡ false) → Counted c 0 0
+  counted-behind c before =
+      let e = taken-before test a c (λ d u l. before d l u) in
       record { count = sym (ap length e); head = sym (ap (λ (xs : List ℕ). getD xs 0 0) e) }
 
   pub counted-none : (c lowest seen : ℕ) → a ≤ c → test c ≡ false → Counted c lowest seen → Counted (c + 1) lowest seen

@@ -1,21 +1,21 @@
 -- What a search for a chunk answers, and the place that it gives.
 -- Assumes nothing.
 use mathlib.Core.Path.{_≡_}
+use mathlib.Core.Logic.{_⊎_}
 use mathlib.Core.Bool.{Bool, true, false}
 use mathlib.Core.Option.{Option, none, some}
 use mathlib.Core.List.{List}
-use Prim.Native.Nat.{ℕ, _≤_, _<_}
-use lib.Dec.{eqb, ltb}
+use Prim.Native.Nat.{ℕ, _%_, _≤_, _<_}
 use lib.ListN.{getD}
-use Rattle.spec.specs.Basics.{pick}
 use Rattle.spec.specs.Places.{directoryWord}
-use Rattle.spec.specs.Directory.{linesOf}
-use Rattle.spec.specs.Plans.{logPlace}
-use Rattle.session.specs.Fits.{NoneBelow}
+use Rattle.spec.specs.Directory.{roleAt, isFree, linesOf}
+use Rattle.spec.specs.Plans.{hasSpace, freeChunk, logPlace}
+use Rattle.session.specs.Fits.{NoneAbove, soleMark, Hint}
 use Rattle.space.specs.declared.Found.{Found}
 use Rattle.space.specs.declared.Found.the-variants as F
 use Rattle.space.specs.declared.Place.{Place}
 use Rattle.space.specs.declared.Placed.{Placed}
+use Rattle.space.specs.declared.Start.{Start}
 
 abbrev pub foundOf : Option ℕ → Found
 foundOf none = F.Nothing
@@ -33,16 +33,37 @@ pub record Stops (test : ℕ → Bool) (from count r : ℕ) : Type 0 where
   pub before : (c : ℕ) → from ≤ c → c < r → test c ≡ false
   pub here : r < count → test r ≡ true
 
--- a hint holds for no fewer lines than it speaks of; chunk 0 is no log chunk
-abbrev pub startOf : (first least lines : ℕ) → ℕ
-startOf first least lines = pick (ltb lines least) 1 (pick (eqb first 0) 1 first)
+-- such a search for a log chunk with space; where `sole` is told, there is none behind `from`
+pub record Near (ws : List ℕ) (from count lines : ℕ) (sole : Bool) (r : ℕ) : Type 0 where
+  pub behind : from ≤ r
+  pub stops : (sole ≡ true → NoneAbove count ws from lines) → Stops (hasSpace 12 ws lines 0) from count r
+
+-- a search for free chunks, where no chunk below `from` is free
+abbrev pub FreeFound : (ws : List ℕ) (from count needed : ℕ) → Found → Type 0
+FreeFound ws from count needed r = ((c : ℕ) → 1 ≤ c → c < from → isFree (roleAt 12 ws c) ≡ false) → r ≡ foundOf (freeChunk 12 count ws needed)
+
+-- the start of a search by a hint: a hint holds for no fewer lines than it speaks of; chunk 0 is no log chunk
+pub record Started (first least lines : ℕ) (r : Start) : Type 0 where
+  pub low : 1 ≤ r .from
+  pub at : (r .from ≡ 1) ⊎ ((least ≤ lines) × (r .from ≡ first % soleMark))
+  pub sole : r .sole ≡ true → (least ≤ lines) × (soleMark ≤ first) × (r .from ≡ first % soleMark)
+
+pub record FreeStart (start : Start) (count r : ℕ) : Type 0 where
+  pub low : 1 ≤ r
+  pub at : (r ≡ 1) ⊎ ((start .sole ≡ true) × (r ≡ start .from) × (r < count))
+
+-- the number of a hint, of a chunk or of one below it; of that chunk alone, if so told
+pub record Hinted (chunk : ℕ) (sole : Bool) (r : ℕ) : Type 0 where
+  pub under : r % soleMark ≤ chunk
+  pub marked : soleMark ≤ r → (sole ≡ true) × (r % soleMark ≡ chunk)
 
 -- the place is the definition's, and the next hint holds of the image, and also once lines were added to the place
 pub record Searched (ws : List ℕ) (count lines needed : ℕ) (r : Placed) : Type 0 where
   pub place : r .place ≡ placeOf ws (logPlace 12 count ws lines 0 needed)
-  pub none : NoneBelow count ws (r .first) (r .least)
-  pub low : r .place .found ≡ true → r .first ≤ r .place .chunk
+  pub hint : Hint count ws (r .first) (r .least)
+  pub low : r .place .found ≡ true → r .first % soleMark ≤ r .place .chunk
+  pub sole : r .place .found ≡ true → soleMark ≤ r .first → r .place .chunk ≡ r .first % soleMark
 
 -- so it is where the hint given holds
 abbrev pub Searching : (ws : List ℕ) (count lines needed first least : ℕ) → Placed → Type 0
-Searching ws count lines needed first least r = NoneBelow count ws first least → Searched ws count lines needed r
+Searching ws count lines needed first least r = Hint count ws first least → Searched ws count lines needed r

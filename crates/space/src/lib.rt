@@ -1,13 +1,13 @@
 // Where a commit writes: the first log chunk with space, else the first free chunk if enough are free.
 ghost use mathlib.Core.Path.{_≡_};
-ghost use Prim.Native.Nat.{_≤_, min};
+ghost use Prim.Native.Nat.{_%_, _≤_, _<_, min};
 ghost use lib.ListN.{getD};
 ghost use mathlib.Core.Option.{some};
 ghost use Rattle.spec.specs.Words.{wordsOf};
 ghost use Rattle.spec.specs.Places.{directoryWord};
 ghost use Rattle.spec.specs.Directory.{roleAt, isFree};
 ghost use Rattle.spec.specs.Plans.{hasSpace, freeChunk};
-ghost use Rattle.space.specs.Found.{foundOf, placeOf, startOf, Stops, Searching};
+ghost use Rattle.space.specs.Found.{foundOf, placeOf, Stops, Near, FreeFound, Started, FreeStart, Hinted, Searching};
 use log::lines_of;
 use log::role_at;
 use spec::Role;
@@ -28,7 +28,7 @@ pub struct Place {
     pub old: u64,
 }
 
-// A place, and where the next search starts: then no log chunk below `first` has space for `least` lines.
+// A place, and the next hint.
 pub struct Placed {
     pub place: Place,
     pub first: usize,
@@ -88,6 +88,23 @@ fn next_chunk(image: &[u8], from: usize, count: usize, lines: usize) -> usize
     c
 }
 
+// The same, where told whether no log chunk behind `from` has space: then it is the only one to be looked at.
+fn near_chunk(image: &[u8], from: usize, count: usize, lines: usize, sole: bool) -> usize
+    requires { ⌜ 1 ≤ from ⌝ }
+    ensures { λ r. ⌜ Near (wordsOf (now (image .entry))) from count lines sole r ⌝ }
+{
+    if sole {
+        if from < count {
+            if has_space(image, from, lines) {
+                return from;
+            }
+            return count;
+        }
+        return from;
+    }
+    next_chunk(image, from, count, lines)
+}
+
 // The same for more lines, behind a search for `least`.
 fn wider_chunk(image: &[u8], from: usize, count: usize, least: usize, lines: usize) -> usize
     requires { ⌜ (1 ≤ from) × (least ≤ lines) ⌝ }
@@ -99,13 +116,14 @@ fn wider_chunk(image: &[u8], from: usize, count: usize, least: usize, lines: usi
     from
 }
 
-// The first free chunk, if at least `needed` are free.
-pub fn free_chunk(image: &[u8], count: usize, needed: usize) -> Found
-    ensures { λ r. ⌜ r ≡ foundOf (freeChunk 12 count (wordsOf (now (image .entry))) needed) ⌝ }
+// The first free chunk, if at least `needed` are free; no chunk below `from` is.
+fn free_from(image: &[u8], from: usize, count: usize, needed: usize) -> Found
+    requires { ⌜ 1 ≤ from ⌝ }
+    ensures { λ r. ⌜ FreeFound (wordsOf (now (image .entry))) from count needed r ⌝ }
 {
     let mut lowest = 0;
     let mut seen: usize = 0;
-    let mut c = 1;
+    let mut c = from;
     while c < count {
         if is_free(image, c) {
             if seen == 0 {
@@ -121,6 +139,13 @@ pub fn free_chunk(image: &[u8], count: usize, needed: usize) -> Found
     Found::Nothing
 }
 
+// The first free chunk, if at least `needed` are free.
+pub fn free_chunk(image: &[u8], count: usize, needed: usize) -> Found
+    ensures { λ r. ⌜ r ≡ foundOf (freeChunk 12 count (wordsOf (now (image .entry))) needed) ⌝ }
+{
+    free_from(image, 1, count, needed)
+}
+
 pub fn place_at(image: &[u8], c: usize) -> Place
     ensures { λ r. ⌜ r ≡ placeOf (wordsOf (now (image .entry))) (some c) ⌝ }
 {
@@ -132,17 +157,58 @@ pub fn place_at(image: &[u8], c: usize) -> Place
     }
 }
 
+// Where a search starts, and whether no log chunk behind that chunk has space, and no chunk below it is free.
+pub struct Start {
+    pub from: usize,
+    pub sole: bool,
+}
+
 // Where a search for so many lines starts: at the hint, unless that says nothing of so few lines.
-fn start_of(first: usize, least: usize, lines: usize) -> usize
-    ensures { λ r. ⌜ (r ≡ startOf first least lines) × (1 ≤ r) ⌝ }
+fn start_of(first: usize, least: usize, lines: usize) -> Start
+    ensures { λ r. ⌜ Started first least lines r ⌝ }
 {
     if lines < least {
-        return 1;
+        return Start {
+            from: 1,
+            sole: false,
+        };
     }
-    if first == 0 {
-        return 1;
+    let from = first % 512;
+    if from == 0 {
+        return Start {
+            from: 1,
+            sole: false,
+        };
     }
-    first
+    Start {
+        from,
+        sole: 512 <= first,
+    }
+}
+
+// Where a search for free chunks starts.
+fn free_start(start: Start, count: usize) -> usize
+    requires { ⌜ 1 ≤ start .from ⌝ }
+    ensures { λ r. ⌜ FreeStart start count r ⌝ }
+{
+    if start.sole {
+        if start.from < count {
+            return start.from;
+        }
+    }
+    1
+}
+
+// The hint that names a chunk, with the mark that no other log chunk has space and no chunk below it is free.
+fn hint_of(chunk: usize, sole: bool) -> usize
+    ensures { λ r. ⌜ Hinted chunk sole r ⌝ }
+{
+    if sole {
+        if chunk < 512 {
+            return 512 + chunk;
+        }
+    }
+    fewer(chunk, 511)
 }
 
 fn fewer(a: usize, b: usize) -> usize
@@ -151,8 +217,9 @@ fn fewer(a: usize, b: usize) -> usize
     if a < b { a } else { b }
 }
 
-// The place for so many lines in an image of `count` chunks, told where to look: no log chunk below `first` has space
-// for `least` lines.
+// The place for so many lines in an image of `count` chunks, told where to look: `first` and `least` are the hint. A
+// free chunk is taken where no log chunk has space for the lines; where none has space for `least`, the next hint says
+// so.
 pub fn log_place(
     image: &[u8],
     count: usize,
@@ -165,23 +232,25 @@ pub fn log_place(
 {
     let start = start_of(first, least, lines);
     let room = fewer(least, lines);
-    let next = next_chunk(image, start, count, room);
+    let next = near_chunk(image, start.from, count, room, start.sole);
     let at = wider_chunk(image, next, count, room, lines);
     if at < count {
         let place = place_at(image, at);
         return Placed {
             place,
-            first: next,
+            first: hint_of(next, start.sole),
             least: room,
         };
     }
-    let free = free_chunk(image, count, needed);
+    let low = free_start(start, count);
+    let free = free_from(image, low, count, needed);
     match free {
         Found::At(c) => {
             let place = place_at(image, c);
+            let full = count <= next;
             Placed {
                 place,
-                first: fewer(next, c),
+                first: hint_of(fewer(next, c), full),
                 least: room,
             }
         }
@@ -194,7 +263,7 @@ pub fn log_place(
             };
             Placed {
                 place,
-                first: next,
+                first: hint_of(next, false),
                 least: room,
             }
         }

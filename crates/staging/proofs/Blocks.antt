@@ -7,7 +7,7 @@ use mathlib.Core.Option.{none, some}
 use mathlib.Core.List.{List, [], _∷_, _++_}
 use Prim.Native.Nat.{ℕ, suc, _+_, _-_, _*_, _/_, _<_, _≤_}
 use native.Mathlib.Omega.{arith}
-use lib.ListN.{length, length-append}
+use lib.ListN.{length, getD, length-append}
 use borrow.Author.Tests.{le-leb, lt-leb}
 use Rattle.spec.specs.Basics.{distinct}
 use Rattle.spec.specs.Words.{AreBytes, wordsOf}
@@ -27,6 +27,7 @@ use Rattle.spec.specs.declared.Refusal.the-variants as N
 use Rattle.spec.specs.declared.Report.the-variants as R
 use Rattle.theory_log.specs.Batch.{AllRight}
 use Rattle.session.specs.State.{batchRoom, batchWords, batchItems, blockActions, limit, stateAt, stateOf}
+use Rattle.session.specs.Filter.{filterPlace, AllMarked}
 use Rattle.session.specs.Fits.{keyList, Fits}
 use Rattle.session.proofs.Phases.{rest-items}
 use Rattle.session.proofs.Part.{words-within}
@@ -194,6 +195,9 @@ module _ (c : Control) (k : Setup) (b bytes table : List ℕ) (g : Gated) (asks 
         written : batchWords c′ after ≡ encodeAll more
         written = words-within c′ after in-room ∙ begins .written ∙ ap encodeAll (goes .1)
 
+        marked : AllMarked (getD after filterPlace 0) more
+        marked = subst (AllMarked (getD after filterPlace 0)) (goes .1) (begins .marked)
+
         right : AllRight more
         right = let u = adm .unspent in right-more (items f) item (rests f .fits .batch .right) (block-right (last + 1) (goes .0) key (omega arith) (omega arith))
 
@@ -228,7 +232,7 @@ module _ (c : Control) (k : Setup) (b bytes table : List ℕ) (g : Gated) (asks 
             let o = adm .keys in (
               staged .long ∙ f .0,
               rw state-then (stage-begun c c′ k (r .setup) b after ws table (items f) item acts q (rw (goes .1) at (goes .2)) (staged .same .0) (staged .same .1) (staged .same .2) (staged .same .3) (staged .bits) refl
-                  in-room written (omega arith) (omega arith) right (counts-more (es f) (items f) item (q .batch .counts) h) keys (rw l at o)),
+                  in-room written (omega arith) (omega arith) right (counts-more (es f) (items f) item (q .batch .counts) h) marked keys (rw l at o)),
             )
 
       pub block-begun : Does (Put key v) s s′ bytes bytes table table (R.Begun (r .count))

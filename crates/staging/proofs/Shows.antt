@@ -92,7 +92,7 @@ module _ (c : Control) (k : Setup) (b bytes table : List ℕ) where
             long = f .long;
             lent = f .lent;
             built = record { indexed = f .built .indexed; blocks = f .built .blocks };
-            batch = record { room = omega arith; written = refl; count = refl; few = omega arith; right = tt; counts = tt; fit = none-fit (chunksIn 12 (k .image)) (wordsOf bytes) (f .entries); keys = omega arith };
+            batch = record { room = omega arith; written = refl; count = refl; few = omega arith; right = tt; counts = tt; fit = none-fit (chunksIn 12 (k .image)) (wordsOf bytes) (f .entries); marked = tt; keys = omega arith };
             table-room = omega arith;
             hint = f .hint;
           }

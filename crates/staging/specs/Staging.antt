@@ -3,13 +3,16 @@
 use mathlib.Core.Path.{_≡_}
 use mathlib.Core.Bool.{Bool, true, false}
 use mathlib.Core.List.{List}
-use Prim.Native.Nat.{ℕ, suc, _+_}
+use Prim.Native.Nat.{ℕ, suc, _+_, _≤_, _<_}
 use lib.Dec.{eqb, leb, ltb}
-use lib.ListN.{getD}
+use lib.ListN.{length, getD}
 use Rattle.spec.specs.Basics.{pick, both}
-use Rattle.spec.specs.Log.{Entry, firstOf}
+use Rattle.spec.specs.Log.{Entry, maxInLog, firstOf}
+use Rattle.spec.specs.Machine.{Put}
 use Rattle.spec.specs.Plans.{maxItems}
 use Rattle.session.specs.declared.Control.{Control}
+use Rattle.session.specs.declared.Session.{Session}
+use Rattle.spec.specs.declared.Report.{Report}
 use Rattle.spec.specs.declared.FirstWord.{FirstWord}
 use Rattle.spec.specs.declared.FirstWord.the-variants as F
 use Rattle.spec.specs.declared.Refusal.{Refusal}
@@ -18,6 +21,7 @@ use Rattle.spec.specs.declared.Report.the-variants as R
 use Rattle.index.specs.Index.{get}
 use Rattle.index.specs.Packed.{unpackOf}
 use Rattle.session.specs.State.{batchRoom, behindAll}
+use Rattle.session.specs.Promise.{Does}
 use Rattle.batch.specs.declared.Latest.{Latest}
 use Rattle.batch.specs.Items.{StagedIn, latestOf}
 use Rattle.staging.specs.declared.Newest.{Newest}
@@ -70,3 +74,15 @@ refusedWith c n = record { control = c; report = R.Refused n }
 
 abbrev pub oneMore : Control → ℕ → ℕ → Stepped
 oneMore c words fresh = record { control = record { phase = 2; next = behindAll; items = c .items + 1; words = words; keys = c .keys; fresh = fresh }; report = R.Begun 0 }
+
+-- A put where `Here` holds of the value's length; elsewhere nothing is done.
+pub record PutWhere (Here : ℕ → Type 0) (key : ℕ) (v : List ℕ) (s s′ : Session) (bytes table : List ℕ) (r : Report) : Type 0 where
+  pub within : Here (length v) → Does (Put key v) s s′ bytes bytes table table r
+  pub without : (Here (length v) → ⊥) → (s′ ≡ s) × (r ≡ R.Idle)
+
+-- a value that goes into the log, and one that does not
+abbrev pub Short : ℕ → Type 0
+Short bytes = bytes ≤ maxInLog
+
+abbrev pub Long : ℕ → Type 0
+Long bytes = maxInLog < bytes

@@ -1,11 +1,12 @@
 // Staging: put, delete and abandon. Each finds its refusal or the new item and changes the record alone.
 ghost use mathlib.Core.Path.{_≡_};
+ghost use mathlib.Core.Bool.{true, false};
 ghost use Prim.Native.Nat.{_≤_, _<_};
 ghost use lib.ListN.{length, getD};
 ghost use Rattle.spec.specs.Words.{wordsOf};
 ghost use Rattle.spec.specs.Log.{firstOf};
 ghost use Rattle.spec.specs.Machine.{Put, Delete, Abandon};
-ghost use Rattle.staging.specs.Staging.{NewestOf, VersionOf, putIn, presentBy, newKeys, admitOf, refusedWith, oneMore};
+ghost use Rattle.staging.specs.Staging.{NewestOf, VersionOf, putIn, presentBy, newKeys, admitOf, refusedWith, oneMore, PutWhere, Short, Long};
 ghost use Rattle.session.specs.Promise.{Does};
 use blocks::Buffer;
 use session::Control;
@@ -332,6 +333,57 @@ fn put_in_block(
                 }
             }
         }
+    }
+}
+
+// Whether a value of so many bytes goes into the log. (The record's control is asked for by the shape of the choices
+// between two calls, and says nothing of it.)
+pub fn is_short(control: Control, bytes: usize) -> bool
+    ensures { λ r. ⌜ (r ≡ true → Short bytes) × (r ≡ false → Long bytes) ⌝ }
+{
+    bytes <= 256
+}
+
+// Stages a put of a short value, which leaves the record's setup; elsewhere nothing is done.
+pub fn put_short(
+    control: Control,
+    setup: Setup,
+    buffer: &mut Buffer,
+    image: &[u8],
+    table: &[u64],
+    key: u64,
+    value: &[u8],
+) -> Stepped
+    ensures { λ r. ⌜ PutWhere Short key (now (value .entry)) (record { control = control; setup = setup; buffer = now (buffer .entry) }) (record { control = r .control; setup = setup; buffer = now (buffer .exit) }) (now (image .entry)) (now (table .entry)) (r .report) ⌝ }
+{
+    if value.len() <= 256 {
+        return put_in_log(control, setup, buffer, image, table, key, value);
+    }
+    Stepped {
+        control,
+        report: Report::Idle,
+    }
+}
+
+// Stages a put of a longer value; elsewhere nothing is done.
+pub fn put_long(
+    control: Control,
+    setup: Setup,
+    buffer: &mut Buffer,
+    image: &[u8],
+    table: &[u64],
+    key: u64,
+    value: &[u8],
+) -> Outcome
+    ensures { λ r. ⌜ PutWhere Long key (now (value .entry)) (record { control = control; setup = setup; buffer = now (buffer .entry) }) (record { control = r .control; setup = r .setup; buffer = now (buffer .exit) }) (now (image .entry)) (now (table .entry)) (r .report) ⌝ }
+{
+    if 256 < value.len() {
+        return put_in_block(control, setup, buffer, image, table, key, value);
+    }
+    Outcome {
+        control,
+        setup,
+        report: Report::Idle,
     }
 }
 

@@ -19,6 +19,7 @@ use Rattle.theory_base.proofs.Lists.{number-l, number-r, number-cases, distinct
 use Rattle.theory_crash.specs.Accepted.{Ok}
 use Rattle.theory_crash.proofs.Opening.{keys-fit, opens-ok}
 use Rattle.session.specs.State.{batchWords}
+use Rattle.session.specs.Filter.{filterPlace}
 use Rattle.session.specs.Fits.{keyList, batchPlace, CommitFits}
 use Rattle.session.proofs.Kept.{words-kept, batch-kept, built-kept}
 use Rattle.apply.specs.Joining.{Fenced, Joining}
@@ -67,7 +68,7 @@ module _ (c : Control) (k : Setup) (b : List ℕ) where
       accepted = f .accepted;
       long = action-length x ws ∙ f .long;
       lent = f .lent;
-      batch = batch-kept c (acted c (c .keys) (c .fresh)) b b (chunksIn basePower (k .image)) _ (f .front ++ f .back) items refl refl refl refl (f .batch);
+      batch = batch-kept c (acted c (c .keys) (c .fresh)) b b (chunksIn basePower (k .image)) _ (f .front ++ f .back) items refl refl refl refl refl (f .batch);
       agree = f .agree;
       apart = f .apart;
       built = built-kept c (acted c (c .keys) (c .fresh)) b table (f .front ++ f .back) refl (f .built);
@@ -120,7 +121,7 @@ module _ (c : Control) (k : Setup) (b : List ℕ) where
             accepted = f .accepted;
             long = long′;
             lent = j .sized ∙ f .lent;
-            batch = batch-kept c (acted c keys 0) b b′ (chunksIn basePower (k .image)) _ (f .front ++ f .back) items refl refl (words-kept c (acted c keys 0) b b′ (j .kept) refl) e (f .batch);
+            batch = batch-kept c (acted c keys 0) b b′ (chunksIn basePower (k .image)) _ (f .front ++ f .back) items refl refl (words-kept c (acted c keys 0) b b′ (j .kept) refl) (j .kept .above filterPlace (omega arith)) e (f .batch);
             agree = f .agree;
             apart = f .apart;
             built = record { indexed = q .0 .indexed; blocks = q .0 .blocks };

@@ -6,8 +6,9 @@ ghost use mathlib.Core.Path.{_≡_};
 ghost use Rattle.spec.specs.Machine.{Open, Put, Delete, Commit, Abandon, Clean, Step, Format};
 ghost use Rattle.spec.specs.Contract.{Called};
 ghost use Rattle.formatting.specs.Begun.{given};
-ghost use Rattle.fast_path.specs.Run.{RunsOn};
-ghost use Rattle.fast_path.specs.Fast.{FastStep, InStaging, OnFastPath};
+ghost use Rattle.staging.specs.Staging.{PutWhere, Short, Long};
+ghost use Rattle.fast_path.specs.Run.{StepsOn, RunsOn};
+ghost use Rattle.fast_path.specs.Fast.{FastStep, Late, InStaging, OnFastPath};
 ghost use Rattle.store.specs.Look.{Reported, Shown};
 ghost use Rattle.store.specs.Choice.{Chosen};
 ghost use Rattle.store.specs.List.{KeysListed, KeyListed};
@@ -66,6 +67,30 @@ pub fn stage_put(s: &mut Session, image: &[u8], table: &[u64], key: u64, value: 
     let c = s.control;
     let k = s.setup;
     let m = staging::put_core(c, k, &mut s.buffer, image, table, key, value);
+    s.control = m.control;
+    s.setup = m.setup;
+    m.report
+}
+
+// The same for a value that goes into the log (`staging::is_short`); elsewhere nothing is done. Of the record's small
+// parts it alters the control alone.
+pub fn stage_short(s: &mut Session, image: &[u8], table: &[u64], key: u64, value: &[u8]) -> Report
+    ensures { λ r. ⌜ PutWhere Short key (now (value .entry)) (now (s .entry)) (now (s .exit)) (now (image .entry)) (now (table .entry)) r ⌝ }
+{
+    let c = s.control;
+    let k = s.setup;
+    let m = staging::put_short(c, k, &mut s.buffer, image, table, key, value);
+    s.control = m.control;
+    m.report
+}
+
+// The same for a longer value; elsewhere nothing is done.
+pub fn stage_long(s: &mut Session, image: &[u8], table: &[u64], key: u64, value: &[u8]) -> Report
+    ensures { λ r. ⌜ PutWhere Long key (now (value .entry)) (now (s .entry)) (now (s .exit)) (now (image .entry)) (now (table .entry)) r ⌝ }
+{
+    let c = s.control;
+    let k = s.setup;
+    let m = staging::put_long(c, k, &mut s.buffer, image, table, key, value);
     s.control = m.control;
     s.setup = m.setup;
     m.report
@@ -162,7 +187,18 @@ pub fn run_fast(s: &mut Session, image: &mut [u8], table: &mut [u64]) -> Report
     m.report
 }
 
-// The same in a staging: its end is told too.
+// The last action of a commit, which is a fence, or its end: a step that stores no word.
+pub fn step_late(s: &mut Session, image: &mut [u8], table: &mut [u64]) -> Report
+    ensures { λ r. ⌜ OnFastPath Late StepsOn (now (s .entry)) (now (s .exit)) (now (image .entry)) (now (image .exit)) (now (table .entry)) (now (table .exit)) r ⌝ }
+{
+    let c = s.control;
+    let k = s.setup;
+    let m = fast_path::late_step(c, k, &mut s.buffer, image, table);
+    s.control = m.control;
+    m.report
+}
+
+// A run in a staging: its end is told too.
 pub fn run_staging(s: &mut Session, image: &mut [u8], table: &mut [u64]) -> Report
     ensures { λ r. ⌜ OnFastPath InStaging RunsOn (now (s .entry)) (now (s .exit)) (now (image .entry)) (now (image .exit)) (now (table .entry)) (now (table .exit)) r ⌝ }
 {

@@ -1,67 +1,33 @@
--- `batch::last_staged` meets its contract. The loop's invariant: the last item of all is the last so far, passed on
--- over the items not yet reached.
+-- `batch::last_staged` meets its contract: what the filter has is looked for, and what it has not is not staged.
 -- Assumes nothing.
-use Prim.Native.Nat.{_-_}
-use mathlib.Core.Path.{sym}
+use mathlib.Core.Path.{sym, _∙_}
+use Prim.Native.Nat.{min}
 use native.Mathlib.Omega.{arith}
-use Rattle.theory_log.specs.Fold.{foldE}
-use Rattle.batch.specs.Items.{pass, latestOf}
-use Rattle.batch.proofs.Pass.{Passing, pass-start, pass-next, pass-end, later-pass}
+use Rattle.session.specs.State.{batchRoom}
+use Rattle.batch.proofs.Marks.{marks-all, unmarked-none}
 use borrow.Author.Needs.{needs}
 use Rattle.batch.proofs.last_staged.Statement.{statement}
 use Rattle.batch.proofs.last_staged.Tie as tie
 
-abbrev Inv-loop : tie.InvT-loop
-Inv-loop buffer words key end latest₀ at₀ latest at = Passing buffer words (latestOf key) at (foldE (pass key) latest)
+marks-of-requires : tie.Need-marks-of-requires
+marks-of-requires c κs = search needs
 
-abbrev μ-loop : tie.MeasureT-loop
-μ-loop buffer words key end latest₀ at₀ latest at = end - at
+is-marked-requires : tie.Need-is-marked-requires
+is-marked-requires c κs = search needs
 
-batch-end-requires : tie.Need-batch-end-requires Inv-loop μ-loop
-batch-end-requires c κs = search needs
+last-of-requires : tie.Need-last-of-requires
+last-of-requires c κs = search needs
 
-loop-holds : tie.Need-loop-holds Inv-loop μ-loop
-unfolding latestOf
-loop-holds c = let a = c .before .args in pass-start (a .buffer .now) (a .words) (latestOf (a .key))
+returns : tie.Need-returns
+returns c = search needs
 
-item-at-requires : tie.Need-item-at-requires Inv-loop μ-loop
-item-at-requires c κs = search needs
-
-later-requires : tie.Need-later-requires Inv-loop μ-loop
-later-requires c κs = search needs
-
-add-at : tie.Need-add-at Inv-loop μ-loop
-add-at c = search needs
-
-loop-less : tie.Need-loop-less Inv-loop μ-loop
-loop-less c = omega arith
-
-loop-again : tie.Need-loop-again Inv-loop μ-loop
-loop-again c =
-    let a = c .before .before .before .before .before .before .args in
-    let at = c .before .before .before .before .loop in
-    let item = c .before .before .item-at in
-    let last = c .before .later in
-    pass-next (a .buffer .now) (a .words) (latestOf (a .key)) (at .at) (foldE (pass (a .key)) (at .latest)) (item .result) (omega arith) (item .ensures .0) (at .inv)
-    (foldE (pass (a .key)) (last .result)) (later-pass (a .key) (at .latest) (last .result) (item .result) (last .ensures))
-
-returns : tie.Need-returns Inv-loop μ-loop
-returns c items s =
+returns-2 : tie.Need-returns-2
+returns-2 c items s =
     let a = c .before .before .before .args in
-    let at = c .before .loop in
-    sym (pass-end (a .buffer .now) (a .words) (latestOf (a .key)) (at .at) (foldE (pass (a .key)) (at .latest)) (omega arith) (at .inv) items s)
+    let marks = c .before .before .marks-of in
+    let test = c .before .is-marked in
+    unmarked-none (marks .result) (a .key) items (sym (test .ensures) ∙ c .if1 .left)
+    (rw (marks .ensures) (marks-all (a .buffer .now) (a .words) (min (a .words) batchRoom) items (λ z. omega arith) (s .written) (s .marked)))
 
 pub last-staged-spec : {M : Type 1} → statement M
-last-staged-spec =
-    tie.close
-    (tie.spec
-    Inv-loop
-    μ-loop
-    batch-end-requires
-    loop-holds
-    item-at-requires
-    later-requires
-    add-at
-    loop-less
-    loop-again
-    returns)
+last-staged-spec = tie.close (tie.spec marks-of-requires is-marked-requires last-of-requires returns returns-2)

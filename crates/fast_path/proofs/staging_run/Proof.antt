@@ -3,12 +3,18 @@
 use mathlib.Core.Path.{refl, sym, _∙_}
 use native.Mathlib.Omega.{arith}
 use borrow.Author.Needs.{needs}
-use Rattle.fast_path.proofs.Staging.{flush-acts, flush-ends}
+use Rattle.fast_path.proofs.Staging.{past-ends, flush-acts, flush-ends}
 use Rattle.fast_path.proofs.staging_run.Statement.{statement}
 use Rattle.fast_path.proofs.staging_run.Tie as tie
 
 is-staging-requires : tie.Need-is-staging-requires
 is-staging-requires c κs = search needs
+
+staged-requires : tie.Need-staged-requires
+staged-requires c κs = search needs
+
+returns : tie.Need-returns
+returns c = record { within = λ h. past-ends _ _ _ _ _ h _ _ (c .staged .ensures .0) (c .staged .ensures .1) (omega arith); without = λ no. absurd (no (c .before .before .before .is-staging .ensures .0 (c .before .before .if1 .taken))) }
 
 held-words-requires : tie.Need-held-words-requires
 held-words-requires c κs = search needs
@@ -25,20 +31,20 @@ store-run-requires c κs = search needs
 same-length : tie.Need-same-length
 same-length c = search needs
 
-returns : tie.Need-returns
-returns c = record { within = λ h. c .before .before .store-run .ensures .runs _ h; without = λ no. absurd (no (c .before .before .before .before .before .before .before .before .is-staging .ensures .0 (c .before .before .before .before .before .before .before .if1 .taken))) }
-
-add-if3 : tie.Need-add-if3
-add-if3 c = search needs
-
-add-if3-2 : tie.Need-add-if3-2
-add-if3-2 c = search needs
-
-staged-requires : tie.Need-staged-requires
-staged-requires c κs = search needs
-
 returns-2 : tie.Need-returns-2
-returns-2 c = record { within = λ h. flush-ends _ _ _ _ _ _ (c .before .before .before .take-count .ensures .0) (c .before .before .before .before .held-words .ensures) (omega arith) _ h _ _ (c .staged .ensures .0) (c .staged .ensures .1) (omega arith); without = λ no. absurd (no (c .before .before .before .before .before .before .is-staging .ensures .0 (c .before .before .before .before .before .if1 .taken))) }
+returns-2 c = record { within = λ h. c .before .before .store-run .ensures .runs _ h; without = λ no. absurd (no (c .before .before .before .before .before .before .before .before .before .is-staging .ensures .0 (c .before .before .before .before .before .before .before .before .if1 .taken))) }
+
+add-if4 : tie.Need-add-if4
+add-if4 c = search needs
+
+add-if4-2 : tie.Need-add-if4-2
+add-if4-2 c = search needs
+
+staged-requires-2 : tie.Need-staged-requires-2
+staged-requires-2 c = search needs
+
+returns-3 : tie.Need-returns-3
+returns-3 c = record { within = λ h. flush-ends _ _ _ _ _ _ (c .before .before .before .take-count .ensures .0) (c .before .before .before .before .held-words .ensures) (omega arith) _ h _ _ (c .staged2 .ensures .0) (c .staged2 .ensures .1) (omega arith); without = λ no. absurd (no (c .before .before .before .before .before .before .before .is-staging .ensures .0 (c .before .before .before .before .before .before .if1 .taken))) }
 
 unit-of-requires : tie.Need-unit-of-requires
 unit-of-requires c κs = search needs
@@ -49,33 +55,35 @@ word-offset-requires c κs = search needs
 add-line : tie.Need-add-line
 add-line c = search needs
 
-add-t15 : tie.Need-add-t15
-add-t15 c = search needs
-
-returns-3 : tie.Need-returns-3
-returns-3 c = record { within = λ h. flush-acts _ _ _ _ _ _ (c .before .before .before .before .take-count .ensures .0) (c .before .before .before .before .before .held-words .ensures) (omega arith) _ h _ (omega arith) (let u = c .before .unit-of .ensures .0 in let l = c .before .unit-of .ensures .1 in let w = c .word-offset .ensures in omega arith); without = λ no. absurd (no (c .before .before .before .before .before .before .before .is-staging .ensures .0 (c .before .before .before .before .before .before .if1 .taken))) }
+add-t16 : tie.Need-add-t16
+add-t16 c = search needs
 
 returns-4 : tie.Need-returns-4
-returns-4 c = record { within = λ h. absurd (c .before .is-staging .ensures .1 (c .if1 .left) h); without = λ no. (refl, (refl, (refl, refl))) }
+returns-4 c = record { within = λ h. flush-acts _ _ _ _ _ _ (c .before .before .before .before .take-count .ensures .0) (c .before .before .before .before .before .held-words .ensures) (omega arith) _ h _ (omega arith) (let u = c .before .unit-of .ensures .0 in let l = c .before .unit-of .ensures .1 in let w = c .word-offset .ensures in omega arith); without = λ no. absurd (no (c .before .before .before .before .before .before .before .before .is-staging .ensures .0 (c .before .before .before .before .before .before .before .if1 .taken))) }
+
+returns-5 : tie.Need-returns-5
+returns-5 c = record { within = λ h. absurd (c .before .is-staging .ensures .1 (c .if1 .left) h); without = λ no. (refl, (refl, (refl, refl))) }
 
 pub staging-run-spec : {M : Type 1} → statement M
 staging-run-spec =
     tie.close
     (tie.spec
     is-staging-requires
+    staged-requires
+    returns
     held-words-requires
     take-count-requires
     add-behind
     store-run-requires
     same-length
-    returns
-    add-if3
-    add-if3-2
-    staged-requires
     returns-2
+    add-if4
+    add-if4-2
+    staged-requires-2
+    returns-3
     unit-of-requires
     word-offset-requires
     add-line
-    add-t15
-    returns-3
-    returns-4)
+    add-t16
+    returns-4
+    returns-5)

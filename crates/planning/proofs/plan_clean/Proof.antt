@@ -27,18 +27,18 @@ plan-data-requires c κs = search needs
 
 returns-4 : tie.Need-returns-4
 returns-4 c =
-    let a = c .before .before .before .before .before .before .before .before .before .before .before .args in
-    let l = c .before .before .lines-of in
-    chunk-data (a .control) (a .setup) (a .buffer .now) (a .image .now) (a .table .now) _ (a .chunk) (c .before .before .before .before .before .before .before .if1 .taken) _ refl (c .before .before .before .before .before .before .if2 .left) (c .before .before .before .before .before .if3 .left) (sym (c .before .before .before .if4 .left) ∙ c .before .before .before .before .is-free .ensures) (l .result) (l .ensures .0) (c .before .if5 .taken) _ (c .plan-data .ensures)
+    let a = c .before .before .before .before .before .before .before .before .before .before .before .before .args in
+    let l = c .before .before .before .lines-of in
+    chunk-data (a .control) (a .setup) (a .buffer .now) (a .image .now) (a .table .now) _ (a .chunk) (c .before .before .before .before .before .before .before .before .if1 .taken) _ refl (c .before .before .before .before .before .before .before .if2 .left) (c .before .before .before .before .before .before .if3 .left) (sym (c .before .before .before .before .if4 .left) ∙ c .before .before .before .before .before .is-free .ensures) (l .result) (l .ensures .0) (c .before .before .if5 .taken) _ (c .plan-data .ensures)
 
 plan-log-requires : tie.Need-plan-log-requires
 plan-log-requires c κs = search needs
 
 returns-5 : tie.Need-returns-5
 returns-5 c =
-    let a = c .before .before .before .before .before .before .before .before .before .before .before .before .args in
-    let l = c .before .before .before .lines-of in
-    chunk-log (a .control) (a .setup) (a .buffer .now) (a .image .now) (a .table .now) _ (a .chunk) (c .before .before .before .before .before .before .before .before .if1 .taken) _ refl (c .before .before .before .before .before .before .before .if2 .left) (c .before .before .before .before .before .before .if3 .left) (sym (c .before .before .before .before .if4 .left) ∙ c .before .before .before .before .before .is-free .ensures) (l .result) (l .ensures .0) (c .before .before .if5 .left) _ (c .plan-log .ensures)
+    let a = c .before .before .before .before .before .before .before .before .before .before .before .before .before .args in
+    let l = c .before .before .before .before .lines-of in
+    chunk-log (a .control) (a .setup) (a .buffer .now) (a .image .now) (a .table .now) _ (a .chunk) (c .before .before .before .before .before .before .before .before .before .if1 .taken) _ refl (c .before .before .before .before .before .before .before .before .if2 .left) (c .before .before .before .before .before .before .before .if3 .left) (sym (c .before .before .before .before .before .if4 .left) ∙ c .before .before .before .before .before .before .is-free .ensures) (l .result) (l .ensures .0) (c .before .before .before .if5 .left) _ (c .plan-log .ensures)
 
 returns-6 : tie.Need-returns-6
 returns-6 c = let a = c .before .before .before .before .args in staged (a .control) (a .setup) (a .buffer .now) (a .image .now) (a .table .now) _ (a .chunk) (c .if1 .left)

@@ -1,6 +1,7 @@
--- `placing::log_place` meets its contract: a log chunk with space, else a free chunk, else nothing; and the next hint.
+-- `space::log_place` meets its contract: a log chunk with space, else a free chunk, else nothing; and the next hint.
 -- Assumes nothing.
 use native.Mathlib.Omega.{arith}
+use borrow.Author.Tests.{leb-true}
 use borrow.Author.Needs.{needs}
 use Rattle.space.proofs.Hint.{shows-log, shows-free, shows-nowhere}
 use Rattle.space.proofs.log_place.Statement.{statement}
@@ -12,41 +13,64 @@ start-of-requires c κs = search needs
 fewer-requires : tie.Need-fewer-requires
 fewer-requires c κs = search needs
 
-next-chunk-requires : tie.Need-next-chunk-requires
-next-chunk-requires c κs = search needs
+near-chunk-requires : tie.Need-near-chunk-requires
+near-chunk-requires c κs = let s = c .before .start-of .ensures .low in search needs
 
 wider-chunk-requires : tie.Need-wider-chunk-requires
-wider-chunk-requires c κs = let b = c .next-chunk .ensures .behind in search needs
+wider-chunk-requires c κs = let b = c .near-chunk .ensures .behind in let s = c .before .before .start-of .ensures .low in search needs
 
 place-at-requires : tie.Need-place-at-requires
 place-at-requires c κs = search needs
 
+hint-of-requires : tie.Need-hint-of-requires
+hint-of-requires c κs = search needs
+
 returns : tie.Need-returns
 returns c =
-    shows-log _ _ _ _ _ _ _ _ _ _ (c .before .before .before .before .before .start-of .ensures .0) (c .before .before .before .before .fewer .ensures) (c .before .before .before .next-chunk .ensures) (c .before .before .wider-chunk .ensures) _ (omega arith) (c .place-at .ensures)
+    let w = c .before .before .before in
+    let f = w .before .before in
+    shows-log _ _ _ _ _ _ _ _ _ _ (f .before .start-of .ensures) (f .fewer .ensures) (w .before .near-chunk .ensures) (w .wider-chunk .ensures) _ _ (omega arith) (c .before .place-at .ensures) (c .hint-of .ensures)
 
-free-chunk-requires : tie.Need-free-chunk-requires
-free-chunk-requires c κs = search needs
+free-start-requires : tie.Need-free-start-requires
+free-start-requires c κs = c .before .before .before .before .start-of .ensures .low
+
+free-from-requires : tie.Need-free-from-requires
+free-from-requires c κs = let l = c .free-start .ensures .low in search needs
 
 enum-known-free : tie.Need-enum-known-free
 enum-known-free c = search needs
 
 place-at-requires-2 : tie.Need-place-at-requires-2
-place-at-requires-2 c κs = search needs
+place-at-requires-2 c = search needs
 
 fewer-requires-2 : tie.Need-fewer-requires-2
-fewer-requires-2 c κs = search needs
+fewer-requires-2 c = search needs
+
+hint-of-requires-2 : tie.Need-hint-of-requires-2
+hint-of-requires-2 c = search needs
 
 enum-told : tie.Need-enum-told
 enum-told c = search needs
 
+hint-of-requires-3 : tie.Need-hint-of-requires-3
+hint-of-requires-3 c = search needs
+
 returns-2 : tie.Need-returns-2
 returns-2 c =
-    shows-free _ _ _ _ _ _ _ _ _ _ (c .before .before .before .before .before .before .before .before .before .before .start-of .ensures .0) (c .before .before .before .before .before .before .before .before .before .fewer .ensures) (c .before .before .before .before .before .before .before .before .next-chunk .ensures) (c .before .before .before .before .before .before .before .wider-chunk .ensures) _ (c .before .before .before .before .before .free-chunk .ensures) _ _ _ (omega arith) (c .before .before .before .free .given .1) (c .before .place-at2 .ensures) (c .fewer2 .ensures)
+    let p = c .before .before in
+    let g = p .before .before .before .before in
+    let w = g .before .before .before in
+    let f = w .before .before in
+    shows-free _ _ _ _ _ _ _ _ _ _ (f .before .start-of .ensures) (f .fewer .ensures) (w .before .near-chunk .ensures) (w .wider-chunk .ensures) _ (g .before .free-start .ensures) _ (g .free-from .ensures)
+    _ _ _ _ _ (λ e. leb-true _ _ e) (omega arith) (p .before .before .free .given .1) (p .place-at2 .ensures) (c .before .fewer2 .ensures) (c .hint-of2 .ensures)
 
 returns-3 : tie.Need-returns-3
 returns-3 c =
-    shows-nowhere _ _ _ _ _ _ _ _ _ _ (c .before .before .before .before .before .before .before .start-of .ensures .0) (c .before .before .before .before .before .before .fewer .ensures) (c .before .before .before .before .before .next-chunk .ensures) (c .before .before .before .before .wider-chunk .ensures) _ (c .before .before .free-chunk .ensures) (omega arith) (c .enum-told .given .1)
+    let g = c .before .before .before in
+    let w = g .before .before .before in
+    let f = w .before .before in
+    shows-nowhere _ _ _ _ _ _ _ _ _ _ (f .before .start-of .ensures) (f .fewer .ensures) (w .before .near-chunk .ensures) (w .wider-chunk .ensures) _ (g .before .free-start .ensures) _ (g .free-from .ensures)
+    _ (omega arith) (c .before .enum-told .given .1) (c .hint-of3 .ensures)
 
 pub log-place-spec : {M : Type 1} → statement M
 log-place-spec =
@@ -54,14 +78,18 @@ log-place-spec =
     (tie.spec
     start-of-requires
     fewer-requires
-    next-chunk-requires
+    near-chunk-requires
     wider-chunk-requires
     place-at-requires
+    hint-of-requires
     returns
-    free-chunk-requires
+    free-start-requires
+    free-from-requires
     enum-known-free
     place-at-requires-2
     fewer-requires-2
+    hint-of-requires-2
     enum-told
+    hint-of-requires-3
     returns-2
     returns-3)

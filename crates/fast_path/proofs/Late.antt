@@ -1,0 +1,37 @@
+-- What the code of the fast path shows at a commit's last action and at its end is what its contract says.
+-- Assumes nothing.
+use mathlib.Core.Path.{_≡_, refl, sym, ap}
+use mathlib.Core.List.{List}
+use Prim.Native.Nat.{ℕ, _+_, _≤_, _<_}
+use native.Mathlib.Omega.{arith}
+use lib.ListN.{length}
+use Rattle.spec.specs.Words.{wordsOf}
+use Rattle.spec.specs.Reports.{asReport}
+use Rattle.session.specs.declared.Control.{Control}
+use Rattle.session.specs.declared.Setup.{Setup}
+use Rattle.spec.specs.declared.Report.{Report}
+use Rattle.spec.specs.declared.Report.the-variants as R
+use Rattle.actions.specs.Nth.{commitCount}
+use Rattle.actions.proofs.Committing.{commit-last}
+use Rattle.apply.specs.Joining.{Joining}
+use Rattle.session.proofs.Kept.{emptied}
+use Rattle.stepping.proofs.Keeping.{acted}
+use Rattle.stepping.proofs.Shows.{commit-joins, commit-ends}
+use Rattle.fast_path.specs.Run.{isStore, StepsOn}
+use Rattle.fast_path.specs.Fast.{Late}
+use Rattle.fast_path.proofs.Run.{unchanged}
+
+module _ (c : Control) (k : Setup) (b bytes table : List ℕ) (h : Late c k (length bytes) (length table)) where
+  -- the end
+  pub late-ends : (c′ : Control) (r : Report) → commitCount (c .words) ≤ c .next → c′ ≡ emptied c → r ≡ R.End 0
+      → StepsOn (record { control = c; setup = k; buffer = b }) (record { control = c′; setup = k; buffer = b }) bytes bytes table table r
+  late-ends c′ r l ec er = rw (ec, er) (commit-ends c k b bytes table (h .1 .0) (h .1 .1 .0) (h .0) l, refl)
+
+  -- the last action, with its batch joined
+  pub late-joins : (b′ table′ : List ℕ) (keys : ℕ) → c .next < commitCount (c .words) → Joining c k b b′ (wordsOf bytes) table table′ keys
+      → StepsOn (record { control = c; setup = k; buffer = b }) (record { control = acted c keys 0; setup = k; buffer = b′ }) bytes bytes table table′ R.Fence
+  late-joins b′ table′ keys l j =
+      let n = h .1 .1 .1 in (
+        commit-joins c k b bytes table (h .1 .0) (h .1 .1 .0) (h .0) bytes R.Fence (sym (ap asReport (commit-last c k b (c .next) n))) (unchanged R.Fence bytes refl) b′ table′ keys (omega arith) j,
+        refl,
+      )
