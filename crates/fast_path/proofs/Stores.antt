@@ -4,7 +4,7 @@ use mathlib.Core.Path.{_≡_, refl, sym, _∙_, ap, subst}
 use mathlib.Core.List.{List}
 use Prim.Native.Nat.{ℕ, zero, suc, _+_, _-_, _≤_, _<_}
 use native.Mathlib.Omega.{arith}
-use lib.ListN.{length}
+use lib.ListN.{length, getD}
 use Rattle.spec.specs.Machine.{Step}
 use Rattle.session.specs.declared.Control.{Control}
 use Rattle.session.specs.declared.Setup.{Setup}
@@ -13,7 +13,8 @@ use Rattle.spec.specs.declared.Report.{Report}
 use Rattle.spec.specs.declared.Report.the-variants as R
 use Rattle.words.specs.Image.{Saved}
 use Rattle.fast_path.specs.Run.{toNext, Runs}
-use Rattle.fast_path.specs.Stores.{Filled, Before}
+use Rattle.session.specs.State.{areaStart}
+use Rattle.fast_path.specs.Stores.{areaWord, Filled, Before}
 use Rattle.fast_path.proofs.Run.{stored-first}
 use Rattle.session.specs.Promise.{Does}
 
@@ -36,6 +37,12 @@ module _ (value : ℕ → ℕ) (start : ℕ) where
         (s .1 (suc m) bytes′ (bytes₂, (subst (Saved bytes₁ bytes₂ (start + i)) e saved, subst (λ (x : ℕ). Filled value start x m bytes₂ bytes′) d f))),
   )
 
+  pub two-saved : (from i : ℕ) (bytes bytes₁ bytes₂ bytes₃ : List ℕ) (v w : ℕ) → SoFar from i bytes bytes₁ → v ≡ value i → Saved bytes₁ bytes₂ (start + i) v → w ≡ value (i + 1)
+      → Saved bytes₂ bytes₃ (start + (i + 1)) w → SoFar from (i + 2) bytes bytes₃
+  two-saved from i bytes bytes₁ bytes₂ bytes₃ v w s e saved d more =
+      let q : i + 1 + 1 ≡ i + 2 = omega arith in
+      subst (λ (x : ℕ). SoFar from x bytes bytes₃) q (one-saved from (i + 1) bytes bytes₂ bytes₃ w (one-saved from i bytes bytes₁ bytes₂ v s e saved) d more)
+
   pub all-saved : (from i end : ℕ) (bytes bytes₁ : List ℕ) → SoFar from i bytes bytes₁ → i ≡ end → Filled value start from (end - from) bytes bytes₁
   all-saved from i end bytes bytes₁ s h =
       let l = s .0 in
@@ -49,6 +56,10 @@ module _ (value : ℕ → ℕ) (start : ℕ) where
 
   pub so-far-length : (from i : ℕ) (bytes bytes₁ : List ℕ) → SoFar from i bytes bytes₁ → length bytes₁ ≡ length bytes
   so-far-length from i bytes bytes₁ s = filled-length (i - from + zero) from bytes bytes₁ (s .1 zero bytes₁ refl)
+
+-- the word behind word i of the second area
+pub next-word : (b : List ℕ) (i : ℕ) → getD b (513 + i) 0 ≡ areaWord b (i + 1)
+next-word b i = let e : 513 + i ≡ areaStart + (i + 1) = omega arith in ap (λ (j : ℕ). getD b j 0) e
 
 -- THE RUN
 module _ (c : ℕ → Control) (k : Setup) (b table : List ℕ) (value : ℕ → ℕ) (start size : ℕ) where

@@ -190,17 +190,25 @@ pub fn late_step(
 }
 
 // WORDS OF THE SECOND AREA
-// Those numbered `from` up to `end` into the image, counted from its word `start`.
+// Those numbered `from` up to `end` into the image, counted from its word `start`; two in a turn of the loop, each by a
+// store of its own.
 pub fn store_area(buffer: &Buffer, image: &mut [u8], start: usize, from: usize, end: usize)
     requires { ⌜ (start < 2 ^ 32) × (from ≤ end) × (end ≤ 512) ⌝ }
     ensures { λ _. ⌜ Filled (areaWord (now (buffer .entry))) start from (end - from) (now (image .entry)) (now (image .exit)) ⌝ }
 {
     let mut i = from;
-    while i < end {
+    while i + 1 < end {
         let value = buffer[512 + i];
         words::save(image, start + i, value);
-        i += 1;
+        let second = buffer[513 + i];
+        words::save(image, start + (i + 1), second);
+        i += 2;
     }
+    if end <= i {
+        return;
+    }
+    let last = buffer[512 + i];
+    words::save(image, start + i, last);
 }
 
 // A STAGING
