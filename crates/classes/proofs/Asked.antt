@@ -23,7 +23,7 @@ module _ (low high key class : ℕ) (is-class : class ≡ classOf key) where
     pub asked-above : low ≤ class → high ≤ class → false ≡ asked marks low high key
     asked-above l m = rw (← is-class, le-leb low class l, le-ltb class high m)
 
-    module _ (l : low ≤ class) (m : class < high) (at : ℕ) (is-at : at ≡ class / 0x2_0000) where
+    module _ (l : low ≤ class) (m : class < high) (at : ℕ) (is-at : at ≡ class / 0x4_0000) where
       pub asked-out : length marks ≤ at → true ≡ asked marks low high key
       asked-out o = rw (← is-class, le-leb low class l, lt-ltb class high m, ← is-at, le-ltb at (length marks) o)
 

@@ -83,7 +83,7 @@ own-alone pl x extent a v own is-extent is-own = is-own ∙ ap (λ (y : ℕ). al
 
 -- entries that are passed over with no marks are of other classes
 pub marked-none : (key : ℕ) → marked [] key ≡ true
-marked-none key = rw (le-ltb (classOf key / 0x2_0000) 0 (omega arith))
+marked-none key = rw (le-ltb (classOf key / 0x4_0000) 0 (omega arith))
 
 class-over : (low high : ℕ) (xs over : List Entry) → ((e : Entry) → Mem e over → asked [] low high (e .key) ≡ false) → classIn low high (xs ++ over) ≡ classIn low high xs
 class-over low high xs over h =

@@ -19,11 +19,11 @@ use Rattle.classes.specs.Passing.{OneMarked, QuietFrom, TwinsMarked}
 
 -- ## One mark
 
-module _ (marks : List ℕ) (key info at : ℕ) (is-at : at ≡ classOf key / 0x2_0000) where
+module _ (marks : List ℕ) (key info at : ℕ) (is-at : at ≡ classOf key / 0x4_0000) where
   pub mark-set : at < length marks → OneMarked marks (set marks at 1) key info
   mark-set l = record {
     own = λ h. rw (← is-at, length-set marks at 1, lt-ltb at (length marks) l, getD-set-same marks at 1 0 l);
-    others = λ k h. go (classOf k / 0x2_0000) h (ℕ-discrete (classOf k / 0x2_0000) at);
+    others = λ k h. go (classOf k / 0x4_0000) h (ℕ-discrete (classOf k / 0x4_0000) at);
   }
     where
       go : (i : ℕ) → markAt marks i ≡ true → Dec (i ≡ at) → markAt (set marks at 1) i ≡ true

@@ -16,12 +16,12 @@ classOf key = (key % 0x1_0000_0000 * 0x9E37_79B1 % 0x1_0000_0000 + key / 0x1_000
 abbrev pub within : (low high key : ℕ) → Bool
 within low high key = both (leb low (classOf key)) (ltb (classOf key) high)
 
--- the key's mark is set, or there is none for it: 32,768 marks are one for each 2 ^ 17 classes
+-- the key's mark is set, or there is none for it: 16,384 marks are one for each 2 ^ 18 classes
 abbrev pub markAt : List ℕ → ℕ → Bool
 markAt marks at = pick (ltb at (length marks)) (ltb 0 (getD marks at 0)) true
 
 abbrev pub marked : List ℕ → ℕ → Bool
-marked marks key = markAt marks (classOf key / 0x2_0000)
+marked marks key = markAt marks (classOf key / 0x4_0000)
 
 abbrev pub asked : List ℕ → (low high key : ℕ) → Bool
 asked marks low high key = both (within low high key) (marked marks key)

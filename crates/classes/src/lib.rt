@@ -10,8 +10,8 @@ use log::Cursor;
 use log::Next;
 use log::Short;
 
-// Marks of keys: one for each 2^17 classes.
-pub const MARKS: usize = 32768;
+// Marks of keys: one for each 2^18 classes.
+pub const MARKS: usize = 16384;
 
 // CLASSES
 // The class of a key: 32 bits, by other numbers than those by which the key table spreads its keys, so that the keys of
@@ -42,7 +42,7 @@ fn is_asked(marks: &[u8], low: u64, high: u64, key: u64) -> bool
     let class = class_of(key);
     if low <= class {
         if class < high {
-            let at = (class / 0x2_0000) as usize;
+            let at = (class / 0x4_0000) as usize;
             if at < marks.len() {
                 return 0 < marks[at];
             }
@@ -158,7 +158,7 @@ fn mark_slot(marks: &mut [u8], key: u64, info: u64)
     ensures { λ _. ⌜ OneMarked (now (marks .entry)) (now (marks .exit)) key info ⌝ }
 {
     if 0x8000_0000_0000_0000 <= info {
-        let at = (class_of(key) / 0x2_0000) as usize;
+        let at = (class_of(key) / 0x4_0000) as usize;
         if at < marks.len() {
             marks[at] = 1;
         }

@@ -347,14 +347,20 @@ fn range_end(low: u64, width: u64) -> u64
     }
 }
 
+// A table of the call's own has so many words, and holds so many keys.
+const OWN_WORDS: usize = 6144;
+
+const OWN_KEYS: usize = 1536;
+
 // How many classes the next range is to have, where one of so many had so many keys: so many as are likely to have
-// seven eighths of the keys that a table of 4,096 words holds.
+// seven eighths of the keys that a table of the call's own holds, and at most eight times as many as before.
 fn next_width(width: u64, keys: usize) -> u64
     requires { ⌜ (1 ≤ width) × (width ≤ 2 ^ 32) ⌝ }
     ensures { λ r. ⌜ (1 ≤ r) × (r ≤ 2 ^ 32) ⌝ }
 {
-    let many = lesser(keys, 1024) as u64;
-    let w = width * 1024 / (many + 128);
+    let many = lesser(keys, OWN_KEYS) as u64;
+    let room = OWN_KEYS as u64;
+    let w = width * room / (many + room / 8);
     if w < 1 {
         return 1;
     }
@@ -376,7 +382,7 @@ fn is_enough(fits: bool, width: u64) -> bool
 fn check_classes(image: &[u8], count: usize, buffer: &mut Buffer) -> Checked
     ensures { λ r. ⌜ AllChecked count (wordsOf (now (image .entry))) (now (buffer .entry)) (now (buffer .exit)) r ⌝ }
 {
-    let mut own: [u64; 4096] = [0; 4096];
+    let mut own: [u64; OWN_WORDS] = [0; OWN_WORDS];
     let mut s = Checked {
         blocks: true,
         agreeing: true,

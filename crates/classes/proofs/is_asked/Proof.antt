@@ -14,10 +14,10 @@ shared-slice-read-result : tie.Need-shared-slice-read-result
 shared-slice-read-result c = search needs
 
 returns : tie.Need-returns
-returns c = asked-mark _ _ _ _ (c .before .before .before .before .class-of .ensures) (c .before .before .before .before .before .before .args .marks .now) (omega arith) (omega arith) (c .before .before .before .before .class-of .result / 0x2_0000) refl (omega arith)
+returns c = asked-mark _ _ _ _ (c .before .before .before .before .class-of .ensures) (c .before .before .before .before .before .before .args .marks .now) (omega arith) (omega arith) (c .before .before .before .before .class-of .result / 0x4_0000) refl (omega arith)
 
 returns-2 : tie.Need-returns-2
-returns-2 c = asked-out _ _ _ _ (c .before .before .before .class-of .ensures) (c .before .before .before .before .before .args .marks .now) (omega arith) (omega arith) (c .before .before .before .class-of .result / 0x2_0000) refl (omega arith)
+returns-2 c = asked-out _ _ _ _ (c .before .before .before .class-of .ensures) (c .before .before .before .before .before .args .marks .now) (omega arith) (omega arith) (c .before .before .before .class-of .result / 0x4_0000) refl (omega arith)
 
 returns-3 : tie.Need-returns-3
 returns-3 c = asked-above _ _ _ _ (c .before .before .class-of .ensures) (c .before .before .before .before .args .marks .now) (omega arith) (omega arith)

@@ -16,10 +16,10 @@ same-length : tie.Need-same-length
 same-length c = search needs
 
 returns : tie.Need-returns
-returns c = mark-set _ _ _ (c .before .class-of .result / 0x2_0000) (rw (c .before .class-of .ensures)) (omega arith)
+returns c = mark-set _ _ _ (c .before .class-of .result / 0x4_0000) (rw (c .before .class-of .ensures)) (omega arith)
 
 returns-2 : tie.Need-returns-2
-returns-2 c = mark-none _ _ _ (c .before .class-of .result / 0x2_0000) (rw (c .before .class-of .ensures)) (omega arith)
+returns-2 c = mark-none _ _ _ (c .before .class-of .result / 0x4_0000) (rw (c .before .class-of .ensures)) (omega arith)
 
 returns-3 : tie.Need-returns-3
 returns-3 c = mark-low _ _ _ (omega arith)

@@ -11,7 +11,7 @@ use Rattle.consistency.proofs.check_classes.Statement.{statement}
 use Rattle.consistency.proofs.check_classes.Tie as tie
 
 abbrev Inv-loop : tie.InvT-loop
-Inv-loop image count buffer₀ own₀ s₀ low₀ width₀ buffer own s low width = (length own ≡ 4096) × (low ≤ 2 ^ 32) × (1 ≤ width) × (width ≤ 2 ^ 32) × Done count (wordsOf image) buffer₀ buffer s low
+Inv-loop image count buffer₀ own₀ s₀ low₀ width₀ buffer own s low width = (length own ≡ 6144) × (low ≤ 2 ^ 32) × (1 ≤ width) × (width ≤ 2 ^ 32) × Done count (wordsOf image) buffer₀ buffer s low
 
 abbrev μ-loop : tie.MeasureT-loop
 μ-loop image count buffer₀ own₀ s₀ low₀ width₀ buffer own s low width = (2 ^ 32 - low) * 2 ^ 33 + width
@@ -19,7 +19,7 @@ abbrev μ-loop : tie.MeasureT-loop
 loop-holds : tie.Need-loop-holds Inv-loop μ-loop
 loop-holds c =
     let a = c .before .args in
-    (length-replicate {A = ℕ} 4096 0, omega arith, omega arith, omega arith, done-none (a .count) (wordsOf (a .image .now)) (a .buffer .now))
+    (length-replicate {A = ℕ} 6144 0, omega arith, omega arith, omega arith, done-none (a .count) (wordsOf (a .image .now)) (a .buffer .now))
 
 range-end-requires : tie.Need-range-end-requires Inv-loop μ-loop
 range-end-requires c κs = search needs
