@@ -163,7 +163,7 @@ int command_check(const char *file, char **word, const struct options *o)
     zkv_place place = {0, 0, 0, 0};
     (void)word;
     int status = open_image(&s, file, ZKV_FILE_READ, o, &number);
-    if (status == DONE && number != 0) {
+    if (status == DONE && number != 0 && number != ZKV_TABLE_FULL) {
         place = zkv_fault(s.file.image, s.file.bytes);
     }
     if (status == DONE && number == 0 && o->against != NULL) {
