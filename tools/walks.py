@@ -68,7 +68,7 @@ def print_into(root, into):
             if name.endswith('.rt'):
                 path = os.path.join(folder, name)
                 text = open(path, encoding='utf8').read()
-                open(path, 'w', encoding='utf8').write(BUFFER.sub(r'\1[u64; 1152]', text))
+                open(path, 'w', encoding='utf8').write(BUFFER.sub(r'\1[u64; 1664]', text))
     for tool, crate, function, terms, uses in WALKS:
         command = [sys.executable, '-B', f'{root}/tools/walk_{tool}.py', f'{into}/crates/{crate}/src/lib.rt', function, '--proof', terms[0]]
         command += ['--else', terms[1]] if len(terms) > 1 else []

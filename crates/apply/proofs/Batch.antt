@@ -181,7 +181,7 @@ pub record Going (ws buffer₀ table₀ : List ℕ) (keys₀ place at₀ end : �
   pub sized : length table ≡ length table₀
   pub goes : (n : ℕ) (whole back : List Entry) → Left n ws buffer₀ table₀ keys₀ place at₀ end whole back → Left n ws buffer table keys place at end whole back
 
-pub going-start : (ws buffer table : List ℕ) (keys place at end : ℕ) → length buffer ≡ 1152 → Going ws buffer table keys place at end buffer table keys at
+pub going-start : (ws buffer table : List ℕ) (keys place at end : ℕ) → length buffer ≡ 1664 → Going ws buffer table keys place at end buffer table keys at
 going-start ws buffer table keys place at end long = record { kept = kept-all buffer long; sized = refl; goes = λ n whole back l. l }
 
 module _ (ws buffer₀ table₀ : List ℕ) (keys₀ place at₀ end : ℕ) (buffer table : List ℕ) (keys at : ℕ) (inv : Going ws buffer₀ table₀ keys₀ place at₀ end buffer table keys at)

@@ -34,13 +34,13 @@ module _ (op placement field : ℕ) where
       other : (u : ℕ) → (u ≡ field → ⊥) → hasBit d u ≡ either (eqb field u) (hasBit b u)
       other u n = rw (ne-eqb field u (λ e. n (sym e))) (w .other u n)
 
-  claimed-none : (b : List ℕ) → length b ≡ 1152 → ((u : ℕ) → blockAt op placement field u ≡ false) → Claimed b b (blockAt op placement field)
+  claimed-none : (b : List ℕ) → length b ≡ 1664 → ((u : ℕ) → blockAt op placement field u ≡ false) → Claimed b b (blockAt op placement field)
   claimed-none b n z = record { bits = λ u h. rw (z u); kept = kept-all b n }
 
-  pub no-put : (b : List ℕ) → length b ≡ 1152 → (op ≡ 1 → ⊥) → Claimed b b (blockAt op placement field)
+  pub no-put : (b : List ℕ) → length b ≡ 1664 → (op ≡ 1 → ⊥) → Claimed b b (blockAt op placement field)
   no-put b n p = claimed-none b n (λ u. rw (ne-eqb op 1 p))
 
-  pub no-block : (b : List ℕ) → length b ≡ 1152 → (placement ≡ 1 → ⊥) → Claimed b b (blockAt op placement field)
+  pub no-block : (b : List ℕ) → length b ≡ 1664 → (placement ≡ 1 → ⊥) → Claimed b b (blockAt op placement field)
   no-block b n p = claimed-none b n (λ u. rw (ne-eqb placement 1 p, both-none (eqb op 1)))
 
 -- AN ITEM with its block

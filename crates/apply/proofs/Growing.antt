@@ -94,7 +94,7 @@ module _ (ws buffer buffer′ table table′ : List ℕ) (keys key own slot old 
     }
 
   -- a new key
-  pub joined-new : length buffer ≡ 1152 → buffer′ ≡ buffer → table′ ≡ putAt table slot key info → old ≡ 0 → OneJoined ws buffer buffer′ table table′ keys key own (keys + 1)
+  pub joined-new : length buffer ≡ 1664 → buffer′ ≡ buffer → table′ ≡ putAt table slot key info → old ≡ 0 → OneJoined ws buffer buffer′ table table′ keys key own (keys + 1)
   joined-new size same is-put z = record {
     kept = rw same (kept-all buffer size);
     sized = long is-put;
@@ -105,7 +105,7 @@ module _ (ws buffer buffer′ table table′ : List ℕ) (keys key own slot old 
   }
 
   -- a new key where the table is full: there is room, so this is never the case
-  pub joined-full : length buffer ≡ 1152 → buffer′ ≡ buffer → table′ ≡ table → old ≡ 0 → tableRoom (length table) ≤ keys → OneJoined ws buffer buffer′ table table′ keys key own keys
+  pub joined-full : length buffer ≡ 1664 → buffer′ ≡ buffer → table′ ≡ table → old ≡ 0 → tableRoom (length table) ≤ keys → OneJoined ws buffer buffer′ table table′ keys key own keys
   joined-full size same kept z full = record {
     kept = rw same (kept-all buffer size);
     sized = ap length kept;

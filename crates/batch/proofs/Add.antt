@@ -43,7 +43,7 @@ unfolding hasBit
 bits-kept b d h u = ap (λ (w : ℕ). both (ltb u 8064) (eqb (w / 2 ^ (u % 64) % 2) 1)) (h (wordOf u) (omega arith))
 
 -- no room
-pub add-none : (b : List ℕ) (words : ℕ) (e : Entry) → length b ≡ 1152 → 512 < words + (2 + length (e .value)) → Added b b words words e
+pub add-none : (b : List ℕ) (words : ℕ) (e : Entry) → length b ≡ 1664 → 512 < words + (2 + length (e .value)) → Added b b words words e
 add-none b words e n h =
     record {
       size = n;
@@ -55,15 +55,15 @@ add-none b words e n h =
       written = λ l. absurd (omega arith);
     }
 
-module _ (b d : List ℕ) (words next op pl v x key head : ℕ) (vs : List ℕ) (n : length b ≡ 1152) (room : words + (2 + length vs) ≤ 512)
+module _ (b d : List ℕ) (words next op pl v x key head : ℕ) (vs : List ℕ) (n : length b ≡ 1664) (room : words + (2 + length vs) ≤ 512)
     (counted : next ≡ words + (2 + length vs))
     (told : head ≡ headWord (op % 4) (pl % 4) (v % 1048576) (x % 2 ^ 40))
-    (stored : d ≡ overlay (set (set b words head) (words + 1) key) (words + 2) (take (1152 - (words + 2)) vs)) where
+    (stored : d ≡ overlay (set (set b words head) (words + 1) key) (words + 2) (take (1664 - (words + 2)) vs)) where
   laid : d ≡ overlay b words (head ∷ key ∷ vs)
   laid =
       let one : words + 1 ≡ suc words = omega arith in
       let two : words + 2 ≡ suc (suc words) = omega arith in
-      stored ∙ rw (take-all (1152 - (words + 2)) vs (omega arith), one, two)
+      stored ∙ rw (take-all (1664 - (words + 2)) vs (omega arith), one, two)
 
   above-kept : (i : ℕ) → 512 ≤ i → getD d i 0 ≡ getD b i 0
   above-kept i l = ap (λ (xs : List ℕ). getD xs i 0) laid ∙ getD-overlay-outside (head ∷ key ∷ vs) b words i (λ p q. omega arith)

@@ -47,14 +47,14 @@ pub record AgreedIs (ws : List ℕ) (so : Bool) (h : Head) (place : ℕ) (r : Bo
 
 -- the marks with one more top entry, whose block has a bit; the chosen entry of its key stands at `place`
 pub record MarkedIs (apart : Bool) (h : Head) (place : ℕ) (before after : List ℕ) (r : Bool) : Type 0 where
-  pub kept : length before ≡ 1152 → WordsKept before after
+  pub kept : length before ≡ 1664 → WordsKept before after
   pub marks : (ws : List ℕ) (es xs ys : List Entry) (words : ℕ) (f : Entry) → Apart es → es ≡ xs ++ entryOf ws h words ∷ ys → (Mem (entryOf ws h words) xs → ⊥)
       → chosen (h .key) es ≡ some f → f .at ≡ place → (points (h .op) (h .placement) ≡ true → h .field < 8064)
       → Marks es xs (hasBit before) apart → Marks es (xs ++ entryOf ws h words ∷ []) (hasBit after) r
 
 -- the tests with one more entry, after none failed
 pub record VisitedIs (n : ℕ) (ws table : List ℕ) (fits : Bool) (s : Checked) (h : Head) (before after : List ℕ) (r : Checked) : Type 0 where
-  pub kept : length before ≡ 1152 → WordsKept before after
+  pub kept : length before ≡ 1664 → WordsKept before after
   pub right : (es xs ys : List Entry) (words : ℕ) → Listed n ws table fits es → es ≡ xs ++ entryOf ws h words ∷ ys → CheckInv 12 n ws es xs (hasBit before) true (s .agreeing) (s .apart)
       → r .blocks ≡ true → CheckInv 12 n ws es (xs ++ entryOf ws h words ∷ []) (hasBit after) true (r .agreeing) (r .apart)
   pub wrong : (es xs ys : List Entry) (words : ℕ) → Listed n ws table fits es → es ≡ xs ++ entryOf ws h words ∷ ys → s .blocks ≡ true → r .blocks ≡ false → blocksTest 12 n ws es ≡ false

@@ -50,7 +50,7 @@ batch-kept c c′ b b′ n ws es items ew ei e ek f = record {
 }
 
 pub built-kept : (c c′ : Control) (b table : List ℕ) (es : List Entry) → c′ .keys ≡ c .keys → Built c b table es → Built c′ b table es
-built-kept c c′ b table es e f = record { indexed = rw e (f .indexed); blocks = f .blocks }
+built-kept c c′ b table es e f = record { indexed = rw e (f .indexed); blocks = f .blocks; sums = f .sums }
 
 -- at rest with nothing staged; at rest with what is staged
 abbrev pub emptied : Control → Control
@@ -74,7 +74,7 @@ module _ (c : Control) (k : Setup) (b ws table : List ℕ) (items : List Entry) 
         accepted = f .accepted;
         long = f .long;
         lent = f .lent;
-        built = record { indexed = f .built .indexed; blocks = f .built .blocks };
+        built = record { indexed = f .built .indexed; blocks = f .built .blocks; sums = f .built .sums };
         batch = record { room = omega arith; written = refl; count = refl; few = omega arith; right = tt; counts = tt; fit = none-fit (chunksIn basePower (k .image)) ws (f .front ++ (placed (batchPlace k) items ++ f .back)); keys = omega arith };
         table-room = omega arith;
         hint = f .hint;
@@ -88,7 +88,7 @@ module _ (c : Control) (k : Setup) (b ws table : List ℕ) (items : List Entry) 
     accepted = f .accepted;
     long = f .long;
     lent = f .lent;
-    built = record { indexed = f .built .indexed; blocks = f .built .blocks };
+    built = record { indexed = f .built .indexed; blocks = f .built .blocks; sums = f .built .sums };
     batch = batch-kept c (staged c) b b (chunksIn basePower (k .image)) ws (f .entries) items refl refl refl refl (f .batch);
     table-room = f .table-room;
     hint = f .hint;

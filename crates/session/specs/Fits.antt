@@ -26,13 +26,14 @@ use Rattle.theory_log.specs.Batch.{AllRight}
 use Rattle.theory_log.specs.Contents.{CountsOn, Mem, Top, Agree}
 use Rattle.blocks.specs.Bits.{hasBit}
 use Rattle.volatile.specs.Known.{Indexed}
+use Rattle.volatile.specs.Sums.{Summed}
 use Rattle.session.specs.State.{batchRoom, batchWords, stateOf}
-use Rattle.session.specs.Cleaned.{before, copiesOf, after, Cleaned, Stand}
+use Rattle.session.specs.Cleaned.{before, keptOf, copiesOf, after, Cleaned, Stand}
 
 -- A value of the type `Session`: antt's list has no length, the array has so many words. Every record that is lent is
 -- one: `blocks::buffer_length` shows it of any such array.
 abbrev pub bufferWords : ℕ
-bufferWords = 1152
+bufferWords = 1664
 
 abbrev pub Proper : Session → Type 0
 Proper s = length (s .buffer) ≡ bufferWords
@@ -59,10 +60,11 @@ pub record BatchFits (c : Control) (buffer : List ℕ) (n : ℕ) (ws : List ℕ)
   pub fit : ItemsFit n ws es items
   pub keys : c .keys + c .fresh ≡ length (distinct (keyList items ++ keyList es))
 
--- the table and the block bits are those of the entries es
+-- the table, the block bits and the chunks' sums are those of the entries es
 pub record Built (c : Control) (buffer table : List ℕ) (es : List Entry) : Type 0 where
   pub indexed : Indexed table (c .keys) es
   pub blocks : (u : ℕ) → hasBit buffer u ≡ isIn u (liveBlocks es)
+  pub sums : Summed buffer es
 
 -- no log chunk below `first` has space for `least` lines behind its committed ones, in an image of n chunks: the word
 -- of a chunk past the directory would be a word of some block
@@ -129,6 +131,8 @@ pub record CleanFits (c : Control) (k : Setup) (f : Source) (b ws table : List �
   pub source : f .chunk ≤ 503
   pub committed : f .lines ≤ 64
   pub room : f .words ≤ batchRoom
+  pub keeps : f .words ≡ length (encodeAll (keptOf xs mid ys))
+  pub place : 8 * k .lines + f .words ≤ batchRoom
   pub accepted : opening basePower (k .image) (runWords rest ws) (k .table) ≡ Accepted (after xs mid ys as′ bs (batchPlace k))
   pub long : length ws ≡ k .image / 8
   pub lent : length table ≡ k .table

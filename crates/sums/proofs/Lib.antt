@@ -1,0 +1,4 @@
+pub mod Laws
+pub mod Weights
+pub mod Renews
+pub mod Joins
