@@ -18,6 +18,7 @@ use Rattle.theory_base.proofs.Lists.{both-l, both-r}
 use Rattle.theory_log.proofs.Agree.{agree-one}
 use Rattle.blocks.specs.Bits.{hasBit, BitWritten}
 use Rattle.blocks.proofs.Laws.{kept-all}
+use Rattle.volatile.proofs.Sums.{summed-same}
 use Rattle.apply.specs.Blocks.{bitRoom, blockAt, points, topBlock, Claimed}
 use Rattle.apply.specs.Joining.{Shown, Awaited, Superseding}
 use Rattle.apply.proofs.Joined.{live-joined, apart-joined}
@@ -51,6 +52,7 @@ joined-shown n ws buffer buffer′ buffer″ table table′ keys keys′ xs more
   blocks = λ u.
       c .bits u (room u) ∙ ap (either (points u e)) (p .1 u ∙ ap (λ (t : Bool). both t (negate (topBlock (e .key) (xs ++ ys) u))) (s .blocks u))
       ∙ sym (live-joined xs ys e (a .later e (inl refl)) (a .dead) (s .agree) (s .apart) u);
+  sums = summed-same buffer′ buffer″ (xs ++ e ∷ ys) (λ i l. c .kept .above i (omega arith)) (p .2);
   agree = agree-one xs ys e (a .later e (inl refl)) (s .agree);
   apart = apart-joined xs ys e (a .later e (inl refl)) (a .dead) (s .apart);
 }

@@ -14,7 +14,7 @@ use lib.Dec.{eqb}
 use lib.ListN.{length, getD, set, take, length-set}
 use lib.Seq.{getD-set-same, getD-set-other, ext-getD, getD-take, length-take-le}
 use Rattle.blocks.proofs.Word.{shifted, set-same, set-other, unset-same, unset-other}
-use Rattle.blocks.specs.Bits.{wordOf, hasBit, WordsKept, BitWritten, BitsCleared}
+use Rattle.blocks.specs.Bits.{wordOf, hasBit, WordsKept, FrontKept, BitWritten, BitsCleared}
 
 -- the bit of a unit, and none past the last
 pub bit-in : (b : List ℕ) (u : ℕ) → u < 8064 → hasBit b u ≡ eqb (getD b (wordOf u) 0 / 2 ^ (u % 64) % 2) 1
@@ -26,7 +26,7 @@ unfolding hasBit
 bit-beyond b u l = rw (le-ltb u 8064 l)
 
 -- two buffers whose words at a unit agree in its bit
-bit-agrees : (b d : List ℕ) (u : ℕ)
+pub bit-agrees : (b d : List ℕ) (u : ℕ)
     → (u < 8064 → getD b (wordOf u) 0 / 2 ^ (u % 64) % 2 ≡ getD d (wordOf u) 0 / 2 ^ (u % 64) % 2) → hasBit b u ≡ hasBit d u
 bit-agrees b d u h =
     by-cases (decLt u 8064)
@@ -124,6 +124,16 @@ kept-then a b d k m =
       below = λ i l. m .below i l ∙ k .below i l;
       above = λ i l. m .above i l ∙ k .above i l;
     }
+
+-- what stands before the bits
+pub front-kept : (b d : List ℕ) → WordsKept b d → FrontKept b d
+front-kept b d k = record { size = k .size; long = k .long; below = k .below }
+
+pub front-all : (b : List ℕ) → length b ≡ 1664 → FrontKept b b
+front-all b n = front-kept b b (kept-all b n)
+
+pub front-then : (a b d : List ℕ) → FrontKept a b → FrontKept b d → FrontKept a d
+front-then a b d k m = record { size = k .size; long = m .long ∙ k .long; below = λ i l. m .below i l ∙ k .below i l }
 
 -- what stands before the bits is the same list
 pub kept-take : (b d : List ℕ) (n : ℕ) → WordsKept b d → n ≤ 1024 → take n d ≡ take n b

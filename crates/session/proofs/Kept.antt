@@ -12,13 +12,13 @@ use Rattle.spec.specs.Actions.{appendOf}
 use Rattle.session.specs.declared.Control.{Control}
 use Rattle.session.specs.declared.Setup.{Setup}
 use Rattle.session.specs.declared.Session.{Session}
-use Rattle.blocks.specs.Bits.{WordsKept}
+use Rattle.blocks.specs.Bits.{FrontKept}
 use Rattle.session.specs.State.{batchRoom, batchWords, batchItems, chunkIn, linesIn, commitActions}
 use Rattle.session.specs.Fits.{ItemsFit, BatchFits, Built, RestFits, batchPlace, CommitFits}
 use Rattle.session.proofs.Part.{part-agree}
 
 -- THE STAGED WORDS stay where the buffer's first words do.
-pub words-kept : (c c′ : Control) (b b′ : List ℕ) → WordsKept b b′ → c′ .words ≡ c .words → batchWords c′ b′ ≡ batchWords c b
+pub words-kept : (c c′ : Control) (b b′ : List ℕ) → FrontKept b b′ → c′ .words ≡ c .words → batchWords c′ b′ ≡ batchWords c b
 unfolding batchWords
 words-kept c c′ b b′ w e = rw e (part-agree b′ b 0 (min (c .words) batchRoom) (λ j l u. w .below j (omega arith)))
 

@@ -18,6 +18,8 @@ use Rattle.spec.specs.Basics.{pick}
 use Rattle.spec.specs.Places.{basePower, chunkWords, wordChunk}
 use Rattle.spec.specs.Log.{Entry}
 use Rattle.spec.specs.Contents.{chosen}
+use Rattle.blocks.specs.Bits.{wordOf, hasBit, FrontKept}
+use Rattle.blocks.proofs.Laws.{bit-agrees}
 use Rattle.volatile.specs.Sums.{weight, shareIn, chosenSum, sumsStart, sumsCount, Summed}
 use Rattle.volatile.proofs.Sums.{sum-none}
 use Rattle.sums.specs.Change.{only, nothing, SumsAlone, Changed, Cleared}
@@ -30,6 +32,13 @@ alone-then a b d k m = record { size = k .size; long = m .long ∙ k .long; belo
 
 pub changed-none : (b : List ℕ) → length b ≡ 1664 → Changed b b nothing nothing
 changed-none b n = record { kept = alone-self b n; sums = λ c l. refl; narrow = λ c l h. h }
+
+-- neither the words before the bits nor these change
+pub alone-front : (b d : List ℕ) → SumsAlone b d → FrontKept b d
+alone-front b d k = record { size = k .size; long = k .long; below = λ i l. k .below i (omega arith) }
+
+pub alone-bits : (b d : List ℕ) → SumsAlone b d → (u : ℕ) → hasBit d u ≡ hasBit b u
+alone-bits b d k u = bit-agrees d b u (λ l. rw (k .below (wordOf u) (omega arith)))
 
 -- a store to the sum of a place's chunk
 module _ (b : List ℕ) (place w v : ℕ) (n : length b ≡ 1664) where

@@ -7,6 +7,7 @@ use mathlib.Core.Bool.{Bool, true, false}
 use mathlib.Core.Option.{Option, none, some}
 use mathlib.Core.List.{List, [], _∷_}
 use Prim.Native.Nat.{ℕ, _+_, _≤_}
+use lib.ListN.{getD}
 use native.Mathlib.Omega.{arith}
 use native.Mathlib.Decide.{ℕ-discrete}
 use lib.Dec.{eqb}
@@ -17,7 +18,7 @@ use Rattle.spec.specs.Log.{Entry}
 use Rattle.spec.specs.Contents.{chosen, known, keysOf}
 use Rattle.theory_base.proofs.Lists.{not-both, isIn-mem, mem-isIn, Once, distinct-once}
 use Rattle.theory_log.proofs.Keys.{keyList, keys-known}
-use Rattle.volatile.specs.Sums.{shareIn, sumOver, chosenSum}
+use Rattle.volatile.specs.Sums.{shareIn, sumOver, chosenSum, sumsStart, Summed}
 
 -- ## Sums over a list
 
@@ -108,6 +109,10 @@ keys-cover c es k n = share-none c (chosen k es) (unknown-key es k n)
 pub sum-by : (c : ℕ) (es : List Entry) (ks : List ℕ) → Once ks → Covers ks (λ k. shareIn c (chosen k es)) → chosenSum c es ≡ sumOver (λ k. shareIn c (chosen k es)) ks
 unfolding chosenSum
 sum-by c es ks o h = sum-lists (λ k. shareIn c (chosen k es)) (keysOf es) ks (keys-once es) o (keys-cover c es) h
+
+-- a buffer with the same sums
+pub summed-same : (b d : List ℕ) (es : List Entry) → ((i : ℕ) → sumsStart ≤ i → getD d i 0 ≡ getD b i 0) → Summed b es → Summed d es
+summed-same b d es h s = record { each = λ c l. h (sumsStart + c) (omega arith) ∙ s .each c l }
 
 pub sum-none : (c : ℕ) → chosenSum c [] ≡ 0
 unfolding chosenSum
