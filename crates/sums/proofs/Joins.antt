@@ -2,9 +2,9 @@
 -- Assumes nothing.
 use mathlib.Core.Path.{_≡_, refl, sym, _∙_, ap}
 use mathlib.Core.Logic.{inl}
-use mathlib.Core.Option.{some}
+use mathlib.Core.Option.{none, some}
 use mathlib.Core.List.{List, [], _∷_, _++_, append-nil}
-use Prim.Native.Nat.{ℕ, _≤_, _<_}
+use Prim.Native.Nat.{ℕ, _+_, _≤_, _<_}
 use native.Mathlib.Omega.{arith}
 use Rattle.spec.specs.Log.{Entry}
 use Rattle.spec.specs.Contents.{chosen, highest}
@@ -13,7 +13,9 @@ use Rattle.theory_log.proofs.Contents.{mem-r}
 use Rattle.theory_log.proofs.Keys.{mem-known}
 use Rattle.log.specs.Stands.{StandsIn}
 use Rattle.volatile.specs.Known.{infoOf, ownOf, Small, Bounded}
-use Rattle.volatile.specs.Sums.{weight}
+use Rattle.volatile.specs.Sums.{weight, shareIn, chosenSum}
+use Rattle.volatile.proofs.Info.{chosen-version}
+use Rattle.volatile.proofs.Sums.{sum-turned}
 use Rattle.volatile.proofs.Chosen.{chosen-other, chosen-above, chosen-behind}
 use Rattle.sums.specs.Change.{Renewing}
 
@@ -48,3 +50,13 @@ joins-behind ws old own w xs e is-old is-own is-weight small own-small stands = 
   stays = λ l. chosen-behind (e .key) xs e refl (own-small .version-low) l;
   stands = stands;
 }
+
+-- of a new key
+pub sum-new : (c : ℕ) (xs : List Entry) (e : Entry) → chosen (e .key) xs ≡ none → 1 ≤ e .version → chosenSum c (xs ++ e ∷ []) ≡ chosenSum c xs + shareIn c (some e)
+sum-new c xs e none-yet low =
+    let v : 0 ≡ highest (e .key) xs = chosen-version (e .key) xs none none-yet in
+    let z : highest (e .key) (xs ++ []) < e .version = rw (append-nil xs) (omega arith) in
+    let h : chosen (e .key) (xs ++ e ∷ []) ≡ some e = chosen-above (e .key) xs [] e refl z in
+    let t = sum-turned c (e .key) xs (xs ++ e ∷ []) (mem-known (e .key) (xs ++ e ∷ []) e (mem-r e xs (e ∷ []) (inl refl)) refl) (λ j n. chosen-other j xs [] e (λ q. n (sym q)) ∙ ap (chosen j) (append-nil xs)) in
+    let u : chosenSum c (xs ++ e ∷ []) + 0 ≡ chosenSum c xs + shareIn c (some e) = rw (none-yet, h) at t in
+    omega arith
