@@ -28,7 +28,7 @@ use Rattle.blocks.specs.Bits.{hasBit}
 use Rattle.volatile.specs.Known.{Indexed}
 use Rattle.volatile.specs.Sums.{Summed}
 use Rattle.session.specs.State.{batchRoom, batchWords, stateOf}
-use Rattle.session.specs.Cleaned.{before, keptOf, copiesOf, after, Cleaned, Stand}
+use Rattle.session.specs.Cleaned.{before, copiesOf, after, Cleaned, Moves, Stand}
 
 -- A value of the type `Session`: antt's list has no length, the array has so many words. Every record that is lent is
 -- one: `blocks::buffer_length` shows it of any such array.
@@ -131,8 +131,7 @@ pub record CleanFits (c : Control) (k : Setup) (f : Source) (b ws table : List �
   pub source : f .chunk ≤ 503
   pub committed : f .lines ≤ 64
   pub room : f .words ≤ batchRoom
-  pub keeps : f .words ≡ length (encodeAll (keptOf xs mid ys))
-  pub place : 8 * k .lines + f .words ≤ batchRoom
+  pub moves : Moves (f .chunk) (f .words) xs mid ys as′ bs (batchPlace k)
   pub accepted : opening basePower (k .image) (runWords rest ws) (k .table) ≡ Accepted (after xs mid ys as′ bs (batchPlace k))
   pub long : length ws ≡ k .image / 8
   pub lent : length table ≡ k .table

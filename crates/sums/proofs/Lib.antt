@@ -2,3 +2,4 @@ pub mod Laws
 pub mod Weights
 pub mod Renews
 pub mod Joins
+pub mod Turns

@@ -4,7 +4,7 @@ use mathlib.Core.Path.{_≡_}
 use mathlib.Core.Bool.{true}
 use mathlib.Core.Option.{some}
 use mathlib.Core.List.{List, [], _∷_, _++_}
-use Prim.Native.Nat.{ℕ, _+_, _/_, _%_, _^_, _≤_, _<_}
+use Prim.Native.Nat.{ℕ, _+_, _-_, _*_, _/_, _%_, _^_, _≤_, _<_}
 use lib.Dec.{eqb}
 use lib.ListN.{length, getD}
 use Rattle.spec.specs.Basics.{pick}
@@ -12,7 +12,7 @@ use Rattle.spec.specs.Log.{Entry}
 use Rattle.spec.specs.Contents.{chosen, known, highest}
 use Rattle.log.specs.Stands.{StandsIn}
 use Rattle.volatile.specs.Known.{extentOf, infoOf, ownOf, Small, Bounded}
-use Rattle.volatile.specs.Sums.{weightOf, weight, sumsStart, sumsCount, Summed}
+use Rattle.volatile.specs.Sums.{highHalf, weightOf, weight, chosenSum, sumsStart, sumsCount, Summed}
 
 -- so much at the chunk of word `place`; nothing anywhere
 abbrev pub only : (place weight : ℕ) → ℕ → ℕ
@@ -63,3 +63,20 @@ pub record Renewing (ws : List ℕ) (old own w : ℕ) (es es′ : List Entry) (e
 pub record Renewed (ws before after : List ℕ) (old own w : ℕ) : Type 0 where
   pub kept : SumsAlone before after
   pub renews : (es es′ : List Entry) (e : Entry) → Renewing ws old own w es es′ e → Summed before es → Summed after es′
+
+-- A CLEANED CHUNK with this sum, of which so many words are kept: what they weigh
+abbrev pub turnedWeight : (sum words : ℕ) → ℕ
+turnedWeight sum words = sum % highHalf + highHalf * (words - sum % highHalf)
+
+-- the entries es before, out after: those of the chunk are gone, and what is kept of them stands at `place`
+pub record Turning (chunk place words : ℕ) (es out : List Entry) : Type 0 where
+  pub source : chunk < sumsCount
+  pub target : place < 0x4_0000
+  pub few : words ≤ 512
+  pub puts : chosenSum chunk es % highHalf ≤ words
+  pub gone : chosenSum chunk out ≡ 0
+  pub others : (c : ℕ) → (c ≡ chunk → ⊥) → chosenSum c out ≡ chosenSum c es + only place (turnedWeight (chosenSum chunk es) words) c
+
+pub record TurnedOver (before after : List ℕ) (chunk place words : ℕ) : Type 0 where
+  pub kept : SumsAlone before after
+  pub turns : (es out : List Entry) → Turning chunk place words es out → Summed before es → Summed after out

@@ -4,7 +4,7 @@ ghost use mathlib.Core.Path.{_≡_};
 ghost use Prim.Native.Nat.{_+_, _%_};
 ghost use lib.ListN.{getD};
 ghost use Rattle.spec.specs.Words.{wordsOf};
-ghost use Rattle.sums.specs.Change.{only, nothing, Changed, Cleared, Weighed, WeighedAt, Renewed};
+ghost use Rattle.sums.specs.Change.{only, nothing, Changed, Cleared, Weighed, WeighedAt, Renewed, TurnedOver};
 use blocks::Buffer;
 use spec::FirstWord;
 
@@ -101,4 +101,22 @@ pub fn renew(image: &[u8], buffer: &mut Buffer, old: u64, own: u64, weight: u64)
         take_off(buffer, info.place as usize, gone);
         add(buffer, new.place as usize, weight);
     }
+}
+
+// A CLEANED CHUNK, of whose entries a cleaning has kept so many words: its chosen puts, and some of its chosen deletes.
+// They stand at word `place` from now on; its own sum is 0.
+pub fn turn_over(buffer: &mut Buffer, chunk: usize, place: usize, words: usize)
+    ensures { λ _. ⌜ TurnedOver (now (buffer .entry)) (now (buffer .exit)) chunk place words ⌝ }
+{
+    blocks::buffer_length(buffer);
+    let sum = sum_at(buffer, chunk);
+    let puts = sum % 0x1_0000_0000;
+    let all = words as u64 % 1024;
+    let at = 1152 + chunk % 512;
+    if puts <= all {
+        add(buffer, place, puts + 0x1_0000_0000 * (all - puts));
+        buffer[at] = 0;
+        return;
+    }
+    buffer[at] = 0;
 }
