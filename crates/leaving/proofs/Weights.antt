@@ -93,13 +93,15 @@ sum-most f g [] h = omega arith
 sum-most f g (k ∷ ks) h = let a = h k in let b = sum-most f g ks h in omega arith
 
 -- the chunk's sum
-pub record Weights (c : ℕ) (es kept : List Entry) : Type 0 where
+pub record Weights (c : ℕ) (es others kept : List Entry) : Type 0 where
   pub puts : ℕ
   pub deletes : ℕ
   pub copied : ℕ
   pub sum : chosenSum c es ≡ puts + highHalf * deletes
   pub words : length (encodeAll kept) ≡ puts + copied
   pub fewer : copied ≤ deletes
+  pub is-puts : puts ≡ sumOver (λ k. putWords c (chosen k es)) (keysOf es)
+  pub is-copied : copied ≡ sumOver (λ k. copiedDeletes c others (chosen k es)) (keysOf es)
 
 -- entries of keys that differ
 once-keys : (es : List Entry) → OneEach es → Once (keyList es)
@@ -169,7 +171,7 @@ module _ (c : ℕ) (es others mid : List Entry) (low high : ℕ) (rising : Risin
       go (some e) h = let i = chosen-is k es e h in absurd (n (isIn-mem k (keysOf es) (keys-known k es ∙ mem-known k es e (i .in-list) (i .of-key))))
 
   -- THE SUM AND WHAT IS KEPT
-  pub weights : Weights c es kept
+  pub weights : Weights c es others kept
   unfolding chosenSum
   weights =
       let ks = keysOf es in
@@ -189,4 +191,6 @@ module _ (c : ℕ) (es others mid : List Entry) (low high : ℕ) (rising : Risin
         sum = a ∙ ap (λ (y : ℕ). sumOver p ks + y) b;
         words = sym h ∙ sym g ∙ e;
         fewer = sum-most x d ks (λ k. copied-fewer c others (chosen k es));
+        is-puts = refl;
+        is-copied = refl;
       }
