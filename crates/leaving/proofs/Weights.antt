@@ -101,6 +101,7 @@ pub record Weights (c : ℕ) (es others kept : List Entry) : Type 0 where
   pub words : length (encodeAll kept) ≡ puts + copied
   pub fewer : copied ≤ deletes
   pub is-puts : puts ≡ sumOver (λ k. putWords c (chosen k es)) (keysOf es)
+  pub is-deletes : deletes ≡ sumOver (λ k. deleteWords c (chosen k es)) (keysOf es)
   pub is-copied : copied ≡ sumOver (λ k. copiedDeletes c others (chosen k es)) (keysOf es)
 
 -- entries of keys that differ
@@ -192,5 +193,6 @@ module _ (c : ℕ) (es others mid : List Entry) (low high : ℕ) (rising : Risin
         words = sym h ∙ sym g ∙ e;
         fewer = sum-most x d ks (λ k. copied-fewer c others (chosen k es));
         is-puts = refl;
+        is-deletes = refl;
         is-copied = refl;
       }
