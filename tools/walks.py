@@ -32,7 +32,7 @@ WALKS = [
     ('thin', 'store', 'step', ['e'], []),
     ('thin', 'store', 'step_fast', ['e'], []),
     ('read', 'stat', 'keys', ['e (h .setup) (h .buffer)'], []),
-    ('read', 'store', 'choose', ['record { called = e .called (h .buffer); inside = e .inside }'], []),
+    ('read', 'store', 'choose', ['record { called = e .called; inside = e .inside }'], []),
     ('read', 'store', 'find', ['record { called = e .called (h .buffer); located = e .located; is-report = e .is-report; inside = e .inside }'], []),
     ('read', 'store', 'list_key', ['record { listed = e }'], []),
     ('read', 'store', 'look_up', ['record { located = e .located; called = e .called (h .buffer); inside = e .inside; is-part = e .is-part; is-number = e .is-number }'], []),

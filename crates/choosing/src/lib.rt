@@ -137,15 +137,15 @@ pub fn choose(image: &[u8], table: &[u64], buffer: &Buffer, count: usize) -> Cho
     Choice::At(best.chunk)
 }
 
-// THE CALL: 2, 1, 8, then 16 where none is found.
-pub fn choose_core(control: Control, setup: Setup, buffer: &Buffer, image: &[u8], table: &[u64]) -> Report
-    ensures { λ r. ⌜ Choosing control setup (now (buffer .entry)) (now (image .entry)) (now (table .entry)) r ⌝ }
+// THE CALL: 2, 1, 8, then 16 where none is found. The buffer is a copy, since the record is lent to be read alone.
+pub fn choose_core(control: Control, setup: Setup, buffer: Buffer, image: &[u8], table: &[u64]) -> Report
+    ensures { λ r. ⌜ Choosing control setup buffer (now (image .entry)) (now (table .entry)) r ⌝ }
 {
     let gated = session::gate(control, setup, image.len(), table.len());
     match gated {
         Gated::Open => {
             let count = image.len() / 4096;
-            let choice = choose(image, table, buffer, count);
+            let choice = choose(image, table, &buffer, count);
             match choice {
                 Choice::At(c) => Report::Chosen(c),
                 Choice::Nothing => Report::Refused(Refusal::NotCleanable),
