@@ -83,7 +83,7 @@ static void measure(const char *what, unsigned dead, unsigned deletes)
         t = now() - t;
         best = t < best ? t : best;
     }
-    printf("%-34s %9.2f us   (report %d, %llu)\n", what, best / 1000, (int)r.kind, (unsigned long long)r.a);
+    printf("%-34s %9.2f us   (report %d, %llu)\n", what, best / 1000, (int)r.kind, (unsigned long long)r.first);
     free(image);
     free(table);
 }

@@ -99,7 +99,13 @@ fn better_of(best: Candidate, next: Candidate) -> Candidate
 // The better of the best so far and the next chunk, by its sum: the words of its chosen puts, which a cleaning copies at
 // least. Where they are more than the best one's, the chunk is no better; where it has no chosen delete, a cleaning
 // copies no more; else its entries are read.
-fn better_at(best: Candidate, image: &[u8], table: &[u64], buffer: &Buffer, chunk: usize) -> Candidate
+fn better_at(
+    best: Candidate,
+    image: &[u8],
+    table: &[u64],
+    buffer: &Buffer,
+    chunk: usize,
+) -> Candidate
     ensures { λ r. ⌜ BetteredAt (wordsOf (now (image .entry))) (now (table .entry)) (now (buffer .entry)) best chunk r ⌝ }
 {
     let sum = sums::sum_at(buffer, chunk);
@@ -138,7 +144,13 @@ pub fn choose(image: &[u8], table: &[u64], buffer: &Buffer, count: usize) -> Cho
 }
 
 // THE CALL: 2, 1, 8, then 16 where none is found. The buffer is a copy, since the record is lent to be read alone.
-pub fn choose_core(control: Control, setup: Setup, buffer: Buffer, image: &[u8], table: &[u64]) -> Report
+pub fn choose_core(
+    control: Control,
+    setup: Setup,
+    buffer: Buffer,
+    image: &[u8],
+    table: &[u64],
+) -> Report
     ensures { λ r. ⌜ Choosing control setup buffer (now (image .entry)) (now (table .entry)) r ⌝ }
 {
     let gated = session::gate(control, setup, image.len(), table.len());
