@@ -12,7 +12,7 @@
  * - image: the persistent memory; header, directory and log. It is the register. 4 to 504 times 4,096 bytes, aligned to
  *   64.
  * - table: the key table, volatile words that each opening fills anew. Any number of words, aligned to 8.
- * - record: the station record (zkv_record, 9,384 bytes, aligned to 8): what is open, staged and unfinished. Volatile.
+ * - record: the station record (zkv_record, 13,480 bytes, aligned to 8): what is open, staged and unfinished. Volatile.
  * - value: the bytes of a put, 0 to 4,088. Any alignment. It is lent to that call alone.
  *
  * The host allocates and frees all of them; the library keeps no pointer after a call returns. The staged values lie in
@@ -214,7 +214,7 @@ inline const char *zkv_sentence(uint64_t number)
 
 /* The station record: plain memory of this size, read and written by the calls alone. */
 typedef struct zkv_record {
-    uint64_t word[1173];
+    uint64_t word[1685];
 } zkv_record;
 
 /* What a call answers: a kind, and two numbers that are 0 where the kind has none. */

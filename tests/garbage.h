@@ -36,7 +36,7 @@ enum {
     SECONDS = 300             /* far more than a run takes */
 };
 
-_Static_assert(sizeof(zkv_record) == 8 * (BUFFER + 1152), "the record's parts are as the cases below fill them");
+_Static_assert(sizeof(zkv_record) == 8 * (BUFFER + 1664), "the record's parts are as the cases below fill them");
 
 /* ---- what is tried, for the messages */
 static const char *kind_of_case = "", *call = "";
@@ -755,7 +755,7 @@ static void near_record(void)
     w[19] = one_in(3) ? below(514) : below(60);
     w[20] = below(260);
     if (one_in(3)) {
-        wild(w + BUFFER, 8 * 1152);
+        wild(w + BUFFER, 8 * 1664);
     } else {
         entries(w + BUFFER, 512, 16 * chunks);
         entries(w + BUFFER + 512, 512, 16 * chunks);

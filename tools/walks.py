@@ -41,7 +41,7 @@ WALKS = [
     ('read', 'chunk_stat', 'describe_chunk', ['e (h .buffer)'], []),
     ('read', 'chunk_stat', 'empty_chunk', ['e (h .buffer)'], []),
     ('read', 'stat', 'keys', ['e (h .setup) (h .buffer)'], []),
-    ('read', 'store', 'choose', ['record { called = e .called (h .buffer); inside = e .inside }'], []),
+    ('read', 'store', 'choose', ['record { called = e .called; inside = e .inside }'], []),
     ('read', 'store', 'find', ['record { called = e .called (h .buffer); located = e .located; is-report = e .is-report; inside = e .inside }'], []),
     ('read', 'store', 'list_key', ['record { listed = e }'], []),
     ('read', 'store', 'look_up', ['record { located = e .located; called = e .called (h .buffer); inside = e .inside; is-part = e .is-part; is-number = e .is-number }'], []),
@@ -82,7 +82,7 @@ def print_into(root, into):
             if name.endswith('.rt'):
                 path = os.path.join(folder, name)
                 text = open(path, encoding='utf8').read()
-                open(path, 'w', encoding='utf8').write(BUFFER.sub(r'\1[u64; 1152]', text))
+                open(path, 'w', encoding='utf8').write(BUFFER.sub(r'\1[u64; 1664]', text))
     for tool, crate, function, terms, uses in WALKS:
         command = [sys.executable, '-B', f'{root}/tools/walk_{tool}.py', f'{into}/crates/{crate}/src/lib.rt', function, '--proof', terms[0]]
         command += ['--else', terms[1]] if len(terms) > 1 else []

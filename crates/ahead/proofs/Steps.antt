@@ -18,6 +18,7 @@ use Rattle.session.specs.declared.Session.{Session}
 use Rattle.theory_log.specs.Batch.{AllRight}
 use Rattle.theory_log.specs.Contents.{CountsOn}
 use Rattle.blocks.specs.Bits.{hasBit}
+use Rattle.volatile.proofs.Sums.{summed-same}
 use Rattle.actions.specs.Nth.{nthReport}
 use Rattle.actions.proofs.Nth.{run-nth, drop-past}
 use Rattle.session.specs.State.{batchRoom, batchWords}
@@ -32,7 +33,7 @@ session c k b = record { control = c; setup = k; buffer = b }
 -- buffer
 module _ (c c′ : Control) (k k′ : Setup) (b b′ ws table : List ℕ) (items : List Entry) (e : Entry) (acts : List Action) (f : RestFits (session c k b) ws table items)
     (ahead : Ahead (k .image) (k .table) ws (f .entries) (items ++ (e ∷ [])) acts) (bytes : k′ .image ≡ k .image) (lent : k′ .table ≡ k .table) (first : k′ .first ≡ k .first) (least : k′ .least ≡ k .least)
-    (bits : (u : ℕ) → hasBit b′ u ≡ hasBit b u) (known : c′ .keys ≡ c .keys) (room : c′ .words ≤ batchRoom) (written : batchWords c′ b′ ≡ encodeAll (items ++ (e ∷ [])))
+    (bits : (u : ℕ) → hasBit b′ u ≡ hasBit b u) (behind : (i : ℕ) → filterPlace < i → getD b′ i 0 ≡ getD b i 0) (known : c′ .keys ≡ c .keys) (room : c′ .words ≤ batchRoom) (written : batchWords c′ b′ ≡ encodeAll (items ++ (e ∷ [])))
     (count : c′ .items ≡ length (items ++ (e ∷ []))) (few : length (items ++ (e ∷ [])) ≤ maxItems) (right : AllRight (items ++ (e ∷ []))) (counts : CountsOn (f .entries) (items ++ (e ∷ []))) (marked : AllMarked (getD b′ filterPlace 0) (items ++ (e ∷ [])))
     (keys : c′ .keys + c′ .fresh ≡ length (distinct (keyList (items ++ (e ∷ [])) ++ keyList (f .entries)))) (space : c′ .keys + c′ .fresh ≤ capacity (k .table)) where
   pub stage-begun : StageFits (session c′ k′ b′) ws table (items ++ (e ∷ [])) acts
@@ -41,7 +42,7 @@ module _ (c c′ : Control) (k k′ : Setup) (b b′ ws table : List ℕ) (items
     accepted = rw (bytes, lent) (ahead .accepted);
     long = rw bytes (ahead .long);
     lent = f .lent ∙ sym lent;
-    built = record { indexed = rw known (f .built .indexed); blocks = λ u. bits u ∙ f .built .blocks u };
+    built = record { indexed = rw known (f .built .indexed); blocks = λ u. bits u ∙ f .built .blocks u; sums = summed-same b b′ (f .entries) (λ i l. behind i (omega arith)) (f .built .sums) };
     batch = record { room = room; written = written; count = count; few = few; right = right; counts = counts; fit = rw bytes (ahead .placed); marked = marked; keys = keys };
     table-room = rw lent space;
     hint = rw (bytes, first, least) (ahead .hint (k .first) (k .least) (f .hint));
@@ -64,7 +65,7 @@ module _ (c c′ : Control) (k : Setup) (b table : List ℕ) (items : List Entry
         accepted = f .accepted;
         long = f .long;
         lent = f .lent;
-        built = record { indexed = rw g (f .built .indexed); blocks = f .built .blocks };
+        built = record { indexed = rw g (f .built .indexed); blocks = f .built .blocks; sums = f .built .sums };
         batch = record { room = omega arith; written = rw a (f .batch .written); count = d ∙ f .batch .count; few = f .batch .few; right = f .batch .right; counts = f .batch .counts; fit = f .batch .fit; marked = f .batch .marked; keys = omega arith };
         table-room = omega arith;
         hint = f .hint;

@@ -23,9 +23,11 @@ use Rattle.theory_log.specs.Contents.{Mem, Top, CountsOn}
 use Rattle.theory_log.proofs.Contents.{larger-r, below-highest, counts-same, highest-insert}
 use Rattle.theory_log.proofs.Clean.{mem-placed}
 use Rattle.theory_crash.proofs.Blocks.{block-fits}
-use Rattle.blocks.specs.Bits.{WordsKept}
-use Rattle.blocks.proofs.Laws.{kept-all, kept-then}
+use Rattle.blocks.specs.Bits.{FrontKept}
+use Rattle.blocks.proofs.Laws.{front-kept, front-all, front-then}
 use Rattle.volatile.specs.Known.{extentOf, alone, ownOf}
+use Rattle.volatile.specs.Sums.{weight}
+use Rattle.sums.specs.Change.{Weighed}
 use Rattle.session.specs.State.{bufferPart, batchWords}
 use Rattle.session.specs.Fits.{ItemsFit, batchPlace}
 use Rattle.session.proofs.Part.{part-agree, chunk-in, lines-in}
@@ -113,7 +115,7 @@ left-start c k buffer ws table front back items f =
       right = f .right;
       counts = f .counts;
       fit = f .fit;
-      shown = record { indexed = f .built .indexed; blocks = f .built .blocks; agree = f .agree; apart = f .apart };
+      shown = record { indexed = f .built .indexed; blocks = f .built .blocks; sums = f .built .sums; agree = f .agree; apart = f .apart };
       most = f .most;
       image = f .shown;
       room = f .room;
@@ -121,20 +123,20 @@ left-start c k buffer ws table front back items f =
 
 -- ## One more item
 
-left-next : (n : ℕ) (ws buffer buffer′ buffer″ table table′ : List ℕ) (keys keys′ place at end op placement version field key words extent own : ℕ) (whole back : List Entry) → end ≤ 512
+left-next : (n : ℕ) (ws buffer buffer′ buffer″ table table′ : List ℕ) (keys keys′ place at end op placement version field key words extent own w : ℕ) (whole back : List Entry) → end ≤ 512
     → ((rest : List Entry) → StagedFrom buffer at end rest → Taken buffer at end op placement version field key words rest) → at + (2 + words) ≤ end
-    → extent ≡ extentOf placement field → own ≡ alone extent (place + at) version → OneJoined ws buffer buffer′ table table′ keys key own keys′ → Claimed buffer′ buffer″ (blockAt op placement field)
+    → extent ≡ extentOf placement field → own ≡ alone extent (place + at) version → Weighed op words w → OneJoined ws buffer buffer′ table table′ keys key own w keys′ → Claimed buffer′ buffer″ (blockAt op placement field)
     → Left n ws buffer table keys place at end whole back → Left n ws buffer″ table′ keys′ place (at + (2 + words)) end whole back
-left-next n ws buffer buffer′ buffer″ table table′ keys keys′ place at end op placement version field key words extent own whole back short taken fits is-extent is-own one claimed l = record {
+left-next n ws buffer buffer′ buffer″ table table′ keys keys′ place at end op placement version field key words extent own w whole back short taken fits is-extent is-own weighed one claimed l = record {
   joined = l .joined ++ e ∷ [];
   rest = es;
   parts = parts ∙ sym (append-snoc (l .joined) e (placed (place + (at + (2 + words))) es ++ back));
-  words = part-agree buffer″ buffer (at + (2 + words)) (end - (at + (2 + words))) (λ j l h. kept-then buffer buffer′ buffer″ (one .kept) (claimed .kept) .below j (omega arith)) ∙ t .behind;
+  words = part-agree buffer″ buffer (at + (2 + words)) (end - (at + (2 + words))) (λ j l h. front-then buffer buffer′ buffer″ (one .kept) (front-kept buffer′ buffer″ (claimed .kept)) .below j (omega arith)) ∙ t .behind;
   right = (rw (t .all) at (l .right)) .1;
   counts = counts-same (t .entry ∷ (l .joined ++ back)) ((l .joined ++ e ∷ []) ++ back) es (λ k. rw append-snoc (highest-insert k (l .joined) back e)) (counts .1);
   fit = rw append-snoc (items-next n ws (l .joined) back (t .entry) (place + at) es counts items);
   shown = rw append-snoc (joined-shown n ws buffer buffer′ buffer″ table table′ keys keys′ (l .joined) more back e awaits (l .shown) (small-block n ws (t .entry) (l .most) (items .blocks (t .entry) (inl refl)))
-      (one .joins n (l .joined) more back e (t .of-key) own-here awaits (l .shown)) (rw (t .of-op, t .of-placement, t .of-field) claimed));
+      (one .joins n (l .joined) more back e (t .of-key) own-here is-weight awaits (l .shown)) (rw (t .of-op, t .of-placement, t .of-field) claimed));
   most = l .most;
   image = l .image;
   room = rw (one .sized) (l .room);
@@ -151,6 +153,9 @@ left-next n ws buffer buffer′ buffer″ table table′ keys keys′ place at e
 
     own-here : ownOf e ≡ own
     own-here = rw (t .of-placement, t .of-field, t .of-version, ← is-extent) (sym is-own)
+
+    is-weight : w ≡ weight e
+    is-weight = weighed .is (omega arith) ∙ rw (t .of-op, t .size)
 
     more : List Entry
     more = placed (place + (at + (2 + words))) es
@@ -177,24 +182,24 @@ left-next n ws buffer buffer′ buffer″ table table′ keys keys′ place at e
 -- ## The loop: what was left at the beginning says what is left now
 
 pub record Going (ws buffer₀ table₀ : List ℕ) (keys₀ place at₀ end : ℕ) (buffer table : List ℕ) (keys at : ℕ) : Type 0 where
-  pub kept : WordsKept buffer₀ buffer
+  pub kept : FrontKept buffer₀ buffer
   pub sized : length table ≡ length table₀
   pub goes : (n : ℕ) (whole back : List Entry) → Left n ws buffer₀ table₀ keys₀ place at₀ end whole back → Left n ws buffer table keys place at end whole back
 
-pub going-start : (ws buffer table : List ℕ) (keys place at end : ℕ) → length buffer ≡ 1152 → Going ws buffer table keys place at end buffer table keys at
-going-start ws buffer table keys place at end long = record { kept = kept-all buffer long; sized = refl; goes = λ n whole back l. l }
+pub going-start : (ws buffer table : List ℕ) (keys place at end : ℕ) → length buffer ≡ 1664 → Going ws buffer table keys place at end buffer table keys at
+going-start ws buffer table keys place at end long = record { kept = front-all buffer long; sized = refl; goes = λ n whole back l. l }
 
 module _ (ws buffer₀ table₀ : List ℕ) (keys₀ place at₀ end : ℕ) (buffer table : List ℕ) (keys at : ℕ) (inv : Going ws buffer₀ table₀ keys₀ place at₀ end buffer table keys at)
     (r : Item) (told : Staged buffer at end r) where
   pub going-next : (op placement version field key words : ℕ) → r ≡ I.Entry op placement version field key words → end ≤ 512 → (extent own : ℕ) → extent ≡ extentOf placement field → own ≡ alone extent (place + at) version
-      → (buffer′ table′ : List ℕ) (keys′ : ℕ) → OneJoined ws buffer buffer′ table table′ keys key own keys′ → (buffer″ : List ℕ) → Claimed buffer′ buffer″ (blockAt op placement field)
+      → (w : ℕ) → Weighed op words w → (buffer′ table′ : List ℕ) (keys′ : ℕ) → OneJoined ws buffer buffer′ table table′ keys key own w keys′ → (buffer″ : List ℕ) → Claimed buffer′ buffer″ (blockAt op placement field)
       → Going ws buffer₀ table₀ keys₀ place at₀ end buffer″ table′ keys′ (at + (2 + words))
-  going-next op placement version field key words e short extent own is-extent is-own buffer′ table′ keys′ one buffer″ claimed = record {
-    kept = kept-then buffer₀ buffer buffer″ (inv .kept) (kept-then buffer buffer′ buffer″ (one .kept) (claimed .kept));
+  going-next op placement version field key words e short extent own is-extent is-own w weighed buffer′ table′ keys′ one buffer″ claimed = record {
+    kept = front-then buffer₀ buffer buffer″ (inv .kept) (front-then buffer buffer′ buffer″ (one .kept) (front-kept buffer′ buffer″ (claimed .kept)));
     sized = one .sized ∙ inv .sized;
     goes = λ n whole back l.
-        left-next n ws buffer buffer′ buffer″ table table′ keys keys′ place at end op placement version field key words extent own whole back short
-        (told-entry buffer at end r told op placement version field key words e) (told-fits buffer at end r told op placement version field key words e) is-extent is-own one claimed (inv .goes n whole back l);
+        left-next n ws buffer buffer′ buffer″ table table′ keys keys′ place at end op placement version field key words extent own w whole back short
+        (told-entry buffer at end r told op placement version field key words e) (told-fits buffer at end r told op placement version field key words e) is-extent is-own weighed one claimed (inv .goes n whole back l);
   }
 
   -- the end
@@ -213,5 +218,5 @@ going-joins c k ws buffer₀ table₀ keys₀ place at₀ end buffer table keys 
   joins = λ front back items f.
       let whole = front ++ (placed (batchPlace k) items ++ back) in
       let s = going-end ws buffer₀ table₀ keys₀ place at₀ end buffer table keys at inv r told e (k .image / 4096) whole back (rw (q2, q3, q4, q5) (left-start c k buffer₀ ws table₀ front back items f)) in
-      (record { indexed = s .indexed; blocks = s .blocks }, s .indexed .count);
+      (record { indexed = s .indexed; blocks = s .blocks; sums = s .sums }, s .indexed .count);
 }

@@ -18,6 +18,7 @@ use Rattle.theory_base.proofs.Lists.{both-l, both-r}
 use Rattle.theory_log.proofs.Agree.{agree-one}
 use Rattle.blocks.specs.Bits.{hasBit, BitWritten}
 use Rattle.blocks.proofs.Laws.{kept-all}
+use Rattle.volatile.proofs.Sums.{summed-same}
 use Rattle.apply.specs.Blocks.{bitRoom, blockAt, points, topBlock, Claimed}
 use Rattle.apply.specs.Joining.{Shown, Awaited, Superseding}
 use Rattle.apply.proofs.Joined.{live-joined, apart-joined}
@@ -34,13 +35,13 @@ module _ (op placement field : ℕ) where
       other : (u : ℕ) → (u ≡ field → ⊥) → hasBit d u ≡ either (eqb field u) (hasBit b u)
       other u n = rw (ne-eqb field u (λ e. n (sym e))) (w .other u n)
 
-  claimed-none : (b : List ℕ) → length b ≡ 1152 → ((u : ℕ) → blockAt op placement field u ≡ false) → Claimed b b (blockAt op placement field)
+  claimed-none : (b : List ℕ) → length b ≡ 1664 → ((u : ℕ) → blockAt op placement field u ≡ false) → Claimed b b (blockAt op placement field)
   claimed-none b n z = record { bits = λ u h. rw (z u); kept = kept-all b n }
 
-  pub no-put : (b : List ℕ) → length b ≡ 1152 → (op ≡ 1 → ⊥) → Claimed b b (blockAt op placement field)
+  pub no-put : (b : List ℕ) → length b ≡ 1664 → (op ≡ 1 → ⊥) → Claimed b b (blockAt op placement field)
   no-put b n p = claimed-none b n (λ u. rw (ne-eqb op 1 p))
 
-  pub no-block : (b : List ℕ) → length b ≡ 1152 → (placement ≡ 1 → ⊥) → Claimed b b (blockAt op placement field)
+  pub no-block : (b : List ℕ) → length b ≡ 1664 → (placement ≡ 1 → ⊥) → Claimed b b (blockAt op placement field)
   no-block b n p = claimed-none b n (λ u. rw (ne-eqb placement 1 p, both-none (eqb op 1)))
 
 -- AN ITEM with its block
@@ -51,6 +52,7 @@ joined-shown n ws buffer buffer′ buffer″ table table′ keys keys′ xs more
   blocks = λ u.
       c .bits u (room u) ∙ ap (either (points u e)) (p .1 u ∙ ap (λ (t : Bool). both t (negate (topBlock (e .key) (xs ++ ys) u))) (s .blocks u))
       ∙ sym (live-joined xs ys e (a .later e (inl refl)) (a .dead) (s .agree) (s .apart) u);
+  sums = summed-same buffer′ buffer″ (xs ++ e ∷ ys) (λ i l. c .kept .above i (omega arith)) (p .2);
   agree = agree-one xs ys e (a .later e (inl refl)) (s .agree);
   apart = apart-joined xs ys e (a .later e (inl refl)) (a .dead) (s .apart);
 }

@@ -37,7 +37,7 @@ both-true true = refl
 both-true false = refl
 
 -- Blocks that leave: none, one, the same, some and then others.
-pub freed-none : (b : List ℕ) → length b ≡ 1152 → (gone : ℕ → Bool) → ((u : ℕ) → gone u ≡ false) → Freed b b gone
+pub freed-none : (b : List ℕ) → length b ≡ 1664 → (gone : ℕ → Bool) → ((u : ℕ) → gone u ≡ false) → Freed b b gone
 freed-none b n gone z = record { bits = λ u. rw (z u) (sym (both-true (hasBit b u))); kept = kept-all b n }
 
 pub freed-one : (b d : List ℕ) (u : ℕ) → BitWritten b d u false → Freed b d (eqb u)
@@ -56,10 +56,10 @@ module _ (a x b y : ℕ) (gone : ℕ → Bool) where
   pub freed-both : (before after : List ℕ) → a ≡ x → b ≡ y → Freed before after gone → Freed before after (λ u. both (both (eqb a x) (eqb b y)) (gone u))
   freed-both before after p q f = freed-as before after gone _ (λ u. rw (eq-eqb a x p, eq-eqb b y q)) f
 
-  pub unlike-first : (before : List ℕ) → length before ≡ 1152 → (a ≡ x → ⊥) → Freed before before (λ u. both (both (eqb a x) (eqb b y)) (gone u))
+  pub unlike-first : (before : List ℕ) → length before ≡ 1664 → (a ≡ x → ⊥) → Freed before before (λ u. both (both (eqb a x) (eqb b y)) (gone u))
   unlike-first before long n = freed-none before long _ (λ u. rw (ne-eqb a x n))
 
-  pub unlike-second : (before : List ℕ) → length before ≡ 1152 → (b ≡ y → ⊥) → Freed before before (λ u. both (both (eqb a x) (eqb b y)) (gone u))
+  pub unlike-second : (before : List ℕ) → length before ≡ 1664 → (b ≡ y → ⊥) → Freed before before (λ u. both (both (eqb a x) (eqb b y)) (gone u))
   unlike-second before long n = freed-none before long _ (λ u. rw (ne-eqb b y n, both-none (eqb a x)))
 
 -- ## The entry at a place
@@ -68,10 +68,10 @@ module _ (ws : List ℕ) (place w : ℕ) (r : FirstWord) (is-word : w ≡ getD w
   named : (u : ℕ) → namedBy r u ≡ namedBy (firstOf (getD ws place 0)) u
   named u = ap (λ (f : FirstWord). namedBy f u) (is-first ∙ ap firstOf is-word)
 
-  pub at-padding : (b : List ℕ) → length b ≡ 1152 → r ≡ F.Padding → Freed b b (namedBy (firstOf (getD ws place 0)))
+  pub at-padding : (b : List ℕ) → length b ≡ 1664 → r ≡ F.Padding → Freed b b (namedBy (firstOf (getD ws place 0)))
   at-padding b n e = freed-none b n _ (λ u. sym (named u) ∙ ap (λ (f : FirstWord). namedBy f u) e)
 
-  pub at-wrong : (b : List ℕ) → length b ≡ 1152 → r ≡ F.Wrong → Freed b b (namedBy (firstOf (getD ws place 0)))
+  pub at-wrong : (b : List ℕ) → length b ≡ 1664 → r ≡ F.Wrong → Freed b b (namedBy (firstOf (getD ws place 0)))
   at-wrong b n e = freed-none b n _ (λ u. sym (named u) ∙ ap (λ (f : FirstWord). namedBy f u) e)
 
   pub at-entry : (b d : List ℕ) (op pl v x : ℕ) → r ≡ F.Entry op pl v x → Freed b d (namedBy (F.Entry op pl v x)) → Freed b d (namedBy (firstOf (getD ws place 0)))
@@ -81,7 +81,7 @@ module _ (ws : List ℕ) (place w : ℕ) (r : FirstWord) (is-word : w ≡ getD w
 
 -- the chosen entry has its value in the log: no block leaves
 module _ (ws before : List ℕ) (info : Info) where
-  pub tops-in-log : length before ≡ 1152 → 0 < info .extent → Superseded ws before before info
+  pub tops-in-log : length before ≡ 1664 → 0 < info .extent → Superseded ws before before info
   tops-in-log long x = record { kept = kept-all before long; freed = λ n key xs more ys t shown c i. freed-none before long _ (λ u. ap (λ (q : Option Entry). blockOf q u) c ∙ clear key (xs ++ ys) t i u) }
     where
       clear : (key : ℕ) (es : List Entry) (t : Entry) → info ≡ said key es t → (u : ℕ) → points u t ≡ false

@@ -2,14 +2,16 @@
 -- Assumes nothing.
 use mathlib.Core.Path.{_≡_, refl, sym, _∙_, ap}
 use mathlib.Core.Logic.{inl}
-use mathlib.Core.Bool.{false}
+use mathlib.Core.Bool.{Bool, false}
 use mathlib.Core.List.{List, [], _∷_, _++_}
 use Prim.Native.Nat.{ℕ, _+_, _≤_, _<_}
 use native.Mathlib.Omega.{arith}
 use lib.ListN.{length, length-append}
 use lib.Seq.{append-snoc}
+use Rattle.spec.specs.Basics.{both, negate}
 use Rattle.spec.specs.Log.{Entry}
 use Rattle.spec.specs.Contents.{keysOf, capacity}
+use Rattle.theory_log.proofs.Contents.{mem-r, chosen-is}
 use Rattle.theory_log.proofs.Keys.{mem-known, known-mem, keys-fewer}
 use Rattle.index.specs.declared.Info.{Info}
 use Rattle.index.specs.Index.{infoAt, stopOf, get, insert, putAt, capacity as tableRoom}
@@ -17,7 +19,13 @@ use Rattle.index.proofs.Laws.{insert-length}
 use Rattle.index.proofs.Answers.{look-in, put-insert}
 use Rattle.index.specs.Packed.{unpackOf}
 use Rattle.blocks.specs.Bits.{hasBit}
-use Rattle.blocks.proofs.Laws.{kept-all}
+use Rattle.blocks.proofs.Laws.{front-kept, front-then}
+use Rattle.log.proofs.Stands.{image-stands}
+use Rattle.volatile.specs.Sums.{weight, Summed}
+use Rattle.volatile.proofs.Sums.{summed-same}
+use Rattle.sums.specs.Change.{Renewed}
+use Rattle.sums.proofs.Laws.{alone-front, alone-bits}
+use Rattle.sums.proofs.Joins.{joins-above}
 use Rattle.volatile.specs.Known.{ownOf, noted, Bounded}
 use Rattle.volatile.proofs.Image.{image-bounded}
 use Rattle.volatile.proofs.Grow.{Grows, grows-above, capacity-same, found-none, found-chosen, was-unknown, indexed-old, indexed-new}
@@ -38,8 +46,9 @@ bounded-around xs more ys b =
 keys-around : (xs more ys : List Entry) → length (keysOf (xs ++ ys)) ≤ length (keysOf (xs ++ (more ++ ys)))
 keys-around xs more ys = keys-fewer (xs ++ ys) (xs ++ (more ++ ys)) (λ k t. let r = known-mem k (xs ++ ys) t in mem-known k (xs ++ (more ++ ys)) (r .0) (mem-around (r .0) xs more ys (r .1)) (r .2))
 
--- An entry of a key whose probing stops at `slot`, where the table holds `old`.
-module _ (ws buffer buffer′ table table′ : List ℕ) (keys key own slot old info : ℕ) (is-slot : slot ≡ stopOf table key) (is-word : old ≡ infoAt table slot) (is-info : info ≡ noted old own) where
+-- An entry of a key whose probing stops at `slot`, where the table holds `old`; in `middle` its sums are renewed.
+module _ (ws buffer middle buffer′ table table′ : List ℕ) (keys key own w slot old info : ℕ) (is-slot : slot ≡ stopOf table key) (is-word : old ≡ infoAt table slot) (is-info : info ≡ noted old own)
+    (renewed : Renewed ws buffer middle old own w) where
   is-old : old ≡ get table key
   is-old = is-word ∙ look-in table key slot is-slot
 
@@ -69,6 +78,14 @@ module _ (ws buffer buffer′ table table′ : List ℕ) (keys key own slot old 
         let r = awaits .room in
         omega arith
 
+    -- the sums
+    summed : w ≡ weight e → Summed middle (xs ++ e ∷ ys)
+    summed is-w =
+        renewed .renews (xs ++ ys) (xs ++ e ∷ ys) e
+        (joins-above ws old own w xs ys e (old-here ∙ shown .indexed .info (e .key)) (sym o) is-w (grows .small) (grows .small′ .each e (mem-r e xs (e ∷ ys) (inl refl))) (awaits .later e (inl refl))
+        (λ f c. image-stands 12 (omega arith) (omega arith) n ws (xs ++ (e ∷ (more ++ ys))) (awaits .shown) f (mem-around f xs (e ∷ more) ys (chosen-is (e .key) (xs ++ ys) f c .in-list))))
+        (shown .sums)
+
     -- and no block
     no-blocks : old ≡ 0 → (u : ℕ) → topBlock (e .key) (xs ++ ys) u ≡ false
     no-blocks z u = rw (found-none table keys (xs ++ ys) (shown .indexed) (grows .small) (e .key) old old-here z)
@@ -81,33 +98,35 @@ module _ (ws buffer buffer′ table table′ : List ℕ) (keys key own slot old 
     long = ap length is-table ∙ insert-length table key info
 
     -- a key that the table has
-    pub joined-old : (i : Info) → i ≡ unpackOf old → Superseded ws buffer buffer′ i → (old ≡ 0 → ⊥) → OneJoined ws buffer buffer′ table table′ keys key own keys
+    pub joined-old : (i : Info) → i ≡ unpackOf old → Superseded ws middle buffer′ i → (old ≡ 0 → ⊥) → OneJoined ws buffer buffer′ table table′ keys key own w keys
     joined-old i is-i freed no-zero = record {
-      kept = freed .kept;
+      kept = front-then buffer middle buffer′ (alone-front buffer middle (renewed .kept)) (front-kept middle buffer′ (freed .kept));
       sized = long;
-      joins = λ n xs more ys e k o awaits shown.
+      joins = λ n xs more ys e k o is-w awaits shown.
           let small = grows n xs more ys e k o awaits shown .small in
           let found = found-chosen table keys (xs ++ ys) (shown .indexed) small key old is-old no-zero in (
             indexed-old (xs ++ ys) (xs ++ e ∷ ys) e table table′ keys old info (shown .indexed) (grows n xs more ys e k o awaits shown) (rw k is-old) (rw o is-info) (rw k is-table) no-zero,
-            rw k (freed .freed n key xs (e ∷ more) ys (found .0) (awaits .shown) (found .1) (is-i ∙ found .2) .bits),
+            λ u. rw k (freed .freed n key xs (e ∷ more) ys (found .0) (awaits .shown) (found .1) (is-i ∙ found .2) .bits u ∙ ap (λ (t : Bool). both t (negate (topBlock key (xs ++ ys) u))) (alone-bits buffer middle (renewed .kept) u)),
+            summed-same middle buffer′ (xs ++ e ∷ ys) (λ i l. freed .kept .above i (omega arith)) (summed n xs more ys e k o awaits shown is-w),
           );
     }
 
   -- a new key
-  pub joined-new : length buffer ≡ 1152 → buffer′ ≡ buffer → table′ ≡ putAt table slot key info → old ≡ 0 → OneJoined ws buffer buffer′ table table′ keys key own (keys + 1)
-  joined-new size same is-put z = record {
-    kept = rw same (kept-all buffer size);
+  pub joined-new : buffer′ ≡ middle → table′ ≡ putAt table slot key info → old ≡ 0 → OneJoined ws buffer buffer′ table table′ keys key own w (keys + 1)
+  joined-new same is-put z = record {
+    kept = rw same (alone-front buffer middle (renewed .kept));
     sized = long is-put;
-    joins = λ n xs more ys e k o awaits shown. (
+    joins = λ n xs more ys e k o is-w awaits shown. (
       indexed-new (xs ++ ys) (xs ++ e ∷ ys) e table table′ keys old info (shown .indexed) (grows n xs more ys e k o awaits shown) (rw k is-old) (rw o is-info) (rw k (is-table is-put)) z (room n xs more ys e k o awaits shown z),
-      λ u. rw (same, no-blocks n xs more ys e k o awaits shown z u) (sym (both-true (hasBit buffer u))),
+      λ u. rw (same, no-blocks n xs more ys e k o awaits shown z u) (alone-bits buffer middle (renewed .kept) u ∙ sym (both-true (hasBit buffer u))),
+      rw same (summed n xs more ys e k o awaits shown is-w),
     );
   }
 
   -- a new key where the table is full: there is room, so this is never the case
-  pub joined-full : length buffer ≡ 1152 → buffer′ ≡ buffer → table′ ≡ table → old ≡ 0 → tableRoom (length table) ≤ keys → OneJoined ws buffer buffer′ table table′ keys key own keys
-  joined-full size same kept z full = record {
-    kept = rw same (kept-all buffer size);
+  pub joined-full : buffer′ ≡ middle → table′ ≡ table → old ≡ 0 → tableRoom (length table) ≤ keys → OneJoined ws buffer buffer′ table table′ keys key own w keys
+  joined-full same kept z full = record {
+    kept = rw same (alone-front buffer middle (renewed .kept));
     sized = ap length kept;
-    joins = λ n xs more ys e k o awaits shown. let r = room n xs more ys e k o awaits shown z in let c = capacity-same (length table) in absurd (omega arith);
+    joins = λ n xs more ys e k o is-w awaits shown. let r = room n xs more ys e k o awaits shown z in let c = capacity-same (length table) in absurd (omega arith);
   }

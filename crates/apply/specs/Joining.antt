@@ -16,8 +16,9 @@ use Rattle.session.specs.declared.Setup.{Setup}
 use Rattle.theory_log.specs.Batch.{AllRight}
 use Rattle.theory_log.specs.Contents.{Mem, Top, CountsOn, Agree}
 use Rattle.index.specs.declared.Info.{Info}
-use Rattle.blocks.specs.Bits.{hasBit, WordsKept}
+use Rattle.blocks.specs.Bits.{hasBit, WordsKept, FrontKept}
 use Rattle.volatile.specs.Known.{ownOf, Indexed}
+use Rattle.volatile.specs.Sums.{weight, Summed}
 use Rattle.volatile.proofs.Info.{said}
 use Rattle.session.specs.State.{bufferPart, batchWords, chunkIn, linesIn}
 use Rattle.session.specs.Fits.{ItemsFit, Built, BlocksApart, batchPlace}
@@ -36,10 +37,11 @@ pub record Superseded (ws before after : List ℕ) (info : Info) : Type 0 where
   pub freed : (n key : ℕ) (xs more ys : List Entry) (f : Entry) → imageEntries basePower n ws ≡ Entries (xs ++ (more ++ ys)) → chosen key (xs ++ ys) ≡ some f → info ≡ said key (xs ++ ys) f
       → Freed before after (topBlock key (xs ++ ys))
 
--- table and bits are those of the entries es, whose top entries agree and of which no two keys' top puts share a block
+-- table, bits and sums are those of the entries es, whose top entries agree and of which no two keys' top puts share a block
 pub record Shown (buffer table : List ℕ) (keys : ℕ) (es : List Entry) : Type 0 where
   pub indexed : Indexed table keys es
   pub blocks : (u : ℕ) → hasBit buffer u ≡ isIn u (liveBlocks es)
+  pub sums : Summed buffer es
   pub agree : Agree es
   pub apart : BlocksApart es
 
@@ -52,16 +54,16 @@ pub record Awaited (n : ℕ) (ws table : List ℕ) (xs more ys : List Entry) (e 
   pub dead : (f : Entry) → Top (xs ++ ys) f → pointed e ≡ true → pointed f ≡ true → e .field ≡ f .field → ⊥
   pub room : length (keysOf (xs ++ (e ∷ (more ++ ys)))) ≤ capacity (length table)
 
--- table and bits are those of the entries xs, e, ys, but for the bit of e's own block
+-- table, bits and sums are those of the entries xs, e, ys, but for the bit of e's own block
 abbrev pub Superseding : (buffer buffer′ table′ : List ℕ) (keys′ : ℕ) (xs ys : List Entry) (e : Entry) → Type 0
-Superseding buffer buffer′ table′ keys′ xs ys e = Indexed table′ keys′ (xs ++ e ∷ ys) × ((u : ℕ) → hasBit buffer′ u ≡ both (hasBit buffer u) (negate (topBlock (e .key) (xs ++ ys) u)))
+Superseding buffer buffer′ table′ keys′ xs ys e = Indexed table′ keys′ (xs ++ e ∷ ys) × ((u : ℕ) → hasBit buffer′ u ≡ both (hasBit buffer u) (negate (topBlock (e .key) (xs ++ ys) u))) × Summed buffer′ (xs ++ e ∷ ys)
 
--- before and after an entry of this key joined, `own` being what the table would hold with it alone: of any memory, and
--- where it was awaited
-pub record OneJoined (ws buffer buffer′ table table′ : List ℕ) (keys key own keys′ : ℕ) : Type 0 where
-  pub kept : WordsKept buffer buffer′
+-- before and after an entry of this key joined, `own` being what the table would hold with it alone, w its weight: of
+-- any memory, and where it was awaited
+pub record OneJoined (ws buffer buffer′ table table′ : List ℕ) (keys key own w keys′ : ℕ) : Type 0 where
+  pub kept : FrontKept buffer buffer′
   pub sized : length table′ ≡ length table
-  pub joins : (n : ℕ) (xs more ys : List Entry) (e : Entry) → e .key ≡ key → ownOf e ≡ own
+  pub joins : (n : ℕ) (xs more ys : List Entry) (e : Entry) → e .key ≡ key → ownOf e ≡ own → w ≡ weight e
       → Awaited n ws table xs more ys e → Shown buffer table keys (xs ++ ys) → Superseding buffer buffer′ table′ keys′ xs ys e
 
 -- what stands in the buffer's words from `at` to `end`, if they are those of entries: none, or one with so many words
@@ -112,7 +114,7 @@ withKeys c keys = record { phase = c .phase; next = c .next; items = c .items; w
 
 -- before and after the batch joined: of any memory, and at a commit's last fence
 pub record Joining (c : Control) (k : Setup) (buffer buffer′ ws table table′ : List ℕ) (keys : ℕ) : Type 0 where
-  pub kept : WordsKept buffer buffer′
+  pub kept : FrontKept buffer buffer′
   pub sized : length table′ ≡ length table
   pub joins : (front back items : List Entry) → Fenced c k buffer ws table front back items
       → Built (withKeys c keys) buffer′ table′ (front ++ (placed (batchPlace k) items ++ back)) × (keys ≡ length (keysOf (front ++ (placed (batchPlace k) items ++ back))))

@@ -1,5 +1,5 @@
-// A commit's items join the key table, their blocks the bits; and the blocks of the entries that they supersede leave
-// the bits.
+// A commit's items join the key table and the chunks' sums, their blocks the bits; and the entries that they supersede
+// leave the sums, their blocks the bits.
 ghost use Prim.Native.Nat.{_≤_};
 ghost use Rattle.spec.specs.Words.{wordsOf};
 ghost use Rattle.spec.specs.Log.{firstOf};
@@ -71,7 +71,8 @@ fn claim(buffer: &mut Buffer, op: u64, placement: u64, field: u64)
 }
 
 // An entry joins the table, which has so many keys: how many it has then. `own` is what it would hold of the key with
-// this entry alone. The blocks that it supersedes leave the bits; its own is not yet there.
+// this entry alone, `weight` what it adds to the sum of its chunk. The blocks that it supersedes leave the bits; its own
+// is not yet there.
 fn join_one(
     image: &[u8],
     buffer: &mut Buffer,
@@ -79,12 +80,14 @@ fn join_one(
     keys: usize,
     key: u64,
     own: u64,
+    weight: u64,
 ) -> usize
-    ensures { λ r. ⌜ OneJoined (wordsOf (now (image .entry))) (now (buffer .entry)) (now (buffer .exit)) (now (table .entry)) (now (table .exit)) keys key own r ⌝ }
+    ensures { λ r. ⌜ OneJoined (wordsOf (now (image .entry))) (now (buffer .entry)) (now (buffer .exit)) (now (table .entry)) (now (table .exit)) keys key own weight r ⌝ }
 {
     blocks::buffer_length(buffer);
     let slot = index::stop(table, key);
     let old = index::word_at(table, slot);
+    sums::renew(image, buffer, old, own, weight);
     if old == 0 {
         if keys < index::capacity(table.len()) {
             index::put_at(table, slot, key, own);
@@ -175,7 +178,8 @@ pub fn join(
             } => {
                 let extent = volatile::extent_of(placement, field);
                 let own = volatile::alone(extent, place + at, version);
-                keys = join_one(image, buffer, table, keys, key, own);
+                let weight = sums::weigh(op, words);
+                keys = join_one(image, buffer, table, keys, key, own, weight);
                 claim(buffer, op, placement, field);
                 at += 2 + words;
             }

@@ -52,12 +52,13 @@ bits-kept b d h u = by-cases (decLt u 8064)
     (λ l. rw (le-ltb u 8064 (omega arith)))
 
 -- no room
-pub add-none : (b : List ℕ) (words : ℕ) (e : Entry) → length b ≡ 1152 → 512 < words + (2 + length (e .value)) → Added b b words words e
+pub add-none : (b : List ℕ) (words : ℕ) (e : Entry) → length b ≡ 1664 → 512 < words + (2 + length (e .value)) → Added b b words words e
 add-none b words e n h =
     record {
       size = n;
       long = refl;
       above = λ i l h. refl;
+      behind = λ i l. refl;
       bits = λ u. refl;
       full = λ l. (refl, refl);
       count = λ l. absurd (omega arith);
@@ -66,10 +67,10 @@ add-none b words e n h =
     }
 
 -- the filter's word is stored first, and then the item's
-module _ (b d : List ℕ) (words next op pl v x key head marks : ℕ) (vs : List ℕ) (n : length b ≡ 1152) (room : words + (2 + length vs) ≤ 512)
+module _ (b d : List ℕ) (words next op pl v x key head marks : ℕ) (vs : List ℕ) (n : length b ≡ 1664) (room : words + (2 + length vs) ≤ 512)
     (counted : next ≡ words + (2 + length vs))
     (told : head ≡ headWord (op % 4) (pl % 4) (v % 1048576) (x % 2 ^ 40)) (mark : MarkedWith (marksOf b words) marks key)
-    (stored : d ≡ overlay (set (set (set b filterPlace marks) words head) (words + 1) key) (words + 2) (take (1152 - (words + 2)) vs)) where
+    (stored : d ≡ overlay (set (set (set b filterPlace marks) words head) (words + 1) key) (words + 2) (take (1664 - (words + 2)) vs)) where
   abbrev m : List ℕ
   m = set b filterPlace marks
 
@@ -77,7 +78,7 @@ module _ (b d : List ℕ) (words next op pl v x key head marks : ℕ) (vs : List
   laid =
       let one : words + 1 ≡ suc words = omega arith in
       let two : words + 2 ≡ suc (suc words) = omega arith in
-      stored ∙ rw (take-all (1152 - (words + 2)) vs (omega arith), one, two)
+      stored ∙ rw (take-all (1664 - (words + 2)) vs (omega arith), one, two)
 
   long-m : length m ≡ length b
   long-m = length-set b filterPlace marks
@@ -87,6 +88,9 @@ module _ (b d : List ℕ) (words next op pl v x key head marks : ℕ) (vs : List
 
   above-kept : (i : ℕ) → 512 ≤ i → i < 1150 → getD d i 0 ≡ getD b i 0
   above-kept i l h = outside i l ∙ getD-set-other b filterPlace i marks 0 (λ q. omega arith)
+
+  behind-kept : (i : ℕ) → filterPlace < i → getD d i 0 ≡ getD b i 0
+  behind-kept i l = outside i (omega arith) ∙ getD-set-other b filterPlace i marks 0 (λ q. omega arith)
 
   filter-is : getD d filterPlace 0 ≡ marks
   filter-is = outside filterPlace (omega arith) ∙ getD-set-same b filterPlace marks 0 (omega arith)
@@ -104,6 +108,7 @@ module _ (b d : List ℕ) (words next op pl v x key head marks : ℕ) (vs : List
         size = n;
         long = ap length laid ∙ length-overlay m words (head ∷ key ∷ vs) ∙ long-m;
         above = above-kept;
+        behind = behind-kept;
         bits = bits-kept b d above-kept;
         full = λ l. absurd (omega arith);
         count = λ l. counted;

@@ -13,9 +13,10 @@ use Rattle.session.specs.Filter.{filterPlace, AllMarked}
 -- from `words` words to `next`: the item is behind the others and its key in the filter if there is room for it, and
 -- nothing is changed if there is not. The field of an item has 40 bits.
 pub record Added (before after : List ℕ) (words next : ℕ) (e : Entry) : Type 0 where
-  pub size : length before ≡ 1152
+  pub size : length before ≡ 1664
   pub long : length after ≡ length before
   pub above : (i : ℕ) → batchRoom ≤ i → i < filterPlace → getD after i 0 ≡ getD before i 0
+  pub behind : (i : ℕ) → filterPlace < i → getD after i 0 ≡ getD before i 0
   pub bits : (u : ℕ) → hasBit after u ≡ hasBit before u
   pub full : batchRoom < words + (2 + length (e .value)) → (after ≡ before) × (next ≡ words)
   pub count : words + (2 + length (e .value)) ≤ batchRoom → next ≡ words + (2 + length (e .value))

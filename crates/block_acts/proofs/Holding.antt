@@ -28,7 +28,7 @@ unfolding hasBit
 bits-kept b d h u = ap (λ (w : ℕ). both (ltb u 8064) (eqb (w / 2 ^ (u % 64) % 2) 1)) (h (wordOf u) (omega arith))
 
 -- a value too long
-pub held-none : (b v : List ℕ) → length b ≡ 1152 → 4088 < length v → Kept b b v
+pub held-none : (b v : List ℕ) → length b ≡ 1664 → 4088 < length v → Kept b b v
 held-none b v n h = record {
   size = n;
   long = refl;
@@ -40,12 +40,12 @@ held-none b v n h = record {
   held = λ l. absurd (omega arith);
 }
 
-module _ (b d v : List ℕ) (n : length b ≡ 1152) (h : length v ≤ 4088) (stored : d ≡ overlay (set b 512 (length v)) 513 (take (1152 - 513) (packed v))) where
+module _ (b d v : List ℕ) (n : length b ≡ 1664) (h : length v ≤ 4088) (stored : d ≡ overlay (set b 512 (length v)) 513 (take (1664 - 513) (packed v))) where
   words : length (packed v) ≡ (length v + 7) / 8
   words = length-packed v
 
   laid : d ≡ overlay b 512 (length v ∷ packed v)
-  laid = let w = words in stored ∙ rw (take-all (1152 - 513) (packed v) (omega arith))
+  laid = let w = words in stored ∙ rw (take-all (1664 - 513) (packed v) (omega arith))
 
   outside : (i : ℕ) → (512 ≤ i → i < 1024 → ⊥) → getD d i 0 ≡ getD b i 0
   outside i o = let w = words in ap (λ (xs : List ℕ). getD xs i 0) laid ∙ getD-overlay-outside (length v ∷ packed v) b 512 i (λ p q. o p (omega arith))

@@ -16,7 +16,7 @@ setup chunk place size =
     record { image = 16384; table = 64; chunk = chunk; old = 0; lines = place; first = 1; least = 1; fields = size; station = 0; centre = 0; source = noSource }
 
 abbrev buffer : ℕ → List ℕ
-buffer bytes = set (replicate 1152 0) 512 bytes
+buffer bytes = set (replicate 1664 0) 512 bytes
 
 -- 1 + 33 stores and 5 flushes in chunk 3; the directory word of chunk 1 and its line before
 data-count : length (blockActions (setup 3 2 0) (buffer 257)) ≡ 39

@@ -14,7 +14,7 @@ use lib.Dec.{eqb}
 use lib.ListN.{length, getD, set, take, length-set}
 use lib.Seq.{getD-set-same, getD-set-other, ext-getD, getD-take, length-take-le}
 use Rattle.blocks.proofs.Word.{shifted, set-same, set-other, unset-same, unset-other}
-use Rattle.blocks.specs.Bits.{wordOf, hasBit, WordsKept, BitWritten, BitsCleared}
+use Rattle.blocks.specs.Bits.{wordOf, hasBit, WordsKept, FrontKept, BitWritten, BitsCleared}
 
 -- the bit of a unit, and none past the last
 pub bit-in : (b : List ℕ) (u : ℕ) → u < 8064 → hasBit b u ≡ eqb (getD b (wordOf u) 0 / 2 ^ (u % 64) % 2) 1
@@ -26,7 +26,7 @@ unfolding hasBit
 bit-beyond b u l = rw (le-ltb u 8064 l)
 
 -- two buffers whose words at a unit agree in its bit
-bit-agrees : (b d : List ℕ) (u : ℕ)
+pub bit-agrees : (b d : List ℕ) (u : ℕ)
     → (u < 8064 → getD b (wordOf u) 0 / 2 ^ (u % 64) % 2 ≡ getD d (wordOf u) 0 / 2 ^ (u % 64) % 2) → hasBit b u ≡ hasBit d u
 bit-agrees b d u h =
     by-cases (decLt u 8064)
@@ -34,15 +34,15 @@ bit-agrees b d u h =
     (λ l. let g : 8064 ≤ u = omega arith in bit-beyond b u g ∙ sym (bit-beyond d u g))
 
 -- a buffer that is as it was
-pub kept-all : (b : List ℕ) → length b ≡ 1152 → WordsKept b b
+pub kept-all : (b : List ℕ) → length b ≡ 1664 → WordsKept b b
 kept-all b n = record { size = n; long = refl; below = λ i l. refl; above = λ i l. refl }
 
-pub beyond-kept : (b : List ℕ) (u : ℕ) (value : Bool) → length b ≡ 1152 → 8064 ≤ u → BitWritten b b u value
+pub beyond-kept : (b : List ℕ) (u : ℕ) (value : Bool) → length b ≡ 1664 → 8064 ≤ u → BitWritten b b u value
 beyond-kept b u value n g =
     record { at = λ l. absurd (omega arith); other = λ v d. refl; beyond = λ l. refl; kept = kept-all b n }
 
 -- a store of a word that differs in the unit's bit alone
-module _ (b : List ℕ) (u w : ℕ) (value : Bool) (n : length b ≡ 1152) (l : u < 8064) where
+module _ (b : List ℕ) (u w : ℕ) (value : Bool) (n : length b ≡ 1664) (l : u < 8064) where
   in-range : wordOf u < length b
   in-range = omega arith
 
@@ -66,7 +66,7 @@ module _ (b : List ℕ) (u w : ℕ) (value : Bool) (n : length b ≡ 1152) (l : 
       }
 
 -- what the code stores
-module _ (b : List ℕ) (u : ℕ) (n : length b ≡ 1152) (l : u < 8064) where
+module _ (b : List ℕ) (u : ℕ) (n : length b ≡ 1664) (l : u < 8064) where
   pub set-shows : BitWritten b (set b (wordOf u) (bitOr (getD b (wordOf u) 0) (1 * 2 ^ (u % 64) % 2 ^ 64))) u true
   set-shows =
       let w = getD b (wordOf u) 0 in
@@ -84,10 +84,10 @@ pub record Clearing (before after : List ℕ) (i : ℕ) : Type 0 where
   pub done : (j : ℕ) → 1024 ≤ j → j < i → getD after j 0 ≡ 0
   pub left : (j : ℕ) → i ≤ j → getD after j 0 ≡ getD before j 0
   pub low : (j : ℕ) → j < 1024 → getD after j 0 ≡ getD before j 0
-  pub size : length before ≡ 1152
-  pub long : length after ≡ 1152
+  pub size : length before ≡ 1664
+  pub long : length after ≡ 1664
 
-pub clear-none : (b : List ℕ) → length b ≡ 1152 → Clearing b b 1024
+pub clear-none : (b : List ℕ) → length b ≡ 1664 → Clearing b b 1024
 clear-none b n =
     record { done = λ j g l. absurd (omega arith); left = λ j l. refl; low = λ j l. refl; size = n; long = n }
 
@@ -124,6 +124,16 @@ kept-then a b d k m =
       below = λ i l. m .below i l ∙ k .below i l;
       above = λ i l. m .above i l ∙ k .above i l;
     }
+
+-- what stands before the bits
+pub front-kept : (b d : List ℕ) → WordsKept b d → FrontKept b d
+front-kept b d k = record { size = k .size; long = k .long; below = k .below }
+
+pub front-all : (b : List ℕ) → length b ≡ 1664 → FrontKept b b
+front-all b n = front-kept b b (kept-all b n)
+
+pub front-then : (a b d : List ℕ) → FrontKept a b → FrontKept b d → FrontKept a d
+front-then a b d k m = record { size = k .size; long = m .long ∙ k .long; below = λ i l. m .below i l ∙ k .below i l }
 
 -- what stands before the bits is the same list
 pub kept-take : (b d : List ℕ) (n : ℕ) → WordsKept b d → n ≤ 1024 → take n d ≡ take n b

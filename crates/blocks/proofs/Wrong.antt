@@ -12,7 +12,7 @@ use Rattle.blocks.specs.Bits.{hasBit, BitWritten}
 
 -- a buffer of which word 1024, that of unit 0, is w
 abbrev buffer : ℕ → List ℕ
-buffer w = set (replicate 1152 0) 1024 w
+buffer w = set (replicate 1664 0) 1024 w
 
 not-so : true ≡ false → ⊥
 not-so h = let z : _≡_ {A = ℕ} 0 1 = cc in omega arith

@@ -1,7 +1,7 @@
 -- The set of units that start a block in use, as bits of the station record's buffer, and what it is to change it.
 -- Assumes nothing.
 --
---   unit u, 0 ≤ u < 8,064, is bit u % 64 of word 1024 + u / 64 of the 1,152 words; words 1024 to 1149 hold bits
+--   unit u, 0 ≤ u < 8,064, is bit u % 64 of word 1024 + u / 64 of the 1,664 words; words 1024 to 1149 hold bits
 use mathlib.Core.Path.{_≡_}
 use mathlib.Core.Bool.{Bool, true, false}
 use mathlib.Core.List.{List}
@@ -19,10 +19,16 @@ hasBit buffer u = both (ltb u 8064) (eqb (getD buffer (wordOf u) 0 / 2 ^ (u % 64
 
 -- both are buffers of the record, and agree at every word that holds no bits
 pub record WordsKept (before after : List ℕ) : Type 0 where
-  pub size : length before ≡ 1152
+  pub size : length before ≡ 1664
   pub long : length after ≡ length before
   pub below : (i : ℕ) → i < 1024 → getD after i 0 ≡ getD before i 0
   pub above : (i : ℕ) → 1150 ≤ i → getD after i 0 ≡ getD before i 0
+
+-- both are buffers of the record, and agree at every word before the bits
+pub record FrontKept (before after : List ℕ) : Type 0 where
+  pub size : length before ≡ 1664
+  pub long : length after ≡ length before
+  pub below : (i : ℕ) → i < 1024 → getD after i 0 ≡ getD before i 0
 
 -- unit u is in the set if so told, and out of it otherwise; every other unit is as it was
 pub record BitWritten (before after : List ℕ) (u : ℕ) (value : Bool) : Type 0 where

@@ -5,7 +5,7 @@ ghost use lib.ListN.{length};
 ghost use Rattle.blocks.specs.Bits.{hasBit, BitWritten, BitsCleared};
 
 // The station record's buffer: so many words. `session` says which of them hold what.
-pub const BUFFER_WORDS: usize = 1152;
+pub const BUFFER_WORDS: usize = 1664;
 
 pub type Buffer = [u64; BUFFER_WORDS];
 
@@ -17,7 +17,7 @@ fn count(words: &[u64]) -> usize
 
 // The number of words of the buffer: a call tells its caller that the list behind the reference has that length.
 pub fn buffer_length(buffer: &Buffer) -> usize
-    ensures { λ r. ⌜ (r ≡ 1152) × (length (now (buffer .entry)) ≡ 1152) ⌝ }
+    ensures { λ r. ⌜ (r ≡ 1664) × (length (now (buffer .entry)) ≡ 1664) ⌝ }
 {
     count(buffer)
 }

@@ -64,7 +64,7 @@ module _ (s : Session) (bytes table : List ℕ) where
   unchanged C.Nothing = refl
 
   -- behind the gate
-  found : (r : Choice) → gate (stateOf s) (length bytes) (length table) ≡ none → Chooses (wordsOf bytes) table (chunksIn 12 (length bytes)) r → Does Choose s s bytes bytes table table (reportOf r)
+  found : (r : Choice) → gate (stateOf s) (length bytes) (length table) ≡ none → Chooses (wordsOf bytes) table (s .buffer) (chunksIn 12 (length bytes)) r → Does Choose s s bytes bytes table table (reportOf r)
   found r g h = record {
     exact = λ f. record { answered = answered f; became = next-same (stateOf s) (wordsOf bytes) (length bytes) (length table); fits = f };
     first = λ r′ q. absurd (let p : none ≡ some r′ = rw g at q in let z : _≡_ {A = ℕ} 0 1 = cc in omega arith);
@@ -81,19 +81,19 @@ module _ (s : Session) (bytes table : List ℕ) where
           let o = opens-ok 12 (omega arith) (omega arith) (s .setup .image) (s .setup .table) (wordsOf bytes) (rest .entries) (rest .long) (rest .accepted) in
           let n : chunksIn 12 (s .setup .image) ≡ chunksIn 12 (length bytes) = ap (chunksIn 12) (a .same-bytes) in
           let p : imageEntries 12 (chunksIn 12 (length bytes)) (wordsOf bytes) ≡ Entries (rest .entries) = rw n at (o .0 .parsed) in
-          rw (g, p) (ap reportOf (h .exact (s .control .keys) (rest .entries) (rw n at (o .0)) (rest .built .indexed)) ∙ report-or (chosenChunk 12 (chunksIn 12 (length bytes)) (wordsOf bytes) (rest .entries)))
+          rw (g, p) (ap reportOf (h .exact (s .control .keys) (rest .entries) (rw n at (o .0)) (rest .built .indexed) (rest .built .sums)) ∙ report-or (chosenChunk 12 (chunksIn 12 (length bytes)) (wordsOf bytes) (rest .entries)))
 
 -- what the code shows
-module _ (c : Control) (k : Setup) (bytes table : List ℕ) (g : Gated) (asks : Asking c k (length bytes) (length table) g) where
-  pub gate-refuses : (n : Refusal) → g ≡ G.Refused n → Choosing c k bytes table (R.Refused n)
-  gate-refuses n e = record { called = λ b. turned-down 12 limit (sessionOf c k b) bytes table n (asks .asked b ∙ ap gateOf e) Choose tt; inside = tt }
+module _ (c : Control) (k : Setup) (b bytes table : List ℕ) (g : Gated) (asks : Asking c k (length bytes) (length table) g) where
+  pub gate-refuses : (n : Refusal) → g ≡ G.Refused n → Choosing c k b bytes table (R.Refused n)
+  gate-refuses n e = record { called = turned-down 12 limit (sessionOf c k b) bytes table n (asks .asked b ∙ ap gateOf e) Choose tt; inside = tt }
 
-  module _ (e : g ≡ G.Open) (m : ℕ) (r : Choice) (h : Chooses (wordsOf bytes) table m r) (em : m ≡ length bytes / 4096) where
+  module _ (e : g ≡ G.Open) (m : ℕ) (r : Choice) (h : Chooses (wordsOf bytes) table b m r) (em : m ≡ length bytes / 4096) where
     chunks-are : m ≡ chunksIn 12 (length bytes)
     unfolding chunksIn chunkBytes
     chunks-are = em
 
-    pub answers : (r′ : Choice) → r ≡ r′ → Choosing c k bytes table (reportOf r′)
+    pub answers : (r′ : Choice) → r ≡ r′ → Choosing c k b bytes table (reportOf r′)
     answers r′ is =
-        let q : Chooses (wordsOf bytes) table (chunksIn 12 (length bytes)) r′ = rw (chunks-are, is) at h in
-        record { called = λ b. found (sessionOf c k b) bytes table r′ (asks .asked b ∙ ap gateOf e) q; inside = in-report (chunksIn 12 (length bytes)) r′ (q .inside) }
+        let q : Chooses (wordsOf bytes) table b (chunksIn 12 (length bytes)) r′ = rw (chunks-are, is) at h in
+        record { called = found (sessionOf c k b) bytes table r′ (asks .asked b ∙ ap gateOf e) q; inside = in-report (chunksIn 12 (length bytes)) r′ (q .inside) }

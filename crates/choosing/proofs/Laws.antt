@@ -1,26 +1,31 @@
 -- One chunk, and two: what the code shows is what the definition asks.
 -- Assumes nothing.
 use mathlib.Core.Path.{_≡_, refl, sym, _∙_, ap}
-use mathlib.Core.Logic.{inl, inr, by-cases}
+use mathlib.Core.Logic.{_⊎_, inl, inr, by-cases}
 use mathlib.Core.Bool.{Bool, true, false}
 use mathlib.Core.Option.{some}
 use mathlib.Core.List.{List}
-use Prim.Native.Nat.{ℕ, _+_, _*_, _%_}
+use Prim.Native.Nat.{ℕ, _+_, _*_, _%_, _≤_, _<_}
+use lib.ListN.{getD}
 use native.Mathlib.Decide.{decLe}
 use native.Mathlib.Omega.{arith}
 use lib.Dec.{eqb, leb, ltb}
 use borrow.Author.Tests.{eq-eqb, ne-eqb, le-leb, lt-leb, le-ltb}
-use Rattle.spec.specs.Basics.{both, either}
+use Rattle.spec.specs.Basics.{pick, both, either}
 use Rattle.spec.specs.Directory.{linesOf}
 use Rattle.spec.specs.Log.{Entry}
 use Rattle.spec.specs.Actions.{linesFor}
-use Rattle.spec.specs.Plans.{copyWords, worthCleaning, isBetter}
+use Rattle.spec.specs.Plans.{copyWords, worthCleaning, isBetter, better}
+use Rattle.theory_crash.specs.Accepted.{Ok}
+use Rattle.volatile.specs.Known.{Indexed}
+use Rattle.volatile.specs.Sums.{highHalf, Summed}
+use Rattle.choosing.proofs.Bounds.{least-copied, all-copied}
 use Rattle.space.proofs.Space.{log-lines}
 use Rattle.gathering.specs.declared.Tally.{Tally}
 use Rattle.gathering.specs.Gathering.{Measured}
 use Rattle.gathering.proofs.Chunks.{chunk-measured}
 use Rattle.choosing.specs.declared.Candidate.{Candidate}
-use Rattle.choosing.specs.Choices.{Describes, Weighed, Worth, Compared, bestSoFar, Known, Bettered}
+use Rattle.choosing.specs.Choices.{Describes, Weighed, Counted, Worth, Compared, bestSoFar, Known, Bettered, BetteredAt}
 
 -- ONE CHUNK
 pub weighed : (ws table : List ℕ) (c lines at end : ℕ) (t : Tally) → lines ≡ linesOf 12 ws c → at ≡ 512 * (c % 512) → end ≡ at + 8 * lines → Measured ws table at end t
@@ -87,3 +92,47 @@ module _ (x y : Candidate) where
 
       pub keeps-best : r ≡ false → Bettered x y x
       keeps-best h = record { either = inl refl; says = λ ws es k d low. rw (← w .says ws es d, some-best x n, ← compared ws es k d, h) }
+
+-- THE BEST SO FAR AND CHUNK c, by its sum
+module _ (ws table buffer : List ℕ) (x : Candidate) (c : ℕ) where
+  better-by : (y z : Candidate) → y .chunk ≡ c → ((n keys : ℕ) (es : List Entry) → Ok 12 n ws es → Indexed table keys es → Summed buffer es → 1 ≤ c → c < n → Describes ws es y) → Bettered x y z → BetteredAt ws table buffer x c z
+  better-by y z here describes b = record {
+    either = elim (b .either) [ inl e ↦ inl e | inr e ↦ inr (ap (λ (v : Candidate). v .chunk) e ∙ here) ];
+    says = λ n keys es ok indexed sums low high k.
+        let d = describes n keys es ok indexed sums low high in
+        (known es (b .either) k d, b .says ws es k d (omega arith) ∙ rw here);
+  }
+    where
+      known : (es : List Entry) → (z ≡ x) ⊎ (z ≡ y) → Known ws es x → Describes ws es y → Known ws es z
+      known es (inl e) k d = rw e k
+      known es (inr e) k d = inr (rw e d)
+
+  -- its entries are read
+  pub better-weighed : (y z : Candidate) → Weighed ws table c y → Bettered x y z → BetteredAt ws table buffer x c z
+  better-weighed y z w b = better-by y z (w .chunk) (λ n keys es ok indexed sums low high. w .describes n keys es ok indexed low high) b
+
+  module _ (sum least : ℕ) (is-sum : sum ≡ getD buffer (1152 + c % 512) 0) (is-least : least ≡ sum % highHalf) where
+    -- it has no chosen delete
+    pub better-counted : (y z : Candidate) → sum < highHalf → Counted ws c least y → Bettered x y z → BetteredAt ws table buffer x c z
+    better-counted y z l w b =
+        better-by y z (w .chunk) (λ n keys es ok indexed sums low high. record {
+          lines = w .lines ∙ ap (linesOf 12 ws) (sym (w .chunk));
+          words = w .words ∙ is-least ∙ sym (all-copied n c ws es ok low high buffer sums sum is-sum l) ∙ ap (copyWords 12 es) (sym (w .chunk));
+        }) b
+
+    -- its puts are more than the best one's words
+    pub better-none : (x .chunk ≡ 0 → ⊥) → x .words < least → BetteredAt ws table buffer x c x
+    better-none n more = record { either = inl refl; says = λ m keys es ok indexed sums low high k. (k, stays es k (least-copied m c ws es ok low high buffer sums sum is-sum)) }
+      where
+        stays : (es : List Entry) → Known ws es x → sum % highHalf ≤ copyWords 12 es c → bestSoFar x ≡ pick (worthCleaning 12 ws es c) (better 12 ws es (bestSoFar x) c) (bestSoFar x)
+        stays es (inl z) h = absurd (n z)
+        stays es (inr k) h =
+            let a = copyWords 12 es c in
+            let b = copyWords 12 es (x .chunk) in
+            let q = k .words in
+            let l : b < a = omega arith in
+            rw (some-best x n, le-ltb a b (omega arith), ne-eqb a b (λ e. omega arith)) (go (worthCleaning 12 ws es c))
+          where
+            go : (t : Bool) → some (x .chunk) ≡ pick t (some (x .chunk)) (some (x .chunk))
+            go true = refl
+            go false = refl

@@ -13,10 +13,11 @@ use Rattle.spec.specs.Log.{Entry}
 use Rattle.spec.specs.Plans.{worthCleaning, better, best, chosenChunk}
 use Rattle.theory_crash.specs.Accepted.{Ok}
 use Rattle.volatile.specs.Known.{Indexed}
+use Rattle.volatile.specs.Sums.{Summed}
 use Rattle.space.proofs.Search.{taken, taken-start, taken-more}
 use Rattle.choosing.specs.declared.Candidate.{Candidate}
 use Rattle.choosing.specs.declared.Choice.the-variants as C
-use Rattle.choosing.specs.Choices.{Describes, Weighed, bestSoFar, Known, Bettered, Chooses}
+use Rattle.choosing.specs.Choices.{bestSoFar, Known, BetteredAt, Chooses}
 use Rattle.choosing.proofs.Laws.{some-best}
 
 -- THE BEST of the chunks from 1 on and below c
@@ -48,57 +49,49 @@ pub record SoFar (ws : List ℕ) (es : List Entry) (n c : ℕ) (x : Candidate) :
   pub known : Known ws es x
   pub says : bestSoFar x ≡ best 12 ws es none (taken (worthCleaning 12 ws es) 1 c)
 
-pub record Looked (ws table : List ℕ) (n c : ℕ) (x : Candidate) : Type 0 where
+pub record Looked (ws table buffer : List ℕ) (n c : ℕ) (x : Candidate) : Type 0 where
   pub past : 1 ≤ c
   pub inside : (x .chunk ≡ 0) ⊎ (x .chunk < n)
-  pub exact : (keys : ℕ) (es : List Entry) → Ok 12 n ws es → Indexed table keys es → SoFar ws es n c x
+  pub exact : (keys : ℕ) (es : List Entry) → Ok 12 n ws es → Indexed table keys es → Summed buffer es → SoFar ws es n c x
 
-pub looked-start : (ws table : List ℕ) (n : ℕ) → Looked ws table n 1 (record { chunk = 0; lines = 0; words = 0 })
-looked-start ws table n = record {
+pub looked-start : (ws table buffer : List ℕ) (n : ℕ) → Looked ws table buffer n 1 (record { chunk = 0; lines = 0; words = 0 })
+looked-start ws table buffer n = record {
   past = omega arith;
   inside = inl refl;
-  exact = λ keys es ok indexed. record {
+  exact = λ keys es ok indexed sums. record {
     high = let l = ok .least in omega arith;
     known = inl refl;
     says = sym (ap (best 12 ws es none) (taken-start (worthCleaning 12 ws es) 1));
   };
 }
 
-module _ (ws table : List ℕ) (n c : ℕ) (x : Candidate) (so : Looked ws table n c x) where
-  pub looked-next : c < n → (y z : Candidate) → Weighed ws table c y → Bettered x y z → Looked ws table n (c + 1) z
-  looked-next u y z w b = record {
+module _ (ws table buffer : List ℕ) (n c : ℕ) (x : Candidate) (so : Looked ws table buffer n c x) where
+  pub looked-next : c < n → (z : Candidate) → BetteredAt ws table buffer x c z → Looked ws table buffer n (c + 1) z
+  looked-next u z b = record {
     past = let l = so .past in omega arith;
     inside = in-one (b .either) (so .inside);
-    exact = λ keys es ok indexed.
-        let d = w .describes n keys es ok indexed (so .past) u in
-        let s = so .exact keys es ok indexed in
-        record {
-          high = omega arith;
-          known = known-one es (b .either) (s .known) d;
-          says = b .says ws es (s .known) d (let e = w .chunk in let l = so .past in omega arith) ∙ rw (w .chunk, s .says) (sym (best-more ws es c (so .past)));
-        };
+    exact = λ keys es ok indexed sums.
+        let s = so .exact keys es ok indexed sums in
+        let r = b .says n keys es ok indexed sums (so .past) u (s .known) in
+        record { high = omega arith; known = r .0; says = r .1 ∙ rw (s .says) (sym (best-more ws es c (so .past))) };
   }
     where
-      in-one : (z ≡ x) ⊎ (z ≡ y) → (x .chunk ≡ 0) ⊎ (x .chunk < n) → (z .chunk ≡ 0) ⊎ (z .chunk < n)
+      in-one : (z ≡ x) ⊎ (z .chunk ≡ c) → (x .chunk ≡ 0) ⊎ (x .chunk < n) → (z .chunk ≡ 0) ⊎ (z .chunk < n)
       in-one (inl e) i = rw e i
-      in-one (inr e) i = inr (rw (e, w .chunk) u)
-
-      known-one : (es : List Entry) → (z ≡ x) ⊎ (z ≡ y) → Known ws es x → Describes ws es y → Known ws es z
-      known-one es (inl e) k d = rw e k
-      known-one es (inr e) k d = inr (rw e d)
+      in-one (inr e) i = inr (rw e u)
 
   module _ (end : n ≤ c) where
-    at-end : (keys : ℕ) (es : List Entry) → Ok 12 n ws es → Indexed table keys es → bestSoFar x ≡ chosenChunk 12 n ws es
-    at-end keys es ok indexed =
-        let s = so .exact keys es ok indexed in
+    at-end : (keys : ℕ) (es : List Entry) → Ok 12 n ws es → Indexed table keys es → Summed buffer es → bestSoFar x ≡ chosenChunk 12 n ws es
+    at-end keys es ok indexed sums =
+        let s = so .exact keys es ok indexed sums in
         let e : c ≡ n = let h = s .high in omega arith in
         s .says ∙ ap (λ (m : ℕ). best 12 ws es none (taken (worthCleaning 12 ws es) 1 m)) e ∙ sym (chosen-best ws es n)
 
-    pub looked-nothing : x .chunk ≡ 0 → Chooses ws table n C.Nothing
-    looked-nothing z = record { inside = tt; exact = λ keys es ok indexed. rw (← at-end keys es ok indexed, eq-eqb (x .chunk) 0 z) }
+    pub looked-nothing : x .chunk ≡ 0 → Chooses ws table buffer n C.Nothing
+    looked-nothing z = record { inside = tt; exact = λ keys es ok indexed sums. rw (← at-end keys es ok indexed sums, eq-eqb (x .chunk) 0 z) }
 
-    pub looked-found : (x .chunk ≡ 0 → ⊥) → Chooses ws table n (C.At (x .chunk))
-    looked-found z = record { inside = go (so .inside); exact = λ keys es ok indexed. rw (← at-end keys es ok indexed, some-best x z) }
+    pub looked-found : (x .chunk ≡ 0 → ⊥) → Chooses ws table buffer n (C.At (x .chunk))
+    looked-found z = record { inside = go (so .inside); exact = λ keys es ok indexed sums. rw (← at-end keys es ok indexed sums, some-best x z) }
       where
         go : (x .chunk ≡ 0) ⊎ (x .chunk < n) → (1 ≤ x .chunk) × (x .chunk < n)
         go (inl e) = absurd (z e)

@@ -21,6 +21,7 @@ use Rattle.spec.specs.declared.Report.{Report}
 use Rattle.spec.specs.declared.Report.the-variants as R
 use Rattle.theory_crash.specs.Accepted.{Ok}
 use Rattle.volatile.specs.Known.{Indexed}
+use Rattle.volatile.specs.Sums.{Summed}
 use Rattle.lookup.specs.Look.{sessionOf}
 use Rattle.choosing.specs.declared.Candidate.{Candidate}
 use Rattle.choosing.specs.declared.Choice.{Choice}
@@ -35,6 +36,12 @@ pub record Describes (ws : List ℕ) (es : List Entry) (x : Candidate) : Type 0 
 pub record Weighed (ws table : List ℕ) (c : ℕ) (x : Candidate) : Type 0 where
   pub chunk : x .chunk ≡ c
   pub describes : (n keys : ℕ) (es : List Entry) → Ok 12 n ws es → Indexed table keys es → 1 ≤ c → c < n → Describes ws es x
+
+-- the same of a chunk of whose words another knows
+pub record Counted (ws : List ℕ) (c w : ℕ) (x : Candidate) : Type 0 where
+  pub chunk : x .chunk ≡ c
+  pub lines : x .lines ≡ linesOf 12 ws c
+  pub words : x .words ≡ w
 
 pub record Worth (x : Candidate) (r : Bool) : Type 0 where
   pub says : (ws : List ℕ) (es : List Entry) → Describes ws es x → r ≡ worthCleaning 12 ws es (x .chunk)
@@ -55,6 +62,12 @@ pub record Bettered (x y z : Candidate) : Type 0 where
   pub says : (ws : List ℕ) (es : List Entry) → Known ws es x → Describes ws es y → 1 ≤ y .chunk
       → bestSoFar z ≡ pick (worthCleaning 12 ws es (y .chunk)) (better 12 ws es (bestSoFar x) (y .chunk)) (bestSoFar x)
 
+-- the best so far and chunk c, on memory as the calls left it
+pub record BetteredAt (ws table buffer : List ℕ) (x : Candidate) (c : ℕ) (z : Candidate) : Type 0 where
+  pub either : (z ≡ x) ⊎ (z .chunk ≡ c)
+  pub says : (n keys : ℕ) (es : List Entry) → Ok 12 n ws es → Indexed table keys es → Summed buffer es → 1 ≤ c → c < n → Known ws es x
+      → Known ws es z × (bestSoFar z ≡ pick (worthCleaning 12 ws es c) (better 12 ws es (bestSoFar x) c) (bestSoFar x))
+
 -- ALL CHUNKS, of an image of n: of any memory a chunk from 1 on and below n, or none
 abbrev pub choiceOf : Option ℕ → Choice
 choiceOf none = C.Nothing
@@ -64,11 +77,11 @@ abbrev pub InCount : ℕ → Choice → Type 0
 InCount n (C.At c) = (1 ≤ c) × (c < n)
 InCount n C.Nothing = Unit {0}
 
-pub record Chooses (ws table : List ℕ) (n : ℕ) (r : Choice) : Type 0 where
+pub record Chooses (ws table buffer : List ℕ) (n : ℕ) (r : Choice) : Type 0 where
   pub inside : InCount n r
-  pub exact : (keys : ℕ) (es : List Entry) → Ok 12 n ws es → Indexed table keys es → r ≡ choiceOf (chosenChunk 12 n ws es)
+  pub exact : (keys : ℕ) (es : List Entry) → Ok 12 n ws es → Indexed table keys es → Summed buffer es → r ≡ choiceOf (chosenChunk 12 n ws es)
 
--- THE CALL, whatever the buffer holds: record, image and table stay. Of any memory it answers a refusal, or a chunk of
+-- THE CALL: record, image and table stay. Of any memory it answers a refusal, or a chunk of
 -- the lent image.
 abbrev pub reportOf : Choice → Report
 reportOf (C.At c) = R.Chosen c
@@ -87,9 +100,6 @@ ChosenIn n R.Abandoned = ⊥
 ChosenIn n (R.Chosen c) = (1 ≤ c) × (c < n)
 ChosenIn n (R.Part a m) = ⊥
 
-abbrev pub ChosenBy : Control → Setup → (bytes table : List ℕ) → Report → Type 0
-ChosenBy c k bytes table r = (b : List ℕ) → Does Choose (sessionOf c k b) (sessionOf c k b) bytes bytes table table r
-
-pub record Choosing (c : Control) (k : Setup) (bytes table : List ℕ) (r : Report) : Type 0 where
-  pub called : ChosenBy c k bytes table r
+pub record Choosing (c : Control) (k : Setup) (b bytes table : List ℕ) (r : Report) : Type 0 where
+  pub called : Does Choose (sessionOf c k b) (sessionOf c k b) bytes bytes table table r
   pub inside : ChosenIn (chunksIn 12 (length bytes)) r

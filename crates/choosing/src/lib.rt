@@ -4,7 +4,8 @@
 ghost use mathlib.Core.Path.{_≡_};
 ghost use Rattle.spec.specs.Words.{wordsOf};
 ghost use Rattle.spec.specs.Actions.{linesFor};
-ghost use Rattle.choosing.specs.Choices.{Weighed, Worth, Compared, Bettered, Chooses, Choosing};
+ghost use Rattle.choosing.specs.Choices.{Weighed, Counted, Worth, Compared, Bettered, BetteredAt, Chooses, Choosing};
+use blocks::Buffer;
 use log::lines_of;
 use session::Control;
 use session::Gated;
@@ -39,6 +40,18 @@ fn candidate_at(image: &[u8], table: &[u64], chunk: usize) -> Candidate
         chunk,
         lines,
         words: tally.words,
+    }
+}
+
+// The same, where the words are known.
+fn counted_at(image: &[u8], chunk: usize, words: usize) -> Candidate
+    ensures { λ r. ⌜ Counted (wordsOf (now (image .entry))) chunk words r ⌝ }
+{
+    let lines = lines_of(image, chunk);
+    Candidate {
+        chunk,
+        lines,
+        words,
     }
 }
 
@@ -83,9 +96,36 @@ fn better_of(best: Candidate, next: Candidate) -> Candidate
     best
 }
 
+// The better of the best so far and the next chunk, by its sum: the words of its chosen puts, which a cleaning copies at
+// least. Where they are more than the best one's, the chunk is no better; where it has no chosen delete, a cleaning
+// copies no more; else its entries are read.
+fn better_at(
+    best: Candidate,
+    image: &[u8],
+    table: &[u64],
+    buffer: &Buffer,
+    chunk: usize,
+) -> Candidate
+    ensures { λ r. ⌜ BetteredAt (wordsOf (now (image .entry))) (now (table .entry)) (now (buffer .entry)) best chunk r ⌝ }
+{
+    let sum = sums::sum_at(buffer, chunk);
+    let least = (sum % 0x1_0000_0000) as usize;
+    if 0 < best.chunk {
+        if best.words < least {
+            return best;
+        }
+    }
+    if sum < 0x1_0000_0000 {
+        let next = counted_at(image, chunk, least);
+        return better_of(best, next);
+    }
+    let next = candidate_at(image, table, chunk);
+    better_of(best, next)
+}
+
 // ALL CHUNKS, of an image of `count`
-pub fn choose(image: &[u8], table: &[u64], count: usize) -> Choice
-    ensures { λ r. ⌜ Chooses (wordsOf (now (image .entry))) (now (table .entry)) count r ⌝ }
+pub fn choose(image: &[u8], table: &[u64], buffer: &Buffer, count: usize) -> Choice
+    ensures { λ r. ⌜ Chooses (wordsOf (now (image .entry))) (now (table .entry)) (now (buffer .entry)) count r ⌝ }
 {
     let mut best = Candidate {
         chunk: 0,
@@ -94,8 +134,7 @@ pub fn choose(image: &[u8], table: &[u64], count: usize) -> Choice
     };
     let mut c = 1;
     while c < count {
-        let next = candidate_at(image, table, c);
-        best = better_of(best, next);
+        best = better_at(best, image, table, buffer, c);
         c += 1;
     }
     if best.chunk == 0 {
@@ -104,15 +143,21 @@ pub fn choose(image: &[u8], table: &[u64], count: usize) -> Choice
     Choice::At(best.chunk)
 }
 
-// THE CALL: 2, 1, 8, then 16 where none is found.
-pub fn choose_core(control: Control, setup: Setup, image: &[u8], table: &[u64]) -> Report
-    ensures { λ r. ⌜ Choosing control setup (now (image .entry)) (now (table .entry)) r ⌝ }
+// THE CALL: 2, 1, 8, then 16 where none is found. The buffer is a copy, since the record is lent to be read alone.
+pub fn choose_core(
+    control: Control,
+    setup: Setup,
+    buffer: Buffer,
+    image: &[u8],
+    table: &[u64],
+) -> Report
+    ensures { λ r. ⌜ Choosing control setup buffer (now (image .entry)) (now (table .entry)) r ⌝ }
 {
     let gated = session::gate(control, setup, image.len(), table.len());
     match gated {
         Gated::Open => {
             let count = image.len() / 4096;
-            let choice = choose(image, table, count);
+            let choice = choose(image, table, &buffer, count);
             match choice {
                 Choice::At(c) => Report::Chosen(c),
                 Choice::Nothing => Report::Refused(Refusal::NotCleanable),

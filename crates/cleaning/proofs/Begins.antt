@@ -2,13 +2,14 @@
 -- looking forward.
 -- Assumes nothing.
 use mathlib.Core.Path.{_≡_, refl, sym, _∙_, ap, subst}
+use mathlib.Core.Logic.{_⊎_, inl, inr}
 use mathlib.Core.Bool.{true, false}
 use mathlib.Core.Option.{some}
 use mathlib.Core.List.{List, [], _∷_, _++_}
 use Prim.Native.Nat.{ℕ, zero, suc, _+_, _-_, _*_, _/_, _%_, _≤_, _<_, min}
 use native.Mathlib.Omega.{arith}
 use lib.ListN.{length, getD, drop, length-append}
-use Rattle.spec.specs.Places.{directoryWord, chunksIn}
+use Rattle.spec.specs.Places.{chunkLines, directoryWord, chunksIn}
 use Rattle.spec.specs.Medium.{Action}
 use Rattle.spec.specs.Directory.{isLog, roleAt, linesOf}
 use Rattle.spec.specs.Log.{Entry, encodeAll}
@@ -28,17 +29,20 @@ use Rattle.session.proofs.Kept.{plain-hint}
 use Rattle.session.proofs.Part.{chunk-in, lines-in}
 use Rattle.actions.specs.Nth.{nth}
 use Rattle.leaving.proofs.Fence.{lines-few, cleaned, stands-here, stands-copied}
-use Rattle.gathering.specs.Gathering.{AreaWritten}
+use Rattle.theory_plans.proofs.LogPlace.{log-place}
+use Rattle.volatile.proofs.Sums.{summed-same}
+use Rattle.session.specs.Cleaned.{before, keptOf}
+use Rattle.leaving.proofs.Moving.{nothing-kept, moving}
 use Rattle.session.specs.declared.Source.{Source}
 use Rattle.cleaning.specs.Ahead.{Ahead}
 use Rattle.cleaning.specs.Record.{cleaning, copyingTo, sourceOf}
 use Rattle.cleaning.proofs.Forward.{lo, hi, below-ahead, place-small, clean-forward, clean-forward-none, clean-forward-data}
 use Rattle.cleaning.proofs.Acting.{kept-length, copied-some, copied-none, clean-next}
 
--- the bits stay where the words outside the second area do
-pub area-bits : (b b′ : List ℕ) → AreaWritten b b′ → (u : ℕ) → hasBit b′ u ≡ hasBit b u
+-- the bits stay where the words behind the second area do
+back-bits : (b b′ : List ℕ) → ((i : ℕ) → 1024 ≤ i → getD b′ i 0 ≡ getD b i 0) → (u : ℕ) → hasBit b′ u ≡ hasBit b u
 unfolding hasBit
-area-bits b b′ a u = rw (a .above (1024 + u / 64) (omega arith))
+back-bits b b′ back u = rw (back (1024 + u / 64) (omega arith))
 
 -- entries that are some have words
 some-words : (es : List Entry) → (es ≡ [] → ⊥) → length (encodeAll es) ≡ 0 → ⊥
@@ -46,7 +50,7 @@ some-words [] h e = h refl
 some-words (f ∷ fs) h e = let l = length-append (f .value) (encodeAll fs) in absurd (omega arith)
 
 module _ (c : Control) (k : Setup) (b ws table : List ℕ) (r : RestFits (record { control = c; setup = k; buffer = b }) ws table []) (s : ℕ) (low : 1 ≤ s) (high : s < chunksIn 12 (k .image))
-    (words entries : ℕ) (room : words ≤ batchRoom) (b′ : List ℕ) (bits : (u : ℕ) → hasBit b′ u ≡ hasBit b u) (g : Source) where
+    (words entries : ℕ) (room : words ≤ batchRoom) (b′ : List ℕ) (back : (i : ℕ) → 1024 ≤ i → getD b′ i 0 ≡ getD b i 0) (g : Source) where
   abbrev es : List Entry
   es = r .entries
 
@@ -66,7 +70,7 @@ module _ (c : Control) (k : Setup) (b ws table : List ℕ) (r : RestFits (record
   source-is = let h = small in omega arith
 
   -- with what is ahead, the record fits
-  module _ (chunk old lines first least : ℕ) (in-chunks : chunk ≤ 503) (in-lines : lines ≤ 64) (d z : ℕ) (below : NoneBelow (chunksIn 12 (k .image)) ws first least) (under : first ≤ d) (plain : first < soleMark) where
+  module _ (chunk old lines first least : ℕ) (in-chunks : chunk ≤ 503) (in-lines : lines ≤ 64) (fits : 8 * lines + words ≤ 512) (counts : (words ≡ length (encodeAll kept)) ⊎ (words ≡ 0)) (d z : ℕ) (below : NoneBelow (chunksIn 12 (k .image)) ws first least) (under : first ≤ d) (plain : first < soleMark) where
     abbrev k′ : Setup
     k′ = copyingTo k chunk old lines first least g
 
@@ -88,13 +92,14 @@ module _ (c : Control) (k : Setup) (b ws table : List ℕ) (r : RestFits (record
       source = small;
       committed = lines-few ws s;
       room = room;
+      moves = moving lo hi n s (batchPlace k′) (linesFor words) z ws vs es (a .xs) (a .mid) (a .ys) (a .as′) (a .bs) (a .freed) words chunk lines small in-chunks refl fits (keeps counts);
       accepted = a .accepted;
       long = r .long;
       lent = r .lent;
       cleaned = cleaned lo hi n s (batchPlace k′) (linesFor words) z ws vs es (a .xs) (a .mid) (a .ys) (a .as′) (a .bs) (a .freed);
       here = stands-here lo hi n s (batchPlace k′) (linesFor words) z ws vs es (a .xs) (a .mid) (a .ys) (a .as′) (a .bs) (a .freed);
       copied = stands-copied lo hi n s (batchPlace k′) (linesFor words) z ws vs es (a .xs) (a .mid) (a .ys) (a .as′) (a .bs) (a .freed);
-      built = record { indexed = rw (a .freed .parts .whole) at (r .built .indexed); blocks = λ u. bits u ∙ (rw (a .freed .parts .whole) at (r .built .blocks)) u };
+      built = record { indexed = rw (a .freed .parts .whole) at (r .built .indexed); blocks = λ u. back-bits b b′ back u ∙ (rw (a .freed .parts .whole) at (r .built .blocks)) u; sums = summed-same b b′ (before (a .xs) (a .mid) (a .ys)) (λ i l. back i (omega arith)) (rw (a .freed .parts .whole) at (r .built .sums)) };
       hint = plain-hint n vs first least plain (below-ahead (k .image) (k .table) s (batchPlace k′) (linesFor words) z d ws vs es a first least under below);
     }
       where
@@ -103,6 +108,10 @@ module _ (c : Control) (k : Setup) (b ws table : List ℕ) (r : RestFits (record
 
         vs : List ℕ
         vs = runWords (x ∷ xs) ws
+
+        keeps : (words ≡ length (encodeAll kept)) ⊎ (words ≡ 0) → words ≡ length (encodeAll (keptOf (a .xs) (a .mid) (a .ys)))
+        keeps (inl e) = e ∙ ap (λ (l : List Entry). length (encodeAll l)) (sym (a .kept))
+        keeps (inr e) = e ∙ sym (nothing-kept lo hi (chunksIn 12 (k .image)) s (batchPlace k′) (linesFor words) z ws (runWords (x ∷ xs) ws) es (a .xs) (a .mid) (a .ys) (a .as′) (a .bs) (a .freed) (omega arith))
 
     fits-all : Ahead lo hi (k .image) (k .table) s (batchPlace k′) (linesFor words) z d ws (runWords acts ws) es → CleanFits (cleaning c) k′ f b′ ws table (nth acts 0 ∷ drop 1 acts)
     fits-all a = fits-by (nth acts 0) (drop 1 acts) (subst (λ (l : List Action). Ahead lo hi (k .image) (k .table) s (batchPlace k′) (linesFor words) z d ws (runWords l ws) es) begun-first a)
@@ -130,9 +139,17 @@ module _ (c : Control) (k : Setup) (b ws table : List ℕ) (r : RestFits (record
     copies-acts =
         rw (copied-some k-copies words b′ (λ e. some-words kept some-kept (sym counted ∙ e)), source-is, chunk-in k-copies in-chunks, lines-in k-copies (lines-few ws d), written)
 
+    -- there is space for them
+    space : 8 * linesOf 12 ws d + words ≤ 512
+    unfolding chunkLines
+    space =
+        let p = log-place 12 (chunksIn 12 (k .image)) ws (linesFor (length (encodeAll kept))) s 1 d (let q = counted in omega arith) found .0 .fit in
+        let q = counted in
+        omega arith
+
     pub copies-fit : CleanFits (cleaning c) k-copies f b′ ws table (nth (cleanActions k-copies f b′) 0 ∷ drop 1 (cleanActions k-copies f b′))
     copies-fit =
-        fits-all d old lines first least in-chunks (lines-few ws d) d (padding kept) below under plain
+        fits-all d old lines first least in-chunks (lines-few ws d) space (inl counted) d (padding kept) below under plain
         (rw (copies-acts, counted) (clean-forward (k .image) (k .table) ws es (r .accepted) (r .long) s (getD ws (directoryWord s) 0) low high log d old some-kept found))
 
   -- NOTHING COPIED
@@ -146,7 +163,7 @@ module _ (c : Control) (k : Setup) (b ws table : List ℕ) (r : RestFits (record
 
     freed-fits : Ahead lo hi (k .image) (k .table) s (batchPlace k-none) 0 0 (k .first % soleMark) ws (runWords (free s ws) ws) es
         → CleanFits (cleaning c) k-none f b′ ws table (nth (cleanActions k-none f b′) 0 ∷ drop 1 (cleanActions k-none f b′))
-    freed-fits a = fits-all chunk old lines (k .first % soleMark) (k .least) in-chunks in-lines (k .first % soleMark) 0 (r .hint .below) (omega arith) (omega arith) (rw (none-acts, none) a)
+    freed-fits a = fits-all chunk old lines (k .first % soleMark) (k .least) in-chunks in-lines (omega arith) (inr none) (k .first % soleMark) 0 (r .hint .below) (omega arith) (omega arith) (rw (none-acts, none) a)
 
     -- a log chunk of which nothing is kept
     pub none-fits : isLog (roleAt 12 ws s) ≡ true → kept ≡ [] → CleanFits (cleaning c) k-none f b′ ws table (nth (cleanActions k-none f b′) 0 ∷ drop 1 (cleanActions k-none f b′))

@@ -52,13 +52,14 @@ module _ (c : Control) (k : Setup) (f : Source) (b ws table : List ℕ) where
     source = t .source;
     committed = t .committed;
     room = t .room;
+    moves = t .moves;
     accepted = t .accepted;
     long = action-length x ws ∙ t .long;
     lent = t .lent;
     cleaned = t .cleaned;
     here = t .here;
     copied = t .copied;
-    built = record { indexed = t .built .indexed; blocks = t .built .blocks };
+    built = record { indexed = t .built .indexed; blocks = t .built .blocks; sums = t .built .sums };
     hint = t .hint;
   }
 
@@ -91,19 +92,23 @@ module _ (c : Control) (k : Setup) (f : Source) (b ws table : List ℕ) where
     until-is : until ≡ batchPlace k + 8 * linesFor (f .words)
     until-is = let a = ends .until-is in let h = t .room in let q = from-is in omega arith
 
-    pub last-emptied : Emptied n ws′ b table (c .keys) at end from until (t .xs) (t .mid) (t .ys) (t .as′) (t .bs)
+    chunk-is : at / 512 ≡ f .chunk
+    chunk-is = let a = ends .at-is in let h = t .source in omega arith
+
+    pub last-emptied : Emptied n ws′ b table (c .keys) at end from until (f .words) (t .xs) (t .mid) (t .ys) (t .as′) (t .bs)
     last-emptied =
         rw (n-is, at-is, end-is, from-is, until-is) (record {
           cleaned = t .cleaned;
+          moves = rw (← at-is, chunk-is) (t .moves);
           here = t .here;
           copied = t .copied;
           most = ok .most;
           long = long-enough (chunksIn 12 (k .image)) ws′ (ok .long);
           accepted = rw (t .lent) (opened-log (k .image) (chunksIn 12 (k .image)) ws′ (k .table) out refl (t .accepted));
-          holds = record { indexed = t .built .indexed; blocks = t .built .blocks };
+          holds = record { indexed = t .built .indexed; blocks = t .built .blocks; sums = t .built .sums };
         })
 
-    pub last-kept : (b′ table′ : List ℕ) (keys : ℕ) → Emptying n ws′ b b′ table table′ (c .keys) at end from until keys → CleanFits (acted c keys) k f b′ ws′ table′ []
+    pub last-kept : (b′ table′ : List ℕ) (keys : ℕ) → Emptying n ws′ b b′ table table′ (c .keys) at end from until (f .words) keys → CleanFits (acted c keys) k f b′ ws′ table′ []
     last-kept b′ table′ keys e =
         let q : Holds b′ table′ keys out = rw from-is at (e .leaves (t .xs) (t .mid) (t .ys) (t .as′) (t .bs) last-emptied) in
         record {
@@ -117,13 +122,14 @@ module _ (c : Control) (k : Setup) (f : Source) (b ws table : List ℕ) where
           source = t .source;
           committed = t .committed;
           room = t .room;
+          moves = t .moves;
           accepted = t .accepted;
           long = long′;
           lent = e .sized ∙ t .lent;
           cleaned = t .cleaned;
           here = t .here;
           copied = t .copied;
-          built = record { indexed = q .indexed; blocks = q .blocks };
+          built = record { indexed = q .indexed; blocks = q .blocks; sums = q .sums };
           hint = t .hint;
         }
 
@@ -140,7 +146,7 @@ module _ (c : Control) (k : Setup) (f : Source) (b ws table : List ℕ) where
         accepted = t .accepted;
         long = t .long;
         lent = t .lent;
-        built = record { indexed = t .built .indexed; blocks = t .built .blocks };
+        built = record { indexed = t .built .indexed; blocks = t .built .blocks; sums = t .built .sums };
         batch = record { room = omega arith; written = refl; count = refl; few = omega arith; right = tt; counts = tt; fit = none-fit (chunksIn 12 (k .image)) ws (after (t .xs) (t .mid) (t .ys) (t .as′) (t .bs) (batchPlace k)); marked = tt; keys = omega arith };
         table-room = omega arith;
         hint = t .hint;

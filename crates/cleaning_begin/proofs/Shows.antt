@@ -29,7 +29,7 @@ module _ (f : Source) (kept b : List ℕ) where
   pub stored-none : f .words ≡ 0 → KeptStored f kept b b
   stored-none z = inl (z, refl)
 
-  pub stored-some : (b′ : List ℕ) (n : ℕ) → (f .words ≡ 0 → ⊥) → length b ≡ 1152 → n ≡ min (f .words) 512 → Copied kept b b′ 0 512 n → KeptStored f kept b b′
+  pub stored-some : (b′ : List ℕ) (n : ℕ) → (f .words ≡ 0 → ⊥) → length b ≡ 1664 → n ≡ min (f .words) 512 → Copied kept b b′ 0 512 n → KeptStored f kept b b′
   stored-some b′ n z long is c = inr (z, long, n, is, c)
 
 module _ (c : Control) (k : Setup) (b image table words : List ℕ) (s : ℕ) (plan : CleanPlan) (right : CleanPlanned c k b image table words s plan) where

@@ -25,7 +25,7 @@ use Rattle.planning.proofs.Begun.{Begun}
 
 -- the kept words are stored in the record's buffer, if there are any
 abbrev pub KeptStored : (f : Source) (kept b b′ : List ℕ) → Type 0
-KeptStored f kept b b′ = ((f .words ≡ 0) × (b′ ≡ b)) ⊎ ((f .words ≡ 0 → ⊥) × (length b ≡ 1152) × (n : ℕ) × (n ≡ min (f .words) 512) × Copied kept b b′ 0 512 n)
+KeptStored f kept b b′ = ((f .words ≡ 0) × (b′ ≡ b)) ⊎ ((f .words ≡ 0 → ⊥) × (length b ≡ 1664) × (n : ℕ) × (n ≡ min (f .words) 512) × Copied kept b b′ 0 512 n)
 
 -- turned down: nothing is changed, and the number is one of the call's
 pub record Turned (c c′ : Control) (k k′ : Setup) (b b′ image table : List ℕ) (s : ℕ) (r : Report) : Type 0 where

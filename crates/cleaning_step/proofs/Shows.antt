@@ -28,7 +28,7 @@ use Rattle.cleaning_step.specs.Moves.{ChunkLeft, CleanStepped}
 
 pub shows-left : (k : Setup) (f : Source) (ws b b′ table table′ : List ℕ) (keys keys′ kept at end from until count : ℕ) → kept ≡ min (f .words) batchRoom
     → at ≡ 512 * sourceIn f → end ≡ at + 8 * sourceLines f → from ≡ 512 * chunkIn k + 8 * linesIn k → until ≡ from + 8 * linesFor kept → count ≡ k .image / 4096
-    → Emptying count ws b b′ table table′ keys at end from until keys′ → ChunkLeft k f ws b b′ table table′ keys keys′
+    → Emptying count ws b b′ table table′ keys at end from until (f .words) keys′ → ChunkLeft k f ws b b′ table table′ keys keys′
 shows-left k f ws b b′ table table′ keys keys′ kept at end from until count ek ea ee ef eu ec e = record {
   at = at;
   end = end;

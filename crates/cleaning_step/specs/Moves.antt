@@ -28,7 +28,7 @@ pub record ChunkLeft (k : Setup) (f : Source) (ws b b′ table table′ : List �
   pub from : ℕ
   pub until : ℕ
   pub ends : Ends k f at end from until
-  pub empties : Emptying (k .image / 4096) ws b b′ table table′ keys at end from until keys′
+  pub empties : Emptying (k .image / 4096) ws b b′ table table′ keys at end from until (f .words) keys′
 
 -- AN ACTION: of any memory its report, the image's change, and that the actions behind it stay; and memory stays as the
 -- calls left it

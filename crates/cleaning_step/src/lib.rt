@@ -27,7 +27,18 @@ fn leave_chunk(
     let at = 512 * (source.chunk % 512);
     let end = at + 8 * (source.lines % 128);
     let count = setup.image / 4096;
-    leaving::leave(image, count, buffer, table, keys, at, end, from, until)
+    leaving::leave(
+        image,
+        count,
+        buffer,
+        table,
+        keys,
+        at,
+        end,
+        from,
+        until,
+        source.words,
+    )
 }
 
 pub fn clean_step(

@@ -135,7 +135,7 @@ module _ (c : Control) (k : Setup) (b ws table : List ℕ) (f : Entry) (fs : Lis
     };
     agree = rw (ahead .split) at (ahead .agree);
     apart = rw (ahead .split) at (ahead .apart);
-    built = record { indexed = rw (ahead .split) at (r .built .indexed); blocks = rw (ahead .split) at (r .built .blocks) };
+    built = record { indexed = rw (ahead .split) at (r .built .indexed); blocks = rw (ahead .split) at (r .built .blocks); sums = rw (ahead .split) at (r .built .sums) };
     table-room = r .table-room;
     hint = subst (λ (l : List Action). Hint (chunksIn basePower (k .image)) (runWords l ws) first′ least′) (sym todo) still;
   }

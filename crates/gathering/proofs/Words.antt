@@ -164,7 +164,7 @@ part-same b kept i j (suc n) h =
     rw (p, q) at x) in
     rw (first, rest)
 
-pub stored-gathered : (ws table kept b b′ : List ℕ) (at end n : ℕ) (t : Tally) → Collected ws table kept at end t → n ≡ t .words → length b ≡ 1152 → Copied kept b b′ 0 512 n → Gathered ws table b b′ at end t
+pub stored-gathered : (ws table kept b b′ : List ℕ) (at end n : ℕ) (t : Tally) → Collected ws table kept at end t → n ≡ t .words → length b ≡ 1664 → Copied kept b b′ 0 512 n → Gathered ws table b b′ at end t
 stored-gathered ws table kept b b′ at end n t g is size c = record {
   area = record {
     size = size;

@@ -62,7 +62,7 @@ pub record Copied (ws buffer buffer′ : List ℕ) (from to n : ℕ) : Type 0 wh
 
 -- the buffer's words outside the second area stay
 pub record AreaWritten (buffer buffer′ : List ℕ) : Type 0 where
-  pub size : length buffer ≡ 1152
+  pub size : length buffer ≡ 1664
   pub long : length buffer′ ≡ length buffer
   pub below : (j : ℕ) → j < 512 → getD buffer′ j 0 ≡ getD buffer j 0
   pub above : (j : ℕ) → 1024 ≤ j → getD buffer′ j 0 ≡ getD buffer j 0

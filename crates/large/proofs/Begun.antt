@@ -55,6 +55,7 @@ begun before mid after k words version key v u old size end count ch pl h a ec e
   count = en;
   long = a .long ∙ h .long;
   bits = λ i. a .bits i ∙ h .bits i;
+  behind = λ i l. a .behind i l ∙ h .above i (omega arith);
   held = λ l. same-held mid after (a .above) ∙ h .held l;
   words′ = λ l. a .count l;
   written = λ l r s items w. a .written l r s items (part-agree mid before 0 words (λ j x y. h .below j (omega arith)) ∙ w);
@@ -152,6 +153,7 @@ module _ (image before after : List ℕ) (k : Setup) (words version key : ℕ) (
   shows-data u e b = record {
     long = b .long;
     bits = b .bits;
+    behind = b .behind;
     same = placed-same (r .setup) k _ _ _ (b .setup);
     words′ = λ z. b .words′;
     nothing = λ z. absurd (let f : true ≡ false = sym (b .found) ∙ z in let y : _≡_ {A = ℕ} 0 1 = cc in omega arith);
@@ -168,6 +170,7 @@ module _ (image before after : List ℕ) (k : Setup) (words version key : ℕ) (
   shows-free c u old e eu eo b = record {
     long = b .long;
     bits = b .bits;
+    behind = b .behind;
     same = placed-same (r .setup) k _ _ _ (b .setup);
     words′ = λ z. b .words′;
     nothing = λ z. absurd (let f : true ≡ false = sym (b .found) ∙ z in let y : _≡_ {A = ℕ} 0 1 = cc in omega arith);
@@ -190,6 +193,7 @@ module _ (image before after : List ℕ) (k : Setup) (words version key : ℕ) (
   shows-nowhere e a q = record {
     long = ap length a;
     bits = λ i. rw a;
+    behind = λ i l. rw a;
     same = let e′ = ap (λ (x : Large). x .setup) q in (ap (λ (x : Setup). x .image) e′, ap (λ (x : Setup). x .table) e′, ap (λ (x : Setup). x .first) e′, ap (λ (x : Setup). x .least) e′);
     words′ = λ z. absurd (let f : true ≡ false = sym z ∙ ap (λ (x : Large). x .found) q in let y : _≡_ {A = ℕ} 0 1 = cc in omega arith);
     nothing = λ z. (a, ap (λ (x : Large). x .setup) q, ap (λ (x : Large). x .words) q);

@@ -42,6 +42,7 @@ pub record BlockBegun (before after : List ℕ) (k : Setup) (words version key :
   pub count : r .count ≡ length (blockActions (r .setup) after)
   pub long : length after ≡ length before
   pub bits : (i : ℕ) → hasBit after i ≡ hasBit before i
+  pub behind : (i : ℕ) → filterPlace < i → getD after i 0 ≡ getD before i 0
   pub held : length v ≤ mostBytes → heldWords after ≡ length v ∷ packed v
   pub words′ : words + 2 ≤ batchRoom → r .words ≡ words + 2
   pub written : words + 2 ≤ batchRoom → Right (entry 1 1 version u key []) → u < 2 ^ 40 → (items : List Entry) → bufferPart before 0 words ≡ encodeAll items
@@ -63,6 +64,7 @@ Planned false plan after items r = plan ≡ Refuse N.NoSpace
 pub record LargeStaged (image before after : List ℕ) (k : Setup) (words version key : ℕ) (v : List ℕ) (r : Large) : Type 0 where
   pub long : length after ≡ length before
   pub bits : (i : ℕ) → hasBit after i ≡ hasBit before i
+  pub behind : (i : ℕ) → filterPlace < i → getD after i 0 ≡ getD before i 0
   pub same : (r .setup .image ≡ k .image) × (r .setup .table ≡ k .table) × (r .setup .first ≡ k .first) × (r .setup .least ≡ k .least)
   pub words′ : r .found ≡ true → words + 2 ≤ batchRoom → r .words ≡ words + 2
   pub nothing : r .found ≡ false → (after ≡ before) × (r .setup ≡ k) × (r .words ≡ words)

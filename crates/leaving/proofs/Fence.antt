@@ -26,7 +26,7 @@ use Rattle.theory_log.proofs.Places.{chunk-sound, all-sound, right-filter}
 use Rattle.theory_plans.proofs.Cleaning.{parse-words}
 use Rattle.volatile.proofs.Image.{image-bounded}
 use Rattle.apply.proofs.Live.{mem-between}
-use Rattle.session.specs.Cleaned.{before, keptOf, copiesOf, after, Cleaned, Stand}
+use Rattle.session.specs.Cleaned.{before, keptOf, copiesOf, after, Cleaned, Moves, Stand}
 use Rattle.leaving.specs.Passes.{Holds, Emptied}
 use Rattle.leaving.specs.Fence.{Freed}
 
@@ -86,7 +86,7 @@ module _ (lo : 12 ≤ 12) (hi : 12 ≤ 16) (n s at b z : ℕ) (old ws : List ℕ
   out = after xs mid ys as′ bs at
 
   -- nothing stands in the freed chunk
-  outside : (e : Entry) → Mem e (after xs mid ys as′ bs at) → (e .at < base 12 s) ⊎ (base 12 s + chunkWords 12 ≤ e .at)
+  pub outside : (e : Entry) → Mem e (after xs mid ys as′ bs at) → (e .at < base 12 s) ⊎ (base 12 s + chunkWords 12 ≤ e .at)
   outside e m = go (parts 12 lo hi n s ws (after xs mid ys as′ bs at) (f .low) (f .high) (f .ok .parsed))
     where
       none-here : (us : List Entry) → chunkEntries 12 ws s ≡ Entries us → us ≡ []
@@ -146,9 +146,10 @@ module _ (lo : 12 ≤ 12) (hi : 12 ≤ 16) (n s at b z : ℕ) (old ws : List ℕ
 
   -- AT THE LAST FENCE
   pub cleaning-emptied : (buffer table : List ℕ) (keys bytes : ℕ) → chunksIn 12 bytes ≡ n → opening 12 bytes ws (length table) ≡ Accepted (after xs mid ys as′ bs at)
-      → Holds buffer table keys es → Emptied n ws buffer table keys (base 12 s) (base 12 s + 8 * linesOf 12 old s) at (at + 8 * b) xs mid ys as′ bs
-  cleaning-emptied buffer table keys bytes q o h = record {
+      → (words : ℕ) → Moves (base 12 s / 512) words xs mid ys as′ bs at → Holds buffer table keys es → Emptied n ws buffer table keys (base 12 s) (base 12 s + 8 * linesOf 12 old s) at (at + 8 * b) words xs mid ys as′ bs
+  cleaning-emptied buffer table keys bytes q o words m h = record {
     cleaned = cleaned;
+    moves = m;
     here = stands-here;
     copied = stands-copied;
     most = f .ok .most;

@@ -53,29 +53,29 @@ module _ (xs mid ys as′ bs : List Entry) (at : ℕ) (t : Cleaned xs mid ys as�
 
   -- ## Members
 
-  mid-in : (e : Entry) → Mem e mid → Mem e es
+  pub mid-in : (e : Entry) → Mem e mid → Mem e es
   mid-in e m = mem-r e xs (mid ++ ys) (mem-l e mid ys m)
 
-  others-in : (e : Entry) → Mem e others → Mem e es
+  pub others-in : (e : Entry) → Mem e others → Mem e es
   others-in e m = mem-around e xs mid ys m
 
-  others-out : (e : Entry) → Mem e others → Mem e out
+  pub others-out : (e : Entry) → Mem e others → Mem e out
   others-out e m = mem-around e as′ copies bs (rw (t .rest) m)
 
   copy-out : (e : Entry) → Mem e copies → Mem e out
   copy-out e m = mem-r e as′ (copies ++ bs) (mem-l e copies bs m)
 
-  before-cases : (e : Entry) → Mem e es → Mem e mid ⊎ Mem e others
+  pub before-cases : (e : Entry) → Mem e es → Mem e mid ⊎ Mem e others
   before-cases e m = mem-between e xs mid ys m
 
-  after-cases : (e : Entry) → Mem e out → Mem e copies ⊎ Mem e others
+  pub after-cases : (e : Entry) → Mem e out → Mem e copies ⊎ Mem e others
   after-cases e m = elim (mem-between e as′ copies bs m) [ inl a ↦ inl a | inr b ↦ inr (rw (t .rest) at b) ]
 
   -- no entry stands both in the chunk and elsewhere
   not-both-places : (e : Entry) → Mem e mid → Mem e others → ⊥
   not-both-places e m n = t .clear e e m (others-out e n) refl
 
-  apart : Apart es
+  pub apart : Apart es
   apart = rising-apart (t .low) (t .high) es (t .rising)
 
   -- ## What is kept
@@ -93,18 +93,18 @@ module _ (xs mid ys as′ bs : List Entry) (at : ℕ) (t : Cleaned xs mid ys as�
       needed false b h = absurd (let z : _≡_ {A = ℕ} 0 1 = cc in omega arith)
 
   -- the chosen entry, if it stands in the chunk: kept, or a delete whose key is not known elsewhere
-  is-kept : (e : Entry) → Mem e mid → chosen (e .key) es ≡ some e → either (eqb (e .op) 1) (known (e .key) others) ≡ true → Mem e kept
+  pub is-kept : (e : Entry) → Mem e mid → chosen (e .key) es ≡ some e → either (eqb (e .op) 1) (known (e .key) others) ≡ true → Mem e kept
   is-kept e m c h = filter-mem (isKept es others) e mid m (rw (c, eq-eqb (e .at) (e .at) refl) h)
 
   -- a copy's original
-  record Origin (c : Entry) : Type 0 where
-    entry : Entry
-    place : ℕ
-    member : Mem entry kept
-    is-copy : c ≡ moved place entry
-    is-chosen : chosen (c .key) es ≡ some entry
+  pub record Origin (c : Entry) : Type 0 where
+    pub entry : Entry
+    pub place : ℕ
+    pub member : Mem entry kept
+    pub is-copy : c ≡ moved place entry
+    pub is-chosen : chosen (c .key) es ≡ some entry
 
-  origin : (c : Entry) → Mem c copies → Origin c
+  pub origin : (c : Entry) → Mem c copies → Origin c
   origin c m =
       let r = mem-placed c at kept m in
       let q : c .key ≡ r .0 .key = ap (λ (e : Entry). e .key) (r .3) in
@@ -117,7 +117,7 @@ module _ (xs mid ys as′ bs : List Entry) (at : ℕ) (t : Cleaned xs mid ys as�
   same-chosen : (j k : ℕ) (e f : Entry) → j ≡ k → chosen j es ≡ some e → chosen k es ≡ some f → e ≡ f
   same-chosen j k e f q a b = let w : chosen j es ≡ some f = ap (λ (i : ℕ). chosen i es) q ∙ b in cc
 
-  rising-mid : Rising (t .low) (t .high) mid
+  pub rising-mid : Rising (t .low) (t .high) mid
   rising-mid = front (t .low) (t .high) mid (part (t .low) (t .high) xs (t .rising))
     where
       part : (lo hi : ℕ) (zs : List Entry) → Rising lo hi (zs ++ (mid ++ ys)) → Rising lo hi (mid ++ ys)

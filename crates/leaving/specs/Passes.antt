@@ -4,7 +4,7 @@
 use mathlib.Core.Path.{_≡_}
 use mathlib.Core.Bool.{Bool, true}
 use mathlib.Core.List.{List, [], _∷_, _++_}
-use Prim.Native.Nat.{ℕ, _+_, _*_, _≤_, _<_}
+use Prim.Native.Nat.{ℕ, _+_, _*_, _/_, _≤_, _<_}
 use lib.ListN.{length}
 use Rattle.spec.specs.Basics.{isIn, filter}
 use Rattle.spec.specs.Places.{maxChunks}
@@ -14,7 +14,8 @@ use Rattle.spec.specs.Opening.{Accepted, openLog}
 use Rattle.log.specs.Cursor.{cursorAt, remaining, left}
 use Rattle.blocks.specs.Bits.{hasBit}
 use Rattle.volatile.specs.Known.{Indexed}
-use Rattle.session.specs.Cleaned.{before, copiesOf, after, Cleaned, Stand}
+use Rattle.volatile.specs.Sums.{Summed}
+use Rattle.session.specs.Cleaned.{before, copiesOf, after, Cleaned, Moves, Stand}
 use Rattle.leaving.specs.Leaving.{Leaving, Marked}
 use Rattle.leaving.specs.declared.Went.{Went}
 use Rattle.leaving.specs.declared.Run.{Run}
@@ -42,21 +43,23 @@ pub record AllLeft (ws table table′ : List ℕ) (keys at end from until : ℕ)
   pub sized : length table′ ≡ length table
   pub leaves : r .single ≡ true → (es mid out : List Entry) (test : Entry → Bool) → Stand ws at end mid → Leaving ws until es mid out test table keys mid from → Leaving ws until es mid out test table′ (r .keys) [] (r .to)
 
--- table and bits are those of the entries es
+-- table, bits and sums are those of the entries es
 pub record Holds (buffer table : List ℕ) (keys : ℕ) (es : List Entry) : Type 0 where
   pub indexed : Indexed table keys es
   pub blocks : (u : ℕ) → hasBit buffer u ≡ isIn u (liveBlocks es)
+  pub sums : Summed buffer es
 
--- key table and bits built anew from an image of n chunks whose log is accepted
+-- key table, bits and sums built anew from an image of n chunks whose log is accepted
 pub record Rebuilt (n : ℕ) (ws buffer buffer′ table table′ : List ℕ) (keys′ : ℕ) : Type 0 where
   pub sized : length table′ ≡ length table
   pub kept : length buffer′ ≡ length buffer
   pub builds : n ≤ maxChunks → 512 * n ≤ length ws → (es : List Entry) → openLog 12 n ws (length table) (imageEntries 12 n ws) ≡ Accepted es → Holds buffer′ table′ keys′ es
 
 -- AT A CLEANING'S LAST FENCE. The image shows the new entries alone. The words of the chunk still stand from `at` to
--- `end`, the copies from `from` to `until`. Table and bits know the entries before.
-pub record Emptied (n : ℕ) (ws buffer table : List ℕ) (keys at end from until : ℕ) (xs mid ys as′ bs : List Entry) : Type 0 where
+-- `end`, the copies, of so many words, from `from` to `until`. Table, bits and sums know the entries before.
+pub record Emptied (n : ℕ) (ws buffer table : List ℕ) (keys at end from until words : ℕ) (xs mid ys as′ bs : List Entry) : Type 0 where
   pub cleaned : Cleaned xs mid ys as′ bs from
+  pub moves : Moves (at / 512) words xs mid ys as′ bs from
   pub here : Stand ws at end mid
   pub copied : Stand ws from until (copiesOf xs mid ys from)
   pub most : n ≤ maxChunks
@@ -65,7 +68,7 @@ pub record Emptied (n : ℕ) (ws buffer table : List ℕ) (keys at end from unti
   pub holds : Holds buffer table keys (before xs mid ys)
 
 -- before and after the chunk's entries left: of any memory, and at that fence
-pub record Emptying (n : ℕ) (ws buffer buffer′ table table′ : List ℕ) (keys at end from until keys′ : ℕ) : Type 0 where
+pub record Emptying (n : ℕ) (ws buffer buffer′ table table′ : List ℕ) (keys at end from until words keys′ : ℕ) : Type 0 where
   pub sized : length table′ ≡ length table
   pub kept : length buffer′ ≡ length buffer
-  pub leaves : (xs mid ys as′ bs : List Entry) → Emptied n ws buffer table keys at end from until xs mid ys as′ bs → Holds buffer′ table′ keys′ (after xs mid ys as′ bs from)
+  pub leaves : (xs mid ys as′ bs : List Entry) → Emptied n ws buffer table keys at end from until words xs mid ys as′ bs → Holds buffer′ table′ keys′ (after xs mid ys as′ bs from)

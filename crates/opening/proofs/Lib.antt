@@ -2,3 +2,4 @@ pub mod Tests
 pub mod Pass
 pub mod Runs
 pub mod Opens
+pub mod Sums

@@ -30,6 +30,8 @@ use Rattle.index.specs.Index.{zeros}
 use Rattle.blocks.specs.Bits.{hasBit}
 use Rattle.volatile.specs.Known.{Indexed, FillInv}
 use Rattle.volatile.proofs.Fill.{fill-end, fill-fits}
+use Rattle.volatile.specs.Sums.{Summed}
+use Rattle.volatile.proofs.Sums.{summed-same}
 use Rattle.consistency.specs.declared.Checked.{Checked}
 use Rattle.consistency.specs.Pass.{Listed, Tested, Examined}
 use Rattle.session.specs.State.{batchWords, batchItems, noSource, stateAt, stateOf}
@@ -44,35 +46,35 @@ use Rattle.session.specs.Promise.{Does}
 -- ## The log
 
 -- what the first pass says of the parsed log
-module _ (n : ℕ) (ws table table′ : List ℕ) (fits plain : Bool) (keys : ℕ) where
-  fill-wrong : Filling n ws table table′ false fits plain keys → n ≤ maxChunks → imageEntries 12 n ws ≡ Wrong
+module _ (n : ℕ) (ws table table′ start buffer : List ℕ) (fits plain : Bool) (keys : ℕ) where
+  fill-wrong : Filling n ws table table′ start buffer false fits plain keys → n ≤ maxChunks → imageEntries 12 n ws ≡ Wrong
   fill-wrong f most = go (imageEntries 12 n ws) refl
     where
       go : (q : Parsed) → imageEntries 12 n ws ≡ q → q ≡ Wrong
       go Wrong h = refl
       go (Entries es) h = absurd (not-both false (f .entries most es h .0) refl)
 
-  fill-right : Filling n ws table table′ true fits plain keys → n ≤ maxChunks → (es : List Entry) × (imageEntries 12 n ws ≡ Entries es) × FillInv (length table) es table′ keys fits
+  fill-right : Filling n ws table table′ start buffer true fits plain keys → n ≤ maxChunks → (es : List Entry) × (imageEntries 12 n ws ≡ Entries es) × FillInv (length table) es table′ keys fits
   fill-right f most = go (imageEntries 12 n ws) refl
     where
       go : (q : Parsed) → imageEntries 12 n ws ≡ q → (es : List Entry) × (q ≡ Entries es) × FillInv (length table) es table′ keys fits
       go Wrong h = absurd (not-both true refl (f .wrong h))
       go (Entries es) h = (es, refl, f .entries most es h .1)
 
-module _ (n : ℕ) (ws table table′ : List ℕ) (right fits plain : Bool) (keys : ℕ) (filled : Filling n ws table table′ right fits plain keys) where
+module _ (n : ℕ) (ws table table′ start buffer : List ℕ) (right fits plain : Bool) (keys : ℕ) (filled : Filling n ws table table′ start buffer right fits plain keys) where
   -- 4
-  pub log-wrong : (buffer : List ℕ) → right ≡ false → JudgingLog n ws table table′ buffer buffer (J.Refused N.EntryWrong)
-  log-wrong buffer e = record {
+  pub log-wrong : right ≡ false → JudgingLog n ws table table′ start buffer (J.Refused N.EntryWrong)
+  log-wrong e = record {
     sized = filled .sized;
-    kept = refl;
-    judged = λ most long. (rw (fill-wrong n ws table table′ fits plain keys (rw e at filled) most), inr (inr (inr (inl refl))));
+    kept = filled .kept .long;
+    judged = λ most long. (rw (fill-wrong n ws table table′ start buffer fits plain keys (rw e at filled) most), inr (inr (inr (inl refl))));
   }
 
-  module _ (buffer buffer′ : List ℕ) (r : Checked) (checked : Examined n ws table′ fits plain buffer buffer′ r) (so : right ≡ true) where
+  module _ (buffer′ : List ℕ) (r : Checked) (checked : Examined n ws table′ fits plain buffer buffer′ r) (so : right ≡ true) where
     -- the entries, with what both passes say of them
     module _ (most : n ≤ maxChunks) (long : 512 * n ≤ length ws) where
       found : (es : List Entry) × (imageEntries 12 n ws ≡ Entries es) × FillInv (length table) es table′ keys fits
-      found = fill-right n ws table table′ fits plain keys (rw so at filled) most
+      found = fill-right n ws table table′ start buffer fits plain keys (rw so at filled) most
 
       abbrev es : List Entry
       es = found .0
@@ -91,10 +93,10 @@ module _ (n : ℕ) (ws table table′ : List ℕ) (right fits plain : Bool) (key
       space = fill-fits (length table) es table′ keys fits (found .2)
 
     -- 5
-    pub log-block : r .blocks ≡ false → JudgingLog n ws table table′ buffer buffer′ (J.Refused N.BlockWrong)
+    pub log-block : r .blocks ≡ false → JudgingLog n ws table table′ start buffer′ (J.Refused N.BlockWrong)
     log-block b = record {
       sized = filled .sized;
-      kept = checked .kept .long;
+      kept = checked .kept .long ∙ filled .kept .long;
       judged = λ most long.
           let t : blocksTest 12 n ws (es most long) ≡ false = sym (tested most long .blocks) ∙ b in
           (rw (found most long .1, t), inr (inr (inr (inr (inl refl)))));
@@ -120,10 +122,11 @@ module _ (n : ℕ) (ws table table′ : List ℕ) (right fits plain : Bool) (key
             rw (found most long .1, five, six ∙ h, sym (space most long) ∙ i),
             indexed most long fits (found most long .2) i,
             tested most long .bits b (both-l (r .agreeing) (r .apart) (sym is-agreed ∙ h)),
+            summed-same buffer buffer′ (es most long) (λ j l. checked .kept .above j (omega arith)) (filled .summed most (es most long) (found most long .1) i),
           )
 
-      pub log-end : (v : Verdict) → v ≡ firstRefusal agreed N.TopsDisagree fits N.TableFull keys → JudgingLog n ws table table′ buffer buffer′ v
-      log-end v e = record { sized = filled .sized; kept = checked .kept .long; judged = λ most long. rw e (last most long agreed refl fits refl) }
+      pub log-end : (v : Verdict) → v ≡ firstRefusal agreed N.TopsDisagree fits N.TableFull keys → JudgingLog n ws table table′ start buffer′ v
+      log-end v e = record { sized = filled .sized; kept = checked .kept .long ∙ filled .kept .long; judged = λ most long. rw e (last most long agreed refl fits refl) }
 
 -- ## The image
 
@@ -231,7 +234,7 @@ module _ (c : Control) (k : Setup) (buffer bytes table table′ buffer′ : List
         exact = λ proper. record {
           answered = sym (rw (j .1));
           became = rest ∙ sym (rw (j .1));
-          fits = (judging .kept ∙ proper, rw rest (fits keys (j .0) (j .1) (j .2) (j .3)));
+          fits = (judging .kept ∙ proper, rw rest (fits keys (j .0) (j .1) (j .2) (j .3) (j .4)));
         };
         first = λ r h. absurd (let x : _≡_ {A = ℕ} 0 1 = cc in omega arith);
         image = refl;
@@ -241,8 +244,8 @@ module _ (c : Control) (k : Setup) (buffer bytes table table′ buffer′ : List
       }
     where
       fits : (keys : ℕ) (es : List Entry) → opening 12 (length bytes) (wordsOf bytes) (length table) ≡ Accepted es → Indexed table′ keys es → ((u : ℕ) → hasBit buffer′ u ≡ isIn u (liveBlocks es))
-          → RestFits (session (atRest keys) (lent (length bytes) (length table) noSource) buffer′) (wordsOf bytes) table′ []
-      fits keys es o ix bits =
+          → Summed buffer′ es → RestFits (session (atRest keys) (lent (length bytes) (length table) noSource) buffer′) (wordsOf bytes) table′ []
+      fits keys es o ix bits sums =
           let m : keys ≡ length (keysOf es) = ix .count in
           let l : keys ≤ capacity (length table) = rw (judging .sized) at (ix .fits) in
           record {
@@ -250,7 +253,7 @@ module _ (c : Control) (k : Setup) (buffer bytes table table′ buffer′ : List
             accepted = o;
             long = length-wordsOf bytes;
             lent = judging .sized;
-            built = record { indexed = ix; blocks = bits };
+            built = record { indexed = ix; blocks = bits; sums = sums };
             batch = record {
               room = omega arith;
               written = no-words keys buffer′;

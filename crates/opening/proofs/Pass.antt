@@ -1,6 +1,7 @@
 -- What the code shows of the first pass: one law for each return of an entry's insertion, and the steps of the pass.
 -- Assumes nothing.
 use mathlib.Core.Path.{_≡_, refl, sym, _∙_, ap}
+use mathlib.Core.Logic.{inl}
 use mathlib.Core.Bool.{Bool, true, false}
 use mathlib.Core.List.{List, [], _∷_, _++_}
 use Prim.Native.Nat.{ℕ, _+_, _≤_, _<_}
@@ -12,11 +13,13 @@ use Rattle.spec.specs.Basics.{pick, both}
 use Rattle.spec.specs.Log.{Entry, Parsed, Wrong, Entries, prepend, imageEntries}
 use Rattle.spec.specs.Blocks.{pointed}
 use Rattle.theory_base.proofs.Lists.{not-both, both-l, both-r}
+use Rattle.theory_log.specs.Contents.{Mem}
+use Rattle.theory_log.proofs.Contents.{mem-l, mem-r, chosen-is}
 use Rattle.theory_log.proofs.Parse.{cons-inv}
 use Rattle.index.specs.Index.{infoAt, stopOf, get, insert, putAt, zeros, capacity as tableRoom}
 use Rattle.index.proofs.Laws.{insert-length}
 use Rattle.index.proofs.Answers.{look-in, put-insert}
-use Rattle.volatile.specs.Known.{extentOf, infoOf, alone, ownOf, noted, FillInv}
+use Rattle.volatile.specs.Known.{extentOf, infoOf, alone, ownOf, noted, Bounded, FillInv}
 use Rattle.volatile.proofs.Info.{bounded-front}
 use Rattle.volatile.proofs.Grow.{capacity-same}
 use Rattle.volatile.proofs.Image.{image-bounded}
@@ -27,7 +30,14 @@ use Rattle.log.specs.declared.Next.the-variants as N
 use Rattle.log.specs.Stands.{entryIn}
 use Rattle.log.specs.Cursor.{start, remaining, Handed}
 use Rattle.log.proofs.Walk.{remaining-start, passed-entry, passed-done, passed-wrong}
-use Rattle.opening.specs.Pass.{Entering, Passing, Filling}
+use Rattle.volatile.specs.Sums.{weight}
+use Rattle.sums.specs.Change.{only, nothing, SumsAlone, Changed, Cleared, Weighed, Renewed}
+use Rattle.sums.proofs.Laws.{cleared-summed}
+use Rattle.sums.proofs.Weights.{right-few}
+use Rattle.sums.proofs.Joins.{joins-behind}
+use Rattle.log.proofs.Stands.{image-stands}
+use Rattle.opening.specs.Pass.{Entering, EnteredIs, Owing, Passing, Filling}
+use Rattle.opening.proofs.Sums.{owing-none, owing-summed, owing-turned, owing-paid}
 
 -- One more entry, of a key whose probing stops at `slot`, where the table holds `old`.
 module _ (table : List ℕ) (keys : ℕ) (fits plain : Bool) (key own slot old : ℕ) (is-slot : slot ≡ stopOf table key) (is-word : old ≡ infoAt table slot) (so : fits ≡ true) where
@@ -72,23 +82,55 @@ pub enter-over : (table : List ℕ) (keys : ℕ) (fits plain : Bool) (key own : 
 enter-over table keys fits plain key own so =
     record { sized = refl; enters = rw so (λ xs e k o b inv. fill-over (length table) xs e table keys inv); plainly = λ f. absurd (not-both true refl (sym f)) }
 
+-- with the sums
+module _ (ws buffer buffer′ table table′ : List ℕ) (keys : ℕ) (fits plain : Bool) (key own w keys′ : ℕ) (plain′ : Bool) where
+  -- they are renewed
+  pub entered-renewed : (slot old : ℕ) → slot ≡ stopOf table key → old ≡ infoAt table slot → fits ≡ true → Renewed ws buffer buffer′ old own w
+      → Entering table table′ keys fits plain key own keys′ true plain′ → EnteredIs ws buffer buffer′ table table′ keys fits plain key own w keys′ true plain′
+  entered-renewed slot old is-slot is-word so r e =
+      let q : old ≡ get table key = is-word ∙ look-in table key slot is-slot in
+      record { entered = e; kept = r .kept; renewed = λ t. (so, rw q at r) }
+
+  -- or the keys do not fit
+  pub entered-over : SumsAlone buffer buffer′ → Entering table table′ keys fits plain key own keys′ false plain′ → EnteredIs ws buffer buffer′ table table′ keys fits plain key own w keys′ false plain′
+  entered-over k e = record { entered = e; kept = k; renewed = λ t. absurd (not-both true refl (sym t)) }
+
 -- what an entry of the log would give alone
 pub own-alone : (pl x extent a v own : ℕ) → extent ≡ extentOf pl x → own ≡ alone extent a v → own ≡ alone (extentOf pl x) a v
 own-alone pl x extent a v own is-extent is-own = is-own ∙ ap (λ (y : ℕ). alone y a v) is-extent
 
 -- THE PASS: its steps.
-pub pass-start : (n : ℕ) (ws : List ℕ) (words : ℕ) (table : List ℕ) → table ≡ zeros words → Passing n ws (length table) table 0 true true start
-pass-start n ws words table e = record {
+pub pass-start : (n : ℕ) (ws : List ℕ) (words : ℕ) (table : List ℕ) → table ≡ zeros words → (before buffer : List ℕ) → Cleared before buffer → Passing n ws (length table) table 0 true true buffer 0 0 start
+pass-start n ws words table e before buffer cleared = record {
   sized = refl;
   passed = [];
   so-far = sym (remaining-start 12 n ws);
-  holds = λ m es h. (rw (e, length-replicate {A = ℕ} words 0) (fill-start words), plain-start);
+  holds = λ m es h. (rw (e, length-replicate {A = ℕ} words 0) (fill-start words), plain-start, λ t. owing-none buffer 0 [] (cleared-summed before buffer cleared));
 }
 
 -- past padding, or on to the next chunk
-pub pass-on : (n : ℕ) (ws : List ℕ) (words : ℕ) (table : List ℕ) (keys : ℕ) (fits plain : Bool) (c d : Cursor) → Passing n ws words table keys fits plain c → remaining 12 n ws c ≡ remaining 12 n ws d
-    → Passing n ws words table keys fits plain d
-pass-on n ws words table keys fits plain c d inv same = record { sized = inv .sized; passed = inv .passed; so-far = inv .so-far ∙ ap (prepend (inv .passed)) same; holds = inv .holds }
+pub pass-on : (n : ℕ) (ws : List ℕ) (words : ℕ) (table : List ℕ) (keys : ℕ) (fits plain : Bool) (buffer : List ℕ) (place owed : ℕ) (c d : Cursor) → Passing n ws words table keys fits plain buffer place owed c
+    → remaining 12 n ws c ≡ remaining 12 n ws d → Passing n ws words table keys fits plain buffer place owed d
+pass-on n ws words table keys fits plain buffer place owed c d inv same = record { sized = inv .sized; passed = inv .passed; so-far = inv .so-far ∙ ap (prepend (inv .passed)) same; holds = inv .holds }
+
+-- what is owed to the sums is paid, or nothing is owed
+pub pass-paid : (n : ℕ) (ws : List ℕ) (words : ℕ) (table : List ℕ) (keys : ℕ) (fits plain : Bool) (buffer buffer′ : List ℕ) (place owed : ℕ) (c : Cursor) → Passing n ws words table keys fits plain buffer place owed c
+    → Changed buffer buffer′ (only place owed) nothing → Passing n ws words table keys fits plain buffer′ 0 0 c
+pass-paid n ws words table keys fits plain buffer buffer′ place owed c inv k = record {
+  sized = inv .sized;
+  passed = inv .passed;
+  so-far = inv .so-far;
+  holds = λ m es h. let p = inv .holds m es h in (p .0, p .1, λ t. owing-none buffer′ 0 (inv .passed) (owing-paid buffer buffer′ place owed (inv .passed) (p .2 t) k));
+}
+
+pub pass-turned : (n : ℕ) (ws : List ℕ) (words : ℕ) (table : List ℕ) (keys : ℕ) (fits plain : Bool) (buffer : List ℕ) (place other : ℕ) (c : Cursor) → Passing n ws words table keys fits plain buffer place 0 c
+    → Passing n ws words table keys fits plain buffer other 0 c
+pass-turned n ws words table keys fits plain buffer place other c inv = record {
+  sized = inv .sized;
+  passed = inv .passed;
+  so-far = inv .so-far;
+  holds = λ m es h. let p = inv .holds m es h in (p .0, p .1, λ t. owing-turned buffer place other (inv .passed) (p .2 t));
+}
 
 -- what is passed is a front part of all
 prepend-front : (xs : List Entry) (q : Parsed) (es : List Entry) → prepend xs q ≡ Entries es → (rest : List Entry) × (es ≡ xs ++ rest)
@@ -107,11 +149,17 @@ no-pointer op pl plain h = go (eqb pl 1) h (eqb op 1)
     go false q true = (q, refl)
     go false q false = (q, refl)
 
-module _ (n : ℕ) (ws : List ℕ) (words : ℕ) (table : List ℕ) (keys : ℕ) (fits plain : Bool) (c : Cursor) (inv : Passing n ws words table keys fits plain c) where
+-- what becomes of the sums with one more entry e behind xs, in an image with the entries es
+abbrev pub Summing : (words : ℕ) (table : List ℕ) (keys : ℕ) (fits fits′ : Bool) (buffer : List ℕ) (place owed : ℕ) (buffer′ : List ℕ) (place′ owed′ : ℕ) (xs es : List Entry) (e : Entry) → Type 0
+Summing words table keys fits fits′ buffer place owed buffer′ place′ owed′ xs es e = ((f : Entry) → Mem f (xs ++ e ∷ []) → Mem f es) → Bounded (xs ++ e ∷ []) → FillInv words xs table keys fits → (fits ≡ true → Owing buffer place owed xs)
+    → fits′ ≡ true → Owing buffer′ place′ owed′ (xs ++ e ∷ [])
+
+module _ (n : ℕ) (ws : List ℕ) (words : ℕ) (table : List ℕ) (keys : ℕ) (fits plain : Bool) (buffer : List ℕ) (place owed : ℕ) (c : Cursor) (inv : Passing n ws words table keys fits plain buffer place owed c) where
   pub pass-entry : (op pl v x k m a : ℕ) (behind : Cursor) → Handed n ws c op pl v x k m a behind → (so : Bool) → so ≡ pick (eqb pl 1) false plain
       → (own : ℕ) → own ≡ alone (extentOf pl x) a v → (table′ : List ℕ) (keys′ : ℕ) (fits′ plain′ : Bool) → Entering table table′ keys fits so k own keys′ fits′ plain′
-      → Passing n ws words table′ keys′ fits′ plain′ behind
-  pass-entry op pl v x k m a behind told so is-so own is-own table′ keys′ fits′ plain′ entered = record {
+      → (buffer′ : List ℕ) (place′ owed′ : ℕ) → ((es : List Entry) → imageEntries 12 n ws ≡ Entries es → Summing words table keys fits fits′ buffer place owed buffer′ place′ owed′ (inv .passed) es (entryIn ws op pl v x k m a))
+      → Passing n ws words table′ keys′ fits′ plain′ buffer′ place′ owed′ behind
+  pass-entry op pl v x k m a behind told so is-so own is-own table′ keys′ fits′ plain′ entered buffer′ place′ owed′ summing = record {
     sized = entered .sized ∙ inv .sized;
     passed = inv .passed ++ f ∷ [];
     so-far = more;
@@ -119,7 +167,7 @@ module _ (n : ℕ) (ws : List ℕ) (words : ℕ) (table : List ℕ) (keys : ℕ)
         let front = prepend-front (inv .passed ++ f ∷ []) (remaining 12 n ws behind) es (sym more ∙ h) in
         let small = bounded-front (inv .passed ++ f ∷ []) (front .0) (rw (front .1) at (image-bounded n ws es h most)) in
         let held = inv .holds most es h in
-        (rw (inv .sized) at (entered .enters (inv .passed) f refl (sym is-own) small (rw (inv .sized) (held .0))), plain-next (inv .passed) f plain fits plain′ fits′ small (held .1) (plainer (held .0)));
+        (rw (inv .sized) at (entered .enters (inv .passed) f refl (sym is-own) small (rw (inv .sized) (held .0))), plain-next (inv .passed) f plain fits plain′ fits′ small (held .1) (plainer (held .0)), summing es h (λ g i. rw (front .1) (mem-l g (inv .passed ++ f ∷ []) (front .0) i)) small (held .0) (held .2));
   }
     where
       f : Entry
@@ -135,25 +183,56 @@ module _ (n : ℕ) (ws : List ℕ) (words : ℕ) (table : List ℕ) (keys : ℕ)
           let q = no-pointer op pl plain (sym is-so ∙ p .0) in
           (q .0, p .2, rw (held .whole (p .1) .0 k, is-own) at (p .3), q .1)
 
-  module _ (before : List ℕ) (cleared : words ≡ length (zeros (length before))) where
+-- an entry that is entered
+module _ (n : ℕ) (ws : List ℕ) (words : ℕ) (table : List ℕ) (keys : ℕ) (fits plain : Bool) (buffer : List ℕ) (c : Cursor) (inv : Passing n ws words table keys fits plain buffer 0 0 c) where
+  pub pass-entered : (op pl v x k m a : ℕ) (behind : Cursor) → Handed n ws c op pl v x k m a behind → (so : Bool) → so ≡ pick (eqb pl 1) false plain
+      → (own : ℕ) → own ≡ alone (extentOf pl x) a v → (w : ℕ) → Weighed op m w → (table′ buffer′ : List ℕ) (keys′ : ℕ) (fits′ plain′ : Bool) → EnteredIs ws buffer buffer′ table table′ keys fits so k own w keys′ fits′ plain′
+      → Passing n ws words table′ keys′ fits′ plain′ buffer′ 0 0 behind
+  pass-entered op pl v x k m a behind told so is-so own is-own w weighed table′ buffer′ keys′ fits′ plain′ all =
+      pass-entry n ws words table keys fits plain buffer 0 0 c inv op pl v x k m a behind told so is-so own is-own table′ keys′ fits′ plain′ (all .entered) buffer′ 0 0
+      (λ es h inside small held owing t.
+      let r = all .renewed t in
+      let full = held .whole (r .0) in
+      let xs = inv .passed in
+      owing-none buffer′ 0 (xs ++ e ∷ [])
+      (r .1 .renews xs (xs ++ e ∷ []) e
+      (joins-behind ws (get table k) own w xs e (full .0 k) is-own is-weight (bounded-front xs (e ∷ []) small) (small .each e (mem-r e xs (e ∷ []) (inl refl)))
+      (λ f q. image-stands 12 (omega arith) (omega arith) n ws es h f (inside f (mem-l f xs (e ∷ []) (chosen-is k xs f q .in-list)))))
+      (owing-summed buffer 0 xs (owing (r .0)))))
+    where
+      e : Entry
+      e = entryIn ws op pl v x k m a
+
+      is-weight : w ≡ weight (entryIn ws op pl v x k m a)
+      is-weight =
+          let right = told .stands .right in
+          let size : length (entryIn ws op pl v x k m a .value) ≡ m = right .words ∙ sym (told .size) in
+          let few = right-few (entryIn ws op pl v x k m a) right in
+          weighed .is (omega arith) ∙ rw size
+
+  module _ (before start-buffer : List ℕ) (cleared : words ≡ length (zeros (length before))) (kept : SumsAlone start-buffer buffer) where
     same : words ≡ length before
     same = cleared ∙ length-replicate (length before) 0
 
-    pub pass-done : remaining 12 n ws c ≡ Entries [] → Filling n ws before table true fits plain keys
+    pub pass-done : remaining 12 n ws c ≡ Entries [] → Filling n ws before table start-buffer buffer true fits plain keys
     pass-done told =
         let all : imageEntries 12 n ws ≡ Entries (inv .passed) = passed-done n ws c N.Done told (imageEntries 12 n ws) (inv .passed) (inv .so-far) refl in
         record {
           sized = inv .sized ∙ same;
+          kept = kept;
+          summed = λ most es h t. let q : inv .passed ≡ es = cc in rw (← q) (owing-summed buffer 0 (inv .passed) (inv .holds most es h .2 t));
           wrong = λ w. absurd (let z : _≡_ {A = ℕ} 0 1 = cc in omega arith);
           entries = λ most es h. (refl, let q : inv .passed ≡ es = cc in rw (← q, ← same) (inv .holds most es h .0));
           plainly = λ most es h t. let q : inv .passed ≡ es = cc in rw (← q) (plain-end (inv .passed) plain fits (inv .holds most es h .1) t);
         }
 
-    pub pass-wrong : remaining 12 n ws c ≡ Wrong → Filling n ws before table false fits plain keys
+    pub pass-wrong : remaining 12 n ws c ≡ Wrong → Filling n ws before table start-buffer buffer false fits plain keys
     pass-wrong told =
         let all : imageEntries 12 n ws ≡ Wrong = passed-wrong n ws c N.Wrong told (imageEntries 12 n ws) (inv .passed) (inv .so-far) refl in
         record {
           sized = inv .sized ∙ same;
+          kept = kept;
+          summed = λ most es h t. absurd (let z : _≡_ {A = ℕ} 0 1 = cc in omega arith);
           wrong = λ w. refl;
           entries = λ most es h. absurd (let z : _≡_ {A = ℕ} 0 1 = cc in omega arith);
           plainly = λ most es h t. absurd (let z : _≡_ {A = ℕ} 0 1 = cc in omega arith);

@@ -1,4 +1,4 @@
--- What an opening finds of an image, and the key table and the block bits that it leaves where the image is accepted.
+-- What an opening finds of an image, and the key table, block bits and sums that it leaves where the image is accepted.
 -- Assumes nothing.
 use mathlib.Core.Path.{_≡_}
 use mathlib.Core.Bool.{Bool}
@@ -16,16 +16,17 @@ use Rattle.spec.specs.Contract.{MemRefusal}
 use Rattle.spec.specs.declared.Refusal.{Refusal}
 use Rattle.blocks.specs.Bits.{hasBit}
 use Rattle.volatile.specs.Known.{Indexed}
+use Rattle.volatile.specs.Sums.{Summed}
 use Rattle.opening.specs.declared.Verdict.{Verdict}
 use Rattle.opening.specs.declared.Verdict.the-variants as J
 
 abbrev pub firstRefusal : Bool → Refusal → Bool → Refusal → ℕ → Verdict
 firstRefusal first a second b keys = pick first (pick second (J.Accepted keys) (J.Refused b)) (J.Refused a)
 
--- the verdict is the definition's; of an accepted image the table and the bits are its entries'
+-- the verdict is the definition's; of an accepted image table, bits and sums are its entries'
 abbrev pub Judged : Opening → List ℕ → List ℕ → Verdict → Type 0
 Judged o table buffer (J.Refused n) = (o ≡ Refused n) × MemRefusal n (refusals Open)
-Judged o table buffer (J.Accepted keys) = (es : List Entry) × (o ≡ Accepted es) × Indexed table keys es × ((u : ℕ) → hasBit buffer u ≡ isIn u (liveBlocks es))
+Judged o table buffer (J.Accepted keys) = (es : List Entry) × (o ≡ Accepted es) × Indexed table keys es × ((u : ℕ) → hasBit buffer u ≡ isIn u (liveBlocks es)) × Summed buffer es
 
 -- of the log alone, in an image of n chunks
 pub record JudgingLog (n : ℕ) (ws table table′ buffer buffer′ : List ℕ) (r : Verdict) : Type 0 where

@@ -1,15 +1,17 @@
--- What the first pass over the log does to the key table: one more entry, a run of them, and all of them.
+-- What the first pass over the log does to key table and sums: one more entry, a run of them, and all of them.
 -- Assumes nothing.
 use mathlib.Core.Path.{_≡_}
 use mathlib.Core.Bool.{Bool, true, false}
 use mathlib.Core.List.{List, [], _∷_, _++_}
-use Prim.Native.Nat.{ℕ, _≤_, _<_}
-use lib.ListN.{length}
+use Prim.Native.Nat.{ℕ, _+_, _-_, _%_, _^_, _≤_, _<_}
+use lib.ListN.{length, getD}
 use Rattle.spec.specs.Places.{maxChunks}
 use Rattle.spec.specs.Log.{Entry, Wrong, Entries, prepend, imageEntries}
 use Rattle.index.specs.Index.{get}
 use Rattle.volatile.specs.Known.{ownOf, noted, Bounded, FillInv}
 use Rattle.volatile.specs.Plain.{Plain, PlainInv}
+use Rattle.volatile.specs.Sums.{chosenSum, sumsStart, sumsCount, Summed}
+use Rattle.sums.specs.Change.{only, SumsAlone, Renewed}
 use Rattle.log.specs.declared.Cursor.{Cursor}
 use Rattle.log.specs.Cursor.{cursorAt, remaining, left}
 
@@ -21,23 +23,37 @@ pub record Entering (table table′ : List ℕ) (keys : ℕ) (fits plain : Bool)
       → FillInv (length table) xs table keys fits → FillInv (length table) (xs ++ e ∷ []) table′ keys′ fits′
   pub plainly : plain′ ≡ true → (plain ≡ true) × (fits ≡ true) × (fits′ ≡ true) × (noted (get table key) own < 0x8000_0000_0000_0000)
 
+-- the same with the sums, w being the entry's weight: they are renewed as long as the keys fit
+pub record EnteredIs (ws buffer buffer′ table table′ : List ℕ) (keys : ℕ) (fits plain : Bool) (key own w keys′ : ℕ) (fits′ plain′ : Bool) : Type 0 where
+  pub entered : Entering table table′ keys fits plain key own keys′ fits′ plain′
+  pub kept : SumsAlone buffer buffer′
+  pub renewed : fits′ ≡ true → (fits ≡ true) × Renewed ws buffer buffer′ (get table key) own w
+
+-- the sums are those of the entries xs, once so many words more are in the sum of the chunk of word `place`
+pub record Owing (buffer : List ℕ) (place owed : ℕ) (xs : List Entry) : Type 0 where
+  pub each : (c : ℕ) → c < sumsCount → (getD buffer (sumsStart + c) 0 + only place owed c) % 2 ^ 64 ≡ chosenSum c xs % 2 ^ 64
+  pub narrow : (c : ℕ) → c < sumsCount → getD buffer (sumsStart + c) 0 < 2 ^ 64
+
 -- the pass on its way: some entries are passed, and the rest is what remains from the cursor
-pub record Passing (n : ℕ) (ws : List ℕ) (words : ℕ) (table : List ℕ) (keys : ℕ) (fits plain : Bool) (c : Cursor) : Type 0 where
+pub record Passing (n : ℕ) (ws : List ℕ) (words : ℕ) (table : List ℕ) (keys : ℕ) (fits plain : Bool) (buffer : List ℕ) (place owed : ℕ) (c : Cursor) : Type 0 where
   pub sized : length table ≡ words
   pub passed : List Entry
   pub so-far : imageEntries 12 n ws ≡ prepend passed (remaining 12 n ws c)
-  pub holds : n ≤ maxChunks → (es : List Entry) → imageEntries 12 n ws ≡ Entries es → FillInv words passed table keys fits × PlainInv passed plain fits
+  pub holds : n ≤ maxChunks → (es : List Entry) → imageEntries 12 n ws ≡ Entries es → FillInv words passed table keys fits × PlainInv passed plain fits × (fits ≡ true → Owing buffer place owed passed)
 
 -- the table before and after a run of the pass up to word `end` of any chunk: the pass is then farther, by the table's
--- new numbers
+-- new numbers, and the words passed are owed to the sum of the chunk
 pub record Hastened (ws : List ℕ) (end : ℕ) (fits : Bool) (table : List ℕ) (keys at : ℕ) (table′ : List ℕ) (keys′ at′ : ℕ) : Type 0 where
   pub sized : length table′ ≡ length table
   pub nearer : (n c : ℕ) → left n ws (cursorAt c at′ end) ≤ left n ws (cursorAt c at end)
-  pub passes : (n c words : ℕ) (plain : Bool) → Passing n ws words table keys fits plain (cursorAt c at end) → Passing n ws words table′ keys′ fits plain (cursorAt c at′ end)
+  pub farther : at ≤ at′
+  pub passes : (n c words : ℕ) (plain : Bool) (buffer : List ℕ) → Passing n ws words table keys fits plain buffer 0 0 (cursorAt c at end) → Passing n ws words table′ keys′ fits plain buffer at (at′ - at) (cursorAt c at′ end)
 
--- the table before and after the pass over the log of an image of n chunks
-pub record Filling (n : ℕ) (ws table table′ : List ℕ) (right fits plain : Bool) (keys : ℕ) : Type 0 where
+-- table and sums before and after the pass over the log of an image of n chunks
+pub record Filling (n : ℕ) (ws table table′ buffer buffer′ : List ℕ) (right fits plain : Bool) (keys : ℕ) : Type 0 where
   pub sized : length table′ ≡ length table
+  pub kept : SumsAlone buffer buffer′
   pub wrong : imageEntries 12 n ws ≡ Wrong → right ≡ false
   pub entries : n ≤ maxChunks → (es : List Entry) → imageEntries 12 n ws ≡ Entries es → (right ≡ true) × FillInv (length table) es table′ keys fits
   pub plainly : n ≤ maxChunks → (es : List Entry) → imageEntries 12 n ws ≡ Entries es → plain ≡ true → Plain es
+  pub summed : n ≤ maxChunks → (es : List Entry) → imageEntries 12 n ws ≡ Entries es → fits ≡ true → Summed buffer′ es

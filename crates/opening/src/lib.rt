@@ -1,4 +1,4 @@
-// An opening: the refusals 1 to 7, and the volatile memory built. One pass over the entries fills the key table; a
+// An opening: the refusals 1 to 7, and the volatile memory built. One pass over the entries fills key table and sums; a
 // second one, where it is needed, asks blocks and top entries.
 ghost use mathlib.Core.Path.{_≡_};
 ghost use mathlib.Core.Bool.{false};
@@ -13,7 +13,7 @@ ghost use Rattle.spec.specs.Directory.{isRole, directoryRight};
 ghost use Rattle.spec.specs.Opening.{directoryTest};
 ghost use Rattle.spec.specs.Machine.{Open};
 ghost use Rattle.index.specs.Index.{zeros};
-ghost use Rattle.opening.specs.Pass.{Entering, Hastened, Filling};
+ghost use Rattle.opening.specs.Pass.{EnteredIs, Hastened, Filling};
 ghost use Rattle.opening.specs.Judged.{firstRefusal, JudgingLog, Judging};
 ghost use Rattle.session.specs.Promise.{Does};
 use blocks::Buffer;
@@ -97,7 +97,7 @@ pub fn directory_fits(image: &[u8], count: usize) -> bool
     true
 }
 
-// THE FIRST PASS: every entry goes into the key table
+// THE FIRST PASS: every entry goes into the key table and the sums
 // Whether entries are still plain: a word of the table without the bit of several top entries, and no value in a block.
 fn single(plain: bool, info: u64) -> bool
     ensures { λ r. ⌜ r ≡ both plain (ltb info 0x8000_0000_0000_0000) ⌝ }
@@ -124,14 +124,26 @@ struct Entered {
     plain: bool,
 }
 
-// One more entry in the table; `own` is what it would hold of the key with this entry alone. Once the keys do not fit
-// the table stays.
-fn enter(table: &mut [u64], keys: usize, fits: bool, plain: bool, key: u64, own: u64) -> Entered
-    ensures { λ r. ⌜ Entering (now (table .entry)) (now (table .exit)) keys fits plain key own (r .keys) (r .fits) (r .plain) ⌝ }
+// One more entry in the table and in the sums; `own` is what the table would hold of the key with this entry alone,
+// `weight` what the entry adds to the sum of its chunk. Once the keys do not fit both stay.
+fn enter(
+    image: &[u8],
+    buffer: &mut Buffer,
+    table: &mut [u64],
+    keys: usize,
+    fits: bool,
+    plain: bool,
+    key: u64,
+    own: u64,
+    weight: u64,
+) -> Entered
+    ensures { λ r. ⌜ EnteredIs (wordsOf (now (image .entry))) (now (buffer .entry)) (now (buffer .exit)) (now (table .entry)) (now (table .exit)) keys fits plain key own weight (r .keys) (r .fits) (r .plain) ⌝ }
 {
+    blocks::buffer_length(buffer);
     if fits {
         let slot = index::stop(table, key);
         let old = index::word_at(table, slot);
+        sums::renew(image, buffer, old, own, weight);
         if old == 0 {
             if keys < index::capacity(table.len()) {
                 index::put_at(table, slot, key, own);
@@ -169,10 +181,13 @@ struct Ran {
 }
 
 // The pass over puts with new keys and values in the log, from word `at` on, as long as the table has room: all else is
-// left to `fill`.
+// left to `fill`. They are chosen, and in one chunk: what they add to its sum is the words passed.
 fn run(image: &[u8], at: usize, end: usize, table: &mut [u64], keys: usize, fits: bool) -> Ran
     ensures { λ r. ⌜ Hastened (wordsOf (now (image .entry))) end fits (now (table .entry)) keys at (now (table .exit)) (r .keys) (r .at) ⌝ }
 {
+    if at / 512 + 1 < end / 512 + (end % 512 + 511) / 512 {
+        return Ran { keys, at };
+    }
     let room = index::capacity(table.len());
     let mut place = at;
     let mut count = keys;
@@ -227,12 +242,13 @@ struct Filled {
     keys: usize,
 }
 
-// The pass over the log of an image of `count` chunks, from an empty table. It walks as `log::next_in_log` does, the
-// common entries by a run first.
-fn fill(image: &[u8], count: usize, table: &mut [u64]) -> Filled
-    ensures { λ r. ⌜ Filling count (wordsOf (now (image .entry))) (now (table .entry)) (now (table .exit)) (r .right) (r .fits) (r .plain) (r .keys) ⌝ }
+// The pass over the log of an image of `count` chunks, from an empty table and sums of 0. It walks as
+// `log::next_in_log` does, the common entries by a run first.
+fn fill(image: &[u8], count: usize, table: &mut [u64], buffer: &mut Buffer) -> Filled
+    ensures { λ r. ⌜ Filling count (wordsOf (now (image .entry))) (now (table .entry)) (now (table .exit)) (now (buffer .entry)) (now (buffer .exit)) (r .right) (r .fits) (r .plain) (r .keys) ⌝ }
 {
     index::clear(table);
+    sums::clear(buffer);
     let mut keys: usize = 0;
     let mut fits = true;
     let mut plain = true;
@@ -241,6 +257,8 @@ fn fill(image: &[u8], count: usize, table: &mut [u64]) -> Filled
     let mut end: usize = 0;
     loop {
         let r = run(image, at, end, table, keys, fits);
+        let passed = r.at - at;
+        sums::add(buffer, at, passed as u64);
         keys = r.keys;
         at = r.at;
         let s = log::next_entry(image, at, end);
@@ -279,7 +297,7 @@ fn fill(image: &[u8], count: usize, table: &mut [u64]) -> Filled
                 at += 1;
             }
             LogStep::Entry {
-                op: _,
+                op,
                 placement,
                 version,
                 field,
@@ -288,7 +306,8 @@ fn fill(image: &[u8], count: usize, table: &mut [u64]) -> Filled
             } => {
                 let so = unpointed(plain, placement);
                 let own = volatile::alone(volatile::extent_of(placement, field), at, version);
-                let e = enter(table, keys, fits, so, key, own);
+                let weight = sums::weigh(op, words);
+                let e = enter(image, buffer, table, keys, fits, so, key, own, weight);
                 keys = e.keys;
                 fits = e.fits;
                 plain = e.plain;
@@ -327,11 +346,11 @@ fn first_refusal(first: bool, a: Refusal, second: bool, b: Refusal, keys: usize)
     Verdict::Refused(a)
 }
 
-// 4 to 7, of an image of `count` chunks: key table and block bits are built anew.
+// 4 to 7, of an image of `count` chunks: key table, block bits and sums are built anew.
 pub fn judge_log(image: &[u8], count: usize, table: &mut [u64], buffer: &mut Buffer) -> Verdict
     ensures { λ r. ⌜ JudgingLog count (wordsOf (now (image .entry))) (now (table .entry)) (now (table .exit)) (now (buffer .entry)) (now (buffer .exit)) r ⌝ }
 {
-    let filled = fill(image, count, table);
+    let filled = fill(image, count, table, buffer);
     if filled.right {
         let checked = consistency::examine(image, count, table, filled.fits, filled.plain, buffer);
         if checked.blocks {

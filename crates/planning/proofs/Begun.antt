@@ -29,7 +29,7 @@ use Rattle.session.specs.declared.Source.{Source}
 use Rattle.cleaning.specs.Record.{cleaning, copyingTo, sourceOf}
 use Rattle.cleaning.proofs.Forward.{lo, hi}
 use Rattle.cleaning.proofs.Acting.{length-clean, clean-next}
-use Rattle.cleaning.proofs.Begins.{area-bits, copies-acts, copies-fit, none-acts, none-fits, data-fits}
+use Rattle.cleaning.proofs.Begins.{copies-acts, copies-fit, none-acts, none-fits, data-fits}
 use Rattle.planning.specs.Plans.{Copies, Bare, Beginning}
 use Rattle.planning.proofs.Shows.{plan-none, plan-copies, plan-dead}
 
@@ -83,15 +83,15 @@ module _ (c : Control) (k : Setup) (b ws table : List ℕ) (r : RestFits (record
       k-is = ap (λ (x : ℕ). copyingTo k chunk old lines x (k .least) f) (a .same)
 
       acts-are : cleanActions k′ g b ≡ free s ws
-      acts-are = ap (λ (x : Setup). cleanActions x g b) k-is ∙ none-acts c k b ws table r s (q .low) (q .high) (f .words) (f .entries) (q .room) b (λ u. refl) f (a .words) chunk old lines small-chunk small-lines
+      acts-are = ap (λ (x : Setup). cleanActions x g b) k-is ∙ none-acts c k b ws table r s (q .low) (q .high) (f .words) (f .entries) (q .room) b (λ i l. refl) f (a .words) chunk old lines small-chunk small-lines
 
       plan : ((isLog (roleAt 12 ws s) ≡ true) × (kept ≡ [])) ⊎ ((isLog (roleAt 12 ws s) ≡ false) × (hasLive 12 es s ≡ false)) → planClean 12 n ws es [] s ≡ Begin [] (Cleaning (f .entries)) (cleanActions k′ g b)
       plan (inl (log, e)) = rw (acts-are, a .entries) (plan-none n ws es s (q .low) (q .high) (q .used) log e)
       plan (inr (log, e)) = rw (acts-are, a .entries) (plan-dead n ws es s (q .low) (q .high) (q .used) log e)
 
       fit : ((isLog (roleAt 12 ws s) ≡ true) × (kept ≡ [])) ⊎ ((isLog (roleAt 12 ws s) ≡ false) × (hasLive 12 es s ≡ false)) → CleanFits (cleaning c) k′ g b ws table (nth (cleanActions k′ g b) 0 ∷ drop 1 (cleanActions k′ g b))
-      fit (inl (log, e)) = rw k-is (none-fits c k b ws table r s (q .low) (q .high) (f .words) (f .entries) (q .room) b (λ u. refl) f (a .words) chunk old lines small-chunk small-lines log e)
-      fit (inr (log, e)) = rw k-is (data-fits c k b ws table r s (q .low) (q .high) (f .words) (f .entries) (q .room) b (λ u. refl) f (a .words) chunk old lines small-chunk small-lines log e)
+      fit (inl (log, e)) = rw k-is (none-fits c k b ws table r s (q .low) (q .high) (f .words) (f .entries) (q .room) b (λ i l. refl) f (a .words) chunk old lines small-chunk small-lines log e)
+      fit (inr (log, e)) = rw k-is (data-fits c k b ws table r s (q .low) (q .high) (f .words) (f .entries) (q .room) b (λ i l. refl) f (a .words) chunk old lines small-chunk small-lines log e)
 
   some-words : (fs : List Entry) → (fs ≡ [] → ⊥) → length (encodeAll fs) ≡ 0 → ⊥
   some-words [] h e = h refl
@@ -138,13 +138,13 @@ module _ (c : Control) (k : Setup) (b ws table : List ℕ) (r : RestFits (record
         acts-are : cleanActions k′ g b′ ≡ appendTo 12 ws (encodeAll kept) chunk ++ free s ws
         acts-are =
             ap (λ (x : Setup). cleanActions x g b′) k-is
-            ∙ copies-acts c k b ws table r s (q .low) (q .high) (f .words) (f .entries) (q .room) b′ (area-bits b b′ (gathered .area)) f (a .log) (a .some-kept) written chunk (a .found) first (k .least) below (a .under) plain
+            ∙ copies-acts c k b ws table r s (q .low) (q .high) (f .words) (f .entries) (q .room) b′ (gathered .area .above) f (a .log) (a .some-kept) written chunk (a .found) first (k .least) below (a .under) plain
 
         plan : planClean 12 n ws es [] s ≡ Begin [] (Cleaning (f .entries)) (cleanActions k′ g b′)
         plan = rw (acts-are, a .entries) (plan-copies n ws es s (q .low) (q .high) (q .used) (a .log) (a .some-kept) chunk (a .found))
 
         fit : CleanFits (cleaning c) k′ g b′ ws table (nth (cleanActions k′ g b′) 0 ∷ drop 1 (cleanActions k′ g b′))
-        fit = rw k-is (copies-fit c k b ws table r s (q .low) (q .high) (f .words) (f .entries) (q .room) b′ (area-bits b b′ (gathered .area)) f (a .log) (a .some-kept) written chunk (a .found) first (k .least) below (a .under) plain)
+        fit = rw k-is (copies-fit c k b ws table r s (q .low) (q .high) (f .words) (f .entries) (q .room) b′ (gathered .area .above) f (a .log) (a .some-kept) written chunk (a .found) first (k .least) below (a .under) plain)
 
     -- THE BEGIN, where it keeps some, and they were gathered
     pub begins-copies : (f .words ≡ 0 → ⊥) → Begun c k′ f b′ ws table es n s actions

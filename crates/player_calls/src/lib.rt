@@ -88,8 +88,9 @@ fn format(c: Control, s: Setup, buffer: &Buffer, image: &[u8], table: &[u64], l:
 }
 
 // Choosing leaves the record as it was.
-fn choose(c: Control, s: Setup, image: &[u8], table: &[u64]) -> Outcome {
-    let report = choosing::choose_core(c, s, image, table);
+fn choose(c: Control, s: Setup, buffer: &Buffer, image: &[u8], table: &[u64]) -> Outcome {
+    let b = *buffer;
+    let report = choosing::choose_core(c, s, b, image, table);
     Outcome {
         control: c,
         setup: s,
@@ -175,7 +176,7 @@ pub fn asked(
         Command::Delete => delete(c, s, buffer, image, table, l),
         Command::Commit => committing::commit_core(c, s, buffer, image, table),
         Command::Abandon => staging::abandon_core(c, s, buffer, image, table),
-        Command::Choose => choose(c, s, image, table),
+        Command::Choose => choose(c, s, buffer, image, table),
         Command::Clean => clean(c, s, buffer, image, table, l),
         Command::Run => run(c, s, buffer, image, table),
         _ => changed(s, stepping::step_core(c, s, buffer, image, table)),

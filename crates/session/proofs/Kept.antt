@@ -13,14 +13,14 @@ use Rattle.spec.specs.Actions.{appendOf}
 use Rattle.session.specs.declared.Control.{Control}
 use Rattle.session.specs.declared.Setup.{Setup}
 use Rattle.session.specs.declared.Session.{Session}
-use Rattle.blocks.specs.Bits.{WordsKept}
+use Rattle.blocks.specs.Bits.{FrontKept}
 use Rattle.session.specs.State.{batchRoom, batchWords, batchItems, chunkIn, linesIn, commitActions}
 use Rattle.session.specs.Filter.{filterPlace}
 use Rattle.session.specs.Fits.{NoneBelow, soleMark, Hint, ItemsFit, BatchFits, Built, RestFits, batchPlace, CommitFits}
 use Rattle.session.proofs.Part.{part-agree}
 
 -- THE STAGED WORDS stay where the buffer's first words do.
-pub words-kept : (c c′ : Control) (b b′ : List ℕ) → WordsKept b b′ → c′ .words ≡ c .words → batchWords c′ b′ ≡ batchWords c b
+pub words-kept : (c c′ : Control) (b b′ : List ℕ) → FrontKept b b′ → c′ .words ≡ c .words → batchWords c′ b′ ≡ batchWords c b
 unfolding batchWords
 words-kept c c′ b b′ w e = rw e (part-agree b′ b 0 (min (c .words) batchRoom) (λ j l u. w .below j (omega arith)))
 
@@ -53,7 +53,7 @@ batch-kept c c′ b b′ n ws es items ew ei e em ek f = record {
 }
 
 pub built-kept : (c c′ : Control) (b table : List ℕ) (es : List Entry) → c′ .keys ≡ c .keys → Built c b table es → Built c′ b table es
-built-kept c c′ b table es e f = record { indexed = rw e (f .indexed); blocks = f .blocks }
+built-kept c c′ b table es e f = record { indexed = rw e (f .indexed); blocks = f .blocks; sums = f .sums }
 
 -- a hint that says nothing of the chunks behind it
 pub plain-hint : (n : ℕ) (ws : List ℕ) (first least : ℕ) → first < soleMark → NoneBelow n ws first least → Hint n ws first least
@@ -82,7 +82,7 @@ module _ (c : Control) (k : Setup) (b ws table : List ℕ) (items : List Entry) 
         accepted = f .accepted;
         long = f .long;
         lent = f .lent;
-        built = record { indexed = f .built .indexed; blocks = f .built .blocks };
+        built = record { indexed = f .built .indexed; blocks = f .built .blocks; sums = f .built .sums };
         batch = record { room = omega arith; written = refl; count = refl; few = omega arith; right = tt; counts = tt; fit = none-fit (chunksIn basePower (k .image)) ws (f .front ++ (placed (batchPlace k) items ++ f .back)); marked = tt; keys = omega arith };
         table-room = omega arith;
         hint = f .hint;
@@ -96,7 +96,7 @@ module _ (c : Control) (k : Setup) (b ws table : List ℕ) (items : List Entry) 
     accepted = f .accepted;
     long = f .long;
     lent = f .lent;
-    built = record { indexed = f .built .indexed; blocks = f .built .blocks };
+    built = record { indexed = f .built .indexed; blocks = f .built .blocks; sums = f .built .sums };
     batch = batch-kept c (staged c) b b (chunksIn basePower (k .image)) ws (f .entries) items refl refl refl refl refl (f .batch);
     table-room = f .table-room;
     hint = f .hint;

@@ -3,15 +3,18 @@
 -- Assumes nothing.
 use mathlib.Core.Path.{_≡_}
 use mathlib.Core.List.{List, _++_}
-use Prim.Native.Nat.{ℕ, _+_, _<_}
+use mathlib.Core.Bool.{true, false}
+use Prim.Native.Nat.{ℕ, _+_, _≤_, _<_}
 use lib.ListN.{length}
 use lib.Seq.{slice}
 use Rattle.spec.specs.Basics.{filter}
-use Rattle.spec.specs.Log.{Entry, Entries, parse, placed}
-use Rattle.spec.specs.Contents.{isKept}
+use Rattle.spec.specs.Places.{basePower, wordChunk}
+use Rattle.spec.specs.Log.{Entry, Entries, parse, placed, encodeAll}
+use Rattle.spec.specs.Contents.{isKept, inChunk}
 use Rattle.theory_log.specs.Contents.{Mem}
 use Rattle.theory_log.proofs.Places.{Rising}
 use Rattle.volatile.specs.Known.{Bounded}
+use Rattle.volatile.specs.Sums.{sumsCount}
 
 -- `mid` are the entries of the chunk, `xs` and `ys` those below and above; the kept ones stand anew from word `at` on
 abbrev pub before : (xs mid ys : List Entry) → List Entry
@@ -37,6 +40,17 @@ pub record Cleaned (xs mid ys as′ bs : List Entry) (at : ℕ) : Type 0 where
   pub small : Bounded (before xs mid ys)
   pub small-after : Bounded (after xs mid ys as′ bs at)
   pub few : length mid + length (after xs mid ys as′ bs at) < 0x2_0000
+
+-- of the chunks: `mid` are the entries of chunk s, no new one stands there, the copies stand in one chunk, and the kept
+-- entries have so many words
+pub record Moves (s words : ℕ) (xs mid ys as′ bs : List Entry) (at : ℕ) : Type 0 where
+  pub source : s < sumsCount
+  pub target : at < 0x4_0000
+  pub inside : (e : Entry) → Mem e mid → inChunk basePower s e ≡ true
+  pub outside : (e : Entry) → Mem e (after xs mid ys as′ bs at) → inChunk basePower s e ≡ false
+  pub together : (e : Entry) → Mem e (copiesOf xs mid ys at) → wordChunk basePower (e .at) ≡ wordChunk basePower at
+  pub keeps : words ≡ length (encodeAll (keptOf xs mid ys))
+  pub few : words ≤ 512
 
 -- the entries in the words from `at` to `end`
 abbrev pub Stand : List ℕ → (at end : ℕ) → List Entry → Type 0

@@ -27,14 +27,15 @@ use Rattle.theory_log.specs.Batch.{AllRight}
 use Rattle.theory_log.specs.Contents.{CountsOn, Mem, Top, Agree}
 use Rattle.blocks.specs.Bits.{hasBit}
 use Rattle.volatile.specs.Known.{Indexed}
+use Rattle.volatile.specs.Sums.{Summed}
 use Rattle.session.specs.State.{batchRoom, batchWords, stateOf}
 use Rattle.session.specs.Filter.{filterPlace, AllMarked}
-use Rattle.session.specs.Cleaned.{before, copiesOf, after, Cleaned, Stand}
+use Rattle.session.specs.Cleaned.{before, copiesOf, after, Cleaned, Moves, Stand}
 
 -- A value of the type `Session`: antt's list has no length, the array has so many words. Every record that is lent is
 -- one: `blocks::buffer_length` shows it of any such array.
 abbrev pub bufferWords : ℕ
-bufferWords = 1152
+bufferWords = 1664
 
 abbrev pub Proper : Session → Type 0
 Proper s = length (s .buffer) ≡ bufferWords
@@ -63,10 +64,11 @@ pub record BatchFits (c : Control) (buffer : List ℕ) (n : ℕ) (ws : List ℕ)
   pub marked : AllMarked (getD buffer filterPlace 0) items
   pub keys : c .keys + c .fresh ≡ length (distinct (keyList items ++ keyList es))
 
--- the table and the block bits are those of the entries es
+-- the table, the block bits and the chunks' sums are those of the entries es
 pub record Built (c : Control) (buffer table : List ℕ) (es : List Entry) : Type 0 where
   pub indexed : Indexed table (c .keys) es
   pub blocks : (u : ℕ) → hasBit buffer u ≡ isIn u (liveBlocks es)
+  pub sums : Summed buffer es
 
 -- no log chunk below `first` has space for `least` lines behind its committed ones, in an image of n chunks: the word
 -- of a chunk past the directory would be a word of some block
@@ -152,6 +154,7 @@ pub record CleanFits (c : Control) (k : Setup) (f : Source) (b ws table : List �
   pub source : f .chunk ≤ 503
   pub committed : f .lines ≤ 64
   pub room : f .words ≤ batchRoom
+  pub moves : Moves (f .chunk) (f .words) xs mid ys as′ bs (batchPlace k)
   pub accepted : opening basePower (k .image) (runWords rest ws) (k .table) ≡ Accepted (after xs mid ys as′ bs (batchPlace k))
   pub long : length ws ≡ k .image / 8
   pub lent : length table ≡ k .table

@@ -231,7 +231,7 @@ module _ (c : Control) (k : Setup) (b bytes table : List ℕ) (g : Gated) (asks 
             let l = q .lent in
             let o = adm .keys in (
               staged .long ∙ f .0,
-              rw state-then (stage-begun c c′ k (r .setup) b after ws table (items f) item acts q (rw (goes .1) at (goes .2)) (staged .same .0) (staged .same .1) (staged .same .2) (staged .same .3) (staged .bits) refl
+              rw state-then (stage-begun c c′ k (r .setup) b after ws table (items f) item acts q (rw (goes .1) at (goes .2)) (staged .same .0) (staged .same .1) (staged .same .2) (staged .same .3) (staged .bits) (staged .behind) refl
                   in-room written (omega arith) (omega arith) right (counts-more (es f) (items f) item (q .batch .counts) h) marked keys (rw l at o)),
             )
 

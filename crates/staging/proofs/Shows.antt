@@ -91,7 +91,7 @@ module _ (c : Control) (k : Setup) (b bytes table : List ℕ) where
             accepted = f .accepted;
             long = f .long;
             lent = f .lent;
-            built = record { indexed = f .built .indexed; blocks = f .built .blocks };
+            built = record { indexed = f .built .indexed; blocks = f .built .blocks; sums = f .built .sums };
             batch = record { room = omega arith; written = refl; count = refl; few = omega arith; right = tt; counts = tt; fit = none-fit (chunksIn 12 (k .image)) (wordsOf bytes) (f .entries); marked = tt; keys = omega arith };
             table-room = omega arith;
             hint = f .hint;

@@ -32,6 +32,7 @@ use Rattle.theory_crash.specs.Accepted.{Ok}
 use Rattle.theory_crash.proofs.Opening.{opens-ok}
 use Rattle.volatile.specs.Known.{Bounded}
 use Rattle.volatile.proofs.Image.{image-bounded}
+use Rattle.volatile.proofs.Sums.{summed-same}
 use Rattle.session.specs.State.{batchItems, blockActions, behindAll, stateAt, stateOf, limit}
 use Rattle.session.specs.Fits.{BatchFits, Fits}
 use Rattle.session.proofs.Phases.{rest-items}
@@ -191,7 +192,7 @@ module _ (c : Control) (k : Setup) (b bytes table : List ℕ) where
                   accepted = r .accepted;
                   long = r .long;
                   lent = r .lent;
-                  built = record { indexed = r .built .indexed; blocks = λ u. added .bits u ∙ r .built .blocks u };
+                  built = record { indexed = r .built .indexed; blocks = λ u. added .bits u ∙ r .built .blocks u; sums = summed-same b after (es f) (λ i l. added .behind i (omega arith)) (r .built .sums) };
                   batch = batch-then;
                   table-room = rw l at q;
                   hint = r .hint;

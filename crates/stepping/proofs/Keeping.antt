@@ -124,7 +124,7 @@ module _ (c : Control) (k : Setup) (b : List ℕ) where
             batch = batch-kept c (acted c keys 0) b b′ (chunksIn basePower (k .image)) _ (f .front ++ f .back) items refl refl (words-kept c (acted c keys 0) b b′ (j .kept) refl) (j .kept .above filterPlace (omega arith)) e (f .batch);
             agree = f .agree;
             apart = f .apart;
-            built = record { indexed = q .0 .indexed; blocks = q .0 .blocks };
+            built = record { indexed = q .0 .indexed; blocks = q .0 .blocks; sums = q .0 .sums };
             table-room = omega arith;
             hint = f .hint;
           }

@@ -137,7 +137,8 @@ pub fn choose(s: &Session, image: &[u8], table: &[u64]) -> Report
 {
     let c = s.control;
     let k = s.setup;
-    choosing::choose_core(c, k, image, table)
+    let b = s.buffer;
+    choosing::choose_core(c, k, b, image, table)
 }
 
 // Begins the cleaning of a chunk: what it keeps is to be copied, and the chunk to be freed.

@@ -148,7 +148,7 @@ none-at k h es l = filter-none (isTopOf k h) es (in-all (λ e. negate (isTopOf k
             absurd (omega arith)
 
 module _ (k : ℕ) (xs ys : List Entry) (e : Entry) where
-  tops-other : (e .key ≡ k → ⊥) → tops k (xs ++ e ∷ ys) ≡ tops k (xs ++ ys)
+  pub tops-other : (e .key ≡ k → ⊥) → tops k (xs ++ e ∷ ys) ≡ tops k (xs ++ ys)
   unfolding tops
   tops-other n =
       let h : highest k (xs ++ e ∷ ys) ≡ highest k (xs ++ ys) = sym (highest-insert k xs ys e) ∙ rw (ne-eqb (e .key) k n) in
@@ -157,7 +157,7 @@ module _ (k : ℕ) (xs ys : List Entry) (e : Entry) where
   highest-more : e .key ≡ k → highest k (xs ++ e ∷ ys) ≡ larger (e .version) (highest k (xs ++ ys))
   highest-more q = sym (highest-insert k xs ys e) ∙ rw (eq-eqb (e .key) k q)
 
-  tops-above : e .key ≡ k → highest k (xs ++ ys) < e .version → tops k (xs ++ e ∷ ys) ≡ e ∷ []
+  pub tops-above : e .key ≡ k → highest k (xs ++ ys) < e .version → tops k (xs ++ e ∷ ys) ≡ e ∷ []
   unfolding tops
   tops-above q l =
       let h : highest k (xs ++ e ∷ ys) ≡ e .version = highest-more q ∙ rw (lt-leb (e .version) (highest k (xs ++ ys)) l) in
@@ -171,13 +171,13 @@ module _ (k : ℕ) (xs : List Entry) (e : Entry) (q : e .key ≡ k) where
   highest-last : highest k (xs ++ e ∷ []) ≡ larger (e .version) (highest k xs)
   highest-last = highest-more k xs [] e q ∙ rw (append-nil xs)
 
-  tops-twin : e .version ≡ highest k xs → tops k (xs ++ e ∷ []) ≡ tops k xs ++ e ∷ []
+  pub tops-twin : e .version ≡ highest k xs → tops k (xs ++ e ∷ []) ≡ tops k xs ++ e ∷ []
   unfolding tops
   tops-twin v =
       let h : highest k (xs ++ e ∷ []) ≡ highest k xs = highest-last ∙ rw (le-leb (e .version) (highest k xs) (omega arith)) in
       rw (h, filter-in (isTopOf k (highest k xs)) xs [] e (rw (eq-eqb (e .key) k q, eq-eqb (e .version) (highest k xs) v)))
 
-  tops-below : e .version < highest k xs → tops k (xs ++ e ∷ []) ≡ tops k xs
+  pub tops-below : e .version < highest k xs → tops k (xs ++ e ∷ []) ≡ tops k xs
   unfolding tops
   tops-below v =
       let h : highest k (xs ++ e ∷ []) ≡ highest k xs = highest-last ∙ rw (le-leb (e .version) (highest k xs) (omega arith)) in
@@ -192,7 +192,7 @@ info-from : (k n : ℕ) (es ts : List Entry) → tops k es ≡ ts → entryCount
 unfolding infoOf chosen
 info-from k n es ts t c = rw (t, c)
 
-chosen-version : (k : ℕ) (es : List Entry) (q : Option Entry) → chosen k es ≡ q → versionOf q ≡ highest k es
+pub chosen-version : (k : ℕ) (es : List Entry) (q : Option Entry) → chosen k es ≡ q → versionOf q ≡ highest k es
 chosen-version k es q h = sym (ap versionOf (sym (chosen-best k es) ∙ h)) ∙ highest-best k es
 
 -- of another key, anywhere

@@ -6,3 +6,5 @@ pub mod Image
 pub mod Marks
 pub mod Check
 pub mod Plain
+pub mod Sums
+pub mod Chosen

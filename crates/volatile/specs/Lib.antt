@@ -1,3 +1,4 @@
 pub mod Known
 pub mod Check
 pub mod Plain
+pub mod Sums

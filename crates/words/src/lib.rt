@@ -106,18 +106,18 @@ fn last_word(value: &[u8], i: usize) -> u64
 
 // How many words of a value are copied to place `at` of the record's buffer: all, or as many as fit.
 fn copied(words: usize, at: usize) -> usize
-    ensures { λ r. ⌜ r ≡ min words (1152 - at) ⌝ }
+    ensures { λ r. ⌜ r ≡ min words (1664 - at) ⌝ }
 {
-    if 1152 <= at {
+    if 1664 <= at {
         return 0;
     }
-    let room = 1152 - at;
+    let room = 1664 - at;
     if words < room { words } else { room }
 }
 
 // The words of a value laid over the record's buffer from place `at`; what does not fit is dropped.
-pub fn pack_into(value: &[u8], buffer: &mut [u64; 1152], at: usize)
-    ensures { λ _. ⌜ now (buffer .exit) ≡ overlay (now (buffer .entry)) at (take (1152 - at) (packed (now (value .entry)))) ⌝ }
+pub fn pack_into(value: &[u8], buffer: &mut [u64; 1664], at: usize)
+    ensures { λ _. ⌜ now (buffer .exit) ≡ overlay (now (buffer .entry)) at (take (1664 - at) (packed (now (value .entry)))) ⌝ }
 {
     let count = copied((value.len() + 7) / 8, at);
     let whole = copied(value.len() / 8, at);

@@ -158,7 +158,7 @@ impl Register {
     }
 
     fn over(file: File, access: Access) -> Register {
-        let record = Box::new(sys::Record { word: [0; 1173] });
+        let record = Box::new(sys::Record { word: [0; 1685] });
         Register { file, record, table: vec![0; sys::TABLE_WORDS].into_boxed_slice(), access }
     }
 

@@ -19,7 +19,7 @@ pub const FILE_WRITE: c_int = 1;
 #[repr(C)]
 #[derive(Clone)]
 pub struct Record {
-    pub word: [u64; 1173],
+    pub word: [u64; 1685],
 }
 
 #[repr(C)]

@@ -53,6 +53,9 @@ add-alone c = let f = told-fits _ _ _ _ (c .before .before .before .before .item
 alone-requires : tie.Need-alone-requires Inv-loop μ-loop
 alone-requires c κs = search needs
 
+weigh-requires : tie.Need-weigh-requires Inv-loop μ-loop
+weigh-requires c κs = search needs
+
 join-one-requires : tie.Need-join-one-requires Inv-loop μ-loop
 join-one-requires c κs = search needs
 
@@ -60,16 +63,16 @@ claim-requires : tie.Need-claim-requires Inv-loop μ-loop
 claim-requires c κs = search needs
 
 add-at : tie.Need-add-at Inv-loop μ-loop
-add-at c = let f = told-fits _ _ _ _ (c .before .before .before .before .before .before .before .before .before .before .before .before .item-at .ensures) _ _ _ _ _ _ (c .before .before .before .before .before .before .before .before .before .before .item .given .1) in omega arith
+add-at c = let f = told-fits _ _ _ _ (c .before .before .before .before .before .before .before .before .before .before .before .before .before .item-at .ensures) _ _ _ _ _ _ (c .before .before .before .before .before .before .before .before .before .before .before .item .given .1) in omega arith
 
 add-at-2 : tie.Need-add-at-2 Inv-loop μ-loop
-add-at-2 c = let f = told-fits _ _ _ _ (c .before .before .before .before .before .before .before .before .before .before .before .before .item-at .ensures) _ _ _ _ _ _ (c .before .before .before .before .before .before .before .before .before .before .item .given .1) in omega arith
+add-at-2 c = let f = told-fits _ _ _ _ (c .before .before .before .before .before .before .before .before .before .before .before .before .before .item-at .ensures) _ _ _ _ _ _ (c .before .before .before .before .before .before .before .before .before .before .before .item .given .1) in omega arith
 
 loop-less : tie.Need-loop-less Inv-loop μ-loop
-loop-less c = let f = told-fits _ _ _ _ (c .before .before .before .before .before .before .before .before .before .before .before .before .item-at .ensures) _ _ _ _ _ _ (c .before .before .before .before .before .before .before .before .before .before .item .given .1) in omega arith
+loop-less c = let f = told-fits _ _ _ _ (c .before .before .before .before .before .before .before .before .before .before .before .before .before .item-at .ensures) _ _ _ _ _ _ (c .before .before .before .before .before .before .before .before .before .before .before .item .given .1) in omega arith
 
 loop-again : tie.Need-loop-again Inv-loop μ-loop
-loop-again c = going-next _ _ _ _ _ _ _ _ _ _ _ (c .before .before .before .before .before .before .before .before .before .before .before .before .before .before .loop .inv) _ (c .before .before .before .before .before .before .before .before .before .before .before .before .item-at .ensures) _ _ _ _ _ _ (c .before .before .before .before .before .before .before .before .before .before .item .given .1) (omega arith) _ _ (c .before .before .before .before .before .before .before .before .extent-of .ensures) (c .before .before .before .before .before .before .before .alone .ensures) _ _ _ (c .before .before .before .before .join-one .ensures) _ (c .claim .ensures)
+loop-again c = going-next _ _ _ _ _ _ _ _ _ _ _ (c .before .before .before .before .before .before .before .before .before .before .before .before .before .before .before .loop .inv) _ (c .before .before .before .before .before .before .before .before .before .before .before .before .before .item-at .ensures) _ _ _ _ _ _ (c .before .before .before .before .before .before .before .before .before .before .before .item .given .1) (omega arith) _ _ (c .before .before .before .before .before .before .before .before .before .extent-of .ensures) (c .before .before .before .before .before .before .before .before .alone .ensures) _ (c .before .before .before .before .before .before .before .weigh .ensures) _ _ _ (c .before .before .before .before .join-one .ensures) _ (c .claim .ensures)
 
 pub join-spec : {M : Type 1} → statement M
 join-spec =
@@ -88,7 +91,7 @@ join-spec =
     enum-known-item
     extent-of-requires
     add-alone
-    alone-requires
+    alone-requires weigh-requires
     join-one-requires
     claim-requires
     add-at

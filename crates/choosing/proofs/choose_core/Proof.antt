@@ -25,14 +25,13 @@ enum-known-gated : tie.Need-enum-known-gated
 enum-known-gated c = search needs
 
 returns : tie.Need-returns
-returns c =
-    answers _ _ _ _ _ (c .before .before .before .before .before .before .gate .ensures) (c .before .before .before .before .enum-told .given .1) _ _ (c .before .before .before .choose .ensures) refl _ (c .before .choice .given .1)
+returns c = answers _ _ _ _ _ _ (c .before .before .before .before .before .before .before .gate .ensures) (c .before .before .before .before .before .enum-told .given .1) _ _ (c .before .before .before .choose .ensures) refl _ (c .before .choice .given .1)
 
 returns-2 : tie.Need-returns-2
-returns-2 c = answers _ _ _ _ _ (c .before .before .before .before .before .gate .ensures) (c .before .before .before .enum-told .given .1) _ _ (c .before .before .choose .ensures) refl _ (c .enum-told2 .given .1)
+returns-2 c = answers _ _ _ _ _ _ (c .before .before .before .before .before .before .gate .ensures) (c .before .before .before .before .enum-told .given .1) _ _ (c .before .before .choose .ensures) refl _ (c .enum-told2 .given .1)
 
 returns-3 : tie.Need-returns-3
-returns-3 c = gate-refuses _ _ _ _ _ (c .before .before .before .gate .ensures) _ (c .before .gated .given .1)
+returns-3 c = gate-refuses _ _ _ _ _ _ (c .before .before .before .gate .ensures) _ (c .before .gated .given .1)
 
 pub choose-core-spec : {M : Type 1} → statement M
 choose-core-spec =

@@ -47,7 +47,7 @@ loop-less : tie.Need-loop-less Inv-loop μ-loop
 loop-less c = omega arith
 
 loop-again : tie.Need-loop-again Inv-loop μ-loop
-loop-again c = (omega arith, copied-next 1152 _ _ _ _ _ _ _ _ (c .before .before .before .before .buffer-length .ensures .1) (omega arith) (c .before .before .loop .inv .1) (rw zero-add refl) refl)
+loop-again c = (omega arith, copied-next 1664 _ _ _ _ _ _ _ _ (c .before .before .before .before .buffer-length .ensures .1) (omega arith) (c .before .before .loop .inv .1) (rw zero-add refl) refl)
 
 returns : tie.Need-returns Inv-loop μ-loop
 returns c = copied-end _ _ _ _ _ _ _ (omega arith) (c .before .loop .inv .1)

@@ -10,7 +10,7 @@ use Rattle.words.specs.Image.{length-wordsOf}
 use Rattle.theory_log.proofs.Walk.{room-entry}
 use Rattle.opening.specs.Pass.{Hastened}
 use Rattle.opening.proofs.Pass.{own-alone}
-use Rattle.opening.proofs.Runs.{put-told, run-more}
+use Rattle.opening.proofs.Runs.{put-told, run-start, run-more}
 use Rattle.opening.proofs.run.Statement.{statement}
 use Rattle.opening.proofs.run.Tie as tie
 
@@ -20,11 +20,23 @@ Inv-loop image at end table₀ keys fits room place₀ count₀ table place coun
 abbrev μ-loop : tie.MeasureT-loop
 μ-loop image at end table₀ keys fits room place₀ count₀ table place count = length (wordsOf image) - place
 
+add-if1 : tie.Need-add-if1 Inv-loop μ-loop
+add-if1 c = search needs
+
+add-if1-2 : tie.Need-add-if1-2 Inv-loop μ-loop
+add-if1-2 c = search needs
+
+add-if1-3 : tie.Need-add-if1-3 Inv-loop μ-loop
+add-if1-3 c = search needs
+
+returns : tie.Need-returns Inv-loop μ-loop
+returns c = run-start _ _ _ _ _ _
+
 capacity-requires : tie.Need-capacity-requires Inv-loop μ-loop
 capacity-requires c κs = search needs
 
 loop-holds : tie.Need-loop-holds Inv-loop μ-loop
-loop-holds c = search needs
+loop-holds c = run-start _ _ _ _ _ _
 
 short-put-requires : tie.Need-short-put-requires Inv-loop μ-loop
 short-put-requires c κs = search needs
@@ -35,8 +47,8 @@ enum-told c = search needs
 same-length : tie.Need-same-length Inv-loop μ-loop
 same-length c = search needs
 
-returns : tie.Need-returns Inv-loop μ-loop
-returns c = search needs
+returns-2 : tie.Need-returns-2 Inv-loop μ-loop
+returns-2 c = search needs
 
 enum-known-s : tie.Need-enum-known-s Inv-loop μ-loop
 enum-known-s c = search needs
@@ -50,14 +62,14 @@ word-at-requires c κs = search needs
 same-length-2 : tie.Need-same-length-2 Inv-loop μ-loop
 same-length-2 c = search needs
 
-returns-2 : tie.Need-returns-2 Inv-loop μ-loop
-returns-2 c = search needs
+returns-3 : tie.Need-returns-3 Inv-loop μ-loop
+returns-3 c = search needs
 
 same-length-3 : tie.Need-same-length-3 Inv-loop μ-loop
 same-length-3 c = search needs
 
-returns-3 : tie.Need-returns-3 Inv-loop μ-loop
-returns-3 c = search needs
+returns-4 : tie.Need-returns-4 Inv-loop μ-loop
+returns-4 c = search needs
 
 extent-of-requires : tie.Need-extent-of-requires Inv-loop μ-loop
 extent-of-requires c κs = search needs
@@ -73,7 +85,7 @@ add-count c = search needs
 
 add-place : tie.Need-add-place Inv-loop μ-loop
 add-place c =
-    let a = c .before .before .before .before .before .before .before .before .before .before .before .before .before .before .before .before .before .before .before .before .before .args in
+    let a = c .before .before .before .before .before .before .before .before .before .before .before .before .before .before .before .before .before .before .before .before .before .before .args in
     let w = c .before .before .before .before .before .before .before .before .before .before .before .before .before .before .before .before .before .loop in
     let r = room-entry (wordsOf (a .image .now)) (w .place) (a .end) _ _ _ _ _ _ (put-told (wordsOf (a .image .now)) (w .place) (a .end) _ (c .before .before .before .before .before .before .before .before .before .before .before .before .before .before .before .short-put .ensures) _ _ _ _ (c .before .before .before .before .before .before .before .before .before .before .before .before .before .s .given .1)) in
     let n = length-wordsOf (a .image .now) in
@@ -81,7 +93,7 @@ add-place c =
 
 add-place-2 : tie.Need-add-place-2 Inv-loop μ-loop
 add-place-2 c =
-    let a = c .before .before .before .before .before .before .before .before .before .before .before .before .before .before .before .before .before .before .before .before .before .args in
+    let a = c .before .before .before .before .before .before .before .before .before .before .before .before .before .before .before .before .before .before .before .before .before .before .args in
     let w = c .before .before .before .before .before .before .before .before .before .before .before .before .before .before .before .before .before .loop in
     let r = room-entry (wordsOf (a .image .now)) (w .place) (a .end) _ _ _ _ _ _ (put-told (wordsOf (a .image .now)) (w .place) (a .end) _ (c .before .before .before .before .before .before .before .before .before .before .before .before .before .before .before .short-put .ensures) _ _ _ _ (c .before .before .before .before .before .before .before .before .before .before .before .before .before .s .given .1)) in
     let n = length-wordsOf (a .image .now) in
@@ -89,23 +101,23 @@ add-place-2 c =
 
 loop-less : tie.Need-loop-less Inv-loop μ-loop
 loop-less c =
-    let a = c .before .before .before .before .before .before .before .before .before .before .before .before .before .before .before .before .before .before .before .before .before .args in
+    let a = c .before .before .before .before .before .before .before .before .before .before .before .before .before .before .before .before .before .before .before .before .before .before .args in
     let w = c .before .before .before .before .before .before .before .before .before .before .before .before .before .before .before .before .before .loop in
     let r = room-entry (wordsOf (a .image .now)) (w .place) (a .end) _ _ _ _ _ _ (put-told (wordsOf (a .image .now)) (w .place) (a .end) _ (c .before .before .before .before .before .before .before .before .before .before .before .before .before .before .before .short-put .ensures) _ _ _ _ (c .before .before .before .before .before .before .before .before .before .before .before .before .before .s .given .1)) in
     omega arith
 
 loop-again : tie.Need-loop-again Inv-loop μ-loop
 loop-again c =
-    let a = c .before .before .before .before .before .before .before .before .before .before .before .before .before .before .before .before .before .before .before .before .before .args in
+    let a = c .before .before .before .before .before .before .before .before .before .before .before .before .before .before .before .before .before .before .before .before .before .before .args in
     let w = c .before .before .before .before .before .before .before .before .before .before .before .before .before .before .before .before .before .loop in
-    run-more _ _ _ _ _ _ _ _ _ (w .inv) _ _ _ _ (put-told (wordsOf (a .image .now)) (w .place) (a .end) _ (c .before .before .before .before .before .before .before .before .before .before .before .before .before .before .before .short-put .ensures) _ _ _ _ (c .before .before .before .before .before .before .before .before .before .before .before .before .before .s .given .1)) _ _ (c .before .before .before .before .before .before .before .before .before .before .stop .ensures) (c .before .before .before .before .before .before .before .before .word-at .ensures) (c .before .before .before .before .before .before .before .if1 .left)
-    (rw (← c .before .before .before .before .before .before .before .before .before .before .before .before .before .before .before .before .before .before .capacity .ensures) (c .before .before .before .before .before .before .if2 .left)) _ (own-alone 0 (c .before .before .before .before .before .before .before .before .before .before .before .before .before .s .given .0 .1 .0) _ _ _ _ (c .before .before .before .before .before .extent-of .ensures) (c .before .before .before .before .alone .ensures)) _ (c .before .before .put-at .ensures) (c .before .before .before .before .before .before .before .before .before .before .before .before .before .before .before .before .loop-test .taken)
+    run-more _ _ _ _ _ _ (c .before .before .before .before .before .before .before .before .before .before .before .before .before .before .before .before .before .before .before .if1 .left) _ _ _ (w .inv) _ _ _ _ (put-told (wordsOf (a .image .now)) (w .place) (a .end) _ (c .before .before .before .before .before .before .before .before .before .before .before .before .before .before .before .short-put .ensures) _ _ _ _ (c .before .before .before .before .before .before .before .before .before .before .before .before .before .s .given .1)) _ _ (c .before .before .before .before .before .before .before .before .before .before .stop .ensures) (c .before .before .before .before .before .before .before .before .word-at .ensures) (c .before .before .before .before .before .before .before .if2 .left)
+    (rw (← c .before .before .before .before .before .before .before .before .before .before .before .before .before .before .before .before .before .before .capacity .ensures) (c .before .before .before .before .before .before .if3 .left)) _ (own-alone 0 (c .before .before .before .before .before .before .before .before .before .before .before .before .before .s .given .0 .1 .0) _ _ _ _ (c .before .before .before .before .before .extent-of .ensures) (c .before .before .before .before .alone .ensures)) _ (c .before .before .put-at .ensures) (c .before .before .before .before .before .before .before .before .before .before .before .before .before .before .before .before .loop-test .taken)
 
 same-length-4 : tie.Need-same-length-4 Inv-loop μ-loop
 same-length-4 c = search needs
 
-returns-4 : tie.Need-returns-4 Inv-loop μ-loop
-returns-4 c = search needs
+returns-5 : tie.Need-returns-5 Inv-loop μ-loop
+returns-5 c = search needs
 
 pub run-spec : {M : Type 1} → statement M
 run-spec =
@@ -113,19 +125,23 @@ run-spec =
     (tie.spec
     Inv-loop
     μ-loop
+    add-if1
+    add-if1-2
+    add-if1-3
+    returns
     capacity-requires
     loop-holds
     short-put-requires
     enum-told
     same-length
-    returns
+    returns-2
     enum-known-s
     stop-requires
     word-at-requires
     same-length-2
-    returns-2
-    same-length-3
     returns-3
+    same-length-3
+    returns-4
     extent-of-requires
     alone-requires
     put-at-requires
@@ -135,4 +151,4 @@ run-spec =
     loop-less
     loop-again
     same-length-4
-    returns-4)
+    returns-5)

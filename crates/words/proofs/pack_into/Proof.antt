@@ -56,7 +56,7 @@ loop-again c =
 returns : tie.Need-returns Inv-loop μ-loop
 returns c =
     let a = c .before .before .before .before .before .before .args in
-    overlay-end _ _ (packed (now (a .value))) _ (c .before .before .loop .i) (1152 - a .at) (c .before .before .loop .inv .1) (omega (arith, length-packed (now (a .value))))
+    overlay-end _ _ (packed (now (a .value))) _ (c .before .before .loop .i) (1664 - a .at) (c .before .before .loop .inv .1) (omega (arith, length-packed (now (a .value))))
 
 last-word-requires : tie.Need-last-word-requires Inv-loop μ-loop
 last-word-requires c κs = search needs
@@ -75,7 +75,7 @@ returns-2 c =
     let a = c .before .before .before .before .before .before .before .args in
     let looped = c .before .before .before in
     let more = overlay-turn _ _ (packed (now (a .value))) _ _ _ (looped .loop .inv .1) (omega (arith, length-packed (now (a .value)))) (c .last-word .ensures ∙ sym (getD-packed _ _)) in
-    overlay-end _ _ (packed (now (a .value))) _ (looped .loop .i + 1) (1152 - a .at) more (omega (arith, length-packed (now (a .value))))
+    overlay-end _ _ (packed (now (a .value))) _ (looped .loop .i + 1) (1664 - a .at) more (omega (arith, length-packed (now (a .value))))
 
 pub pack-into-spec : {M : Type 1} → statement M
 pack-into-spec =

@@ -1,0 +1,5 @@
+pub mod Laws
+pub mod Weights
+pub mod Renews
+pub mod Joins
+pub mod Turns
