@@ -258,10 +258,6 @@ is-true false z = absurd z
 is-false : (b : Bool) → T (not b) → b ≡ false
 is-false true z = absurd z
 is-false false _ = refl
-
-is-false : (b : Bool) → T (not b) → b ≡ false
-is-false true z = absurd z
-is-false false _ = refl
 ''')
 for c in distinct:
     if c is test: continue

@@ -110,10 +110,6 @@ is-false : (b : Bool) → T (not b) → b ≡ false
 is-false true z = absurd z
 is-false false _ = refl
 
-is-false : (b : Bool) → T (not b) → b ≡ false
-is-false true z = absurd z
-is-false false _ = refl
-
 -- the contract of `step_late`, and what it ensures
 abbrev Of-step-late′ : {M : Type 1} (𝓤 : URA M) (H : Heap 𝓤) (A : Atoms 𝓤) (mem : Memory → SProp 𝓤) (run : Routine → Fun 𝓤) → Contract 𝓤
 Of-step-late′ 𝓤 H A mem run = tripleOf 𝓤 H A step-late′.signature (step-late′.spec 𝓤 H A mem run)
