@@ -76,8 +76,8 @@ int print_whole(struct station *s, int (*print)(struct station *s, FILE *to));
 void print_json(FILE *to, const char *text, size_t length);     /* printable text in quotes */
 
 /* zkv_write.c: each leaves a refusal, if there is one, in *report. Cleans the chunk that is named, else the one that is
- * chosen, else one that holds no label, and counts it. Stages and commits a put or, where value is NULL, a delete; a refused commit leaves nothing
- * staged. */
+ * chosen, else one that holds no label, and counts it. Stages and commits a put or, where value is NULL, a delete; a
+ * refused commit leaves nothing staged. */
 int clean_one(struct station *s, const uint64_t *named, struct cleaned *done, zkv_report *report);
 int change(struct station *s, uint64_t key, const uint8_t *value, size_t length, zkv_report *report);
 

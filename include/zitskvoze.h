@@ -57,7 +57,7 @@
  * - closed: a zeroed record, after a refused opening, or after the end of a formatting. zkv_open and zkv_format may
  *   follow; other calls get 2.
  * - open, nothing staged: after ZKV_OPENED, the end of a commit or cleaning, or ZKV_ABANDONED. zkv_put, zkv_delete,
- *   zkv_look_up, zkv_choose, zkv_clean, zkv_chunk, zkv_open and zkv_format may follow; zkv_commit and zkv_abandon get 14.
+ *   zkv_look_up, zkv_choose, zkv_clean, zkv_open and zkv_format may follow; zkv_commit and zkv_abandon get 14.
  * - open, something staged: after the end of a staging. All of these may follow but zkv_clean, which gets 15.
  * - unfinished: after ZKV_BEGUN. zkv_step, zkv_run and zkv_open may follow; other calls get 8 (or 2, in a formatting
  *   that was begun on a closed record). In the other states a step or run answers ZKV_IDLE and changes nothing.
@@ -333,10 +333,10 @@ uint64_t zkv_free_chunks(const uint8_t *image, size_t bytes);
 /* The committed lines of all log chunks of an image. */
 uint64_t zkv_lines_used(const uint8_t *image, size_t bytes);
 
-/* What a chunk of the open register holds: by one pass over the log. Refused: 2, 1, 8, and 16 where the image has no
- * such chunk (chunk 0 has header and directory, and is none). */
-zkv_chunk_row zkv_chunk(const zkv_record *record, const uint8_t *image, size_t bytes, const uint64_t *table, size_t words,
-                        size_t chunk);
+/* What a chunk of the open register holds: by one pass over a log chunk, or for a data chunk over the whole log.
+ * Refused: 2, 1, 8, and 16 where the image has no such chunk (chunk 0 has header and directory, and is none). */
+zkv_chunk_row zkv_chunk(const zkv_record *record, const uint8_t *image, size_t bytes, const uint64_t *table,
+                        size_t words, size_t chunk);
 
 /* The first data chunk of the open register, from chunk `from` on, with no present value in it, which zkv_clean frees:
  * ZKV_CHOSEN with its number, or refused: 2, 1, 8, 16. A put that was abandoned may leave such a chunk: a host that

@@ -3,14 +3,14 @@
 use mathlib.Core.Path.{_≡_, refl, sym, _∙_, ap}
 use mathlib.Core.Logic.{_⊎_, inl, inr, by-cases}
 use mathlib.Core.Bool.{Bool, true, false}
-use mathlib.Core.Option.{Option, none, some}
+use mathlib.Core.Option.{none, some}
 use mathlib.Core.List.{List, [], _∷_}
-use Prim.Native.Nat.{ℕ, _+_, _-_, _/_, _≤_, _<_}
+use Prim.Native.Nat.{ℕ, _-_, _/_, _≤_, _<_}
 use native.Mathlib.Decide.{decLt}
 use native.Mathlib.Omega.{arith}
 use lib.Dec.{eqb, leb, ltb}
 use lib.ListN.{length}
-use borrow.Author.Tests.{le-leb, lt-leb, lt-ltb, le-ltb}
+use borrow.Author.Tests.{le-leb, lt-leb, lt-ltb, le-ltb, leb-true, ltb-true}
 use Rattle.spec.specs.Basics.{pick, both, filter, first, upFrom}
 use Rattle.spec.specs.Words.{wordsOf}
 use Rattle.spec.specs.Places.{chunksIn, chunkBytes}
@@ -20,8 +20,8 @@ use Rattle.spec.specs.Contents.{listed}
 use Rattle.spec.specs.Reports.{number}
 use Rattle.spec.specs.Machine.{gate}
 use Rattle.spec.specs.declared.Role.{Role}
+use Rattle.spec.specs.declared.Role.the-variants as D
 use Rattle.spec.specs.declared.Refusal.{Refusal}
-use Rattle.spec.specs.declared.Refusal.the-variants as N
 use Rattle.spec.specs.declared.Report.{Report}
 use Rattle.spec.specs.declared.Report.the-variants as R
 use Rattle.theory_crash.specs.Accepted.{Ok}
@@ -40,13 +40,11 @@ use Rattle.lookup.specs.Look.{sessionOf}
 use Rattle.listing.specs.Contract.{entriesOf}
 use Rattle.session.proofs.Gates.{at-rest}
 use Rattle.theory_crash.proofs.Opening.{opens-ok}
-use Rattle.chunk_stat.specs.declared.Tally.{Tally}
-use Rattle.chunk_stat.specs.declared.Kind.{Kind}
 use Rattle.chunk_stat.specs.declared.ChunkRow.{ChunkRow}
-use Rattle.chunk_stat.specs.Rows.{kindOf, isLiveBlock, countOf, tallyOf, refusedRow, rowWith, rowOf, isEmptyData, emptyChunk}
-use Rattle.chunk_stat.specs.ByTable.{tallyBy, rowBy, emptyBy, foundBy}
-use Rattle.chunk_stat.specs.Contract.{countIn, Described, DescribedBy, reportOf, StoppedAt, Emptied, EmptiedBy}
-use Rattle.chunk_stat.proofs.Tallies.{tally-exact, live-counted}
+use Rattle.chunk_stat.specs.Rows.{usedIn, plainRow, logRow, dataRow, rowFor, rowOf, isEmptyData, emptyChunk}
+use Rattle.chunk_stat.specs.ByTable.{blocksBy, rowBy, rowAt, emptyBy, foundBy}
+use Rattle.chunk_stat.specs.Contract.{countIn, DescribedBy, reportOf, StoppedAt, EmptiedBy}
+use Rattle.chunk_stat.proofs.Tallies.{tally-exact, blocks-exact, live-counted}
 
 pub chunks-are : (bytes : ℕ) → chunksIn 12 bytes ≡ bytes / 4096
 unfolding chunksIn chunkBytes
@@ -55,17 +53,16 @@ chunks-are bytes = refl
 -- ## A row
 
 module _ (bytes : ℕ) (ws table : List ℕ) (c : ℕ) where
-  pub row-inside : (k : Kind) (t : Tally) (role : Role) → 1 ≤ c → c < bytes / 4096 → role ≡ roleAt 12 ws c → k ≡ kindOf role → t ≡ tallyBy ws table (bytes / 4096) c
-      → rowWith k t ≡ rowBy ws table (chunksIn 12 bytes) c
-  unfolding rowBy
-  row-inside k t role l h er ek et = sym (rw (chunks-are bytes, le-leb 1 c l, lt-ltb c (bytes / 4096) h, ← er, ← ek, ← et))
+  pub row-inside : (role : Role) (r : ChunkRow) → 1 ≤ c → c < bytes / 4096 → role ≡ roleAt 12 ws c → r ≡ rowBy ws table (bytes / 4096) c role → r ≡ rowAt ws table (chunksIn 12 bytes) c
+  unfolding rowAt
+  row-inside role r l h er e = e ∙ sym (rw (chunks-are bytes, le-leb 1 c l, lt-ltb c (bytes / 4096) h, ← er))
 
-  pub row-outside : (c < 1) ⊎ (bytes / 4096 ≤ c) → refusedRow 16 ≡ rowBy ws table (chunksIn 12 bytes) c
-  unfolding rowBy
+  pub row-outside : (c < 1) ⊎ (bytes / 4096 ≤ c) → plainRow 16 0 ≡ rowAt ws table (chunksIn 12 bytes) c
+  unfolding rowAt
   row-outside (inl l) = sym (rw (lt-leb 1 c l))
   row-outside (inr h) = sym (rw (chunks-are bytes, le-ltb c (bytes / 4096) h) (both-no (leb 1 c)))
     where
-      both-no : (b : Bool) → pick (both b false) (rowWith (kindOf (roleAt 12 ws c)) (tallyBy ws table (bytes / 4096) c)) (refusedRow 16) ≡ refusedRow 16
+      both-no : (b : Bool) → pick (both b false) (rowBy ws table (bytes / 4096) c (roleAt 12 ws c)) (plainRow 16 0) ≡ plainRow 16 0
       both-no true = refl
       both-no false = refl
 
@@ -103,17 +100,30 @@ opened c k b bytes table g f =
     record { keys = c .keys; entries = rest .entries; ok = ok; indexed = rest .built .indexed; same = ap listed (ok .parsed) }
 
 module _ (bytes table : List ℕ) (o : Open bytes table) where
-  tally-same : (c : ℕ) → tallyBy (wordsOf bytes) table (countIn bytes) c ≡ tallyOf (o .entries) c
-  tally-same c =
-      tally-exact table (o .keys) (o .entries) (image-bounded (countIn bytes) (wordsOf bytes) (o .entries) (o .ok .parsed) (o .ok .most)) (o .indexed) (wordsOf bytes) (countIn bytes) c (o .ok .parsed)
+  small : Bounded (o .entries)
+  small = image-bounded (countIn bytes) (wordsOf bytes) (o .entries) (o .ok .parsed) (o .ok .most)
 
-  row-exact : (c : ℕ) → rowBy (wordsOf bytes) table (countIn bytes) c ≡ rowOf (wordsOf bytes) (entriesOf bytes) (countIn bytes) c
-  unfolding rowBy rowOf
-  row-exact c = rw (o .same, tally-same c)
+  used-same : (c : ℕ) → blocksBy (wordsOf bytes) table (countIn bytes) c ≡ usedIn (o .entries) c
+  used-same c = blocks-exact table (o .keys) (o .entries) small (o .indexed) (wordsOf bytes) (countIn bytes) c (o .ok .parsed)
+
+  row-same : (c : ℕ) → 1 ≤ c → c < countIn bytes → (role : Role) → rowBy (wordsOf bytes) table (countIn bytes) c role ≡ rowFor (o .entries) c role
+  row-same c low high D.Free = refl
+  row-same c low high (D.Log lines) = ap (logRow lines) (tally-exact table (o .keys) (o .entries) small (o .indexed) (wordsOf bytes) (countIn bytes) c low high (o .ok .parsed))
+  row-same c low high (D.Data size) = ap (dataRow size) (used-same c)
+  row-same c low high D.Wrong = refl
+
+  row-exact : (c : ℕ) → rowAt (wordsOf bytes) table (countIn bytes) c ≡ rowOf (wordsOf bytes) (entriesOf bytes) (countIn bytes) c
+  unfolding rowAt rowOf
+  row-exact c = rw (o .same) (go (leb 1 c) refl (ltb c (countIn bytes)) refl)
+    where
+      go : (a : Bool) → leb 1 c ≡ a → (b : Bool) → ltb c (countIn bytes) ≡ b
+          → pick (both a b) (rowBy (wordsOf bytes) table (countIn bytes) c (roleAt 12 (wordsOf bytes) c)) (plainRow 16 0) ≡ pick (both a b) (rowFor (o .entries) c (roleAt 12 (wordsOf bytes) c)) (plainRow 16 0)
+      go true x true y = row-same c (leb-true 1 c x) (ltb-true c (countIn bytes) y) (roleAt 12 (wordsOf bytes) c)
+      go true x false y = refl
+      go false x b y = refl
 
   empty-same : (from c : ℕ) → emptyBy (wordsOf bytes) table (countIn bytes) from c ≡ isEmptyData (wordsOf bytes) (o .entries) from c
-  unfolding tallyOf
-  empty-same from c = ap (both (leb from c)) (ap (both (isData (roleAt 12 (wordsOf bytes) c))) (ap (λ (t : Tally). eqb (t .blocks) 0) (tally-same c) ∙ live-counted (countIn bytes) (wordsOf bytes) (o .entries) (o .ok) c))
+  empty-same from c = ap (both (leb from c)) (ap (both (isData (roleAt 12 (wordsOf bytes) c))) (ap (λ (k : ℕ). eqb k 0) (used-same c) ∙ live-counted (countIn bytes) (wordsOf bytes) (o .entries) (o .ok) c))
 
   empty-exact : (from : ℕ) (r : Report) → StoppedAt (wordsOf bytes) table (countIn bytes) from r → r ≡ reportOf (emptyChunk (wordsOf bytes) (entriesOf bytes) (countIn bytes) from)
   unfolding emptyChunk
@@ -130,14 +140,14 @@ module _ (c : Control) (k : Setup) (bytes table : List ℕ) (g : Gated) (asks : 
   is-open : g ≡ G.Open → (b : List ℕ) → gate (stateAt c k b) (length bytes) (length table) ≡ none
   is-open e b = asks .asked b ∙ ap gateOf e
 
-  pub row-refused : (chunk : ℕ) (n : Refusal) (m : ℕ) (r : ChunkRow) → g ≡ G.Refused n → m ≡ number n → r ≡ refusedRow m → DescribedBy c k chunk bytes table r
+  pub row-refused : (chunk : ℕ) (n : Refusal) (m : ℕ) (r : ChunkRow) → g ≡ G.Refused n → m ≡ number n → r ≡ plainRow m 0 → DescribedBy c k chunk bytes table r
   row-refused chunk n m r e em er b = record {
-    gated = λ x h. let q = is-refused n e b in let y : n ≡ x = cc in er ∙ ap refusedRow (em ∙ ap number y);
+    gated = λ x h. let q = is-refused n e b in let y : n ≡ x = cc in er ∙ ap (λ (k : ℕ). plainRow k 0) (em ∙ ap number y);
     behind = λ h. absurd (let q = is-refused n e b in let z : _≡_ {A = ℕ} 0 1 = cc in omega arith);
     exact = λ h f. absurd (let q = is-refused n e b in let z : _≡_ {A = ℕ} 0 1 = cc in omega arith);
   }
 
-  pub row-open : (chunk : ℕ) (r : ChunkRow) → g ≡ G.Open → r ≡ rowBy (wordsOf bytes) table (countIn bytes) chunk → DescribedBy c k chunk bytes table r
+  pub row-open : (chunk : ℕ) (r : ChunkRow) → g ≡ G.Open → r ≡ rowAt (wordsOf bytes) table (countIn bytes) chunk → DescribedBy c k chunk bytes table r
   row-open chunk r e er b = record {
     gated = λ x h. absurd (let q = is-open e b in let z : _≡_ {A = ℕ} 0 1 = cc in omega arith);
     behind = λ h. er;

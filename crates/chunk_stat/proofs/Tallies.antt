@@ -1,7 +1,7 @@
 -- What is counted by the key table of an image is what its entries say.
 -- Assumes nothing.
 use mathlib.Core.Path.{_≡_, refl, sym, _∙_, ap}
-use mathlib.Core.Logic.{_⊎_, inl, inr}
+use mathlib.Core.Logic.{inl, inr}
 use mathlib.Core.Bool.{Bool, true, false}
 use mathlib.Core.Option.{Option, none, some}
 use mathlib.Core.List.{List, [], _∷_, map}
@@ -11,25 +11,27 @@ use lib.Dec.{eqb}
 use lib.ListN.{length}
 use borrow.Author.Tests.{eq-eqb, ne-eqb, eqb-true}
 use Rattle.spec.specs.Basics.{pick, both, either, negate, filter, any}
-use Rattle.spec.specs.Places.{wordChunk, unitChunk}
-use Rattle.spec.specs.Log.{Entry, Entries, imageEntries}
+use Rattle.spec.specs.Places.{unitChunk}
+use Rattle.spec.specs.Log.{Entry, Entries, chunkEntries, imageEntries}
 use Rattle.spec.specs.Blocks.{pointed}
-use Rattle.spec.specs.Contents.{chosen, isAt, inChunk, isTop, liveBlocks, pointers}
+use Rattle.spec.specs.Contents.{chosen, isAt, inChunk, isTop}
 use Rattle.spec.specs.Plans.{hasLive}
-use Rattle.theory_log.specs.Contents.{Mem, Top, Same}
+use Rattle.theory_log.specs.Contents.{Mem, Same}
 use Rattle.theory_log.specs.Fold.{foldE}
-use Rattle.theory_log.proofs.Contents.{chosen-is, none-of}
+use Rattle.theory_base.proofs.Lists.{filter-length}
+use Rattle.theory_log.proofs.Contents.{chosen-is, none-of, mem-filter}
+use Rattle.theory_log.proofs.Kept.{parts, filter-mine}
 use Rattle.theory_log.proofs.Tops.{top-is, is-top}
 use Rattle.log.proofs.Stands.{image-apart}
 use Rattle.theory_crash.specs.Accepted.{Ok}
 use Rattle.index.specs.declared.Info.{Info}
 use Rattle.index.specs.Index.{get}
 use Rattle.index.specs.Packed.{unpackOf}
-use Rattle.volatile.specs.Known.{Bounded, Indexed, infoOf}
-use Rattle.volatile.proofs.Info.{said, info-says}
+use Rattle.volatile.specs.Known.{Bounded, Indexed}
+use Rattle.volatile.proofs.Info.{info-says}
 use Rattle.chunk_stat.specs.declared.Tally.{Tally}
-use Rattle.chunk_stat.specs.Rows.{countOf, isChosen, isLivePut, isLiveDelete, isPassed, isLiveBlock, tallyOf}
-use Rattle.chunk_stat.specs.ByTable.{chosenBy, more, nothing, countNext, pointsInto, tallyBy}
+use Rattle.chunk_stat.specs.Rows.{countOf, isChosen, isLivePut, isLiveDelete, isPassed, isLiveBlock, tallyOf, usedIn}
+use Rattle.chunk_stat.specs.ByTable.{chosenBy, more, nothing, countNext, pointsInto, tallyBy, blockNext, blocksBy}
 
 -- ## Counting by one pass
 
@@ -56,38 +58,46 @@ same-filter p q (e ∷ es) h = rw (h e (inl refl), same-filter p q es (λ f m. h
 counted : (p q : Entry → Bool) (es : List Entry) → length es < 0x2_0000 → ((e : Entry) → Mem e es → p e ≡ q e) → countUp p 0 es ≡ countOf q es
 counted p q es few h = let c = count-up p es 0 (omega arith) in let s : countOf p es ≡ countOf q es = ap length (same-filter p q es h) in omega (arith, c, s)
 
--- ## The pass, part by part
+-- ## The passes, part by part
 
-module _ (table : List ℕ) (c : ℕ) where
+module _ (table : List ℕ) where
   abbrev liveBy : Entry → Bool
-  liveBy e = both (inChunk 12 c e) (both (chosenBy table (e .key) (e .at)) (eqb (e .op) 1))
+  liveBy e = both (chosenBy table (e .key) (e .at)) (eqb (e .op) 1)
 
   abbrev deleteBy : Entry → Bool
-  deleteBy e = both (inChunk 12 c e) (both (chosenBy table (e .key) (e .at)) (negate (eqb (e .op) 1)))
+  deleteBy e = both (chosenBy table (e .key) (e .at)) (negate (eqb (e .op) 1))
 
   abbrev passedBy : Entry → Bool
-  passedBy e = both (inChunk 12 c e) (negate (chosenBy table (e .key) (e .at)))
+  passedBy e = negate (chosenBy table (e .key) (e .at))
 
-  abbrev blockBy : Entry → Bool
-  blockBy e = both (chosenBy table (e .key) (e .at)) (pointsInto (e .op) (e .placement) (e .field) c)
+  abbrev blockBy : ℕ → Entry → Bool
+  blockBy c e = both (chosenBy table (e .key) (e .at)) (pointsInto (e .op) (e .placement) (e .field) c)
 
-  pass-live : (es : List Entry) (t : Tally) → foldE (countNext table c) t es .live ≡ countUp liveBy (t .live) es
+  pass-live : (es : List Entry) (t : Tally) → foldE (countNext table) t es .live ≡ countUp liveBy (t .live) es
   pass-live [] t = refl
-  pass-live (e ∷ es) t = pass-live es (countNext table c t e)
+  pass-live (e ∷ es) t = pass-live es (countNext table t e)
 
-  pass-deletes : (es : List Entry) (t : Tally) → foldE (countNext table c) t es .deletes ≡ countUp deleteBy (t .deletes) es
+  pass-deletes : (es : List Entry) (t : Tally) → foldE (countNext table) t es .deletes ≡ countUp deleteBy (t .deletes) es
   pass-deletes [] t = refl
-  pass-deletes (e ∷ es) t = pass-deletes es (countNext table c t e)
+  pass-deletes (e ∷ es) t = pass-deletes es (countNext table t e)
 
-  pass-passed : (es : List Entry) (t : Tally) → foldE (countNext table c) t es .superseded ≡ countUp passedBy (t .superseded) es
+  pass-passed : (es : List Entry) (t : Tally) → foldE (countNext table) t es .superseded ≡ countUp passedBy (t .superseded) es
   pass-passed [] t = refl
-  pass-passed (e ∷ es) t = pass-passed es (countNext table c t e)
+  pass-passed (e ∷ es) t = pass-passed es (countNext table t e)
 
-  pass-blocks : (es : List Entry) (t : Tally) → foldE (countNext table c) t es .blocks ≡ countUp blockBy (t .blocks) es
-  pass-blocks [] t = refl
-  pass-blocks (e ∷ es) t = pass-blocks es (countNext table c t e)
+  pass-blocks : (c : ℕ) (es : List Entry) (n : ℕ) → foldE (blockNext table c) n es ≡ countUp (blockBy c) n es
+  pass-blocks c [] n = refl
+  pass-blocks c (e ∷ es) n = pass-blocks c es (blockNext table c n e)
 
 -- ## The table of these entries
+
+filter-both : (p q : Entry → Bool) (es : List Entry) → filter (λ e. both (p e) (q e)) es ≡ filter q (filter p es)
+filter-both p q [] = refl
+filter-both p q (e ∷ es) = rw (filter-both p q es) (go (p e))
+  where
+    go : (b : Bool) → pick (both b (q e)) (e ∷ filter q (filter p es)) (filter q (filter p es)) ≡ filter q (pick b (e ∷ filter p es) (filter p es))
+    go true = refl
+    go false = refl
 
 module _ (table : List ℕ) (keys : ℕ) (es : List Entry) (small : Bounded es) (known : Indexed table keys es) where
   chosen-same : (e : Entry) → Mem e es → chosenBy table (e .key) (e .at) ≡ isChosen es e
@@ -99,25 +109,42 @@ module _ (table : List ℕ) (keys : ℕ) (es : List Entry) (small : Bounded es) 
           let s : unpackOf (get table (e .key)) .place ≡ f .at = ap (λ (w : ℕ). unpackOf w .place) (known .info (e .key)) ∙ ap (λ (i : Info). i .place) (info-says (e .key) es small f h) in
           ap (λ (p : ℕ). eqb p (e .at)) s
 
-  tally-is : (c : ℕ) → foldE (countNext table c) nothing es ≡ tallyOf es c
-  unfolding tallyOf
-  tally-is c = λ i. record { live = a i; deletes = b i; superseded = d i; blocks = f i }
-    where
-      a : foldE (countNext table c) nothing es .live ≡ countOf (isLivePut c es) es
-      a = pass-live table c es nothing ∙ counted (liveBy table c) (isLivePut c es) es (small .few) (λ e m. rw (chosen-same e m))
+  pub blocks-exact : (ws : List ℕ) (n c : ℕ) → imageEntries 12 n ws ≡ Entries es → blocksBy ws table n c ≡ usedIn es c
+  unfolding blocksBy usedIn
+  blocks-exact ws n c h = rw h (pass-blocks table c es 0 ∙ counted (blockBy table c) (isLiveBlock c es) es (small .few) (λ e m. rw (chosen-same e m)))
 
-      b : foldE (countNext table c) nothing es .deletes ≡ countOf (isLiveDelete c es) es
-      b = pass-deletes table c es nothing ∙ counted (deleteBy table c) (isLiveDelete c es) es (small .few) (λ e m. rw (chosen-same e m))
+  -- the chunk's own entries are those of all that stand in it
+  module _ (ws : List ℕ) (n c : ℕ) (low : 1 ≤ c) (high : c < n) (h : imageEntries 12 n ws ≡ Entries es) where
+    module _ (chunk : List Entry) (own : chunkEntries 12 ws c ≡ Entries chunk) (mine : filter (inChunk 12 c) es ≡ chunk) where
+      among : (e : Entry) → Mem e chunk → Mem e es
+      among e m = mem-filter (inChunk 12 c) e es (rw mine m) .0
 
-      d : foldE (countNext table c) nothing es .superseded ≡ countOf (isPassed c es) es
-      d = pass-passed table c es nothing ∙ counted (passedBy table c) (isPassed c es) es (small .few) (λ e m. rw (chosen-same e m))
+      part : (p q : Entry → Bool) → ((e : Entry) → Mem e chunk → p e ≡ q e) → countUp p 0 chunk ≡ countOf (λ e. both (inChunk 12 c e) (q e)) es
+      part p q same =
+          let l = filter-length (inChunk 12 c) es in
+          let k : length chunk ≡ length (filter (inChunk 12 c) es) = ap length (sym mine) in
+          let f = small .few in
+          counted p q chunk (omega arith) same ∙ ap length (ap (filter q) (sym mine) ∙ sym (filter-both (inChunk 12 c) q es))
 
-      f : foldE (countNext table c) nothing es .blocks ≡ countOf (isLiveBlock c es) es
-      f = pass-blocks table c es nothing ∙ counted (blockBy table c) (isLiveBlock c es) es (small .few) (λ e m. rw (chosen-same e m))
+      tally-is : foldE (countNext table) nothing chunk ≡ tallyOf es c
+      unfolding tallyOf
+      tally-is = λ i. record { live = a i; deletes = b i; superseded = d i }
+        where
+          a : foldE (countNext table) nothing chunk .live ≡ countOf (isLivePut c es) es
+          a = pass-live table chunk nothing ∙ part (liveBy table) (λ e. both (isChosen es e) (eqb (e .op) 1)) (λ e m. rw (chosen-same e (among e m)))
 
-  pub tally-exact : (ws : List ℕ) (n c : ℕ) → imageEntries 12 n ws ≡ Entries es → tallyBy ws table n c ≡ tallyOf es c
-  unfolding tallyBy
-  tally-exact ws n c h = rw h (tally-is c)
+          b : foldE (countNext table) nothing chunk .deletes ≡ countOf (isLiveDelete c es) es
+          b = pass-deletes table chunk nothing ∙ part (deleteBy table) (λ e. both (isChosen es e) (negate (eqb (e .op) 1))) (λ e m. rw (chosen-same e (among e m)))
+
+          d : foldE (countNext table) nothing chunk .superseded ≡ countOf (isPassed c es) es
+          d = pass-passed table chunk nothing ∙ part (passedBy table) (λ e. negate (isChosen es e)) (λ e m. rw (chosen-same e (among e m)))
+
+    pub tally-exact : tallyBy ws table c ≡ tallyOf es c
+    unfolding tallyBy
+    tally-exact =
+        let q = parts 12 (omega arith) (omega arith) n c ws es low high h in
+        let mine = filter-mine 12 (omega arith) (omega arith) n c ws es (q .0) (q .1) (q .2) (q .3) in
+        rw (q .3 .mine) (tally-is (q .1) (q .3 .mine) mine)
 
 -- ## No live block is counted where a cleaning finds none
 
@@ -207,7 +234,8 @@ module _ (n : ℕ) (ws : List ℕ) (es : List Entry) (ok : Ok 12 n ws es) (c : �
           let own : chosen (f .key) es ≡ some f = ap (λ (j : ℕ). chosen j es) (k .of-key) ∙ x in
           any-found (isLiveBlock c es) es f (k .in-list) (rw (own, eq-eqb (f .at) (f .at) refl) (sym (ap into same) ∙ y .1))
 
-  pub live-counted : eqb (countOf (isLiveBlock c es) es) 0 ≡ negate (hasLive 12 es c)
+  pub live-counted : eqb (usedIn es c) 0 ≡ negate (hasLive 12 es c)
+  unfolding usedIn
   live-counted =
       none-counted (isLiveBlock c es) es ∙ ap negate (same-truth (any (isLiveBlock c es) es) (any (λ f. both (isTop es f) (into f)) es)
       (λ h. let x = found-any (isLiveBlock c es) es h in chosen-top (x .0) (x .1) (x .2))

@@ -6,9 +6,11 @@ use mathlib.Core.List.{List}
 use Prim.Native.Nat.{ℕ, _+_, _%_}
 use lib.Dec.{eqb, leb, ltb}
 use Rattle.spec.specs.Basics.{pick, both, negate}
-use Rattle.spec.specs.Places.{wordChunk, unitChunk}
+use Rattle.spec.specs.Places.{unitChunk}
 use Rattle.spec.specs.Directory.{roleAt, isData}
-use Rattle.spec.specs.Log.{Entry, imageEntries}
+use Rattle.spec.specs.Log.{Entry, chunkEntries, imageEntries}
+use Rattle.spec.specs.declared.Role.{Role}
+use Rattle.spec.specs.declared.Role.the-variants as D
 use Rattle.spec.specs.declared.Refusal.the-variants as N
 use Rattle.spec.specs.declared.Report.{Report}
 use Rattle.spec.specs.declared.Report.the-variants as R
@@ -18,7 +20,7 @@ use Rattle.index.specs.Packed.{unpackOf}
 use Rattle.consistency.specs.Heads.{points}
 use Rattle.chunk_stat.specs.declared.Tally.{Tally}
 use Rattle.chunk_stat.specs.declared.ChunkRow.{ChunkRow}
-use Rattle.chunk_stat.specs.Rows.{kindOf, refusedRow, rowWith}
+use Rattle.chunk_stat.specs.Rows.{plainRow, logRow, dataRow}
 
 -- the table holds this place of the key
 abbrev pub chosenBy : (table : List ℕ) (key place : ℕ) → Bool
@@ -31,33 +33,58 @@ pointsInto op placement field c = both (points op placement) (eqb (unitChunk 12 
 abbrev pub more : ℕ → Bool → ℕ
 more n so = pick so ((n + 1) % 0x1_0000_0000_0000_0000) n
 
-abbrev pub nothing : Tally
-nothing = record { live = 0; deletes = 0; superseded = 0; blocks = 0 }
+-- ## A log chunk, by its own entries
 
-abbrev pub countEntry : List ℕ → (c : ℕ) → Tally → (op placement field key place : ℕ) → Tally
-countEntry table c t op placement field key place = record {
-  live = more (t .live) (both (eqb (wordChunk 12 place) c) (both (chosenBy table key place) (eqb op 1)));
-  deletes = more (t .deletes) (both (eqb (wordChunk 12 place) c) (both (chosenBy table key place) (negate (eqb op 1))));
-  superseded = more (t .superseded) (both (eqb (wordChunk 12 place) c) (negate (chosenBy table key place)));
-  blocks = more (t .blocks) (both (chosenBy table key place) (pointsInto op placement field c));
+abbrev pub nothing : Tally
+nothing = record { live = 0; deletes = 0; superseded = 0 }
+
+abbrev pub countEntry : List ℕ → Tally → (op key place : ℕ) → Tally
+countEntry table t op key place = record {
+  live = more (t .live) (both (chosenBy table key place) (eqb op 1));
+  deletes = more (t .deletes) (both (chosenBy table key place) (negate (eqb op 1)));
+  superseded = more (t .superseded) (negate (chosenBy table key place));
 }
 
-abbrev pub countNext : List ℕ → (c : ℕ) → Tally → Entry → Tally
-countNext table c t e = countEntry table c t (e .op) (e .placement) (e .field) (e .key) (e .at)
+abbrev pub countNext : List ℕ → Tally → Entry → Tally
+countNext table t e = countEntry table t (e .op) (e .key) (e .at)
 
 abbrev pub orNothing : Option Tally → Tally
 orNothing none = nothing
 orNothing (some t) = t
 
--- of chunk c, over the log of an image of n chunks; nothing where an entry is wrong
-unfoldable pub tallyBy : (ws table : List ℕ) (n c : ℕ) → Tally
-tallyBy ws table n c = orNothing (foldP (countNext table c) nothing (imageEntries 12 n ws))
+-- of chunk c; nothing where an entry of it is wrong
+unfoldable pub tallyBy : (ws table : List ℕ) (c : ℕ) → Tally
+tallyBy ws table c = orNothing (foldP (countNext table) nothing (chunkEntries 12 ws c))
 
-unfoldable pub rowBy : (ws table : List ℕ) (n c : ℕ) → ChunkRow
-rowBy ws table n c = pick (both (leb 1 c) (ltb c n)) (rowWith (kindOf (roleAt 12 ws c)) (tallyBy ws table n c)) (refusedRow 16)
+-- ## A data chunk, by all entries
+
+abbrev pub countBlock : List ℕ → (c used op placement field key place : ℕ) → ℕ
+countBlock table c used op placement field key place = more used (both (chosenBy table key place) (pointsInto op placement field c))
+
+abbrev pub blockNext : List ℕ → (c : ℕ) → ℕ → Entry → ℕ
+blockNext table c used e = countBlock table c used (e .op) (e .placement) (e .field) (e .key) (e .at)
+
+abbrev pub orZero : Option ℕ → ℕ
+orZero none = 0
+orZero (some n) = n
+
+-- of chunk c, over the log of an image of n chunks; 0 where an entry is wrong
+unfoldable pub blocksBy : (ws table : List ℕ) (n c : ℕ) → ℕ
+blocksBy ws table n c = orZero (foldP (blockNext table c) 0 (imageEntries 12 n ws))
+
+-- ## The row, and the search
+
+abbrev pub rowBy : (ws table : List ℕ) (n c : ℕ) → Role → ChunkRow
+rowBy ws table n c D.Free = plainRow 0 0
+rowBy ws table n c (D.Log lines) = logRow lines (tallyBy ws table c)
+rowBy ws table n c (D.Data size) = dataRow size (blocksBy ws table n c)
+rowBy ws table n c D.Wrong = plainRow 0 3
+
+unfoldable pub rowAt : (ws table : List ℕ) (n c : ℕ) → ChunkRow
+rowAt ws table n c = pick (both (leb 1 c) (ltb c n)) (rowBy ws table n c (roleAt 12 ws c)) (plainRow 16 0)
 
 abbrev pub emptyBy : (ws table : List ℕ) (n from c : ℕ) → Bool
-emptyBy ws table n from c = both (leb from c) (both (isData (roleAt 12 ws c)) (eqb (tallyBy ws table n c .blocks) 0))
+emptyBy ws table n from c = both (leb from c) (both (isData (roleAt 12 ws c)) (eqb (blocksBy ws table n c) 0))
 
 -- the report of a search that stopped at chunk c of n
 abbrev pub foundBy : (c n : ℕ) → Report

@@ -22,8 +22,8 @@ use Rattle.space.specs.Found.{Stops}
 use Rattle.lookup.specs.Look.{sessionOf}
 use Rattle.listing.specs.Contract.{entriesOf}
 use Rattle.chunk_stat.specs.declared.ChunkRow.{ChunkRow}
-use Rattle.chunk_stat.specs.Rows.{refusedRow, rowOf, emptyChunk}
-use Rattle.chunk_stat.specs.ByTable.{rowBy, emptyBy, foundBy}
+use Rattle.chunk_stat.specs.Rows.{plainRow, rowOf, emptyChunk}
+use Rattle.chunk_stat.specs.ByTable.{rowAt, emptyBy, foundBy}
 
 abbrev pub countIn : List ℕ → ℕ
 countIn bytes = chunksIn 12 (length bytes)
@@ -31,8 +31,8 @@ countIn bytes = chunksIn 12 (length bytes)
 -- 2, 1, 8 by the gate; behind it the row, of any memory by what the table holds, and on memory as our calls left it by
 -- the image's entries
 pub record Described (s : Session) (chunk : ℕ) (bytes table : List ℕ) (r : ChunkRow) : Type 0 where
-  pub gated : (n : Refusal) → gate (stateOf s) (length bytes) (length table) ≡ some n → r ≡ refusedRow (number n)
-  pub behind : gate (stateOf s) (length bytes) (length table) ≡ none → r ≡ rowBy (wordsOf bytes) table (countIn bytes) chunk
+  pub gated : (n : Refusal) → gate (stateOf s) (length bytes) (length table) ≡ some n → r ≡ plainRow (number n) 0
+  pub behind : gate (stateOf s) (length bytes) (length table) ≡ none → r ≡ rowAt (wordsOf bytes) table (countIn bytes) chunk
   pub exact : gate (stateOf s) (length bytes) (length table) ≡ none → Fits s (wordsOf bytes) table → r ≡ rowOf (wordsOf bytes) (entriesOf bytes) (countIn bytes) chunk
 
 abbrev pub DescribedBy : Control → Setup → (chunk : ℕ) (bytes table : List ℕ) → ChunkRow → Type 0

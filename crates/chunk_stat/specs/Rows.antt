@@ -1,7 +1,8 @@
--- What a chunk holds, by the image's entries: how many of its entries or blocks the register still goes by.
+-- What a chunk holds, by the image's entries: how many of its entries or blocks the register still goes by. Of a log
+-- chunk the entries are told, of a data chunk the blocks.
 -- Assumes nothing.
 use mathlib.Core.Bool.{Bool}
-use mathlib.Core.Option.{Option, none, some}
+use mathlib.Core.Option.{Option}
 use mathlib.Core.List.{List}
 use Prim.Native.Nat.{ℕ, _-_, _/_}
 use lib.Dec.{eqb, leb, ltb}
@@ -16,17 +17,11 @@ use Rattle.spec.specs.Plans.{hasLive}
 use Rattle.spec.specs.declared.Role.{Role}
 use Rattle.spec.specs.declared.Role.the-variants as R
 use Rattle.chunk_stat.specs.declared.Tally.{Tally}
-use Rattle.chunk_stat.specs.declared.Kind.{Kind}
 use Rattle.chunk_stat.specs.declared.ChunkRow.{ChunkRow}
 
--- ## The directory
-
--- role, committed lines or block size, blocks
-abbrev pub kindOf : Role → Kind
-kindOf R.Free = record { role = 0; size = 0; blocks = 0 }
-kindOf (R.Log n) = record { role = 1; size = n; blocks = 0 }
-kindOf (R.Data s) = record { role = 2; size = s; blocks = pick (eqb s 0) 0 (16 / s) }
-kindOf R.Wrong = record { role = 3; size = 0; blocks = 0 }
+-- how many blocks of s units a chunk has
+abbrev pub blocksFor : ℕ → ℕ
+blocksFor s = pick (eqb s 0) 0 (16 / s)
 
 -- ## The entries
 
@@ -50,35 +45,35 @@ isPassed c es e = both (inChunk 12 c e) (negate (isChosen es e))
 abbrev pub isLiveBlock : ℕ → List Entry → Entry → Bool
 isLiveBlock c es e = both (isChosen es e) (both (pointed e) (eqb (unitChunk 12 (e .field)) c))
 
--- of chunk c
+-- of log chunk c
 unfoldable pub tallyOf : List Entry → ℕ → Tally
-tallyOf es c = record {
-  live = countOf (isLivePut c es) es;
-  deletes = countOf (isLiveDelete c es) es;
-  superseded = countOf (isPassed c es) es;
-  blocks = countOf (isLiveBlock c es) es;
-}
+tallyOf es c = record { live = countOf (isLivePut c es) es; deletes = countOf (isLiveDelete c es) es; superseded = countOf (isPassed c es) es }
+
+-- of data chunk c
+unfoldable pub usedIn : List Entry → ℕ → ℕ
+usedIn es c = countOf (isLiveBlock c es) es
 
 -- ## The row
 
-abbrev pub refusedRow : ℕ → ChunkRow
-refusedRow n = record { refused = n; role = 0; size = 0; live = 0; deletes = 0; superseded = 0; blocks = 0; used = 0 }
+abbrev pub plainRow : (refused role : ℕ) → ChunkRow
+plainRow refused role = record { refused = refused; role = role; size = 0; live = 0; deletes = 0; superseded = 0; blocks = 0; used = 0 }
 
-abbrev pub rowWith : Kind → Tally → ChunkRow
-rowWith k t = record {
-  refused = 0;
-  role = k .role;
-  size = k .size;
-  live = t .live;
-  deletes = t .deletes;
-  superseded = t .superseded;
-  blocks = k .blocks;
-  used = t .blocks;
-}
+abbrev pub logRow : (lines : ℕ) → Tally → ChunkRow
+logRow lines t = record { refused = 0; role = 1; size = lines; live = t .live; deletes = t .deletes; superseded = t .superseded; blocks = 0; used = 0 }
+
+abbrev pub dataRow : (size used : ℕ) → ChunkRow
+dataRow size used = record { refused = 0; role = 2; size = size; live = 0; deletes = 0; superseded = 0; blocks = blocksFor size; used = used }
+
+-- by what the directory says of chunk c
+abbrev pub rowFor : List Entry → (c : ℕ) → Role → ChunkRow
+rowFor es c R.Free = plainRow 0 0
+rowFor es c (R.Log lines) = logRow lines (tallyOf es c)
+rowFor es c (R.Data size) = dataRow size (usedIn es c)
+rowFor es c R.Wrong = plainRow 0 3
 
 -- of chunk c of an image of n chunks with the words ws and the entries es; 16 where it has no such chunk
 unfoldable pub rowOf : List ℕ → List Entry → (n c : ℕ) → ChunkRow
-rowOf ws es n c = pick (both (leb 1 c) (ltb c n)) (rowWith (kindOf (roleAt 12 ws c)) (tallyOf es c)) (refusedRow 16)
+rowOf ws es n c = pick (both (leb 1 c) (ltb c n)) (rowFor es c (roleAt 12 ws c)) (plainRow 16 0)
 
 -- ## A data chunk to clean: of n the first from chunk `from` on with no live block (as a cleaning asks it,
 -- `Plans.hasLive`)

@@ -1,17 +1,15 @@
 // What a chunk of the open register holds: its role, and how many of its entries or blocks the register still goes by;
 // and the first data chunk from a number on that holds no live block, which can be cleaned. Nothing is changed.
 ghost use mathlib.Core.Path.{_≡_};
-ghost use Prim.Native.Nat.{_+_, _%_};
 ghost use lib.Dec.{eqb};
 ghost use lib.ListN.{length};
 ghost use Rattle.spec.specs.Basics.{both, negate};
 ghost use Rattle.spec.specs.Words.{wordsOf};
-ghost use Rattle.spec.specs.Places.{wordChunk, unitChunk, chunksIn};
+ghost use Rattle.spec.specs.Places.{chunksIn};
 ghost use Rattle.spec.specs.Directory.{isData};
-ghost use Rattle.consistency.specs.Heads.{points};
 ghost use Rattle.space.specs.Found.{Stops};
-ghost use Rattle.chunk_stat.specs.Rows.{kindOf, refusedRow};
-ghost use Rattle.chunk_stat.specs.ByTable.{chosenBy, more, pointsInto, countEntry, tallyBy, rowBy, emptyBy, foundBy};
+ghost use Rattle.chunk_stat.specs.Rows.{blocksFor, plainRow};
+ghost use Rattle.chunk_stat.specs.ByTable.{chosenBy, more, pointsInto, countEntry, tallyBy, countBlock, blocksBy, rowBy, rowAt, emptyBy, foundBy};
 ghost use Rattle.chunk_stat.specs.Contract.{Described, DescribedBy, Emptied, EmptiedBy};
 use log::Next;
 use session::Control;
@@ -55,12 +53,6 @@ fn is_put(op: u64) -> bool
     op == 1
 }
 
-fn is_here(place: usize, chunk: usize) -> bool
-    ensures { λ r. ⌜ r ≡ eqb (wordChunk 12 place) chunk ⌝ }
-{
-    place / 512 == chunk
-}
-
 // Whether an entry with these parts points to a block of the chunk.
 fn points_into(op: u64, placement: u64, field: u64, chunk: usize) -> bool
     ensures { λ r. ⌜ r ≡ pointsInto op placement field chunk ⌝ }
@@ -83,56 +75,41 @@ fn count_if(n: u64, so: bool) -> u64
     n
 }
 
-// How many entries of the chunk are chosen puts, chosen deletes and neither; how many of the chunk's blocks are live.
+// A LOG CHUNK: how many of its entries are chosen puts, chosen deletes, and neither
 pub struct Tally {
     pub live: u64,
     pub deletes: u64,
     pub superseded: u64,
-    pub blocks: u64,
 }
 
-// With one more entry of the log.
-fn count_entry(
-    table: &[u64],
-    chunk: usize,
-    t: Tally,
-    op: u64,
-    placement: u64,
-    field: u64,
-    key: u64,
-    place: usize,
-) -> Tally
-    ensures { λ r. ⌜ r ≡ countEntry (now (table .entry)) chunk t op placement field key place ⌝ }
+// With one more entry.
+fn count_entry(table: &[u64], t: Tally, op: u64, key: u64, place: usize) -> Tally
+    ensures { λ r. ⌜ r ≡ countEntry (now (table .entry)) t op key place ⌝ }
 {
     let chosen = is_chosen(table, key, place);
-    let here = is_here(place, chunk);
     let put = is_put(op);
-    let into = points_into(op, placement, field, chunk);
-    let live = count_if(t.live, both(here, both(chosen, put)));
-    let deletes = count_if(t.deletes, both(here, both(chosen, negate(put))));
-    let superseded = count_if(t.superseded, both(here, negate(chosen)));
-    let blocks = count_if(t.blocks, both(chosen, into));
+    let live = count_if(t.live, both(chosen, put));
+    let deletes = count_if(t.deletes, both(chosen, negate(put)));
+    let superseded = count_if(t.superseded, negate(chosen));
     Tally {
         live,
         deletes,
         superseded,
-        blocks,
     }
 }
 
-// ALL ENTRIES of the log of an image of `count` chunks; nothing where an entry is wrong.
-fn count_all(image: &[u8], table: &[u64], count: usize, chunk: usize) -> Tally
-    ensures { λ r. ⌜ r ≡ tallyBy (wordsOf (now (image .entry))) (now (table .entry)) count chunk ⌝ }
+// Over the chunk's own entries; nothing where one is wrong.
+fn count_entries(image: &[u8], table: &[u64], chunk: usize) -> Tally
+    ensures { λ r. ⌜ r ≡ tallyBy (wordsOf (now (image .entry))) (now (table .entry)) chunk ⌝ }
 {
     let mut t = Tally {
         live: 0,
         deletes: 0,
         superseded: 0,
-        blocks: 0,
     };
-    let mut cursor = log::first_cursor();
+    let mut cursor = log::chunk_cursor(image, chunk);
     loop {
-        let n = log::next_in_log(image, count, cursor);
+        let n = log::next_in_log(image, 0, cursor);
         match n {
             Next::Done => {
                 return t;
@@ -142,8 +119,58 @@ fn count_all(image: &[u8], table: &[u64], count: usize, chunk: usize) -> Tally
                     live: 0,
                     deletes: 0,
                     superseded: 0,
-                    blocks: 0,
                 };
+            }
+            Next::Entry {
+                op,
+                placement: _,
+                version: _,
+                field: _,
+                key,
+                words: _,
+                place,
+                cursor: after,
+            } => {
+                t = count_entry(table, t, op, key, place);
+                cursor = after;
+            }
+        }
+    }
+}
+
+// A DATA CHUNK: how many of its blocks are live
+// With one more entry of the log.
+fn count_block(
+    table: &[u64],
+    chunk: usize,
+    used: u64,
+    op: u64,
+    placement: u64,
+    field: u64,
+    key: u64,
+    place: usize,
+) -> u64
+    ensures { λ r. ⌜ r ≡ countBlock (now (table .entry)) chunk used op placement field key place ⌝ }
+{
+    let chosen = is_chosen(table, key, place);
+    let into = points_into(op, placement, field, chunk);
+    count_if(used, both(chosen, into))
+}
+
+// Over all entries of the log of an image of `count` chunks; 0 where one is wrong.
+fn count_blocks(image: &[u8], table: &[u64], count: usize, chunk: usize) -> u64
+    ensures { λ r. ⌜ r ≡ blocksBy (wordsOf (now (image .entry))) (now (table .entry)) count chunk ⌝ }
+{
+    let mut used = 0;
+    let mut cursor = log::first_cursor();
+    loop {
+        let n = log::next_in_log(image, count, cursor);
+        match n {
+            Next::Done => {
+                return used;
+            }
+            Next::Wrong => {
+                return 0;
             }
             Next::Entry {
                 op,
@@ -155,7 +182,7 @@ fn count_all(image: &[u8], table: &[u64], count: usize, chunk: usize) -> Tally
                 place,
                 cursor: after,
             } => {
-                t = count_entry(table, chunk, t, op, placement, field, key, place);
+                used = count_block(table, chunk, used, op, placement, field, key, place);
                 cursor = after;
             }
         }
@@ -163,48 +190,14 @@ fn count_all(image: &[u8], table: &[u64], count: usize, chunk: usize) -> Tally
 }
 
 // THE ROW OF A CHUNK
-// What the directory says: the role (0 free, 1 log, 2 data, 3 wrong), the committed lines or the block size in units,
-// and how many blocks there are.
-pub struct Kind {
-    pub role: u64,
-    pub size: u64,
-    pub blocks: u64,
-}
-
-fn kind_of(role: Role) -> Kind
-    ensures { λ r. ⌜ r ≡ kindOf role ⌝ }
+// How many blocks of so many units a chunk has.
+fn blocks_of(size: u64) -> u64
+    ensures { λ r. ⌜ r ≡ blocksFor size ⌝ }
 {
-    match role {
-        Role::Free => Kind {
-            role: 0,
-            size: 0,
-            blocks: 0,
-        },
-        Role::Log(lines) => Kind {
-            role: 1,
-            size: lines,
-            blocks: 0,
-        },
-        Role::Data(size) => {
-            if size == 0 {
-                return Kind {
-                    role: 2,
-                    size,
-                    blocks: 0,
-                };
-            }
-            Kind {
-                role: 2,
-                size,
-                blocks: 16 / size,
-            }
-        }
-        Role::Wrong => Kind {
-            role: 3,
-            size: 0,
-            blocks: 0,
-        },
+    if size == 0 {
+        return 0;
     }
+    16 / size
 }
 
 // A row in numbers: `refused` is 0, or the refusal's number with all others 0.
@@ -220,12 +213,13 @@ pub struct ChunkRow {
     pub used: u64,
 }
 
-fn refused_row(number: u64) -> ChunkRow
-    ensures { λ r. ⌜ r ≡ refusedRow number ⌝ }
+// With nothing in it.
+fn plain_row(refused: u64, role: u64) -> ChunkRow
+    ensures { λ r. ⌜ r ≡ plainRow refused role ⌝ }
 {
     ChunkRow {
-        refused: number,
-        role: 0,
+        refused,
+        role,
         size: 0,
         live: 0,
         deletes: 0,
@@ -235,29 +229,55 @@ fn refused_row(number: u64) -> ChunkRow
     }
 }
 
+// By what the directory says of the chunk.
+fn row_for(image: &[u8], table: &[u64], count: usize, chunk: usize, role: Role) -> ChunkRow
+    ensures { λ r. ⌜ r ≡ rowBy (wordsOf (now (image .entry))) (now (table .entry)) count chunk role ⌝ }
+{
+    match role {
+        Role::Free => plain_row(0, 0),
+        Role::Log(lines) => {
+            let t = count_entries(image, table, chunk);
+            ChunkRow {
+                refused: 0,
+                role: 1,
+                size: lines,
+                live: t.live,
+                deletes: t.deletes,
+                superseded: t.superseded,
+                blocks: 0,
+                used: 0,
+            }
+        }
+        Role::Data(size) => {
+            let blocks = blocks_of(size);
+            let used = count_blocks(image, table, count, chunk);
+            ChunkRow {
+                refused: 0,
+                role: 2,
+                size,
+                live: 0,
+                deletes: 0,
+                superseded: 0,
+                blocks,
+                used,
+            }
+        }
+        Role::Wrong => plain_row(0, 3),
+    }
+}
+
 // The row of a chunk, 16 where the image has no such chunk.
 fn row_at(image: &[u8], table: &[u64], chunk: usize) -> ChunkRow
-    ensures { λ r. ⌜ r ≡ rowBy (wordsOf (now (image .entry))) (now (table .entry)) (chunksIn 12 (length (now (image .entry)))) chunk ⌝ }
+    ensures { λ r. ⌜ r ≡ rowAt (wordsOf (now (image .entry))) (now (table .entry)) (chunksIn 12 (length (now (image .entry)))) chunk ⌝ }
 {
     let count = image.len() / 4096;
     if 1 <= chunk {
         if chunk < count {
             let role = log::role_at(image, chunk);
-            let kind = kind_of(role);
-            let t = count_all(image, table, count, chunk);
-            return ChunkRow {
-                refused: 0,
-                role: kind.role,
-                size: kind.size,
-                live: t.live,
-                deletes: t.deletes,
-                superseded: t.superseded,
-                blocks: kind.blocks,
-                used: t.blocks,
-            };
+            return row_for(image, table, count, chunk, role);
         }
     }
-    refused_row(16)
+    plain_row(16, 0)
 }
 
 // 2, 1, 8, 16, or the row of a chunk of the open register, by the record's small parts.
@@ -272,7 +292,7 @@ pub fn describe(
 {
     let g = session::gate(control, setup, image.len(), table.len());
     match g {
-        Gated::Refused(n) => refused_row(session::number(n)),
+        Gated::Refused(n) => plain_row(session::number(n), 0),
         Gated::Open => row_at(image, table, chunk),
     }
 }
@@ -304,8 +324,8 @@ fn is_empty(image: &[u8], table: &[u64], count: usize, from: usize, chunk: usize
 {
     if from <= chunk {
         if is_data(log::role_at(image, chunk)) {
-            let t = count_all(image, table, count, chunk);
-            return t.blocks == 0;
+            let used = count_blocks(image, table, count, chunk);
+            return used == 0;
         }
     }
     false

@@ -1,13 +1,13 @@
 -- The fault is why an opening refuses, and what the code shows of it at each return.
 -- Assumes nothing.
-use mathlib.Core.Path.{_≡_, refl, sym, _∙_, ap}
-use mathlib.Core.Logic.{_⊎_, inl, inr}
+use mathlib.Core.Path.{_≡_, refl, sym, _∙_}
+use mathlib.Core.Logic.{inl, inr}
 use mathlib.Core.Bool.{Bool, true, false}
 use mathlib.Core.Option.{Option, none, some}
 use mathlib.Core.List.{List, [], _∷_}
 use Prim.Native.Nat.{ℕ, _+_, _/_, _≤_, _<_}
 use native.Mathlib.Omega.{arith}
-use lib.Dec.{eqb, ltb}
+use lib.Dec.{ltb}
 use lib.ListN.{length}
 use borrow.Author.Tests.{ne-eqb, lt-ltb, le-ltb}
 use Rattle.spec.specs.Basics.{pick, both, negate, filter, first, all}
@@ -16,7 +16,7 @@ use Rattle.spec.specs.Places.{lengthAllowed, chunksIn, chunkBytes, maxChunks, d
 use Rattle.spec.specs.Header.{headerRight}
 use Rattle.spec.specs.Log.{Entry, Parsed, Wrong, Entries, imageEntries}
 use Rattle.spec.specs.Contents.{isTop, chosen}
-use Rattle.spec.specs.Opening.{Opening, Refused, Accepted, opening, openLog, openChunks, directoryTest, blocksTest, agreeTest, apartTest, fitsTable, eachTop, fine, agreeWith}
+use Rattle.spec.specs.Opening.{Refused, Accepted, opening, openLog, openChunks, blocksTest, agreeTest, apartTest, fitsTable, fine, agreeWith}
 use Rattle.spec.specs.declared.Refusal.the-variants as N
 use Rattle.theory_base.proofs.Places.{length-allowed}
 use Rattle.theory_log.specs.Contents.{Mem}
@@ -28,10 +28,9 @@ use Rattle.top_faults.specs.Tops.{firstTop, apartFrom, atOne, placeOr}
 use Rattle.top_faults.proofs.Found.{block-found, tops-found}
 use Rattle.faults.specs.declared.Fault.{Fault}
 use Rattle.faults.specs.declared.Fault.the-variants as F
-use Rattle.faults.specs.declared.Stop.{Stop}
 use Rattle.faults.specs.declared.Stop.the-variants as T
 use Rattle.faults.specs.Reading.{Reading, Whole, Upto, readImage, stopBy, parsedOf}
-use Rattle.faults.specs.Faults.{headerFault, directoryFault, topsFault, blockFault, logFault, chunksFault, faultOf, spotFault, Answers, Located}
+use Rattle.faults.specs.Faults.{headerFault, directoryFault, blockFault, logFault, chunksFault, faultOf, spotFault, Answers, Located}
 use Rattle.faults.proofs.Left.{parsed-image}
 use Rattle.faults.proofs.Searches.{directory-tested}
 

@@ -1,12 +1,10 @@
 -- What the code shows of the header's numbers, and that they are those that a formatting was told.
 -- Assumes nothing.
-use mathlib.Core.Path.{_≡_, refl, sym, _∙_, ap}
+use mathlib.Core.Path.{_≡_, refl, sym, _∙_}
 use mathlib.Core.Bool.{Bool, true, false}
 use mathlib.Core.List.{List}
 use Prim.Native.Nat.{ℕ, _/_}
-use lib.ListN.{length, getD}
-use Rattle.spec.specs.Basics.{pick}
-use Rattle.spec.specs.Words.{wordsOf}
+use lib.ListN.{getD}
 use Rattle.spec.specs.Places.{chunkBytes, chunksIn}
 use Rattle.spec.specs.Header.{headerRight, headerTail, headerWords}
 use Rattle.spec.specs.declared.Given.{Given}

@@ -1,20 +1,19 @@
 -- The pass over the log finds the first entry of a key at or behind a word, and its place tells whether it is the
 -- chosen one.
 -- Assumes nothing.
-use mathlib.Core.Path.{_≡_, refl, sym, _∙_, ap}
-use mathlib.Core.Logic.{_⊎_, inl, inr}
+use mathlib.Core.Path.{_≡_, refl, sym, _∙_}
+use mathlib.Core.Logic.{inl}
 use mathlib.Core.Bool.{Bool, true, false}
 use mathlib.Core.Option.{Option, none, some}
 use mathlib.Core.List.{List, [], _∷_}
 use Prim.Native.Nat.{ℕ, _/_}
 use native.Mathlib.Omega.{arith}
 use lib.Dec.{eqb}
-use lib.ListN.{length}
 use borrow.Author.Tests.{ne-eqb}
 use Rattle.spec.specs.Basics.{pick, filter, first}
 use Rattle.spec.specs.Places.{chunksIn}
 use Rattle.spec.specs.Log.{Entry, Parsed, Wrong, Entries, imageEntries}
-use Rattle.spec.specs.Contents.{chosen, isAt, listed, entriesIn}
+use Rattle.spec.specs.Contents.{chosen, isAt, listed}
 use Rattle.theory_log.specs.Contents.{Mem}
 use Rattle.theory_log.specs.Fold.{foldE}
 use Rattle.theory_log.proofs.Contents.{mem-filter}
@@ -23,7 +22,7 @@ use Rattle.log.specs.Best.{bestIn, bestOf}
 use Rattle.log.proofs.Stands.{image-low}
 use Rattle.log.proofs.Scan.{best-chosen}
 use Rattle.inspect.specs.declared.KeyEntry.{KeyEntry}
-use Rattle.inspect.specs.History.{isFrom, nextOf, noEntry, entryWith, numbersOf, entryFrom, pass, orNone, firstIn, markOf}
+use Rattle.inspect.specs.History.{isFrom, nextOf, noEntry, entryWith, numbersOf, entryFrom, pass, firstIn, markOf}
 use Rattle.inspect.proofs.Numbers.{chunks-are}
 
 -- the entry found, not yet marked

@@ -1,11 +1,11 @@
 -- The pass finds the first top entry whose block is wrong, and the first that disagrees or shares.
 -- Assumes nothing.
 use mathlib.Core.Path.{_≡_, refl, sym, _∙_, ap, subst}
-use mathlib.Core.Logic.{_⊎_, inl, inr}
+use mathlib.Core.Logic.{inl, inr}
 use mathlib.Core.Bool.{Bool, true, false}
 use mathlib.Core.Option.{Option, none, some}
 use mathlib.Core.List.{List, [], _∷_}
-use Prim.Native.Nat.{ℕ, _+_, min}
+use Prim.Native.Nat.{ℕ}
 use native.Mathlib.Decide.{ℕ-discrete}
 use native.Mathlib.Omega.{arith}
 use lib.Dec.{eqb}
@@ -14,18 +14,17 @@ use borrow.Author.Tests.{eq-eqb, ne-eqb}
 use Rattle.spec.specs.Basics.{pick, both, either, negate, filter, first, all, any}
 use Rattle.spec.specs.Log.{Entry, Entries, wordsFor, imageEntries}
 use Rattle.spec.specs.Blocks.{pointed, blockRight}
-use Rattle.spec.specs.Contents.{isTop, chosen, agree, highest}
-use Rattle.spec.specs.Opening.{eachTop, fine, agreeWith, sharing}
+use Rattle.spec.specs.Contents.{isTop, chosen, agree}
+use Rattle.spec.specs.Opening.{fine, agreeWith, sharing}
 use Rattle.theory_log.specs.Contents.{Mem}
 use Rattle.theory_log.specs.Fold.{foldE}
 use Rattle.theory_log.proofs.Contents.{chosen-is, none-of}
-use Rattle.log.specs.declared.Best.{Best}
 use Rattle.log.specs.Best.{bestIn, bestOf}
 use Rattle.log.specs.Stands.{StandsIn, entryIn}
 use Rattle.log.proofs.Stands.{image-stands, image-low}
 use Rattle.log.proofs.Scan.{best-chosen, best-highest}
 use Rattle.consistency.specs.declared.Head.{Head}
-use Rattle.consistency.specs.Heads.{sameFrom, points}
+use Rattle.consistency.specs.Heads.{points}
 use Rattle.consistency.proofs.Same.{shows-agree}
 use Rattle.top_faults.specs.declared.Spots.{Spots}
 use Rattle.top_faults.specs.Tops.{firstTop, apartFrom, atOne, placeOr}

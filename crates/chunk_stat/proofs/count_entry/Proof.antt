@@ -7,20 +7,11 @@ use Rattle.chunk_stat.proofs.count_entry.Tie as tie
 is-chosen-requires : tie.Need-is-chosen-requires
 is-chosen-requires c κs = search needs
 
-is-here-requires : tie.Need-is-here-requires
-is-here-requires c κs = search needs
-
 is-put-requires : tie.Need-is-put-requires
 is-put-requires c κs = search needs
 
-points-into-requires : tie.Need-points-into-requires
-points-into-requires c κs = search needs
-
 both-requires : tie.Need-both-requires
 both-requires c κs = search needs
-
-both-requires-2 : tie.Need-both-requires-2
-both-requires-2 c κs = search needs
 
 count-if-requires : tie.Need-count-if-requires
 count-if-requires c κs = search needs
@@ -28,11 +19,8 @@ count-if-requires c κs = search needs
 negate-requires : tie.Need-negate-requires
 negate-requires c κs = search needs
 
-both-requires-3 : tie.Need-both-requires-3
-both-requires-3 c κs = search needs
-
-both-requires-4 : tie.Need-both-requires-4
-both-requires-4 c κs = search needs
+both-requires-2 : tie.Need-both-requires-2
+both-requires-2 c κs = search needs
 
 count-if-requires-2 : tie.Need-count-if-requires-2
 count-if-requires-2 c κs = search needs
@@ -40,39 +28,11 @@ count-if-requires-2 c κs = search needs
 negate-requires-2 : tie.Need-negate-requires-2
 negate-requires-2 c κs = search needs
 
-both-requires-5 : tie.Need-both-requires-5
-both-requires-5 c κs = search needs
-
 count-if-requires-3 : tie.Need-count-if-requires-3
 count-if-requires-3 c κs = search needs
 
-both-requires-6 : tie.Need-both-requires-6
-both-requires-6 c κs = search needs
-
-count-if-requires-4 : tie.Need-count-if-requires-4
-count-if-requires-4 c κs = search needs
-
 returns : tie.Need-returns
-returns c = rw (c .before .before .before .before .before .before .before .before .before .count-if .ensures, c .before .before .before .before .before .count-if2 .ensures, c .before .before .count-if3 .ensures, c .count-if4 .ensures, c .before .before .before .before .before .before .before .before .before .before .both2 .ensures, c .before .before .before .before .before .before .before .before .before .before .before .both .ensures, c .before .before .before .before .before .before .both4 .ensures, c .before .before .before .before .before .before .before .both3 .ensures, c .before .before .before .both5 .ensures, c .before .both6 .ensures, c .before .before .before .before .before .before .before .before .negate .ensures, c .before .before .before .before .negate2 .ensures, c .before .before .before .before .before .before .before .before .before .before .before .before .before .before .before .is-chosen .ensures, c .before .before .before .before .before .before .before .before .before .before .before .before .before .before .is-here .ensures, c .before .before .before .before .before .before .before .before .before .before .before .before .before .is-put .ensures, c .before .before .before .before .before .before .before .before .before .before .before .before .points-into .ensures)
+returns c = rw (c .before .before .before .before .before .count-if .ensures, c .before .before .count-if2 .ensures, c .count-if3 .ensures, c .before .before .before .before .before .before .both .ensures, c .before .before .before .both2 .ensures, c .before .before .before .before .negate .ensures, c .before .negate2 .ensures, c .before .before .before .before .before .before .before .before .is-chosen .ensures, c .before .before .before .before .before .before .before .is-put .ensures)
 
 pub count-entry-spec : {M : Type 1} → statement M
-count-entry-spec =
-    tie.close
-    (tie.spec
-    is-chosen-requires
-    is-here-requires
-    is-put-requires
-    points-into-requires
-    both-requires
-    both-requires-2
-    count-if-requires
-    negate-requires
-    both-requires-3
-    both-requires-4
-    count-if-requires-2
-    negate-requires-2
-    both-requires-5
-    count-if-requires-3
-    both-requires-6
-    count-if-requires-4
-    returns)
+count-entry-spec = tie.close (tie.spec is-chosen-requires is-put-requires both-requires count-if-requires negate-requires both-requires-2 count-if-requires-2 negate-requires-2 count-if-requires-3 returns)

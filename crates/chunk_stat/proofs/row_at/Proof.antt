@@ -11,20 +11,17 @@ use Rattle.chunk_stat.proofs.row_at.Tie as tie
 role-at-requires : tie.Need-role-at-requires
 role-at-requires c κs = search needs
 
-kind-of-requires : tie.Need-kind-of-requires
-kind-of-requires c κs = search needs
-
-count-all-requires : tie.Need-count-all-requires
-count-all-requires c κs = search needs
+row-for-requires : tie.Need-row-for-requires
+row-for-requires c κs = search needs
 
 returns : tie.Need-returns
-returns c = row-inside (length (c .before .before .before .before .before .before .before .args .image .now)) (wordsOf (c .before .before .before .before .before .before .before .args .image .now)) (c .before .before .before .before .before .before .before .args .table .now) (c .before .before .before .before .before .before .before .args .chunk) _ _ _ (c .before .before .before .before .if1 .taken) (c .before .before .before .if2 .taken) (c .before .before .role-at .ensures) (c .before .kind-of .ensures) (c .count-all .ensures)
+returns c = row-inside (length (c .before .before .before .before .before .before .args .image .now)) (wordsOf (c .before .before .before .before .before .before .args .image .now)) (c .before .before .before .before .before .before .args .table .now) (c .before .before .before .before .before .before .args .chunk) _ _ (c .before .before .before .if1 .taken) (c .before .before .if2 .taken) (c .before .role-at .ensures) (c .row-for .ensures)
 
-refused-row-requires : tie.Need-refused-row-requires
-refused-row-requires c κs = search needs
+plain-row-requires : tie.Need-plain-row-requires
+plain-row-requires c κs = search needs
 
 returns-2 : tie.Need-returns-2
-returns-2 c = rw (c .refused-row .ensures) (row-outside (length (c .before .before .before .before .args .image .now)) (wordsOf (c .before .before .before .before .args .image .now)) (c .before .before .before .before .args .table .now) (c .before .before .before .before .args .chunk) (⊎-elim (λ i. inr (i .1 .left)) (λ i. inl (i .left)) (c .before .if1 .came)))
+returns-2 c = rw (c .plain-row .ensures) (row-outside (length (c .before .before .before .before .args .image .now)) (wordsOf (c .before .before .before .before .args .image .now)) (c .before .before .before .before .args .table .now) (c .before .before .before .before .args .chunk) (⊎-elim (λ i. inr (i .1 .left)) (λ i. inl (i .left)) (c .before .if1 .came)))
 
 pub row-at-spec : {M : Type 1} → statement M
-row-at-spec = tie.close (tie.spec role-at-requires kind-of-requires count-all-requires returns refused-row-requires returns-2)
+row-at-spec = tie.close (tie.spec role-at-requires row-for-requires returns plain-row-requires returns-2)

@@ -1,6 +1,5 @@
 -- `faults::first_failing` meets its contract, test by test.
 -- Assumes nothing.
-use borrow.Author.Needs.{needs}
 use Rattle.faults.proofs.first_failing.Statement.{statement}
 use Rattle.faults.proofs.first_failing.Tie as tie
 

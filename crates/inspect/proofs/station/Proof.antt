@@ -1,6 +1,5 @@
 -- `inspect::station` meets its contract.
 -- Assumes nothing.
-use mathlib.Core.Path.{sym, _∙_}
 use Rattle.inspect.proofs.Numbers.{station-right, station-wrong}
 use borrow.Author.Needs.{needs}
 use Rattle.inspect.proofs.station.Statement.{statement}
