@@ -15,8 +15,8 @@ TOLD = '(r-report, (e-report, e))'
 LISTED = '(r-listed, (e-listed, e))'
 FAST = '(r-report, (e-report .within (e-fast .0 (is-true r-fast held)), e))'
 STAGING = '(r-report, (e-report .within (e-staging .0 (is-true r-staging held)), e))'
-RUNS = 'subst (Told (RunsOn x-s z-s x-image z-image x-table z-table)) (sym e) e-answer'
-STEPS = 'subst (Told (Does Step x-s z-s x-image z-image x-table z-table)) (sym e) e-answer'
+RUNS = 'subst (Told (RunsOn (memory x-s x-image x-table) (memory z-s z-image z-table))) (sym e) e-answer'
+STEPS = 'subst (Told (Does Step (memory x-s x-image x-table) (memory z-s z-image z-table))) (sym e) e-answer'
 WALKS = [
     ('thin', 'store', 'abandon', ['e'], []),
     ('thin', 'store', 'clean', ['e'], []),

@@ -14,6 +14,7 @@ use Rattle.session.specs.declared.Setup.{Setup}
 use Rattle.session.specs.declared.Session.{Session}
 use Rattle.blocks.specs.Bits.{WordsKept}
 use Rattle.session.specs.State.{batchRoom, batchWords, batchItems, chunkIn, linesIn, commitActions}
+use Rattle.session.specs.Numbers.{emptied, staged}
 use Rattle.session.specs.Fits.{ItemsFit, BatchFits, Built, RestFits, batchPlace, CommitFits}
 use Rattle.session.proofs.Part.{part-agree}
 
@@ -51,13 +52,6 @@ batch-kept c c′ b b′ n ws es items ew ei e ek f = record {
 
 pub built-kept : (c c′ : Control) (b table : List ℕ) (es : List Entry) → c′ .keys ≡ c .keys → Built c b table es → Built c′ b table es
 built-kept c c′ b table es e f = record { indexed = rw e (f .indexed); blocks = f .blocks }
-
--- at rest with nothing staged; at rest with what is staged
-abbrev pub emptied : Control → Control
-emptied c = record { phase = 1; next = 0; items = 0; words = 0; keys = c .keys; fresh = 0 }
-
-abbrev pub staged : Control → Control
-staged c = record { phase = 1; next = 0; items = c .items; words = c .words; keys = c .keys; fresh = c .fresh }
 
 module _ (c : Control) (k : Setup) (b ws table : List ℕ) (items : List Entry) where
   abbrev s : Session

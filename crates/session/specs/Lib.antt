@@ -3,3 +3,4 @@ pub mod Cleaned
 pub mod State
 pub mod Fits
 pub mod Promise
+pub mod Numbers

@@ -24,6 +24,7 @@ use Rattle.staging.specs.declared.Newest.{Newest}
 use Rattle.staging.specs.declared.Admission.{Admission}
 use Rattle.staging.specs.declared.Admission.the-variants as A
 use Rattle.session.specs.declared.Stepped.{Stepped}
+use Rattle.session.specs.Numbers.{stagedMore}
 
 -- by what the last staged item says and by the table's word of the key
 abbrev pub committedBy : ℕ → Newest
@@ -69,4 +70,4 @@ abbrev pub refusedWith : Control → Refusal → Stepped
 refusedWith c n = record { control = c; report = R.Refused n }
 
 abbrev pub oneMore : Control → ℕ → ℕ → Stepped
-oneMore c words fresh = record { control = record { phase = 2; next = behindAll; items = c .items + 1; words = words; keys = c .keys; fresh = fresh }; report = R.Begun 0 }
+oneMore c words fresh = record { control = stagedMore behindAll words fresh c; report = R.Begun 0 }
