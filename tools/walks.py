@@ -18,9 +18,9 @@ STAGING = '(r-report, (e-report .within (e-staging .0 (is-true r-staging held)),
 LATE_STEP = '(r-report, (e-report .within (e-late .0 (is-true r-late held)) .0, e))'
 LATE_RUN = '(r-report, (((0, e-report .within (e-late .0 (is-true r-late held)) .0), e-report .within (e-late .0 (is-true r-late held)) .1), e))'
 SHORT = '(r-report, (e-report .within (e-short .0 (is-true r-short held)), e))'
-LONG = 'subst (Told (Does (Put x-key x-value) x-s z-s x-image x-image x-table x-table)) (sym e) (e-answer .0, (e-answer .1 .0 .within (e-short .1 (is-false r-short failed)), e-answer .1 .1))'
-RUNS = 'subst (Told (RunsOn x-s z-s x-image z-image x-table z-table)) (sym e) e-answer'
-STEPS = 'subst (Told (Does Step x-s z-s x-image z-image x-table z-table)) (sym e) e-answer'
+LONG = 'subst (Told (Does (Put x-key x-value) (memory x-s x-image x-table) (memory z-s x-image x-table))) (sym e) (e-answer .0, (e-answer .1 .0 .within (e-short .1 (is-false r-short failed)), e-answer .1 .1))'
+RUNS = 'subst (Told (RunsOn (memory x-s x-image x-table) (memory z-s z-image z-table))) (sym e) e-answer'
+STEPS = 'subst (Told (Does Step (memory x-s x-image x-table) (memory z-s z-image z-table))) (sym e) e-answer'
 WALKS = [
     ('thin', 'store', 'abandon', ['e'], []),
     ('thin', 'store', 'clean', ['e'], []),

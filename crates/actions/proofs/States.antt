@@ -28,7 +28,7 @@ use Rattle.spec.specs.declared.Report.the-variants as R
 use Rattle.session.specs.State.{batchItems, commitActions, formatActions, cleanActions, blockActions, stateBy, stateAt, stateOf, limit}
 use Rattle.session.specs.Fits.{Fits}
 use Rattle.actions.proofs.Nth.{report-by}
-use Rattle.session.specs.Promise.{Does}
+use Rattle.session.specs.Promise.{Does, memory}
 use Rattle.session.specs.Fits.{Proper}
 
 -- NOTHING BEGUN
@@ -131,7 +131,7 @@ table-kept (Busy b t items task rest) table = tt
 table-kept (Formatting o b t rest) table = refl
 
 module _ (s : Session) (bytes table : List ℕ) where
-  pub step-idle : Idling (stateOf s) → Does Step s s bytes bytes table table R.Idle
+  pub step-idle : Idling (stateOf s) → Does Step (memory s bytes table) (memory s bytes table) R.Idle
   unfolding next
   step-idle q = record {
     exact = λ f. record { answered = sym (q .answers (length bytes) (length table)); became = sym (rw (q .answers (length bytes) (length table)) (q .stays)); fits = f };
@@ -144,7 +144,7 @@ module _ (s : Session) (bytes table : List ℕ) where
 
   -- the lent lengths are unlike those at the begin
   pub step-refused : InCall (s .setup) (stateOf s) → both (eqb (s .setup .image) (length bytes)) (eqb (s .setup .table) (length table)) ≡ false
-      → Does Step s s bytes bytes table table (R.Refused N.ImageLength)
+      → Does Step (memory s bytes table) (memory s bytes table) (R.Refused N.ImageLength)
   unfolding next
   step-refused q unlike = record {
     exact = λ f. record { answered = sym answered; became = sym (rw answered); fits = f };
@@ -180,7 +180,7 @@ module _ (s s′ : Session) (bytes bytes′ table table′ : List ℕ) (i t n : 
 
   pub step-acts : (a : Action) (l : List Action) → stateOf s ≡ F (a ∷ l) → stateOf s′ ≡ F l → Changed (asReport a) bytes bytes′
       → length table′ ≡ length table → TableKept Proper stateOf Fits 12 limit (stateOf s) table table′
-      → (Fits s (wordsOf bytes) table → Fits s′ (wordsOf bytes′) table′) → Does Step s s′ bytes bytes′ table table′ (asReport a)
+      → (Fits s (wordsOf bytes) table → Fits s′ (wordsOf bytes′) table′) → Does Step (memory s bytes table) (memory s′ bytes′ table′) (asReport a)
   step-acts a l e e′ changed sized kept fits = record {
     exact = λ f. record { answered = answered; became = became; fits = fits f };
     first = passed (a ∷ l) e (asReport a);
@@ -200,7 +200,7 @@ module _ (s s′ : Session) (bytes bytes′ table table′ : List ℕ) (i t n : 
       counted = (rw (e, e′) (q .left (a ∷ l) ∙ ap suc (sym (q .left l))), kept)
 
   pub step-ends : stateOf s ≡ F [] → stateOf s′ ≡ E → (Fits s (wordsOf bytes) table → Fits s′ (wordsOf bytes) table)
-      → Does Step s s′ bytes bytes table table (R.End n)
+      → Does Step (memory s bytes table) (memory s′ bytes table) (R.End n)
   step-ends e e′ fits = record {
     exact = λ f. record { answered = sym (rw e (reports [])); became = e′ ∙ sym (rw e (becomes [] refl ∙ q .ends)); fits = fits f };
     first = passed [] e (R.End n);

@@ -25,6 +25,7 @@ use Rattle.session.specs.Fits.{ItemsFit, Built, BlocksApart, batchPlace}
 use Rattle.apply.specs.Blocks.{topBlock, Freed}
 use Rattle.apply.specs.declared.Item.{Item}
 use Rattle.apply.specs.declared.Item.the-variants as I
+use Rattle.session.specs.Numbers.{keyed}
 
 -- these entries are above all of es of their keys
 abbrev pub Later : (es more : List Entry) → Type 0
@@ -110,7 +111,7 @@ pub record Fenced (c : Control) (k : Setup) (buffer ws table : List ℕ) (front 
 
 -- the record's numbers with so many known keys
 abbrev pub withKeys : Control → ℕ → Control
-withKeys c keys = record { phase = c .phase; next = c .next; items = c .items; words = c .words; keys = keys; fresh = c .fresh }
+withKeys c keys = keyed (c .phase) (c .next) keys (c .fresh) c
 
 -- before and after the batch joined: of any memory, and at a commit's last fence
 pub record Joining (c : Control) (k : Setup) (buffer buffer′ ws table table′ : List ℕ) (keys : ℕ) : Type 0 where

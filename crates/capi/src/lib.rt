@@ -19,7 +19,7 @@ ghost use Rattle.inspect.specs.History.{entryFrom};
 ghost use Rattle.faults.specs.Faults.{Told as Located};
 ghost use Rattle.chunk_stat.specs.Contract.{Described, Emptied};
 ghost use Rattle.capi.specs.Answers.{answerOf, Told, isGiven, ShownBy, Shown, CountedBy, CountTold, bit, ListedBy, ListTold};
-ghost use Rattle.session.specs.Promise.{Does};
+ghost use Rattle.session.specs.Promise.{Does, memory};
 use chunk_stat::ChunkRow;
 use faults::FaultPlace;
 use inspect::KeyEntry;
@@ -119,7 +119,7 @@ pub extern "C" fn zkv_format(
     centre_given: u64,
     centre: u64,
 ) -> Answer
-    ensures { λ r. ⌜ Told (Does (Format (given (isGiven «station_given») station) (given (isGiven «centre_given») centre)) (now (s .entry)) (now (s .exit)) (now (image .entry)) (now (image .entry)) (now (table .entry)) (now (table .entry))) r ⌝ }
+    ensures { λ r. ⌜ Told (Does (Format (given (isGiven «station_given») station) (given (isGiven «centre_given») centre)) (memory (now (s .entry)) (now (image .entry)) (now (table .entry))) (memory (now (s .exit)) (now (image .entry)) (now (table .entry)))) r ⌝ }
 {
     let a = is_given(station_given);
     let b = is_given(centre_given);
@@ -130,7 +130,7 @@ pub extern "C" fn zkv_format(
 // Opens the register of the lent image (`store::open_register`).
 #[no_mangle]
 pub extern "C" fn zkv_open(s: &mut Session, image: &[u8], table: &mut [u64]) -> Answer
-    ensures { λ r. ⌜ Told (Does Open (now (s .entry)) (now (s .exit)) (now (image .entry)) (now (image .entry)) (now (table .entry)) (now (table .exit))) r ⌝ }
+    ensures { λ r. ⌜ Told (Does Open (memory (now (s .entry)) (now (image .entry)) (now (table .entry))) (memory (now (s .exit)) (now (image .entry)) (now (table .exit)))) r ⌝ }
 {
     let report = store::open_register(s, image, table);
     told(report)
@@ -149,7 +149,7 @@ fn same(a: Answer) -> Answer
 
 // A put of a longer value in numbers (`store::stage_long`); of a short one nothing is done.
 fn put_long(s: &mut Session, image: &[u8], table: &[u64], key: u64, value: &[u8]) -> Answer
-    ensures { λ r. ⌜ Told (PutWhere Long key (now (value .entry)) (now (s .entry)) (now (s .exit)) (now (image .entry)) (now (table .entry))) r ⌝ }
+    ensures { λ r. ⌜ Told (PutWhere Long key (now (value .entry)) (memory (now (s .entry)) (now (image .entry)) (now (table .entry))) (memory (now (s .exit)) (now (image .entry)) (now (table .entry)))) r ⌝ }
 {
     let report = store::stage_long(s, image, table, key, value);
     told(report)
@@ -165,7 +165,7 @@ pub extern "C" fn zkv_put(
     key: u64,
     value: &[u8],
 ) -> Answer
-    ensures { λ r. ⌜ Told (Does (Put key (now (value .entry))) (now (s .entry)) (now (s .exit)) (now (image .entry)) (now (image .entry)) (now (table .entry)) (now (table .entry))) r ⌝ }
+    ensures { λ r. ⌜ Told (Does (Put key (now (value .entry))) (memory (now (s .entry)) (now (image .entry)) (now (table .entry))) (memory (now (s .exit)) (now (image .entry)) (now (table .entry)))) r ⌝ }
 {
     let c = s.control;
     let short = staging::is_short(c, value.len());
@@ -181,7 +181,7 @@ pub extern "C" fn zkv_put(
 // Begins staging a delete (`store::stage_delete`).
 #[no_mangle]
 pub extern "C" fn zkv_delete(s: &mut Session, image: &[u8], table: &[u64], key: u64) -> Answer
-    ensures { λ r. ⌜ Told (Does (Delete key) (now (s .entry)) (now (s .exit)) (now (image .entry)) (now (image .entry)) (now (table .entry)) (now (table .entry))) r ⌝ }
+    ensures { λ r. ⌜ Told (Does (Delete key) (memory (now (s .entry)) (now (image .entry)) (now (table .entry))) (memory (now (s .exit)) (now (image .entry)) (now (table .entry)))) r ⌝ }
 {
     let report = store::stage_delete(s, image, table, key);
     told(report)
@@ -190,7 +190,7 @@ pub extern "C" fn zkv_delete(s: &mut Session, image: &[u8], table: &[u64], key: 
 // Begins the commit of the staged items (`store::commit`).
 #[no_mangle]
 pub extern "C" fn zkv_commit(s: &mut Session, image: &[u8], table: &[u64]) -> Answer
-    ensures { λ r. ⌜ Told (Does Commit (now (s .entry)) (now (s .exit)) (now (image .entry)) (now (image .entry)) (now (table .entry)) (now (table .entry))) r ⌝ }
+    ensures { λ r. ⌜ Told (Does Commit (memory (now (s .entry)) (now (image .entry)) (now (table .entry))) (memory (now (s .exit)) (now (image .entry)) (now (table .entry)))) r ⌝ }
 {
     let report = store::commit(s, image, table);
     told(report)
@@ -199,7 +199,7 @@ pub extern "C" fn zkv_commit(s: &mut Session, image: &[u8], table: &[u64]) -> An
 // Forgets the staged items (`store::abandon`).
 #[no_mangle]
 pub extern "C" fn zkv_abandon(s: &mut Session, image: &[u8], table: &[u64]) -> Answer
-    ensures { λ r. ⌜ Told (Does Abandon (now (s .entry)) (now (s .exit)) (now (image .entry)) (now (image .entry)) (now (table .entry)) (now (table .entry))) r ⌝ }
+    ensures { λ r. ⌜ Told (Does Abandon (memory (now (s .entry)) (now (image .entry)) (now (table .entry))) (memory (now (s .exit)) (now (image .entry)) (now (table .entry)))) r ⌝ }
 {
     let report = store::abandon(s, image, table);
     told(report)
@@ -217,7 +217,7 @@ pub extern "C" fn zkv_choose(s: &Session, image: &[u8], table: &[u64]) -> Answer
 // Begins the cleaning of a chunk (`store::clean`).
 #[no_mangle]
 pub extern "C" fn zkv_clean(s: &mut Session, image: &[u8], table: &[u64], chunk: usize) -> Answer
-    ensures { λ r. ⌜ Told (Does (Clean chunk) (now (s .entry)) (now (s .exit)) (now (image .entry)) (now (image .entry)) (now (table .entry)) (now (table .entry))) r ⌝ }
+    ensures { λ r. ⌜ Told (Does (Clean chunk) (memory (now (s .entry)) (now (image .entry)) (now (table .entry))) (memory (now (s .exit)) (now (image .entry)) (now (table .entry)))) r ⌝ }
 {
     let report = store::clean(s, image, table, chunk);
     told(report)
@@ -226,7 +226,7 @@ pub extern "C" fn zkv_clean(s: &mut Session, image: &[u8], table: &[u64], chunk:
 // STEPS
 // The step in numbers, whatever is begun (`store::step`).
 fn step_any(s: &mut Session, image: &mut [u8], table: &mut [u64]) -> Answer
-    ensures { λ r. ⌜ Told (Does Step (now (s .entry)) (now (s .exit)) (now (image .entry)) (now (image .exit)) (now (table .entry)) (now (table .exit))) r ⌝ }
+    ensures { λ r. ⌜ Told (Does Step (memory (now (s .entry)) (now (image .entry)) (now (table .entry))) (memory (now (s .exit)) (now (image .exit)) (now (table .exit)))) r ⌝ }
 {
     let report = store::step(s, image, table);
     told(report)
@@ -235,7 +235,7 @@ fn step_any(s: &mut Session, image: &mut [u8], table: &mut [u64]) -> Answer
 // The step in numbers, where no commit has more than its last action to come: then `store::step_late`, else
 // `store::step`.
 fn step_whole(s: &mut Session, image: &mut [u8], table: &mut [u64]) -> Answer
-    ensures { λ r. ⌜ Told (Does Step (now (s .entry)) (now (s .exit)) (now (image .entry)) (now (image .exit)) (now (table .entry)) (now (table .exit))) r ⌝ }
+    ensures { λ r. ⌜ Told (Does Step (memory (now (s .entry)) (now (image .entry)) (now (table .entry))) (memory (now (s .exit)) (now (image .exit)) (now (table .exit)))) r ⌝ }
 {
     let c = s.control;
     let k = s.setup;
@@ -252,7 +252,7 @@ fn step_whole(s: &mut Session, image: &mut [u8], table: &mut [u64]) -> Answer
 // One step of the call that is begun: on the fast path inside a commit (`store::step_fast`), else `store::step`.
 #[no_mangle]
 pub extern "C" fn zkv_step(s: &mut Session, image: &mut [u8], table: &mut [u64]) -> Answer
-    ensures { λ r. ⌜ Told (Does Step (now (s .entry)) (now (s .exit)) (now (image .entry)) (now (image .exit)) (now (table .entry)) (now (table .exit))) r ⌝ }
+    ensures { λ r. ⌜ Told (Does Step (memory (now (s .entry)) (now (image .entry)) (now (table .entry))) (memory (now (s .exit)) (now (image .exit)) (now (table .exit)))) r ⌝ }
 {
     let c = s.control;
     let k = s.setup;
@@ -268,7 +268,7 @@ pub extern "C" fn zkv_step(s: &mut Session, image: &mut [u8], table: &mut [u64])
 
 // A run in numbers, whatever is begun (`store::run_rest`).
 fn run_any(s: &mut Session, image: &mut [u8], table: &mut [u64]) -> Answer
-    ensures { λ r. ⌜ Told (RunsOn (now (s .entry)) (now (s .exit)) (now (image .entry)) (now (image .exit)) (now (table .entry)) (now (table .exit))) r ⌝ }
+    ensures { λ r. ⌜ Told (RunsOn (memory (now (s .entry)) (now (image .entry)) (now (table .entry))) (memory (now (s .exit)) (now (image .exit)) (now (table .exit)))) r ⌝ }
 {
     let report = store::run_rest(s, image, table);
     told(report)
@@ -277,7 +277,7 @@ fn run_any(s: &mut Session, image: &mut [u8], table: &mut [u64]) -> Answer
 // A run in numbers, where nothing is to be stored: at a commit's last action and its end `store::step_late`, else
 // `store::run_rest`.
 fn run_late(s: &mut Session, image: &mut [u8], table: &mut [u64]) -> Answer
-    ensures { λ r. ⌜ Told (RunsOn (now (s .entry)) (now (s .exit)) (now (image .entry)) (now (image .exit)) (now (table .entry)) (now (table .exit))) r ⌝ }
+    ensures { λ r. ⌜ Told (RunsOn (memory (now (s .entry)) (now (image .entry)) (now (table .entry))) (memory (now (s .exit)) (now (image .exit)) (now (table .exit)))) r ⌝ }
 {
     let c = s.control;
     let k = s.setup;
@@ -293,7 +293,7 @@ fn run_late(s: &mut Session, image: &mut [u8], table: &mut [u64]) -> Answer
 
 // A run in numbers, where no commit is on the fast path: in a staging `store::run_staging`, else as above.
 fn run_whole(s: &mut Session, image: &mut [u8], table: &mut [u64]) -> Answer
-    ensures { λ r. ⌜ Told (RunsOn (now (s .entry)) (now (s .exit)) (now (image .entry)) (now (image .exit)) (now (table .entry)) (now (table .exit))) r ⌝ }
+    ensures { λ r. ⌜ Told (RunsOn (memory (now (s .entry)) (now (image .entry)) (now (table .entry))) (memory (now (s .exit)) (now (image .exit)) (now (table .exit)))) r ⌝ }
 {
     let c = s.control;
     let k = s.setup;
@@ -311,7 +311,7 @@ fn run_whole(s: &mut Session, image: &mut [u8], table: &mut [u64]) -> Answer
 // a staging on the fast path (`store::run_fast`, `store::run_staging`), else `store::run_rest`.
 #[no_mangle]
 pub extern "C" fn zkv_run(s: &mut Session, image: &mut [u8], table: &mut [u64]) -> Answer
-    ensures { λ r. ⌜ Told (RunsOn (now (s .entry)) (now (s .exit)) (now (image .entry)) (now (image .exit)) (now (table .entry)) (now (table .exit))) r ⌝ }
+    ensures { λ r. ⌜ Told (RunsOn (memory (now (s .entry)) (now (image .entry)) (now (table .entry))) (memory (now (s .exit)) (now (image .exit)) (now (table .exit)))) r ⌝ }
 {
     let c = s.control;
     let k = s.setup;

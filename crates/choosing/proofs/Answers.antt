@@ -34,7 +34,7 @@ use Rattle.session.proofs.Gates.{turned-down, at-rest}
 use Rattle.choosing.specs.declared.Choice.{Choice}
 use Rattle.choosing.specs.declared.Choice.the-variants as C
 use Rattle.choosing.specs.Choices.{choiceOf, InCount, Chooses, reportOf, ChosenIn, Choosing}
-use Rattle.session.specs.Promise.{Does}
+use Rattle.session.specs.Promise.{Does, memory}
 use Rattle.session.specs.Fits.{Proper}
 
 report-or : (o : Option ℕ) → reportOf (choiceOf o) ≡ chosenOr o
@@ -64,7 +64,7 @@ module _ (s : Session) (bytes table : List ℕ) where
   unchanged C.Nothing = refl
 
   -- behind the gate
-  found : (r : Choice) → gate (stateOf s) (length bytes) (length table) ≡ none → Chooses (wordsOf bytes) table (s .buffer) (chunksIn 12 (length bytes)) r → Does Choose s s bytes bytes table table (reportOf r)
+  found : (r : Choice) → gate (stateOf s) (length bytes) (length table) ≡ none → Chooses (wordsOf bytes) table (s .buffer) (chunksIn 12 (length bytes)) r → Does Choose (memory s bytes table) (memory s bytes table) (reportOf r)
   found r g h = record {
     exact = λ f. record { answered = answered f; became = next-same (stateOf s) (wordsOf bytes) (length bytes) (length table); fits = f };
     first = λ r′ q. absurd (let p : none ≡ some r′ = rw g at q in let z : _≡_ {A = ℕ} 0 1 = cc in omega arith);

@@ -26,7 +26,7 @@ use Rattle.lookup.specs.Look.{sessionOf}
 use Rattle.choosing.specs.declared.Candidate.{Candidate}
 use Rattle.choosing.specs.declared.Choice.{Choice}
 use Rattle.choosing.specs.declared.Choice.the-variants as C
-use Rattle.session.specs.Promise.{Does}
+use Rattle.session.specs.Promise.{Does, memory}
 
 -- ONE CHUNK: what is said of it is so of an image with these words and entries
 pub record Describes (ws : List ℕ) (es : List Entry) (x : Candidate) : Type 0 where
@@ -101,5 +101,5 @@ ChosenIn n (R.Chosen c) = (1 ≤ c) × (c < n)
 ChosenIn n (R.Part a m) = ⊥
 
 pub record Choosing (c : Control) (k : Setup) (b bytes table : List ℕ) (r : Report) : Type 0 where
-  pub called : Does Choose (sessionOf c k b) (sessionOf c k b) bytes bytes table table r
+  pub called : Does Choose (memory (sessionOf c k b) bytes table) (memory (sessionOf c k b) bytes table) r
   pub inside : ChosenIn (chunksIn 12 (length bytes)) r

@@ -18,17 +18,18 @@ use Rattle.theory_crash.specs.Accepted.{Ok}
 use Rattle.theory_crash.proofs.Opening.{opens-ok}
 use Rattle.session.specs.State.{batchWords}
 use Rattle.session.specs.Fits.{RestFits, batchPlace, CleanFits}
-use Rattle.session.proofs.Kept.{none-fit, emptied}
+use Rattle.session.proofs.Kept.{none-fit}
 use Rattle.session.specs.Cleaned.{after}
 use Rattle.leaving.specs.Passes.{Emptied, Emptying, Holds}
 use Rattle.leaving.proofs.Fence.{long-enough, opened-log}
 use Rattle.session.specs.declared.Source.{Source}
 use Rattle.cleaning.specs.Ends.{Ends}
 use Rattle.cleaning.proofs.Forward.{lo, hi, action-length}
+use Rattle.session.specs.Numbers.{emptied, keyed}
 
 -- after an action of a cleaning: its number counted on, so many known keys
 abbrev pub acted : Control → ℕ → Control
-acted c keys = record { phase = 6; next = c .next + 1; items = c .items; words = c .words; keys = keys; fresh = c .fresh }
+acted c keys = keyed 6 (c .next + 1) keys (c .fresh) c
 
 words-at : (c : ℕ) → 512 * c ≡ base 12 c
 unfolding base chunkWords

@@ -13,6 +13,7 @@ use Rattle.session.specs.declared.Control.{Control}
 use Rattle.session.specs.declared.Setup.{Setup}
 use Rattle.session.specs.State.{batchRoom}
 use Rattle.session.specs.declared.Source.{Source}
+use Rattle.session.specs.Numbers.{acting, writing}
 
 -- how many they are
 abbrev pub copyCount : ℕ → ℕ
@@ -24,11 +25,11 @@ cleanCount words = copyCount words + 3
 -- THE RECORD AT THE BEGIN: no action done yet; where the copies go, and where the next commit looks for space; what is
 -- cleaned
 abbrev pub cleaning : Control → Control
-cleaning c = record { phase = 6; next = 0; items = c .items; words = c .words; keys = c .keys; fresh = c .fresh }
+cleaning c = acting 6 0 c
 
 abbrev pub copyingTo : Setup → (chunk old lines first least : ℕ) → Source → Setup
 copyingTo k chunk old lines first least f =
-    record { image = k .image; table = k .table; chunk = chunk; old = old; lines = lines; first = first; least = least; fields = k .fields; station = k .station; centre = k .centre; source = f }
+    writing k chunk old lines first least f
 
 abbrev pub sourceOf : List ℕ → (chunk words entries : ℕ) → Source
 sourceOf ws chunk words entries = record { chunk = chunk; old = getD ws (directoryWord chunk) 0; lines = linesOf 12 ws chunk; words = words; entries = entries }

@@ -33,7 +33,7 @@ use Rattle.cleaning.specs.Record.{cleaning}
 use Rattle.cleaning.proofs.Forward.{lo, hi}
 use Rattle.planning.proofs.Begun.{Begun}
 use Rattle.cleaning_begin.specs.Outsets.{Turned, Set, Outsets}
-use Rattle.session.specs.Promise.{Does}
+use Rattle.session.specs.Promise.{Does, memory, memoryOf}
 use Rattle.session.specs.Fits.{Proper}
 
 -- the record at the begin, read as a state
@@ -51,7 +51,7 @@ module _ (c : Control) (k : Setup) (b bytes table : List ℕ) (s : ℕ) (g : Gat
   abbrev n : ℕ
   n = chunksIn 12 (length bytes)
 
-  pub gate-refuses : (x : Refusal) → g ≡ G.Refused x → Does (Clean s) m m bytes bytes table table (R.Refused x)
+  pub gate-refuses : (x : Refusal) → g ≡ G.Refused x → Does (Clean s) (memory m bytes table) (memory m bytes table) (R.Refused x)
   gate-refuses x e = Gates.turned-down 12 limit m bytes table x (asks .asked b ∙ ap gateOf e) (Clean s) tt
 
   module _ (e : g ≡ G.Open) where
@@ -77,7 +77,7 @@ module _ (c : Control) (k : Setup) (b bytes table : List ℕ) (s : ℕ) (g : Gat
         ∙ ap (λ (es : List Entry). planClean 12 n ws es (rests q .items) s) (own-entries q)
         ∙ ap (λ (x : ℕ). planClean 12 (chunksIn 12 x) ws (rests q .fits .entries) (rests q .items) s) (sym (rests q .same-bytes))
 
-    turned : (c′ : Control) (k′ : Setup) (b′ : List ℕ) (r : Report) → Turned c c′ k k′ b b′ bytes table s r → Does (Clean s) m (record { control = c′; setup = k′; buffer = b′ }) bytes bytes table table r
+    turned : (c′ : Control) (k′ : Setup) (b′ : List ℕ) (r : Report) → Turned c c′ k k′ b b′ bytes table s r → Does (Clean s) (memory m bytes table) (memoryOf c′ k′ b′ bytes table) r
     turned c′ k′ b′ r t =
         rw (t .report, t .control, t .setup, t .buffer)
         (Gates.refused 12 limit m bytes table (t .number) (Clean s) refl (λ q. q)
@@ -116,7 +116,7 @@ module _ (c : Control) (k : Setup) (b bytes table : List ℕ) (s : ℕ) (g : Gat
           );
         }
 
-      begun : Does (Clean s) m (record { control = c′; setup = k′; buffer = b′ }) bytes bytes table table r
+      begun : Does (Clean s) (memory m bytes table) (memoryOf c′ k′ b′ bytes table) r
       begun = rw (t .report, t .control) (record {
         exact = λ q. exactly q (t .right (rests q .same-bytes) (rests q .items) (rests q .fits));
         first = passed (R.Begun (t .actions));
@@ -127,6 +127,6 @@ module _ (c : Control) (k : Setup) (b bytes table : List ℕ) (s : ℕ) (g : Gat
       })
 
     pub cleans : (c′ : Control) (k′ : Setup) (b′ : List ℕ) (r : Report) → Outsets c c′ k k′ b b′ bytes table s r
-        → Does (Clean s) m (record { control = c′; setup = k′; buffer = b′ }) bytes bytes table table r
+        → Does (Clean s) (memory m bytes table) (memoryOf c′ k′ b′ bytes table) r
     cleans c′ k′ b′ r (inl t) = turned c′ k′ b′ r t
     cleans c′ k′ b′ r (inr t) = begun c′ k′ b′ r t

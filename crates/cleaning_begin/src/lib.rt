@@ -2,7 +2,7 @@
 // down.
 ghost use Rattle.spec.specs.Machine.{Clean};
 ghost use Rattle.cleaning_begin.specs.Outsets.{KeptStored, Outsets};
-ghost use Rattle.session.specs.Promise.{Does};
+ghost use Rattle.session.specs.Promise.{Does, memoryOf};
 use blocks::Buffer;
 use planning::CleanPlan;
 use session::Control;
@@ -53,27 +53,8 @@ fn begin_clean(
             actions,
         } => {
             store_kept(source, buffer, &kept);
-            let begun = Control {
-                phase: 6,
-                next: 0,
-                items: control.items,
-                words: control.words,
-                keys: control.keys,
-                fresh: control.fresh,
-            };
-            let target = Setup {
-                image: setup.image,
-                table: setup.table,
-                chunk,
-                old,
-                lines,
-                first,
-                least: setup.least,
-                fields: setup.fields,
-                station: setup.station,
-                centre: setup.centre,
-                source,
-            };
+            let begun = session::acting(control, session::CLEANING, 0);
+            let target = session::writing(setup, chunk, old, lines, first, setup.least, source);
             Outcome {
                 control: begun,
                 setup: target,
@@ -92,7 +73,7 @@ pub fn clean_core(
     table: &[u64],
     number: usize,
 ) -> Outcome
-    ensures { λ r. ⌜ Does (Clean number) (record { control = control; setup = setup; buffer = now (buffer .entry) }) (record { control = r .control; setup = r .setup; buffer = now (buffer .exit) }) (now (image .entry)) (now (image .entry)) (now (table .entry)) (now (table .entry)) (r .report) ⌝ }
+    ensures { λ r. ⌜ Does (Clean number) (memoryOf control setup (now (buffer .entry)) (now (image .entry)) (now (table .entry))) (memoryOf (r .control) (r .setup) (now (buffer .exit)) (now (image .entry)) (now (table .entry))) (r .report) ⌝ }
 {
     let gated = session::gate(control, setup, image.len(), table.len());
     match gated {

@@ -16,7 +16,6 @@ use Rattle.session.specs.declared.Setup.{Setup}
 use Rattle.spec.specs.declared.Report.{Report}
 use Rattle.spec.specs.declared.Report.the-variants as R
 use Rattle.session.specs.State.{batchRoom, chunkIn, linesIn, sourceIn, sourceLines, cleanActions}
-use Rattle.session.proofs.Kept.{emptied}
 use Rattle.actions.specs.Nth.{nth, nthReport}
 use Rattle.actions.proofs.Performed.{changed-words}
 use Rattle.leaving.specs.Passes.{Emptying}
@@ -25,6 +24,7 @@ use Rattle.cleaning.specs.Record.{cleanCount}
 use Rattle.cleaning.proofs.Acting.{clean-done, clean-next}
 use Rattle.cleaning.proofs.Keeping.{acted, action-kept, last-kept, end-kept}
 use Rattle.cleaning_step.specs.Moves.{ChunkLeft, CleanStepped}
+use Rattle.session.specs.Numbers.{emptied}
 
 pub shows-left : (k : Setup) (f : Source) (ws b b′ table table′ : List ℕ) (keys keys′ kept at end from until count : ℕ) → kept ≡ min (f .words) batchRoom
     → at ≡ 512 * sourceIn f → end ≡ at + 8 * sourceLines f → from ≡ 512 * chunkIn k + 8 * linesIn k → until ≡ from + 8 * linesFor kept → count ≡ k .image / 4096

@@ -12,7 +12,6 @@ use Rattle.session.specs.declared.Setup.{Setup}
 use Rattle.spec.specs.declared.Report.{Report}
 use Rattle.spec.specs.declared.Report.the-variants as R
 use Rattle.session.specs.Fits.{RestFits, CleanFits}
-use Rattle.session.proofs.Kept.{emptied}
 use Rattle.actions.specs.Nth.{nthReport}
 use Rattle.leaving.specs.Passes.{Emptying}
 use Rattle.session.specs.declared.Source.{Source}
@@ -20,6 +19,7 @@ use Rattle.session.specs.State.{cleanActions}
 use Rattle.cleaning.specs.Record.{cleanCount}
 use Rattle.cleaning.specs.Ends.{Ends}
 use Rattle.cleaning.proofs.Keeping.{acted}
+use Rattle.session.specs.Numbers.{emptied}
 
 -- the chunk's entries left key table and bits, found where the record says
 pub record ChunkLeft (k : Setup) (f : Source) (ws b b′ table table′ : List ℕ) (keys keys′ : ℕ) : Type 0 where

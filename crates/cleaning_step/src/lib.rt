@@ -54,15 +54,7 @@ pub fn clean_step(
     let at = control.next;
     let count = cleaning::clean_count(source.words);
     if count <= at {
-        let items = 0;
-        let ended = Control {
-            phase: 1,
-            next: 0,
-            items,
-            words: 0,
-            keys: control.keys,
-            fresh: 0,
-        };
+        let ended = session::emptied(control);
         return Stepped {
             control: ended,
             report: Report::End(source.entries),
@@ -72,28 +64,14 @@ pub fn clean_step(
     actions::perform(image, act);
     let next = at + 1;
     if next < count {
-        let moved = Control {
-            phase: 6,
-            next,
-            items: control.items,
-            words: control.words,
-            keys: control.keys,
-            fresh: control.fresh,
-        };
+        let moved = session::acting(control, session::CLEANING, next);
         return Stepped {
             control: moved,
             report: act,
         };
     }
     let keys = leave_chunk(control.keys, setup, source, buffer, image, table);
-    let moved = Control {
-        phase: 6,
-        next,
-        items: control.items,
-        words: control.words,
-        keys,
-        fresh: control.fresh,
-    };
+    let moved = session::keyed(control, session::CLEANING, next, keys, control.fresh);
     Stepped {
         control: moved,
         report: act,

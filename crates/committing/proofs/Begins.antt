@@ -49,7 +49,7 @@ use Rattle.committing.specs.declared.CommitPlan.the-variants as P
 use Rattle.committing.specs.Planned.{PlaceFor, CommitPlanned, committing, writingTo}
 use Rattle.ahead.proofs.Commits.{Forward, forward}
 use Rattle.actions.proofs.States.{at-3}
-use Rattle.session.specs.Promise.{Does}
+use Rattle.session.specs.Promise.{Does, memory, memoryOf}
 use Rattle.session.specs.Fits.{Proper}
 
 -- a commit's begin leaves the staged items
@@ -180,16 +180,16 @@ module _ (c : Control) (k : Setup) (b bytes table : List ℕ) where
 
   -- by the plan
   module _ (plan : CommitPlan) (right : CommitPlanned c k b bytes table plan) where
-    pub plan-refused : (n : Refusal) → plan ≡ P.Refused n → Does Commit s s bytes bytes table table (R.Refused n)
+    pub plan-refused : (n : Refusal) → plan ≡ P.Refused n → Does Commit (memory s bytes table) (memory s bytes table) (R.Refused n)
     plan-refused n e = rw e at right
 
     pub plan-begun : (chunk old lines first least actions : ℕ) → plan ≡ P.At chunk old lines first least actions
-        → Does Commit s (record { control = committing c; setup = writingTo k chunk old lines first least; buffer = b }) bytes bytes table table (R.Begun actions)
+        → Does Commit (memory s bytes table) (memoryOf (committing c) (writingTo k chunk old lines first least) b bytes table) (R.Begun actions)
     plan-begun chunk old lines first least actions e = rw e at right
 
   -- by the gate
   module _ (g : Gated) (asks : Asking c k (length bytes) (length table) g) where
-    pub gate-refuses : (n : Refusal) → g ≡ G.Refused n → Does Commit s s bytes bytes table table (R.Refused n)
+    pub gate-refuses : (n : Refusal) → g ≡ G.Refused n → Does Commit (memory s bytes table) (memory s bytes table) (R.Refused n)
     gate-refuses n e = Gates.turned-down 12 limit s bytes table n (asks .asked b ∙ ap gateOf e) Commit tt
 
     module _ (e : g ≡ G.Open) where
@@ -203,7 +203,7 @@ module _ (c : Control) (k : Setup) (b bytes table : List ℕ) where
       rests q = Gates.at-rest s (length bytes) (length table) (wordsOf bytes) table opened q
 
       -- 14
-      pub nothing-staged : c .items ≡ 0 → Does Commit s s bytes bytes table table (R.Refused N.NothingStaged)
+      pub nothing-staged : c .items ≡ 0 → Does Commit (memory s bytes table) (memory s bytes table) (R.Refused N.NothingStaged)
       nothing-staged h =
           Gates.refused 12 limit s bytes table N.NothingStaged Commit refl (λ q. q) (λ q. let a = rests q in rw (opened, a .state) (by (a .items) (a .fits))) (passed (R.Refused N.NothingStaged))
           (inr (inr (inr (inl refl)))) (refl, refl) (inl (N.NothingStaged, refl))
@@ -224,7 +224,7 @@ module _ (c : Control) (k : Setup) (b bytes table : List ℕ) where
         place-is items r same = searched items (record { written = r .batch .written; right = r .batch .right; marked = r .batch .marked }) (rw same at (r .hint))
 
         -- 13
-        pub no-space : place .found ≡ false → Does Commit s s bytes bytes table table (R.Refused N.NoSpace)
+        pub no-space : place .found ≡ false → Does Commit (memory s bytes table) (memory s bytes table) (R.Refused N.NoSpace)
         no-space h =
             Gates.refused 12 limit s bytes table N.NoSpace Commit refl (λ q. q) (λ q. let a = rests q in rw (opened, a .state) (by (a .items) (a .fits) (a .same-bytes))) (passed (R.Refused N.NoSpace))
             (inr (inr (inr (inr (inl refl))))) (refl, refl) (inl (N.NoSpace, refl))
@@ -273,7 +273,7 @@ module _ (c : Control) (k : Setup) (b bytes table : List ℕ) where
             fits = (q .0, rw (at-3 (s′ .control) (s′ .setup) b refl, items-are, begun-first c k b (wordsOf bytes) table f fs r d found′ (placed .first) (placed .least) hint low sole) (begun-fits c k b (wordsOf bytes) table f fs r d found′ (placed .first) (placed .least) hint low sole));
           }
 
-        pub begins : place .found ≡ true → (a : ℕ) → a ≡ commitCount (c .words) → Does Commit s (began place) bytes bytes table table (R.Begun a)
+        pub begins : place .found ≡ true → (a : ℕ) → a ≡ commitCount (c .words) → Does Commit (memory s bytes table) (memory (began place) bytes table) (R.Begun a)
         begins h a e = rw e (record {
           exact = λ q. let t = rests q in by (t .items) q (t .state) (t .fits) (t .same-bytes);
           first = passed (R.Begun (commitCount (c .words)));

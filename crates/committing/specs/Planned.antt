@@ -18,7 +18,8 @@ use Rattle.space.specs.declared.Placed.{Placed}
 use Rattle.space.specs.Found.{Searched}
 use Rattle.committing.specs.declared.CommitPlan.{CommitPlan}
 use Rattle.committing.specs.declared.CommitPlan.the-variants as P
-use Rattle.session.specs.Promise.{Does}
+use Rattle.session.specs.Promise.{Does, memoryOf}
+use Rattle.session.specs.Numbers.{acting, writing}
 
 -- the place that the definition finds for the staged items, where the hint holds
 abbrev pub PlaceFor : (buffer : List ℕ) (words : ℕ) (image : List ℕ) (first least : ℕ) → Placed → Type 0
@@ -29,15 +30,15 @@ PlaceFor buffer words image first least r =
 -- the record's small parts at a commit's begin: no action done yet, where it writes, and where the next one looks for
 -- space
 abbrev pub committing : Control → Control
-committing c = record { phase = 3; next = 0; items = c .items; words = c .words; keys = c .keys; fresh = c .fresh }
+committing c = acting 3 0 c
 
 abbrev pub writingTo : Setup → (chunk old lines first least : ℕ) → Setup
 writingTo k chunk old lines first least =
-    record { image = k .image; table = k .table; chunk = chunk; old = old; lines = lines; first = first; least = least; fields = k .fields; station = k .station; centre = k .centre; source = k .source }
+    writing k chunk old lines first least (k .source)
 
 -- a plan is right if the call that follows it does what it promises
 abbrev pub CommitPlanned : Control → Setup → (buffer image table : List ℕ) → CommitPlan → Type 0
 CommitPlanned c k b image table (P.Refused n) =
-    Does Commit (record { control = c; setup = k; buffer = b }) (record { control = c; setup = k; buffer = b }) image image table table (R.Refused n)
+    Does Commit (memoryOf c k b image table) (memoryOf c k b image table) (R.Refused n)
 CommitPlanned c k b image table (P.At chunk old lines first least actions) =
-    Does Commit (record { control = c; setup = k; buffer = b }) (record { control = committing c; setup = writingTo k chunk old lines first least; buffer = b }) image image table table (R.Begun actions)
+    Does Commit (memoryOf c k b image table) (memoryOf (committing c) (writingTo k chunk old lines first least) b image table) (R.Begun actions)

@@ -6,7 +6,7 @@ ghost use Rattle.spec.specs.Actions.{linesFor};
 ghost use Rattle.spec.specs.Machine.{Commit};
 ghost use Rattle.session.specs.State.{batchRoom};
 ghost use Rattle.committing.specs.Planned.{PlaceFor, CommitPlanned};
-ghost use Rattle.session.specs.Promise.{Does};
+ghost use Rattle.session.specs.Promise.{Does, memoryOf};
 use blocks::Buffer;
 use session::Control;
 use session::Gated;
@@ -101,7 +101,7 @@ pub fn commit_core(
     image: &[u8],
     table: &[u64],
 ) -> Outcome
-    ensures { λ r. ⌜ Does Commit (record { control = control; setup = setup; buffer = now (buffer .entry) }) (record { control = r .control; setup = r .setup; buffer = now (buffer .entry) }) (now (image .entry)) (now (image .entry)) (now (table .entry)) (now (table .entry)) (r .report) ⌝ }
+    ensures { λ r. ⌜ Does Commit (memoryOf control setup (now (buffer .entry)) (now (image .entry)) (now (table .entry))) (memoryOf (r .control) (r .setup) (now (buffer .entry)) (now (image .entry)) (now (table .entry))) (r .report) ⌝ }
 {
     let plan = plan_commit(control, setup, buffer, image, table);
     match plan {
@@ -118,28 +118,9 @@ pub fn commit_core(
             least,
             actions,
         } => {
-            let begun = Control {
-                phase: 3,
-                next: 0,
-                items: control.items,
-                words: control.words,
-                keys: control.keys,
-                fresh: control.fresh,
-            };
+            let begun = session::acting(control, session::COMMIT, 0);
             let source = setup.source;
-            let bound = Setup {
-                image: setup.image,
-                table: setup.table,
-                chunk,
-                old,
-                lines,
-                first,
-                least,
-                fields: setup.fields,
-                station: setup.station,
-                centre: setup.centre,
-                source,
-            };
+            let bound = session::writing(setup, chunk, old, lines, first, least, source);
             Outcome {
                 control: begun,
                 setup: bound,

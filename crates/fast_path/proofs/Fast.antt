@@ -25,20 +25,21 @@ use Rattle.actions.proofs.Committing.{commit-flush, commit-fence, commit-seal, 
 use Rattle.actions.proofs.Performed.{changed-length}
 use Rattle.stepping.proofs.Keeping.{acted}
 use Rattle.stepping.proofs.Shows.{commit-acts, commit-stores}
-use Rattle.fast_path.specs.Run.{toNext, isStore, RunsOn}
+use Rattle.fast_path.specs.Run.{isStore, RunsOn}
 use Rattle.fast_path.specs.Fast.{FastStep, StoresTo}
 use Rattle.fast_path.proofs.Run.{stored-first}
 use Rattle.fast_path.proofs.Stores.{before-none}
-use Rattle.session.specs.Promise.{Does}
+use Rattle.session.specs.Promise.{Does, memoryOf}
+use Rattle.session.specs.Numbers.{toNext, acting}
 
 -- the record after an action
 counted : (c : Control) → c .phase ≡ 3 → acted c (c .keys) (c .fresh) ≡ toNext (c .next + 1) c
-counted c e = ap (λ (p : ℕ). record { phase = p; next = c .next + 1; items = c .items; words = c .words; keys = c .keys; fresh = c .fresh }) (sym e)
+counted c e = ap (λ (p : ℕ). acting p (c .next + 1) c) (sym e)
 
 -- ONE ACTION
 module _ (c : Control) (k : Setup) (b bytes bytes′ table : List ℕ) (h : FastStep c k (length bytes) (length table)) where
   abbrev Stepping : Report → Control → Type 0
-  Stepping r x = Does Step (record { control = c; setup = k; buffer = b }) (record { control = x; setup = k; buffer = b }) bytes bytes′ table table r
+  Stepping r x = Does Step (memoryOf c k b bytes table) (memoryOf x k b bytes′ table) r
 
   pub fast-acts : (r : Report) → r ≡ nthReport (commitActions c k b) (c .next) → Changed r bytes bytes′ → Stepping r (toNext (c .next + 1) c)
   fast-acts r e changed = subst (Stepping r) (counted c (h .0)) (commit-acts c k b bytes table (h .1 .0) (h .1 .1 .0) (h .0) bytes′ r e changed (h .1 .1 .1))
@@ -87,7 +88,7 @@ module _ (c : Control) (k : Setup) (b bytes : List ℕ) where
     -- then an action that is none, whose report is told
     pub run-acts : 8 * linesFor (min (c .words) batchRoom) ≤ n → (n + 3 ≡ commitCount (c .words) → ⊥) → (bytes₂ table : List ℕ) (r : Report) → r ≡ nthReport (commitActions c k b) n → Changed r bytes₁ bytes₂
         → FastStep c k (length bytes) (length table)
-        → RunsOn (record { control = c; setup = k; buffer = b }) (record { control = toNext (n + 1) c; setup = k; buffer = b }) bytes bytes₂ table table r
+        → RunsOn (memoryOf c k b bytes table) (memoryOf (toNext (n + 1) c) k b bytes₂ table) r
     run-acts behind unsealed bytes₂ table r e changed h = (
       so-far .made .run table h _ bytes₂ table r (zero, fast-acts (toNext n c) k b bytes₁ bytes₂ table (still table h) r (e ∙ ap (λ (l : List Action). nthReport l n) (sym (acts-same c k b n))) changed),
       ap isStore e ∙ no-store c k b n behind unsealed (so-far .before-last (h .1 .1 .1)),

@@ -14,7 +14,8 @@ use Rattle.spec.specs.declared.Report.the-variants as R
 use Rattle.actions.specs.Nth.{commitCount}
 use Rattle.actions.proofs.Committing.{commit-last}
 use Rattle.apply.specs.Joining.{Joining}
-use Rattle.session.proofs.Kept.{emptied}
+use Rattle.session.specs.Numbers.{emptied}
+use Rattle.session.specs.Promise.{memoryOf}
 use Rattle.stepping.proofs.Keeping.{acted}
 use Rattle.stepping.proofs.Shows.{commit-joins, commit-ends}
 use Rattle.fast_path.specs.Run.{isStore, StepsOn}
@@ -24,12 +25,12 @@ use Rattle.fast_path.proofs.Run.{unchanged}
 module _ (c : Control) (k : Setup) (b bytes table : List ℕ) (h : Late c k (length bytes) (length table)) where
   -- the end
   pub late-ends : (c′ : Control) (r : Report) → commitCount (c .words) ≤ c .next → c′ ≡ emptied c → r ≡ R.End 0
-      → StepsOn (record { control = c; setup = k; buffer = b }) (record { control = c′; setup = k; buffer = b }) bytes bytes table table r
+      → StepsOn (memoryOf c k b bytes table) (memoryOf c′ k b bytes table) r
   late-ends c′ r l ec er = rw (ec, er) (commit-ends c k b bytes table (h .1 .0) (h .1 .1 .0) (h .0) l, refl)
 
   -- the last action, with its batch joined
   pub late-joins : (b′ table′ : List ℕ) (keys : ℕ) → c .next < commitCount (c .words) → Joining c k b b′ (wordsOf bytes) table table′ keys
-      → StepsOn (record { control = c; setup = k; buffer = b }) (record { control = acted c keys 0; setup = k; buffer = b′ }) bytes bytes table table′ R.Fence
+      → StepsOn (memoryOf c k b bytes table) (memoryOf (acted c keys 0) k b′ bytes table′) R.Fence
   late-joins b′ table′ keys l j =
       let n = h .1 .1 .1 in (
         commit-joins c k b bytes table (h .1 .0) (h .1 .1 .0) (h .0) bytes R.Fence (sym (ap asReport (commit-last c k b (c .next) n))) (unchanged R.Fence bytes refl) b′ table′ keys (omega arith) j,

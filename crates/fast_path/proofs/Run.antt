@@ -11,12 +11,13 @@ use Rattle.spec.specs.declared.Report.{Report}
 use Rattle.spec.specs.declared.Report.the-variants as R
 use Rattle.theory_base.proofs.Lists.{not-both}
 use Rattle.fast_path.specs.Run.{Runs, isStore}
-use Rattle.session.specs.Promise.{Does}
+use Rattle.session.specs.Promise.{Does, memory}
 
 -- one step that stored a word, before a run
 pub stored-first : {s s₁ s′ : Session} {bytes bytes₁ bytes′ table table₁ table′ : List ℕ} {w v : ℕ} {r : Report}
-    → Does Step s s₁ bytes bytes₁ table table₁ (R.Store w v) → Runs s₁ s′ bytes₁ bytes′ table₁ table′ r → Runs s s′ bytes bytes′ table table′ r
-stored-first q (n, ran) = (suc n, (_, (_, (_, (_, (_, (q, ran)))))))
+    → Does Step (memory s bytes table) (memory s₁ bytes₁ table₁) (R.Store w v) → Runs (memory s₁ bytes₁ table₁) (memory s′ bytes′ table′) r
+    → Runs (memory s bytes table) (memory s′ bytes′ table′) r
+stored-first {s} {s₁} {s′} {bytes} {bytes₁} {bytes′} {table} {table₁} q (n, ran) = (suc n, (memory s₁ bytes₁ table₁, (_, (_, (q, ran)))))
 
 -- a report that tells of a store
 pub store-is : (r : Report) → isStore r ≡ true → (w : ℕ) × ((v : ℕ) × (r ≡ R.Store w v))

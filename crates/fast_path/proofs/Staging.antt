@@ -21,17 +21,17 @@ use Rattle.spec.specs.declared.Report.{Report}
 use Rattle.spec.specs.declared.Report.the-variants as R
 use Rattle.words.specs.Image.{Saved}
 use Rattle.session.specs.State.{areaStart, heldCount, heldWords, chunkIn, unitOf, blockActions, behindAll}
-use Rattle.session.proofs.Kept.{staged}
 use Rattle.actions.specs.Nth.{nthReport}
 use Rattle.actions.proofs.Performed.{changed-store, changed-length}
 use Rattle.block_acts.proofs.Filling as B
 use Rattle.stepping.proofs.Shows.{staging-acts, staging-ends, stored}
-use Rattle.fast_path.specs.Run.{toNext, Runs, isStore, RunsOn}
+use Rattle.fast_path.specs.Run.{Runs, isStore, RunsOn}
 use Rattle.fast_path.specs.Stores.{areaWord, Filled, Before}
 use Rattle.fast_path.specs.Fast.{InStaging, takeCount, BlockStores, StagingRun}
 use Rattle.fast_path.proofs.Run.{stored-first, store-is, unchanged}
 use Rattle.fast_path.proofs.Stores.{before-none, filled-length, filled-runs}
-use Rattle.session.specs.Promise.{Does}
+use Rattle.session.specs.Promise.{Does, memory, memoryOf}
+use Rattle.session.specs.Numbers.{toNext, acting, staged}
 
 -- THE ACTIONS, by number
 pub take-none : (k : Setup) → k .fields ≡ 0 → takeCount k ≡ 0
@@ -70,11 +70,11 @@ module _ (k : Setup) (b : List ℕ) where
 -- ONE ACTION
 module _ (c : Control) (k : Setup) (b bytes bytes′ table : List ℕ) (h : InStaging c k (length bytes) (length table)) where
   abbrev Stepping : Report → Control → Type 0
-  Stepping r x = Does Step (record { control = c; setup = k; buffer = b }) (record { control = x; setup = k; buffer = b }) bytes bytes′ table table r
+  Stepping r x = Does Step (memoryOf c k b bytes table) (memoryOf x k b bytes′ table) r
 
   pub acts-once : (r : Report) → c .next < length (blockActions k b) → r ≡ nthReport (blockActions k b) (c .next) → Changed r bytes bytes′ → Stepping r (toNext (c .next + 1) c)
   acts-once r l e changed =
-      subst (λ (p : ℕ). Stepping r (record { phase = p; next = c .next + 1; items = c .items; words = c .words; keys = c .keys; fresh = c .fresh })) (sym (h .0))
+      subst (λ (p : ℕ). Stepping r (acting p (c .next + 1) c)) (sym (h .0))
       (staging-acts c k b bytes table (h .1 .0) (h .1 .1) (h .0) bytes′ r l e changed)
 
 -- SEVERAL
@@ -104,7 +104,7 @@ module _ (c : Control) (k : Setup) (b bytes : List ℕ) where
           sized = changed-length r bytes bytes′ changed;
           run = λ table h s′ bytes″ table″ r′ q.
               stored-first
-              (rw er at (subst (λ (n : ℕ). Does Step (record { control = c; setup = k; buffer = b }) (record { control = toNext n c; setup = k; buffer = b }) bytes bytes′ table table r) one
+              (rw er at (subst (λ (n : ℕ). Does Step (memoryOf c k b bytes table) (memoryOf (toNext n c) k b bytes′ table) r) one
               (acts-once c k b bytes bytes′ table h r (let q = B.count-taking k b (heldCount b) refl (taken k b (c .next) (omega arith)) in omega arith) (e ∙ ap (nthReport (blockActions k b)) (sym z)) changed))) q;
         };
         behind = takes-flush k b (taken k b (c .next) (omega arith));
@@ -113,11 +113,11 @@ module _ (c : Control) (k : Setup) (b bytes : List ℕ) where
   -- the words held, from the next one on
   module _ (first held start from : ℕ) (ef : first ≡ takeCount k) (eh : held ≡ heldCount b) (es : start ≡ 32 * unitOf k) (em : c .next ≡ first + from) where
     stepped : (table : List ℕ) → InStaging c k (length bytes) (length table) → (j : ℕ) → j < held → (bytes₁ bytes₂ : List ℕ) → length bytes₁ ≡ length bytes → Saved bytes₁ bytes₂ (start + j) (areaWord b j)
-        → Does Step (record { control = toNext (first + j) c; setup = k; buffer = b }) (record { control = toNext (first + suc j) c; setup = k; buffer = b }) bytes₁ bytes₂ table table (R.Store (start + j) (areaWord b j))
+        → Does Step (memoryOf (toNext (first + j) c) k b bytes₁ table) (memoryOf (toNext (first + suc j) c) k b bytes₂ table) (R.Store (start + j) (areaWord b j))
     stepped table h j l bytes₁ bytes₂ el saved =
         let e : R.Store (start + j) (areaWord b j) ≡ nthReport (blockActions k b) (first + j) = fills-store k b (first + j) j (start + j) (omega arith) (omega arith) (omega arith) in
         let n : first + j + 1 ≡ first + suc j = omega arith in
-        subst (λ (x : ℕ). Does Step (record { control = toNext (first + j) c; setup = k; buffer = b }) (record { control = toNext x c; setup = k; buffer = b }) bytes₁ bytes₂ table table (R.Store (start + j) (areaWord b j))) n
+        subst (λ (x : ℕ). Does Step (memoryOf (toNext (first + j) c) k b bytes₁ table) (memoryOf (toNext x c) k b bytes₂ table) (R.Store (start + j) (areaWord b j))) n
         (acts-once (toNext (first + j) c) k b bytes₁ bytes₂ table (h .0, (h .1 .0 ∙ sym el, h .1 .1)) _ (inside first held ef eh (first + j) (omega arith)) e (changed-store _ bytes₁ bytes₂ _ _ refl saved))
       where
         inside : (first held : ℕ) → first ≡ takeCount k → held ≡ heldCount b → (n : ℕ) → n < first + held → n < length (blockActions k b)
@@ -131,7 +131,7 @@ module _ (c : Control) (k : Setup) (b bytes : List ℕ) where
         sized = filled-length (areaWord b) start (held - from) from bytes bytes′ f;
         run = λ table h s′ bytes″ table″ r q.
             let e : first + from ≡ c .next = omega arith in
-            subst (λ (x : ℕ). Runs (record { control = toNext x c; setup = k; buffer = b }) s′ bytes bytes″ table table″ r) e
+            subst (λ (x : ℕ). Runs (memoryOf (toNext x c) k b bytes table) (memory s′ bytes″ table″) r) e
             (filled-runs (λ j. toNext (first + j) c) k b table (areaWord b) start (length bytes) (held - from) from held bytes bytes′ f (omega arith) (λ j a d. stepped table h j d) refl s′ bytes″ table″ r q);
       };
       behind = no-store k b (first + held) (omega arith);
@@ -142,12 +142,12 @@ module _ (c : Control) (k : Setup) (b bytes : List ℕ) where
     still : (table : List ℕ) → InStaging c k (length bytes) (length table) → InStaging (toNext n c) k (length bytes₁) (length table)
     still table h = (h .0, (h .1 .0 ∙ sym (so-far .made .sized), h .1 .1))
 
-    pub run-acts : (table : List ℕ) → InStaging c k (length bytes) (length table) → (r : Report) → n < acts → r ≡ nthReport (blockActions k b) n → RunsOn (record { control = c; setup = k; buffer = b }) (record { control = toNext (n + 1) c; setup = k; buffer = b }) bytes bytes₁ table table r
+    pub run-acts : (table : List ℕ) → InStaging c k (length bytes) (length table) → (r : Report) → n < acts → r ≡ nthReport (blockActions k b) n → RunsOn (memoryOf c k b bytes table) (memoryOf (toNext (n + 1) c) k b bytes₁ table) r
     run-acts table h r l e =
         let t : isStore r ≡ false = ap isStore e ∙ so-far .behind in
         (so-far .made .run table h _ bytes₁ table r (zero, acts-once (toNext n c) k b bytes₁ bytes₁ table (still table h) r l e (unchanged r bytes₁ t)), t)
 
-    pub run-ends : (table : List ℕ) → InStaging c k (length bytes) (length table) → acts ≤ n → RunsOn (record { control = c; setup = k; buffer = b }) (record { control = staged c; setup = k; buffer = b }) bytes bytes₁ table table (R.End 0)
+    pub run-ends : (table : List ℕ) → InStaging c k (length bytes) (length table) → acts ≤ n → RunsOn (memoryOf c k b bytes table) (memoryOf (staged c) k b bytes₁ table) (R.End 0)
     run-ends table h l = (so-far .made .run table h _ bytes₁ table (R.End 0) (zero, staging-ends (toNext n c) k b bytes₁ table (still table h .1 .0) (still table h .1 .1) (still table h .0) l), refl)
 
     -- the same for any table
@@ -165,18 +165,18 @@ module _ (c : Control) (k : Setup) (b bytes : List ℕ) where
         (λ z. let t = take-two k z in let q = B.count-taking k b held eh z in omega arith)
 
     pub flush-acts : (line : ℕ) → c .next < first + held + linesFor held → line ≡ 4 * unitOf k + (c .next - (first + held))
-        → RunsOn (record { control = c; setup = k; buffer = b }) (record { control = toNext (c .next + 1) c; setup = k; buffer = b }) bytes bytes table table (R.Flush line)
+        → RunsOn (memoryOf c k b bytes table) (memoryOf (toNext (c .next + 1) c) k b bytes table) (R.Flush line)
     flush-acts line l el =
         let a = all in
         run-acts bytes (c .next) (behind-all first held ef eh past) table h (R.Flush line) (omega arith)
         (fills k b (R.Flush line) (c .next) (c .next - first) (omega arith) (B.shows-flush (unitOf k) b held (c .next - first) eh line (omega arith) (omega arith) (omega arith)))
 
     pub flush-ends : (c′ : Control) (r : Report) → c′ ≡ staged c → r ≡ R.End 0 → first + held + linesFor held ≤ c .next
-        → RunsOn (record { control = c; setup = k; buffer = b }) (record { control = c′; setup = k; buffer = b }) bytes bytes table table r
+        → RunsOn (memoryOf c k b bytes table) (memoryOf c′ k b bytes table) r
     flush-ends c′ r ec er l = let a = all in rw (ec, er) (run-ends bytes (c .next) (behind-all first held ef eh past) table h (omega arith))
 
 -- a staging without actions, or with none left: its next number lies behind them all
 pub past-ends : (c : Control) (k : Setup) (b bytes table : List ℕ) → InStaging c k (length bytes) (length table) → (c′ : Control) (r : Report) → c′ ≡ staged c → r ≡ R.End 0 → behindAll ≤ c .next
-    → RunsOn (record { control = c; setup = k; buffer = b }) (record { control = c′; setup = k; buffer = b }) bytes bytes table table r
+    → RunsOn (memoryOf c k b bytes table) (memoryOf c′ k b bytes table) r
 past-ends c k b bytes table h c′ r ec er l =
     rw (ec, er) ((zero, staging-ends c k b bytes table (h .1 .0) (h .1 .1) (h .0) (B.none-left k b (c .next) l)), refl)

@@ -12,11 +12,12 @@ use Rattle.session.specs.declared.Session.{Session}
 use Rattle.spec.specs.declared.Report.{Report}
 use Rattle.spec.specs.declared.Report.the-variants as R
 use Rattle.words.specs.Image.{Saved}
-use Rattle.fast_path.specs.Run.{toNext, Runs}
+use Rattle.fast_path.specs.Run.{Runs}
 use Rattle.session.specs.State.{areaStart}
 use Rattle.fast_path.specs.Stores.{areaWord, Filled, Before}
 use Rattle.fast_path.proofs.Run.{stored-first}
-use Rattle.session.specs.Promise.{Does}
+use Rattle.session.specs.Promise.{Does, memory}
+use Rattle.session.specs.Numbers.{toNext}
 
 -- THE LOOP: what is saved so far, with whatever is saved behind it, is one row
 module _ (value : ℕ → ℕ) (start : ℕ) where
@@ -68,13 +69,13 @@ module _ (c : ℕ → Control) (k : Setup) (b table : List ℕ) (value : ℕ →
 
   -- the store of word number i is a step
   abbrev pub Steps : ℕ → Type 0
-  Steps i = (bytes bytes′ : List ℕ) → length bytes ≡ size → Saved bytes bytes′ (start + i) (value i) → Does Step (at i) (at (suc i)) bytes bytes′ table table (R.Store (start + i) (value i))
+  Steps i = (bytes bytes′ : List ℕ) → length bytes ≡ size → Saved bytes bytes′ (start + i) (value i) → Does Step (memory (at i) bytes table) (memory (at (suc i)) bytes′ table) (R.Store (start + i) (value i))
 
   pub filled-runs : (m i n : ℕ) (bytes bytes′ : List ℕ) → Filled value start i m bytes bytes′ → n ≡ i + m → ((j : ℕ) → i ≤ j → j < n → Steps j) → length bytes ≡ size
-      → (s′ : Session) (bytes″ table″ : List ℕ) (r : Report) → Runs (at n) s′ bytes′ bytes″ table table″ r → Runs (at i) s′ bytes bytes″ table table″ r
+      → (s′ : Session) (bytes″ table″ : List ℕ) (r : Report) → Runs (memory (at n) bytes′ table) (memory s′ bytes″ table″) r → Runs (memory (at i) bytes table) (memory s′ bytes″ table″) r
   filled-runs zero i n bytes bytes′ f e steps l s′ bytes″ table″ r q =
       let z : n ≡ i = omega arith in
-      subst (λ (x : List ℕ). Runs (at i) s′ x bytes″ table table″ r) f (subst (λ (x : ℕ). Runs (at x) s′ bytes′ bytes″ table table″ r) z q)
+      subst (λ (x : List ℕ). Runs (memory (at i) x table) (memory s′ bytes″ table″) r) f (subst (λ (x : ℕ). Runs (memory (at x) bytes′ table) (memory s′ bytes″ table″) r) z q)
   filled-runs (suc m) i n bytes bytes′ (bytes₁, (saved, more)) e steps l s′ bytes″ table″ r q =
       stored-first (steps i (omega arith) (omega arith) bytes bytes₁ l saved)
       (filled-runs m (suc i) n bytes₁ bytes′ more (omega arith) (λ j a d. steps j (omega arith) d) (saved .size ∙ l) s′ bytes″ table″ r q)

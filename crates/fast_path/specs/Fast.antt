@@ -10,13 +10,13 @@ use Rattle.spec.specs.Basics.{pick}
 use Rattle.spec.specs.Actions.{linesFor}
 use Rattle.session.specs.declared.Control.{Control}
 use Rattle.session.specs.declared.Setup.{Setup}
-use Rattle.session.specs.declared.Session.{Session}
 use Rattle.spec.specs.declared.Report.{Report}
 use Rattle.spec.specs.declared.Report.the-variants as R
 use Rattle.session.specs.State.{batchRoom, blockActions}
 use Rattle.actions.specs.Nth.{nthReport, commitCount}
-use Rattle.fast_path.specs.Run.{toNext, isStore, RunsOn}
+use Rattle.fast_path.specs.Run.{isStore, RunsOn}
 use Rattle.fast_path.specs.Stores.{Before}
+use Rattle.session.specs.Promise.{Memory, memoryOf}
 
 -- The next action is one of a commit's but not its last, and the lent lengths are those at its begin.
 abbrev pub FastStep : Control → Setup → (bytes words : ℕ) → Type 0
@@ -31,19 +31,17 @@ abbrev pub InStaging : Control → Setup → (bytes words : ℕ) → Type 0
 InStaging c k bytes words = (c .phase ≡ 2) × ((k .image ≡ bytes) × (k .table ≡ words))
 
 -- nothing done
-abbrev pub Idles : (s s′ : Session) (bytes bytes′ table table′ : List ℕ) → Report → Type 0
-Idles s s′ bytes bytes′ table table′ r = (s′ ≡ s) × ((bytes′ ≡ bytes) × ((table′ ≡ table) × (r ≡ R.Idle)))
+abbrev pub Idles : (m m′ : Memory) → Report → Type 0
+Idles m m′ r = (m′ ≡ m) × (r ≡ R.Idle)
 
--- P of record, image and table before and after, and of the report, where `Here` holds; elsewhere nothing is done
-pub record OnFastPath (Here : Control → Setup → (bytes words : ℕ) → Type 0) (P : (s s′ : Session) (bytes bytes′ table table′ : List ℕ) → Report → Type 0) (s s′ : Session) (bytes bytes′ table table′ : List ℕ) (r : Report) : Type 0 where
-  pub within : Here (s .control) (s .setup) (length bytes) (length table) → P s s′ bytes bytes′ table table′ r
-  pub without : (Here (s .control) (s .setup) (length bytes) (length table) → ⊥) → Idles s s′ bytes bytes′ table table′ r
+-- where: by the record's numbers and the lent lengths
+abbrev pub HereIn : (Control → Setup → (bytes words : ℕ) → Type 0) → Memory → Type 0
+HereIn Here m = Here (m .session .control) (m .session .setup) (length (m .image)) (length (m .table))
 
--- the same of a core, which has the record by its parts: inside a commit a step and a run alter the number of the next
--- action alone
-abbrev pub FastPath : ((s s′ : Session) (bytes bytes′ table table′ : List ℕ) → Report → Type 0) → Control → Setup → (buffer bytes bytes′ table table′ : List ℕ) → (next : ℕ) → Report → Type 0
-FastPath P c k b bytes bytes′ table table′ n r =
-    OnFastPath FastStep P (record { control = c; setup = k; buffer = b }) (record { control = toNext n c; setup = k; buffer = b }) bytes bytes′ table table′ r
+-- P of memory before and after, and of the report, where `Here` holds; elsewhere nothing is done
+pub record OnFastPath (Here : Control → Setup → (bytes words : ℕ) → Type 0) (P : (m m′ : Memory) → Report → Type 0) (m m′ : Memory) (r : Report) : Type 0 where
+  pub within : HereIn Here m → P m m′ r
+  pub without : (HereIn Here m → ⊥) → Idles m m′ r
 
 -- Stores of a commit up to action n are made; and the last action is still to come if it was.
 pub record StoresTo (c : Control) (k : Setup) (b bytes bytes′ : List ℕ) (n : ℕ) : Type 0 where
@@ -67,4 +65,4 @@ pub record BlockStores (c : Control) (k : Setup) (b bytes bytes′ : List ℕ) (
 pub record StagingRun (c : Control) (k : Setup) (b bytes bytes′ : List ℕ) (c′ : Control) (r : Report) : Type 0 where
   pub sized : length bytes′ ≡ length bytes
   pub runs : (table : List ℕ) → InStaging c k (length bytes) (length table)
-      → RunsOn (record { control = c; setup = k; buffer = b }) (record { control = c′; setup = k; buffer = b }) bytes bytes′ table table r
+      → RunsOn (memoryOf c k b bytes table) (memoryOf c′ k b bytes′ table) r

@@ -10,18 +10,12 @@ use Rattle.session.specs.declared.Control.{Control}
 use Rattle.session.specs.declared.Session.{Session}
 use Rattle.spec.specs.declared.Report.{Report}
 use Rattle.spec.specs.declared.Report.the-variants as R
-use Rattle.session.specs.Promise.{Does}
-
--- the record's numbers with another next action
-abbrev pub toNext : ℕ → Control → Control
-toNext n c = record { phase = c .phase; next = n; items = c .items; words = c .words; keys = c .keys; fresh = c .fresh }
+use Rattle.session.specs.Promise.{Memory, Does}
 
 -- n steps that each store a word, and then one with this report
-abbrev pub Ran : ℕ → (s s′ : Session) (bytes bytes′ table table′ : List ℕ) → Report → Type 0
-Ran zero s s′ bytes bytes′ table table′ r = Does Step s s′ bytes bytes′ table table′ r
-Ran (suc n) s s′ bytes bytes′ table table′ r =
-    (s₁ : Session) × ((bytes₁ : List ℕ) × ((table₁ : List ℕ) × ((w : ℕ) × ((v : ℕ)
-    × (Does Step s s₁ bytes bytes₁ table table₁ (R.Store w v) × Ran n s₁ s′ bytes₁ bytes′ table₁ table′ r)))))
+abbrev pub Ran : ℕ → (m m′ : Memory) → Report → Type 0
+Ran zero m m′ r = Does Step m m′ r
+Ran (suc n) m m′ r = (m₁ : Memory) × ((w : ℕ) × ((v : ℕ) × (Does Step m m₁ (R.Store w v) × Ran n m₁ m′ r)))
 
 abbrev pub isStore : Report → Bool
 isStore (R.Refused n) = false
@@ -37,13 +31,13 @@ isStore (R.Chosen c) = false
 isStore (R.Part a n) = false
 
 -- one step, whose report tells of no store
-abbrev pub StepsOn : (s s′ : Session) (bytes bytes′ table table′ : List ℕ) → Report → Type 0
-StepsOn s s′ bytes bytes′ table table′ r = Does Step s s′ bytes bytes′ table table′ r × (isStore r ≡ false)
+abbrev pub StepsOn : (m m′ : Memory) → Report → Type 0
+StepsOn m m′ r = Does Step m m′ r × (isStore r ≡ false)
 
 -- some steps that each store a word, and then one with this report
-abbrev pub Runs : (s s′ : Session) (bytes bytes′ table table′ : List ℕ) → Report → Type 0
-Runs s s′ bytes bytes′ table table′ r = (n : ℕ) × Ran n s s′ bytes bytes′ table table′ r
+abbrev pub Runs : (m m′ : Memory) → Report → Type 0
+Runs m m′ r = (n : ℕ) × Ran n m m′ r
 
 -- the stores that come next, and then the action behind them, which is none and is told
-abbrev pub RunsOn : (s s′ : Session) (bytes bytes′ table table′ : List ℕ) → Report → Type 0
-RunsOn s s′ bytes bytes′ table table′ r = Runs s s′ bytes bytes′ table table′ r × (isStore r ≡ false)
+abbrev pub RunsOn : (m m′ : Memory) → Report → Type 0
+RunsOn m m′ r = Runs m m′ r × (isStore r ≡ false)

@@ -10,7 +10,9 @@ use Rattle.session.specs.declared.Session.{Session}
 use Rattle.spec.specs.declared.Report.{Report}
 use Rattle.words.specs.Image.{Saved}
 use Rattle.session.specs.State.{areaStart}
-use Rattle.fast_path.specs.Run.{toNext, Runs}
+use Rattle.fast_path.specs.Run.{Runs}
+use Rattle.session.specs.Promise.{memory, memoryOf}
+use Rattle.session.specs.Numbers.{toNext}
 
 -- word i of the second area
 abbrev pub areaWord : (b : List ℕ) (i : ℕ) → ℕ
@@ -25,5 +27,5 @@ Filled value start i (suc m) bytes bytes′ = (bytes₁ : List ℕ) × (Saved by
 pub record Before (Here : Control → Setup → (bytes words : ℕ) → Type 0) (c : Control) (k : Setup) (b bytes bytes′ : List ℕ) (n : ℕ) : Type 0 where
   pub sized : length bytes′ ≡ length bytes
   pub run : (table : List ℕ) → Here c k (length bytes) (length table) → (s′ : Session) (bytes″ table″ : List ℕ) (r : Report)
-      → Runs (record { control = toNext n c; setup = k; buffer = b }) s′ bytes′ bytes″ table table″ r
-      → Runs (record { control = c; setup = k; buffer = b }) s′ bytes bytes″ table table″ r
+      → Runs (memoryOf (toNext n c) k b bytes′ table) (memory s′ bytes″ table″) r
+      → Runs (memoryOf c k b bytes table) (memory s′ bytes″ table″) r

@@ -6,10 +6,10 @@ ghost use Prim.Native.Nat.{_-_, _^_, _≤_, _<_};
 ghost use Rattle.spec.specs.Machine.{Step};
 ghost use Rattle.fast_path.specs.Run.{StepsOn, RunsOn};
 ghost use Rattle.fast_path.specs.Stores.{areaWord, Filled};
-ghost use Rattle.fast_path.specs.Fast.{FastStep, Late, InStaging, OnFastPath, FastPath, Stores, takeCount, BlockStores, StagingRun};
-ghost use Rattle.session.proofs.Kept.{emptied, staged};
+ghost use Rattle.fast_path.specs.Fast.{FastStep, Late, InStaging, OnFastPath, Stores, takeCount, BlockStores, StagingRun};
+ghost use Rattle.session.specs.Numbers.{toNext, emptied, staged};
 ghost use Rattle.spec.specs.declared.Report.the-variants.{End};
-ghost use Rattle.session.specs.Promise.{Does};
+ghost use Rattle.session.specs.Promise.{Does, memoryOf};
 use blocks::Buffer;
 use session::Control;
 use session::Setup;
@@ -47,7 +47,7 @@ pub fn fast_step(
     image: &mut [u8],
     table: &mut [u64],
 ) -> Advanced
-    ensures { λ r. ⌜ FastPath (Does Step) control setup (now (buffer .entry)) (now (image .entry)) (now (image .exit)) (now (table .entry)) (now (table .exit)) (r .next) (r .report) ⌝ }
+    ensures { λ r. ⌜ OnFastPath FastStep (Does Step) (memoryOf control setup (now (buffer .entry)) (now (image .entry)) (now (table .entry))) (memoryOf (toNext (r .next) control) setup (now (buffer .entry)) (now (image .exit)) (now (table .exit))) (r .report) ⌝ }
 {
     let at = control.next;
     if is_fast_step(control, setup, image.len(), table.len()) {
@@ -89,7 +89,7 @@ pub fn fast_run(
     image: &mut [u8],
     table: &mut [u64],
 ) -> Advanced
-    ensures { λ r. ⌜ FastPath RunsOn control setup (now (buffer .entry)) (now (image .entry)) (now (image .exit)) (now (table .entry)) (now (table .exit)) (r .next) (r .report) ⌝ }
+    ensures { λ r. ⌜ OnFastPath FastStep RunsOn (memoryOf control setup (now (buffer .entry)) (now (image .entry)) (now (table .entry))) (memoryOf (toNext (r .next) control) setup (now (buffer .entry)) (now (image .exit)) (now (table .exit))) (r .report) ⌝ }
 {
     if is_fast_step(control, setup, image.len(), table.len()) {
         let actions = actions::commit_count(control.words);
@@ -163,7 +163,7 @@ pub fn late_step(
     image: &mut [u8],
     table: &mut [u64],
 ) -> Stepped
-    ensures { λ r. ⌜ OnFastPath Late StepsOn (record { control = control; setup = setup; buffer = now (buffer .entry) }) (record { control = r .control; setup = setup; buffer = now (buffer .exit) }) (now (image .entry)) (now (image .exit)) (now (table .entry)) (now (table .exit)) (r .report) ⌝ }
+    ensures { λ r. ⌜ OnFastPath Late StepsOn (memoryOf control setup (now (buffer .entry)) (now (image .entry)) (now (table .entry))) (memoryOf (r .control) setup (now (buffer .exit)) (now (image .exit)) (now (table .exit))) (r .report) ⌝ }
 {
     if is_late(control, setup, image.len(), table.len()) {
         if actions::commit_count(control.words) <= control.next {
@@ -273,14 +273,7 @@ fn store_run(control: Control, setup: Setup, buffer: &Buffer, image: &mut [u8]) 
     }
     let action = block_acts::block_action(setup, buffer, at);
     let next = at + 1;
-    let moved = Control {
-        phase: control.phase,
-        next,
-        items: control.items,
-        words: control.words,
-        keys: control.keys,
-        fresh: control.fresh,
-    };
+    let moved = session::moved(control, next);
     Stepped {
         control: moved,
         report: action,
@@ -291,14 +284,7 @@ fn store_run(control: Control, setup: Setup, buffer: &Buffer, image: &mut [u8]) 
 fn staged(control: Control) -> Stepped
     ensures { λ r. ⌜ (r .control ≡ staged control) × (r .report ≡ End 0) ⌝ }
 {
-    let staged = Control {
-        phase: 1,
-        next: 0,
-        items: control.items,
-        words: control.words,
-        keys: control.keys,
-        fresh: control.fresh,
-    };
+    let staged = session::at_rest(control);
     Stepped {
         control: staged,
         report: Report::End(0),
@@ -314,7 +300,7 @@ pub fn staging_run(
     image: &mut [u8],
     table: &mut [u64],
 ) -> Stepped
-    ensures { λ r. ⌜ OnFastPath InStaging RunsOn (record { control = control; setup = setup; buffer = now (buffer .entry) }) (record { control = r .control; setup = setup; buffer = now (buffer .entry) }) (now (image .entry)) (now (image .exit)) (now (table .entry)) (now (table .exit)) (r .report) ⌝ }
+    ensures { λ r. ⌜ OnFastPath InStaging RunsOn (memoryOf control setup (now (buffer .entry)) (now (image .entry)) (now (table .entry))) (memoryOf (r .control) setup (now (buffer .entry)) (now (image .exit)) (now (table .exit))) (r .report) ⌝ }
 {
     if is_staging(control, setup, image.len(), table.len()) {
         let at = control.next;
@@ -331,14 +317,7 @@ pub fn staging_run(
         }
         let unit = block_acts::unit_of(setup);
         let line = unit.word_offset() / 8 + (at - behind);
-        let moved = Control {
-            phase: control.phase,
-            next: at + 1,
-            items: control.items,
-            words: control.words,
-            keys: control.keys,
-            fresh: control.fresh,
-        };
+        let moved = session::moved(control, at + 1);
         return Stepped {
             control: moved,
             report: Report::Flush(line),

@@ -17,7 +17,6 @@ use Rattle.spec.specs.Actions.{formatOf}
 use Rattle.spec.specs.Machine.{Format, Formatting, isUnfinished, isOpen, next}
 use Rattle.session.specs.declared.Control.{Control}
 use Rattle.session.specs.declared.Setup.{Setup}
-use Rattle.session.specs.declared.Source.{Source}
 use Rattle.session.specs.declared.Session.{Session}
 use Rattle.spec.specs.declared.Given.{Given}
 use Rattle.spec.specs.declared.Given.the-variants as H
@@ -25,11 +24,12 @@ use Rattle.spec.specs.declared.Refusal.the-variants as N
 use Rattle.spec.specs.declared.Report.the-variants as R
 use Rattle.theory_base.proofs.Lists.{not-both}
 use Rattle.theory_crash.proofs.Format.{format-count}
-use Rattle.session.specs.State.{givenBy, formatActions, noSource, stateBy, stateAt, stateOf, limit}
+use Rattle.session.specs.State.{givenBy, formatActions, stateBy, stateAt, stateOf, limit}
 use Rattle.session.proofs.Phases.{past}
 use Rattle.session.proofs.Gates.{refused}
 use Rattle.formatting.specs.Begun.{numberIn, unfinishedAt, formattingAt}
-use Rattle.session.specs.Promise.{Does}
+use Rattle.session.specs.Promise.{Does, memory, memoryOf}
+use Rattle.session.specs.Numbers.{formattingIn, told as toldSetup}
 
 module _ (c : Control) (k : Setup) (b bytes table : List ℕ) where
   abbrev s : Session
@@ -73,8 +73,8 @@ module _ (c : Control) (k : Setup) (b bytes table : List ℕ) where
   module _ (station centre : Given) where
     abbrev formatting : Session
     formatting = record {
-      control = record { phase = formattingAt (c .phase); next = 0; items = 0; words = 0; keys = 0; fresh = 0 };
-      setup = record { image = length bytes; table = length table; chunk = 0; old = 0; lines = 0; first = 0; least = 0; fields = headerMap station centre; station = numberIn station; centre = numberIn centre; source = noSource };
+      control = formattingIn (formattingAt (c .phase));
+      setup = toldSetup (length bytes) (length table) (headerMap station centre) (numberIn station) (numberIn centre);
       buffer = b;
     }
 
@@ -90,18 +90,18 @@ module _ (c : Control) (k : Setup) (b bytes table : List ℕ) where
         go true = rw (told station centre .0, told station centre .1)
         go false = rw (told station centre .0, told station centre .1)
 
-    pub format-length : lengthAllowed 12 (length bytes) ≡ false → Does (Format station centre) s s bytes bytes table table (R.Refused N.ImageLength)
+    pub format-length : lengthAllowed 12 (length bytes) ≡ false → Does (Format station centre) (memory s bytes table) (memory s bytes table) (R.Refused N.ImageLength)
     unfolding next
     format-length h = refused 12 limit s bytes table N.ImageLength (Format station centre) refl (λ f q. absurd (not-both true refl q)) (λ f. rw h)
         (λ r q. absurd (let z : _≡_ {A = ℕ} 0 1 = cc in omega arith)) (inl refl) (refl, refl) (rw h, rw h)
 
-    pub format-unfinished : lengthAllowed 12 (length bytes) ≡ true → unfinishedAt (c .phase) ≡ true → Does (Format station centre) s s bytes bytes table table (R.Refused N.Unfinished)
+    pub format-unfinished : lengthAllowed 12 (length bytes) ≡ true → unfinishedAt (c .phase) ≡ true → Does (Format station centre) (memory s bytes table) (memory s bytes table) (R.Refused N.Unfinished)
     unfolding stateAt next
     format-unfinished h u = refused 12 limit s bytes table N.Unfinished (Format station centre) refl (λ f q. absurd (not-both true refl q)) (λ f. rw (h, unfinished-by (c .phase), u))
         (λ r q. absurd (let z : _≡_ {A = ℕ} 0 1 = cc in omega arith)) (inr (inl refl)) (refl, refl) (rw (h, unfinished-by (c .phase), u), rw (h, unfinished-by (c .phase), u))
 
     begins : lengthAllowed 12 (length bytes) ≡ true → unfinishedAt (c .phase) ≡ false
-        → Does (Format station centre) s formatting bytes bytes table table (R.Begun 582)
+        → Does (Format station centre) (memory s bytes table) (memory formatting bytes table) (R.Begun 582)
     unfolding stateAt next
     begins h u = record {
       exact = λ proper. record {
@@ -119,12 +119,8 @@ module _ (c : Control) (k : Setup) (b bytes table : List ℕ) where
       );
     }
 
-    pub format-begun : (phase fields x y : ℕ) (f : Source) → phase ≡ formattingAt (c .phase) → fields ≡ headerMap station centre → x ≡ numberIn station → y ≡ numberIn centre → f ≡ noSource
+    pub format-begun : (phase fields x y : ℕ) (c′ : Control) (k′ : Setup) → phase ≡ formattingAt (c .phase) → fields ≡ headerMap station centre → x ≡ numberIn station → y ≡ numberIn centre
+        → c′ ≡ formattingIn phase → k′ ≡ toldSetup (length bytes) (length table) fields x y
         → lengthAllowed 12 (length bytes) ≡ true → unfinishedAt (c .phase) ≡ false
-        → Does (Format station centre) s
-        (record {
-          control = record { phase = phase; next = 0; items = 0; words = 0; keys = 0; fresh = 0 };
-          setup = record { image = length bytes; table = length table; chunk = 0; old = 0; lines = 0; first = 0; least = 0; fields = fields; station = x; centre = y; source = f };
-          buffer = b;
-        }) bytes bytes table table (R.Begun 582)
-    format-begun phase fields x y f p q d e g h u = rw (p, q, d, e, g) (begins h u)
+        → Does (Format station centre) (memory s bytes table) (memoryOf c′ k′ b bytes table) (R.Begun 582)
+    format-begun phase fields x y c′ k′ p q d e i j h u = rw (i, j, p, q, d, e) (begins h u)

@@ -4,7 +4,7 @@ ghost use Prim.Native.Nat.{_≤_};
 ghost use Rattle.spec.specs.Header.{bitOf, headerMap};
 ghost use Rattle.spec.specs.Machine.{Format};
 ghost use Rattle.formatting.specs.Begun.{given, numberIn, unfinishedAt, formattingAt};
-ghost use Rattle.session.specs.Promise.{Does};
+ghost use Rattle.session.specs.Promise.{Does, memoryOf};
 use blocks::Buffer;
 use session::Control;
 use session::Outcome;
@@ -68,7 +68,7 @@ pub fn format_core(
     station: Given,
     centre: Given,
 ) -> Outcome
-    ensures { λ r. ⌜ Does (Format station centre) (record { control = control; setup = setup; buffer = now (buffer .entry) }) (record { control = r .control; setup = r .setup; buffer = now (buffer .entry) }) (now (image .entry)) (now (image .entry)) (now (table .entry)) (now (table .entry)) (r .report) ⌝ }
+    ensures { λ r. ⌜ Does (Format station centre) (memoryOf control setup (now (buffer .entry)) (now (image .entry)) (now (table .entry))) (memoryOf (r .control) (r .setup) (now (buffer .entry)) (now (image .entry)) (now (table .entry))) (r .report) ⌝ }
 {
     let bytes = image.len();
     let words = table.len();
@@ -80,27 +80,14 @@ pub fn format_core(
                 report: Report::Refused(Refusal::Unfinished),
             };
         }
-        let begun = Control {
-            phase: formatting_phase(control.phase),
-            next: 0,
-            items: 0,
-            words: 0,
-            keys: 0,
-            fresh: 0,
-        };
-        let told = Setup {
-            image: bytes,
-            table: words,
-            chunk: 0,
-            old: 0,
-            lines: 0,
-            first: 0,
-            least: 0,
-            fields: header_map(station, centre),
-            station: number_in(station),
-            centre: number_in(centre),
-            source: session::no_source(),
-        };
+        let begun = session::formatting(formatting_phase(control.phase));
+        let told = session::told(
+            bytes,
+            words,
+            header_map(station, centre),
+            number_in(station),
+            number_in(centre),
+        );
         Outcome {
             control: begun,
             setup: told,
@@ -138,7 +125,7 @@ pub fn format_told(
     centre_given: bool,
     centre: u64,
 ) -> Outcome
-    ensures { λ r. ⌜ Does (Format (given «station_given» station) (given «centre_given» centre)) (record { control = control; setup = setup; buffer = now (buffer .entry) }) (record { control = r .control; setup = r .setup; buffer = now (buffer .entry) }) (now (image .entry)) (now (image .entry)) (now (table .entry)) (now (table .entry)) (r .report) ⌝ }
+    ensures { λ r. ⌜ Does (Format (given «station_given» station) (given «centre_given» centre)) (memoryOf control setup (now (buffer .entry)) (now (image .entry)) (now (table .entry))) (memoryOf (r .control) (r .setup) (now (buffer .entry)) (now (image .entry)) (now (table .entry))) (r .report) ⌝ }
 {
     let a = told(station_given, station);
     let b = told(centre_given, centre);

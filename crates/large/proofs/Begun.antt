@@ -18,6 +18,7 @@ use Rattle.spec.specs.Plans as K
 use Rattle.spec.specs.Actions.{takeOf, blockOf}
 use Rattle.spec.specs.Medium.{Action}
 use Rattle.session.specs.declared.Setup.{Setup}
+use Rattle.session.specs.Numbers.{placing}
 use Rattle.theory_log.specs.Batch.{block, Right}
 use Rattle.theory_base.proofs.Sizes as Z
 use Rattle.codec.specs.declared.Unit.{Unit as UnitNumber}
@@ -44,14 +45,13 @@ same-held b d h =
     ap (bufferPart d 512) f ∙ part-agree d b 512 (heldCount b) (λ j l u. h j l (omega arith))
 
 -- THE BLOCK BEGUN
-pub begun : (before mid after : List ℕ) (k : Setup) (words version key : ℕ) (v : List ℕ) (u old size end count ch pl : ℕ) → Kept before mid v → Added mid after words end (entry 1 1 version u key [])
-    → ch ≡ unitChunk 12 u → pl ≡ unitIn 12 u
-    → count ≡ length (blockActions (record { image = k .image; table = k .table; chunk = ch; old = old; lines = pl; first = k .first; least = k .least; fields = size; station = k .station; centre = k .centre; source = k .source }) after)
+pub begun : (before mid after : List ℕ) (k : Setup) (words version key : ℕ) (v : List ℕ) (u old size end count ch pl : ℕ) (placed : Setup) → Kept before mid v → Added mid after words end (entry 1 1 version u key [])
+    → ch ≡ unitChunk 12 u → pl ≡ unitIn 12 u → placed ≡ placing k ch old pl size → count ≡ length (blockActions placed after)
     → BlockBegun before after k words version key v u old size
-    (record { found = true; setup = record { image = k .image; table = k .table; chunk = ch; old = old; lines = pl; first = k .first; least = k .least; fields = size; station = k .station; centre = k .centre; source = k .source }; words = end; count = count })
-begun before mid after k words version key v u old size end count ch pl h a ec ep en = record {
+    (record { found = true; setup = placed; words = end; count = count })
+begun before mid after k words version key v u old size end count ch pl placed h a ec ep es en = record {
   found = refl;
-  setup = rw (ec, ep);
+  setup = es ∙ rw (ec, ep);
   count = en;
   long = a .long ∙ h .long;
   bits = λ i. a .bits i ∙ h .bits i;

@@ -19,22 +19,11 @@ use Rattle.session.specs.State.{batchRoom, bufferPart, mostBytes, heldWords, bl
 use Rattle.session.specs.Filter.{filterPlace, AllMarked}
 use Rattle.slots.specs.Blocks.{Says}
 use Rattle.large.specs.declared.Large.{Large}
+use Rattle.session.specs.Numbers.{placing}
 
 -- the setup of a staging to the block at unit u
 abbrev pub placedAt : Setup → ℕ → ℕ → ℕ → Setup
-placedAt k u old size = record {
-  image = k .image;
-  table = k .table;
-  chunk = unitChunk 12 u;
-  old = old;
-  lines = unitIn 12 u;
-  first = k .first;
-  least = k .least;
-  fields = size;
-  station = k .station;
-  centre = k .centre;
-  source = k .source;
-}
+placedAt k u old size = placing k (unitChunk 12 u) old (unitIn 12 u) size
 
 pub record BlockBegun (before after : List ℕ) (k : Setup) (words version key : ℕ) (v : List ℕ) (u old size : ℕ) (r : Large) : Type 0 where
   pub found : r .found ≡ true

@@ -40,20 +40,13 @@ fn begin_block(
     hold_value(buffer, value);
     let field = unit.0;
     let end = add_entry(buffer, words, 1, 1, version, field, key, &value[0..0]);
-    let source = setup.source;
-    let placed = Setup {
-        image: setup.image,
-        table: setup.table,
-        chunk: unit.chunk() as usize,
+    let placed = session::placing(
+        setup,
+        unit.chunk() as usize,
         old,
-        lines: unit.place() as usize,
-        first: setup.first,
-        least: setup.least,
-        fields: size,
-        station: setup.station,
-        centre: setup.centre,
-        source,
-    };
+        unit.place() as usize,
+        size,
+    );
     let count = block_count(placed, buffer);
     Large {
         found: true,

@@ -40,7 +40,7 @@ use Rattle.listing.proofs.Answers.{register, present-fit}
 use Rattle.list_lines.specs.Lines.{refusedText, countText, lineText}
 use Rattle.list_lines.proofs.Pieces.{line-length, number-length}
 use Rattle.list_text.specs.Print.{listedText, linesText, registerText, openedText, listText, mostText, Opened, Key, Keys, Register, Image}
-use Rattle.session.specs.Promise.{Does}
+use Rattle.session.specs.Promise.{Does, memory}
 
 -- ## A key
 
@@ -156,7 +156,7 @@ not-refused (R.Chosen c) n k e = let z : _≡_ {A = ℕ} 0 1 = cc in omega arith
 not-refused (R.Part a m) n k e = let z : _≡_ {A = ℕ} 0 1 = cc in omega arith
 
 module _ (c₀ : Control) (k₀ : Setup) (c : Control) (k : Setup) (bytes table table′ buffer buffer′ keys out out′ : List ℕ) (report : Report)
-    (h : Does Open (sessionOf c₀ k₀ buffer) (sessionOf c k buffer′) bytes bytes table table′ report) (r : ℕ) where
+    (h : Does Open (memory (sessionOf c₀ k₀ buffer) bytes table) (memory (sessionOf c k buffer′) bytes table′) report) (r : ℕ) where
   abbrev verdict : Opening
   verdict = opening 12 (length bytes) (wordsOf bytes) (length table)
 

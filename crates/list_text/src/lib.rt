@@ -76,34 +76,6 @@ fn put_register(
     }
 }
 
-// A record with nothing open.
-fn no_control() -> Control {
-    Control {
-        phase: 0,
-        next: 0,
-        items: 0,
-        words: 0,
-        keys: 0,
-        fresh: 0,
-    }
-}
-
-fn no_setup() -> Setup {
-    Setup {
-        image: 0,
-        table: 0,
-        chunk: 0,
-        old: 0,
-        lines: 0,
-        first: 0,
-        least: 0,
-        fields: 0,
-        station: 0,
-        centre: 0,
-        source: session::no_source(),
-    }
-}
-
 // The text of an image, with lent memory for its key table, the record's buffer and the keys; how long it is.
 pub fn list_image(
     image: &[u8],
@@ -114,7 +86,7 @@ pub fn list_image(
 ) -> usize
     ensures { λ r. ⌜ Image (now (image .entry)) (now (table .entry)) (now (buffer .entry)) (now (keys .entry)) (now (out .entry)) (now (out .exit)) r ⌝ }
 {
-    let opened = opening::open_core(no_control(), no_setup(), buffer, image, table);
+    let opened = opening::open_core(session::closed(), session::nothing(), buffer, image, table);
     let control = opened.control;
     let setup = opened.setup;
     let report = opened.report;

@@ -54,7 +54,7 @@ use Rattle.session.specs.declared.Gated.the-variants as G
 use Rattle.session.specs.Asks.{gateOf, Asking}
 use Rattle.lookup.specs.Look.{reportOf, within, blockPart, partBy, firstWord, partAt, PartIn, InImage, Looking, sessionOf, Locating, Showing}
 use Rattle.session.proofs.Gates.{turned-down, at-rest}
-use Rattle.session.specs.Promise.{Does}
+use Rattle.session.specs.Promise.{Does, memory}
 use Rattle.session.specs.Fits.{Proper}
 
 -- ## Any memory: 11, or a part of the image
@@ -261,7 +261,7 @@ module _ (s : Session) (key : ℕ) (bytes table : List ℕ) where
   unchanged (L.Refused n) = refl
   unchanged (L.Part a n) = refl
 
-  looked : (r : Located) → gate (stateOf s) (length bytes) (length table) ≡ none → Looking key bytes table r → Does (LookUp key) s s bytes bytes table table (reportOf r)
+  looked : (r : Located) → gate (stateOf s) (length bytes) (length table) ≡ none → Looking key bytes table r → Does (LookUp key) (memory s bytes table) (memory s bytes table) (reportOf r)
   looked r g l = record {
     exact = λ f. record { answered = exact f; became = next-same (stateOf s) key (wordsOf bytes) (length bytes) (length table); fits = f };
     first = λ r′ h. absurd (let q : none ≡ some r′ = rw g at h in let z : _≡_ {A = ℕ} 0 1 = cc in omega arith);

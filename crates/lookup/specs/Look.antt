@@ -23,7 +23,7 @@ use Rattle.theory_crash.specs.Accepted.{Ok}
 use Rattle.volatile.specs.Known.{Indexed}
 use Rattle.lookup.specs.declared.Located.{Located}
 use Rattle.lookup.specs.declared.Located.the-variants as L
-use Rattle.session.specs.Promise.{Does}
+use Rattle.session.specs.Promise.{Does, memory}
 
 abbrev pub reportOf : Located → Report
 reportOf (L.Refused n) = R.Refused n
@@ -71,7 +71,7 @@ sessionOf c k b = record { control = c; setup = k; buffer = b }
 
 -- THE CALL, whatever the buffer holds: record, image and table stay
 abbrev pub LookedUp : Control → Setup → ℕ → List ℕ → List ℕ → Report → Type 0
-LookedUp c k key bytes table r = (b : List ℕ) → Does (LookUp key) (sessionOf c k b) (sessionOf c k b) bytes bytes table table r
+LookedUp c k key bytes table r = (b : List ℕ) → Does (LookUp key) (memory (sessionOf c k b) bytes table) (memory (sessionOf c k b) bytes table) r
 
 pub record Locating (c : Control) (k : Setup) (key : ℕ) (bytes table : List ℕ) (r : Located) : Type 0 where
   pub called : LookedUp c k key bytes table (reportOf r)

@@ -17,7 +17,6 @@ use Rattle.spec.specs.Opening.{Opening, Refused, Accepted, directoryTest, block
 use Rattle.spec.specs.Machine.{Closed, Rest, Open, next}
 use Rattle.session.specs.declared.Control.{Control}
 use Rattle.session.specs.declared.Setup.{Setup}
-use Rattle.session.specs.declared.Source.{Source}
 use Rattle.session.specs.declared.Session.{Session}
 use Rattle.spec.specs.declared.Refusal.{Refusal}
 use Rattle.spec.specs.declared.Refusal.the-variants as N
@@ -34,14 +33,15 @@ use Rattle.volatile.specs.Sums.{Summed}
 use Rattle.volatile.proofs.Sums.{summed-same}
 use Rattle.consistency.specs.declared.Checked.{Checked}
 use Rattle.consistency.specs.Pass.{Listed, Tested, Examined}
-use Rattle.session.specs.State.{batchWords, batchItems, noSource, stateAt, stateOf}
+use Rattle.session.specs.State.{batchWords, batchItems, stateAt, stateOf}
 use Rattle.session.specs.Fits.{RestFits}
 use Rattle.session.proofs.Kept.{none-fit}
 use Rattle.opening.specs.declared.Verdict.{Verdict}
 use Rattle.opening.specs.declared.Verdict.the-variants as J
 use Rattle.opening.specs.Pass.{Filling}
 use Rattle.opening.specs.Judged.{firstRefusal, Judged, JudgingLog, Judging}
-use Rattle.session.specs.Promise.{Does}
+use Rattle.session.specs.Promise.{Does, memory}
+use Rattle.session.specs.Numbers.{closed, opened, lent}
 
 -- ## The log
 
@@ -176,15 +176,6 @@ module _ (bytes table : List ℕ) where
 
 -- ## The call
 
-abbrev closed : Control
-closed = record { phase = 0; next = 0; items = 0; words = 0; keys = 0; fresh = 0 }
-
-abbrev atRest : ℕ → Control
-atRest keys = record { phase = 1; next = 0; items = 0; words = 0; keys = keys; fresh = 0 }
-
-abbrev lent : ℕ → ℕ → Source → Setup
-lent bytes words f = record { image = bytes; table = words; chunk = 0; old = 0; lines = 0; first = 1; least = 64; fields = 0; station = 0; centre = 0; source = f }
-
 abbrev session : Control → Setup → List ℕ → Session
 session c k b = record { control = c; setup = k; buffer = b }
 
@@ -192,22 +183,22 @@ state-closed : (k : Setup) (b : List ℕ) → stateOf (session closed k b) ≡ C
 unfolding stateAt
 state-closed k b = refl
 
-no-words : (keys : ℕ) (b : List ℕ) → batchWords (atRest keys) b ≡ []
+no-words : (keys : ℕ) (b : List ℕ) → batchWords (opened keys) b ≡ []
 unfolding batchWords
 no-words keys b = refl
 
-no-items : (keys : ℕ) (b : List ℕ) → batchItems (atRest keys) b ≡ []
+no-items : (keys : ℕ) (b : List ℕ) → batchItems (opened keys) b ≡ []
 unfolding batchItems
 no-items keys b = rw (no-words keys b)
 
-state-rest : (keys bytes words : ℕ) (b : List ℕ) → stateOf (session (atRest keys) (lent bytes words noSource) b) ≡ Rest bytes words []
+state-rest : (keys bytes words : ℕ) (b : List ℕ) → stateOf (session (opened keys) (lent bytes words) b) ≡ Rest bytes words []
 unfolding stateAt
 state-rest keys bytes words b = ap (Rest bytes words) (no-items keys b)
 
 -- nothing is barred, and the image stays
 module _ (c : Control) (k : Setup) (buffer bytes table table′ buffer′ : List ℕ) (v : Verdict) (judging : Judging bytes table table′ buffer buffer′ v) where
   pub opens-refused : (n : Refusal) → v ≡ J.Refused n → (table″ : List ℕ) → table″ ≡ zeros (length table′)
-      → Does Open (session c k buffer) (session closed k buffer′) bytes bytes table table″ (R.Refused n)
+      → Does Open (memory (session c k buffer) bytes table) (memory (session closed k buffer′) bytes table″) (R.Refused n)
   unfolding next
   opens-refused n e table″ z =
       let j : Judged (opening 12 (length bytes) (wordsOf bytes) (length table)) table′ buffer′ (J.Refused n) = rw e at (judging .judged) in
@@ -225,7 +216,7 @@ module _ (c : Control) (k : Setup) (buffer bytes table table′ buffer′ : List
         anyway = inl (n, refl);
       }
 
-  opens : (keys : ℕ) → v ≡ J.Accepted keys → Does Open (session c k buffer) (session (atRest keys) (lent (length bytes) (length table) noSource) buffer′) bytes bytes table table′ R.Opened
+  opens : (keys : ℕ) → v ≡ J.Accepted keys → Does Open (memory (session c k buffer) bytes table) (memory (session (opened keys) (lent (length bytes) (length table)) buffer′) bytes table′) R.Opened
   unfolding next
   opens keys e =
       let j : Judged (opening 12 (length bytes) (wordsOf bytes) (length table)) table′ buffer′ (J.Accepted keys) = rw e at (judging .judged) in
@@ -244,7 +235,7 @@ module _ (c : Control) (k : Setup) (buffer bytes table table′ buffer′ : List
       }
     where
       fits : (keys : ℕ) (es : List Entry) → opening 12 (length bytes) (wordsOf bytes) (length table) ≡ Accepted es → Indexed table′ keys es → ((u : ℕ) → hasBit buffer′ u ≡ isIn u (liveBlocks es))
-          → Summed buffer′ es → RestFits (session (atRest keys) (lent (length bytes) (length table) noSource) buffer′) (wordsOf bytes) table′ []
+          → Summed buffer′ es → RestFits (session (opened keys) (lent (length bytes) (length table)) buffer′) (wordsOf bytes) table′ []
       fits keys es o ix bits sums =
           let m : keys ≡ length (keysOf es) = ix .count in
           let l : keys ≤ capacity (length table) = rw (judging .sized) at (ix .fits) in
@@ -269,6 +260,6 @@ module _ (c : Control) (k : Setup) (buffer bytes table table′ buffer′ : List
             hint = record { below = λ c l u m. absurd (omega arith); above = λ l. absurd (omega arith); taken = λ l. absurd (omega arith) };
           }
 
-  pub opens-accepted : (keys : ℕ) (f : Source) → v ≡ J.Accepted keys → f ≡ noSource
-      → Does Open (session c k buffer) (session (atRest keys) (lent (length bytes) (length table) f) buffer′) bytes bytes table table′ R.Opened
-  opens-accepted keys f e q = rw q (opens keys e)
+  pub opens-accepted : (keys : ℕ) (c′ : Control) (k′ : Setup) → v ≡ J.Accepted keys → c′ ≡ opened keys → k′ ≡ lent (length bytes) (length table)
+      → Does Open (memory (session c k buffer) bytes table) (memory (session c′ k′ buffer′) bytes table′) R.Opened
+  opens-accepted keys c′ k′ e p q = rw (p, q) (opens keys e)

@@ -15,7 +15,7 @@ ghost use Rattle.spec.specs.Machine.{Open};
 ghost use Rattle.index.specs.Index.{zeros};
 ghost use Rattle.opening.specs.Pass.{EnteredIs, Hastened, Filling};
 ghost use Rattle.opening.specs.Judged.{firstRefusal, JudgingLog, Judging};
-ghost use Rattle.session.specs.Promise.{Does};
+ghost use Rattle.session.specs.Promise.{Does, memoryOf};
 use blocks::Buffer;
 use log::Short;
 use session::Control;
@@ -403,7 +403,7 @@ pub fn open_core(
     image: &[u8],
     table: &mut [u64],
 ) -> Outcome
-    ensures { λ r. ⌜ Does Open (record { control = control; setup = setup; buffer = now (buffer .entry) }) (record { control = r .control; setup = r .setup; buffer = now (buffer .exit) }) (now (image .entry)) (now (image .entry)) (now (table .entry)) (now (table .exit)) (r .report) ⌝ }
+    ensures { λ r. ⌜ Does Open (memoryOf control setup (now (buffer .entry)) (now (image .entry)) (now (table .entry))) (memoryOf (r .control) (r .setup) (now (buffer .exit)) (now (image .entry)) (now (table .exit))) (r .report) ⌝ }
 {
     let bytes = image.len();
     let words = table.len();
@@ -412,40 +412,14 @@ pub fn open_core(
         Verdict::Refused(n) => {
             empty(table);
             Outcome {
-                control: Control {
-                    phase: 0,
-                    next: 0,
-                    items: 0,
-                    words: 0,
-                    keys: 0,
-                    fresh: 0,
-                },
+                control: session::closed(),
                 setup,
                 report: Report::Refused(n),
             }
         }
         Verdict::Accepted(keys) => Outcome {
-            control: Control {
-                phase: 1,
-                next: 0,
-                items: 0,
-                words: 0,
-                keys,
-                fresh: 0,
-            },
-            setup: Setup {
-                image: bytes,
-                table: words,
-                chunk: 0,
-                old: 0,
-                lines: 0,
-                first: 1,
-                least: 64,
-                fields: 0,
-                station: 0,
-                centre: 0,
-                source: session::no_source(),
-            },
+            control: session::opened(keys),
+            setup: session::lent(bytes, words),
             report: Report::Opened,
         },
     }

@@ -19,37 +19,10 @@ pub struct State {
     pub aloud: bool,
 }
 
-fn closed() -> Control {
-    Control {
-        phase: 0,
-        next: 0,
-        items: 0,
-        words: 0,
-        keys: 0,
-        fresh: 0,
-    }
-}
-
-fn nothing() -> Setup {
-    Setup {
-        image: 0,
-        table: 0,
-        chunk: 0,
-        old: 0,
-        lines: 0,
-        first: 0,
-        least: 0,
-        fields: 0,
-        station: 0,
-        centre: 0,
-        source: session::no_source(),
-    }
-}
-
 pub fn new_state() -> State {
     State {
-        control: closed(),
-        setup: nothing(),
+        control: session::closed(),
+        setup: session::nothing(),
         bytes: 0,
         words: 0,
         kept: true,
@@ -109,8 +82,8 @@ fn record_line(state: State, buffer: &mut Buffer) -> State {
     *buffer = [0; BUFFER_WORDS];
     player_output::text(b"record\n");
     State {
-        control: closed(),
-        setup: nothing(),
+        control: session::closed(),
+        setup: session::nothing(),
         bytes: state.bytes,
         words: state.words,
         kept: true,

@@ -27,22 +27,23 @@ use Rattle.cleaning.specs.Record.{copyCount, cleanCount}
 use Rattle.cleaning.proofs.Acting.{kept-inside, count-some, shows-store, shows-copy, clean-flush}
 use Rattle.cleaning.proofs.Keeping.{acted}
 use Rattle.cleaning_step.proofs.Shows.{shows-acts}
-use Rattle.fast_path.specs.Run.{toNext, Runs, RunsOn, isStore}
+use Rattle.fast_path.specs.Run.{Runs, RunsOn, isStore}
 use Rattle.stepping.proofs.Cleaning.{cleans}
 use Rattle.fast_path.specs.Stores.{areaWord, Filled}
 use Rattle.fast_path.proofs.Run.{stored-first, store-is}
 use Rattle.fast_path.proofs.Stores.{before-none, filled-length, filled-runs}
 use Rattle.running.specs.Run.{Copying, CleaningRun, KeptStores}
-use Rattle.session.specs.Promise.{Does}
+use Rattle.session.specs.Promise.{Does, memory, memoryOf}
+use Rattle.session.specs.Numbers.{toNext, acting}
 
 -- the record after an action
 counted : (c : Control) → c .phase ≡ 6 → acted c (c .keys) ≡ toNext (c .next + 1) c
-counted c e = ap (λ (p : ℕ). record { phase = p; next = c .next + 1; items = c .items; words = c .words; keys = c .keys; fresh = c .fresh }) (sym e)
+counted c e = ap (λ (p : ℕ). acting p (c .next + 1) c) (sym e)
 
 -- ONE ACTION that is not the last
 module _ (c : Control) (k : Setup) (b bytes bytes′ table : List ℕ) (h : Copying c k (length bytes) (length table)) where
   abbrev Stepping : Report → Control → Type 0
-  Stepping r x = Does Step (record { control = c; setup = k; buffer = b }) (record { control = x; setup = k; buffer = b }) bytes bytes′ table table r
+  Stepping r x = Does Step (memoryOf c k b bytes table) (memoryOf x k b bytes′ table) r
 
   acts-once : (r : Report) → r ≡ nthReport (cleanActions k (k .source) b) (c .next) → Changed r bytes bytes′ → Stepping r (toNext (c .next + 1) c)
   acts-once r e changed =
@@ -56,8 +57,8 @@ pub record StoredTo (c : Control) (k : Setup) (b bytes bytes′ : List ℕ) (n :
   pub from : c .next ≤ n
   pub stores : (i : ℕ) → c .next ≤ i → i < n → isStore (nthReport (cleanActions k (k .source) b) i) ≡ true
   pub run : (table : List ℕ) → Copying c k (length bytes) (length table) → (s′ : Session) (bytes″ table″ : List ℕ) (r : Report)
-      → Runs (record { control = toNext n c; setup = k; buffer = b }) s′ bytes′ bytes″ table table″ r
-      → Runs (record { control = c; setup = k; buffer = b }) s′ bytes bytes″ table table″ r
+      → Runs (memoryOf (toNext n c) k b bytes′ table) (memory s′ bytes″ table″) r
+      → Runs (memoryOf c k b bytes table) (memory s′ bytes″ table″) r
 
 module _ (c : Control) (k : Setup) (b bytes : List ℕ) where
   abbrev acts : List Action
@@ -72,7 +73,7 @@ module _ (c : Control) (k : Setup) (b bytes : List ℕ) where
     still table h = (h .0, (h .1 .0 ∙ sym (so-far .sized), (h .1 .1 .0, inside)))
 
     stepped : (table : List ℕ) → Copying c k (length bytes) (length table)
-        → Does Step (record { control = toNext n c; setup = k; buffer = b }) (record { control = toNext (n + 1) c; setup = k; buffer = b }) bytes₁ bytes₂ table table r
+        → Does Step (memoryOf (toNext n c) k b bytes₁ table) (memoryOf (toNext (n + 1) c) k b bytes₂ table) r
     stepped table h = acts-once (toNext n c) k b bytes₁ bytes₂ table (still table h) r e changed
 
     pub one-stored : isStore r ≡ true → StoredTo c k b bytes bytes₂ (n + 1)
@@ -121,10 +122,10 @@ module _ (c : Control) (k : Setup) (b bytes : List ℕ) where
     inside j h = let some : k .source .words ≡ 0 → ⊥ = λ z. omega arith in let n = count-some (k .source .words) some in omega arith
 
     stepped-kept : (table : List ℕ) → Copying c k (length bytes) (length table) → (j : ℕ) → j < kept → (bytes₁ bytes₂ : List ℕ) → length bytes₁ ≡ length bytes → Saved bytes₁ bytes₂ (start + j) (areaWord b j)
-        → Does Step (record { control = toNext j c; setup = k; buffer = b }) (record { control = toNext (suc j) c; setup = k; buffer = b }) bytes₁ bytes₂ table table (R.Store (start + j) (areaWord b j))
+        → Does Step (memoryOf (toNext j c) k b bytes₁ table) (memoryOf (toNext (suc j) c) k b bytes₂ table) (R.Store (start + j) (areaWord b j))
     stepped-kept table h j u bytes₁ bytes₂ el saved =
         let n : j + 1 ≡ suc j = omega arith in
-        subst (λ (x : ℕ). Does Step (record { control = toNext j c; setup = k; buffer = b }) (record { control = toNext x c; setup = k; buffer = b }) bytes₁ bytes₂ table table (R.Store (start + j) (areaWord b j))) n
+        subst (λ (x : ℕ). Does Step (memoryOf (toNext j c) k b bytes₁ table) (memoryOf (toNext x c) k b bytes₂ table) (R.Store (start + j) (areaWord b j))) n
         (acts-once (toNext j c) k b bytes₁ bytes₂ table (h .0, (h .1 .0 ∙ sym el, (h .1 .1 .0, inside j u))) _ (kept-store j (start + j) (omega arith) (omega arith)) (changed-store _ bytes₁ bytes₂ _ _ refl saved))
 
     pub kept-stored : (bytes′ : List ℕ) → Filled (areaWord b) start (c .next) (kept - c .next) bytes bytes′ → KeptStores c k b bytes bytes′ kept
@@ -153,13 +154,13 @@ module _ (c : Control) (k : Setup) (b bytes : List ℕ) where
 pub record Stored (s s₁ : Session) (bytes bytes₁ table table₁ : List ℕ) : Type 0 where
   pub sized : length bytes₁ ≡ length bytes
   pub tabled : length table₁ ≡ length table
-  pub run : (s′ : Session) (bytes″ table″ : List ℕ) (r : Report) → Runs s₁ s′ bytes₁ bytes″ table₁ table″ r → Runs s s′ bytes bytes″ table table″ r
+  pub run : (s′ : Session) (bytes″ table″ : List ℕ) (r : Report) → Runs (memory s₁ bytes₁ table₁) (memory s′ bytes″ table″) r → Runs (memory s bytes table) (memory s′ bytes″ table″) r
 
 pub none-made : (s : Session) (bytes table : List ℕ) → Stored s s bytes bytes table table
 none-made s bytes table = record { sized = refl; tabled = refl; run = λ s′ bytes″ table″ r q. q }
 
 module _ (s s₁ s₂ : Session) (bytes bytes₁ bytes₂ table table₁ table₂ : List ℕ) (r : Report) (so-far : Stored s s₁ bytes bytes₁ table table₁)
-    (step : Does Step s₁ s₂ bytes₁ bytes₂ table₁ table₂ r) where
+    (step : Does Step (memory s₁ bytes₁ table₁) (memory s₂ bytes₂ table₂) r) where
   pub long : length bytes₂ ≡ length bytes
   long = changed-length r bytes₁ bytes₂ (step .image) ∙ so-far .sized
 
@@ -176,5 +177,5 @@ module _ (s s₁ s₂ : Session) (bytes bytes₁ bytes₂ table table₁ table�
   fewer t = let w = store-is r t in (rw (w .1 .1) at (step .outcome)) .0
 
   -- one that did not is the last
-  pub made : isStore r ≡ false → RunsOn s s₂ bytes bytes₂ table table₂ r
+  pub made : isStore r ≡ false → RunsOn (memory s bytes table) (memory s₂ bytes₂ table₂) r
   made t = (so-far .run s₂ bytes₂ table₂ r (zero, step), t)

@@ -13,8 +13,10 @@ use Rattle.spec.specs.declared.Report.{Report}
 use Rattle.session.specs.State.{stateOf, limit}
 use Rattle.session.specs.Fits.{Fits}
 use Rattle.cleaning.specs.Record.{cleanCount}
-use Rattle.fast_path.specs.Run.{toNext, RunsOn}
+use Rattle.fast_path.specs.Run.{RunsOn}
 use Rattle.fast_path.specs.Stores.{Before}
+use Rattle.session.specs.Promise.{memoryOf}
+use Rattle.session.specs.Numbers.{toNext}
 
 -- The next action is one of a cleaning's but not its last, and the lent lengths are those at its begin.
 abbrev pub Copying : Control → Setup → (bytes words : ℕ) → Type 0
@@ -24,7 +26,7 @@ Copying c k bytes words = (c .phase ≡ 6) × ((k .image ≡ bytes) × ((k .tabl
 pub record CleaningRun (c : Control) (k : Setup) (b bytes bytes′ : List ℕ) (next : ℕ) (r : Report) : Type 0 where
   pub sized : length bytes′ ≡ length bytes
   pub runs : (table : List ℕ) → Copying c k (length bytes) (length table)
-      → RunsOn (record { control = c; setup = k; buffer = b }) (record { control = toNext next c; setup = k; buffer = b }) bytes bytes′ table table r
+      → RunsOn (memoryOf c k b bytes table) (memoryOf (toNext next c) k b bytes′ table) r
 
 -- Stores of a cleaning up to action n are made; and the last action is still to come if it was.
 pub record KeptStores (c : Control) (k : Setup) (b bytes bytes′ : List ℕ) (n : ℕ) : Type 0 where

@@ -4,6 +4,7 @@ ghost use mathlib.Core.Path.{_≡_};
 ghost use mathlib.Core.Bool.{true, false};
 ghost use Rattle.fast_path.specs.Run.{isStore, RunsOn};
 ghost use Rattle.running.specs.Run.{Copying, CleaningRun, KeptStores};
+ghost use Rattle.session.specs.Promise.{memoryOf};
 use blocks::Buffer;
 use fast_path::Advanced;
 use session::Control;
@@ -94,14 +95,7 @@ fn run_copying(control: Control, setup: Setup, buffer: &Buffer, image: &mut [u8]
     ensures { λ r. ⌜ CleaningRun control setup (now (buffer .entry)) (now (image .entry)) (now (image .exit)) (r .next) (r .report) ⌝ }
 {
     let at = store_kept(control, setup, buffer, image);
-    let stored = Control {
-        phase: control.phase,
-        next: at,
-        items: control.items,
-        words: control.words,
-        keys: control.keys,
-        fresh: control.fresh,
-    };
+    let stored = session::moved(control, at);
     run_cleaning(stored, setup, buffer, image)
 }
 
@@ -113,7 +107,7 @@ fn run_steps(
     image: &mut [u8],
     table: &mut [u64],
 ) -> Stepped
-    ensures { λ r. ⌜ RunsOn (record { control = control; setup = setup; buffer = now (buffer .entry) }) (record { control = r .control; setup = setup; buffer = now (buffer .exit) }) (now (image .entry)) (now (image .exit)) (now (table .entry)) (now (table .exit)) (r .report) ⌝ }
+    ensures { λ r. ⌜ RunsOn (memoryOf control setup (now (buffer .entry)) (now (image .entry)) (now (table .entry))) (memoryOf (r .control) setup (now (buffer .exit)) (now (image .exit)) (now (table .exit))) (r .report) ⌝ }
 {
     let mut so_far = control;
     loop {
@@ -137,19 +131,12 @@ pub fn run_core(
     image: &mut [u8],
     table: &mut [u64],
 ) -> Stepped
-    ensures { λ r. ⌜ RunsOn (record { control = control; setup = setup; buffer = now (buffer .entry) }) (record { control = r .control; setup = setup; buffer = now (buffer .exit) }) (now (image .entry)) (now (image .exit)) (now (table .entry)) (now (table .exit)) (r .report) ⌝ }
+    ensures { λ r. ⌜ RunsOn (memoryOf control setup (now (buffer .entry)) (now (image .entry)) (now (table .entry))) (memoryOf (r .control) setup (now (buffer .exit)) (now (image .exit)) (now (table .exit))) (r .report) ⌝ }
 {
     if is_copying(control, setup, image.len(), table.len()) {
         let run = run_copying(control, setup, buffer, image);
         let report = run.report;
-        let moved = Control {
-            phase: control.phase,
-            next: run.next,
-            items: control.items,
-            words: control.words,
-            keys: control.keys,
-            fresh: control.fresh,
-        };
+        let moved = session::moved(control, run.next);
         return Stepped {
             control: moved,
             report,

@@ -16,6 +16,7 @@ use Rattle.session.specs.declared.Session.{Session}
 use Rattle.blocks.specs.Bits.{FrontKept}
 use Rattle.session.specs.State.{batchRoom, batchWords, batchItems, chunkIn, linesIn, commitActions}
 use Rattle.session.specs.Filter.{filterPlace}
+use Rattle.session.specs.Numbers.{emptied, staged}
 use Rattle.session.specs.Fits.{NoneBelow, soleMark, Hint, ItemsFit, BatchFits, Built, RestFits, batchPlace, CommitFits}
 use Rattle.session.proofs.Part.{part-agree}
 
@@ -59,13 +60,6 @@ built-kept c c′ b table es e f = record { indexed = rw e (f .indexed); blocks 
 pub plain-hint : (n : ℕ) (ws : List ℕ) (first least : ℕ) → first < soleMark → NoneBelow n ws first least → Hint n ws first least
 plain-hint n ws first least l h =
     record { below = λ c a b m. h c a (omega arith) m; above = λ s. absurd (omega arith); taken = λ s. absurd (omega arith) }
-
--- at rest with nothing staged; at rest with what is staged
-abbrev pub emptied : Control → Control
-emptied c = record { phase = 1; next = 0; items = 0; words = 0; keys = c .keys; fresh = 0 }
-
-abbrev pub staged : Control → Control
-staged c = record { phase = 1; next = 0; items = c .items; words = c .words; keys = c .keys; fresh = c .fresh }
 
 module _ (c : Control) (k : Setup) (b ws table : List ℕ) (items : List Entry) where
   abbrev s : Session

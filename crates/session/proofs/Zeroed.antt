@@ -9,10 +9,11 @@ use Rattle.spec.specs.Machine.{Closed}
 use Rattle.session.specs.declared.Session.{Session}
 use Rattle.session.specs.State.{noSource, stateAt, stateOf}
 use Rattle.session.specs.Fits.{bufferWords, Fits}
+use Rattle.session.specs.Numbers.{closed}
 
 abbrev pub zeroed : Session
 zeroed = record {
-  control = record { phase = 0; next = 0; items = 0; words = 0; keys = 0; fresh = 0 };
+  control = closed;
   setup = record { image = 0; table = 0; chunk = 0; old = 0; lines = 0; first = 0; least = 0; fields = 0; station = 0; centre = 0; source = noSource };
   buffer = replicate bufferWords 0;
 }

@@ -13,8 +13,21 @@ use Rattle.session.specs.declared.Setup.{Setup}
 use Rattle.spec.specs.declared.Refusal.{Refusal}
 use Rattle.spec.specs.declared.Refusal.the-variants as N
 use Rattle.session.specs.State.{stateAt}
+use Rattle.session.specs.declared.Phase.{Phase}
+use Rattle.session.specs.declared.Phase.the-variants as P
 use Rattle.session.specs.declared.Gated.{Gated}
 use Rattle.session.specs.declared.Gated.the-variants as G
+
+-- the phase that a number stands for
+abbrev pub phaseOf : ℕ → Phase
+phaseOf n =
+    pick (eqb n 1) P.Rest
+    (pick (eqb n 2) P.Staging
+    (pick (eqb n 3) P.Commit
+    (pick (eqb n 4) P.Format
+    (pick (eqb n 5) P.Reformat
+    (pick (eqb n 6) P.Cleaning
+    P.Closed)))))
 
 -- the phases in which a call is unfinished on an open register
 abbrev pub begunAt : ℕ → Bool

@@ -4,3 +4,4 @@ pub mod State
 pub mod Filter
 pub mod Fits
 pub mod Promise
+pub mod Numbers

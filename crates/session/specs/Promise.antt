@@ -7,10 +7,25 @@ use Rattle.spec.specs.Places.{basePower}
 use Rattle.spec.specs.Machine.{Call}
 use Rattle.spec.specs.Contract.{Called}
 use Rattle.spec.specs.declared.Report.{Report}
+use Rattle.session.specs.declared.Control.{Control}
+use Rattle.session.specs.declared.Setup.{Setup}
 use Rattle.session.specs.declared.Session.{Session}
 use Rattle.session.specs.State.{stateOf, limit}
 use Rattle.session.specs.Fits.{Proper, Fits}
 
--- the call k: the record, the image's bytes and the table before and after, and the report
-abbrev pub Does : Call → (s s′ : Session) → (bytes bytes′ table table′ : List ℕ) → Report → Type 0
-Does k s s′ bytes bytes′ table table′ r = Called Proper stateOf Fits basePower limit k s s′ bytes bytes′ table table′ r
+-- THE MEMORY that a call is lent: the station record, the image's bytes and the key table's words
+pub record Memory : Type 0 where
+  pub session : Session
+  pub image : List ℕ
+  pub table : List ℕ
+
+abbrev pub memory : Session → (image table : List ℕ) → Memory
+memory s image table = record { session = s; image = image; table = table }
+
+-- the same of a core, which has the record by its parts
+abbrev pub memoryOf : Control → Setup → (buffer image table : List ℕ) → Memory
+memoryOf control setup buffer image table = memory (record { control = control; setup = setup; buffer = buffer }) image table
+
+-- the call k: memory before and after, and the report
+abbrev pub Does : Call → (m m′ : Memory) → Report → Type 0
+Does k m m′ r = Called Proper stateOf Fits basePower limit k (m .session) (m′ .session) (m .image) (m′ .image) (m .table) (m′ .table) r

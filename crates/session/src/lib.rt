@@ -1,9 +1,12 @@
 // The station record: its types, its constructors, the state of the machine that it stands for, what record and key
 // table hold of the image, and the promise that every call makes of them.
 ghost use mathlib.Core.Path.{_≡_};
+ghost use Prim.Native.Nat.{_<_};
+ghost use lib.Dec.{eqb};
 ghost use Rattle.session.specs.State.{noSource};
+ghost use Rattle.session.specs.Numbers.{closed, opened, toNext, acting, keyed, staged, emptied, stagedMore, formattingIn, nothing, lent, told, placing, writing};
 ghost use Rattle.spec.specs.Reports.{number};
-ghost use Rattle.session.specs.Asks.{closedOr, Asking};
+ghost use Rattle.session.specs.Asks.{phaseOf, closedOr, Asking};
 use blocks::Buffer;
 use spec::Refusal;
 use spec::Report;
@@ -77,6 +80,246 @@ pub fn no_source() -> Source
     }
 }
 
+// THE NUMBERS that a call leaves, each way once. Nothing is open.
+pub fn closed() -> Control
+    ensures { λ r. ⌜ r ≡ closed ⌝ }
+{
+    Control {
+        phase: 0,
+        next: 0,
+        items: 0,
+        words: 0,
+        keys: 0,
+        fresh: 0,
+    }
+}
+
+// Open and at rest with so many known keys, nothing staged.
+pub fn opened(keys: usize) -> Control
+    ensures { λ r. ⌜ r ≡ opened keys ⌝ }
+{
+    Control {
+        phase: 1,
+        next: 0,
+        items: 0,
+        words: 0,
+        keys,
+        fresh: 0,
+    }
+}
+
+// The begun call is before its action of this number.
+pub fn moved(control: Control, next: usize) -> Control
+    ensures { λ r. ⌜ r ≡ toNext next control ⌝ }
+{
+    Control {
+        phase: control.phase,
+        next,
+        items: control.items,
+        words: control.words,
+        keys: control.keys,
+        fresh: control.fresh,
+    }
+}
+
+// The phases of the calls that act on a batch, as a begun one says them.
+pub const STAGING: u64 = 2;
+
+pub const COMMIT: u64 = 3;
+
+pub const CLEANING: u64 = 6;
+
+// A formatting is begun.
+pub fn formatting(phase: u64) -> Control
+    ensures { λ r. ⌜ r ≡ formattingIn phase ⌝ }
+{
+    Control {
+        phase,
+        next: 0,
+        items: 0,
+        words: 0,
+        keys: 0,
+        fresh: 0,
+    }
+}
+
+// A call of this phase is before its action of this number.
+pub fn acting(control: Control, phase: u64, next: usize) -> Control
+    ensures { λ r. ⌜ r ≡ acting phase next control ⌝ }
+{
+    Control {
+        phase,
+        next,
+        items: control.items,
+        words: control.words,
+        keys: control.keys,
+        fresh: control.fresh,
+    }
+}
+
+// The same, with the known keys and the staged ones that are not known counted anew.
+pub fn keyed(control: Control, phase: u64, next: usize, keys: usize, fresh: usize) -> Control
+    ensures { λ r. ⌜ r ≡ keyed phase next keys fresh control ⌝ }
+{
+    Control {
+        phase,
+        next,
+        items: control.items,
+        words: control.words,
+        keys,
+        fresh,
+    }
+}
+
+// At rest, with what is staged.
+pub fn at_rest(control: Control) -> Control
+    ensures { λ r. ⌜ r ≡ staged control ⌝ }
+{
+    Control {
+        phase: 1,
+        next: 0,
+        items: control.items,
+        words: control.words,
+        keys: control.keys,
+        fresh: control.fresh,
+    }
+}
+
+// At rest, with nothing staged.
+pub fn emptied(control: Control) -> Control
+    ensures { λ r. ⌜ r ≡ emptied control ⌝ }
+{
+    Control {
+        phase: 1,
+        next: 0,
+        items: 0,
+        words: 0,
+        keys: control.keys,
+        fresh: 0,
+    }
+}
+
+// A staging of one more item is begun, before its action of this number: so many words are staged then, and so many
+// staged keys are not known.
+pub fn one_more(control: Control, next: usize, words: usize, fresh: usize) -> Control
+    requires { ⌜ control .items < 16 ⌝ }
+    ensures { λ r. ⌜ r ≡ stagedMore next words fresh control ⌝ }
+{
+    Control {
+        phase: 2,
+        next,
+        items: control.items + 1,
+        words,
+        keys: control.keys,
+        fresh,
+    }
+}
+
+// WHAT A STEP ONLY READS. Nothing at all.
+pub fn nothing() -> Setup
+    ensures { λ r. ⌜ r ≡ nothing ⌝ }
+{
+    Setup {
+        image: 0,
+        table: 0,
+        chunk: 0,
+        old: 0,
+        lines: 0,
+        first: 0,
+        least: 0,
+        fields: 0,
+        station: 0,
+        centre: 0,
+        source: no_source(),
+    }
+}
+
+// A register opened with these lengths: the next commit looks for space from the first chunk on.
+pub fn lent(image: usize, table: usize) -> Setup
+    ensures { λ r. ⌜ r ≡ lent image table ⌝ }
+{
+    Setup {
+        image,
+        table,
+        chunk: 0,
+        old: 0,
+        lines: 0,
+        first: 1,
+        least: 64,
+        fields: 0,
+        station: 0,
+        centre: 0,
+        source: no_source(),
+    }
+}
+
+// A formatting begun on an image and a table of these lengths, with what it was told.
+pub fn told(image: usize, table: usize, fields: u64, station: u64, centre: u64) -> Setup
+    ensures { λ r. ⌜ r ≡ told image table fields station centre ⌝ }
+{
+    Setup {
+        image,
+        table,
+        chunk: 0,
+        old: 0,
+        lines: 0,
+        first: 0,
+        least: 0,
+        fields,
+        station,
+        centre,
+        source: no_source(),
+    }
+}
+
+// A staging begun whose block is written to a chunk: at which of its units, and for blocks of which size it is taken.
+pub fn placing(setup: Setup, chunk: usize, old: u64, lines: usize, fields: u64) -> Setup
+    ensures { λ r. ⌜ r ≡ placing setup chunk old lines fields ⌝ }
+{
+    let source = setup.source;
+    Setup {
+        image: setup.image,
+        table: setup.table,
+        chunk,
+        old,
+        lines,
+        first: setup.first,
+        least: setup.least,
+        fields,
+        station: setup.station,
+        centre: setup.centre,
+        source,
+    }
+}
+
+// A commit or a cleaning begun that writes behind the committed lines of a chunk with this directory word; the next one
+// looks for space from `first` on, for `least` lines; what is cleaned.
+pub fn writing(
+    setup: Setup,
+    chunk: usize,
+    old: u64,
+    lines: usize,
+    first: usize,
+    least: usize,
+    source: Source,
+) -> Setup
+    ensures { λ r. ⌜ r ≡ writing setup chunk old lines first least source ⌝ }
+{
+    Setup {
+        image: setup.image,
+        table: setup.table,
+        chunk,
+        old,
+        lines,
+        first,
+        least,
+        fields: setup.fields,
+        station: setup.station,
+        centre: setup.centre,
+        source,
+    }
+}
+
 // The record's small parts after a call, and its report.
 pub struct Outcome {
     pub control: Control,
@@ -97,21 +340,61 @@ pub enum Gated {
     Refused(Refusal),
 }
 
-// 2 for a phase with nothing open, and else another refusal. 1, 2, 3, 5 and 6 are at rest, a staging, a commit, a
-// formatting begun on an open register, and a cleaning.
-fn closed_or(phase: u64, refusal: Refusal) -> Refusal
-    ensures { λ r. ⌜ r ≡ closedOr phase refusal ⌝ }
+// THE PHASE: what is begun.
+pub enum Phase {
+    Closed,
+    Rest,
+    Staging,
+    Commit,
+    Format,
+    Reformat,
+    Cleaning,
+}
+
+// The phase that a number stands for: a number past them all is read as 0.
+pub fn phase_of(number: u64) -> Phase
+    ensures { λ r. ⌜ r ≡ phaseOf number ⌝ }
 {
-    if 6 < phase {
-        return Refusal::NotOpen;
+    match number {
+        1 => Phase::Rest,
+        2 => Phase::Staging,
+        3 => Phase::Commit,
+        4 => Phase::Format,
+        5 => Phase::Reformat,
+        6 => Phase::Cleaning,
+        _ => Phase::Closed,
     }
-    if phase == 0 {
-        return Refusal::NotOpen;
+}
+
+// 2 for a phase with nothing open, and else another refusal.
+fn closed_or(number: u64, refusal: Refusal) -> Refusal
+    ensures { λ r. ⌜ r ≡ closedOr number refusal ⌝ }
+{
+    let phase = phase_of(number);
+    match phase {
+        Phase::Closed => Refusal::NotOpen,
+        Phase::Format => Refusal::NotOpen,
+        Phase::Rest => refusal,
+        Phase::Staging => refusal,
+        Phase::Commit => refusal,
+        Phase::Reformat => refusal,
+        Phase::Cleaning => refusal,
     }
-    if phase == 4 {
-        return Refusal::NotOpen;
+}
+
+fn is_at_rest(number: u64) -> bool
+    ensures { λ r. ⌜ r ≡ eqb number 1 ⌝ }
+{
+    let phase = phase_of(number);
+    match phase {
+        Phase::Rest => true,
+        Phase::Closed => false,
+        Phase::Staging => false,
+        Phase::Commit => false,
+        Phase::Format => false,
+        Phase::Reformat => false,
+        Phase::Cleaning => false,
     }
-    refusal
 }
 
 // 2, 1, 8: nothing open, lengths unlike those at the opening, a call unfinished. An open register at rest is found by
@@ -122,7 +405,7 @@ pub fn gate(control: Control, setup: Setup, bytes: usize, words: usize) -> Gated
     let phase = control.phase;
     if setup.image == bytes {
         if setup.table == words {
-            if phase == 1 {
+            if is_at_rest(phase) {
                 return Gated::Open;
             }
             return Gated::Refused(closed_or(phase, Refusal::Unfinished));

@@ -49,7 +49,8 @@ use Rattle.staging.specs.declared.Admission.the-variants as A
 use Rattle.staging.specs.Staging.{VersionOf, admitOf}
 use Rattle.staging.proofs.Staging as S
 use Rattle.staging.proofs.Admits.{planBy, Admitting, admitted, turned, fresh-then, plan-admits}
-use Rattle.session.specs.Promise.{Does}
+use Rattle.session.specs.Promise.{Does, memory, memoryOf}
+use Rattle.session.specs.Numbers.{stagedMore}
 
 -- the limit as the code asks for it
 pub within : {n : ℕ} → n ≤ 4088 → n ≤ limit
@@ -103,7 +104,7 @@ module _ (c : Control) (k : Setup) (b bytes table : List ℕ) (g : Gated) (asks 
       ∙ ap (λ (h : ℕ). planBy (admitOf c maxPutVersion last 2 room) (placing chunks (suc h) f)) (sym (y .version)))
 
   -- 12, 10, 7
-  pub block-refused : (x : Refusal) → a ≡ A.Refused x → Does (Put key v) s s bytes bytes table table (R.Refused x)
+  pub block-refused : (x : Refusal) → a ≡ A.Refused x → Does (Put key v) (memory s bytes table) (memory s bytes table) (R.Refused x)
   block-refused x e =
       refused 12 limit s bytes table x (Put key v) refl (λ f. f) (λ f. sym (rw (S.opened c k b bytes table g asks passes, block-plan f, sym told ∙ e)))
       (S.barred c k b bytes table g asks passes (R.Refused x)) (inr (inr (inr (inr (turned c maxPutVersion last 2 room x (sym told ∙ e)))))) (refl, refl) (inl (x, refl))
@@ -138,7 +139,7 @@ module _ (c : Control) (k : Setup) (b bytes table : List ℕ) (g : Gated) (asks 
         (record { blocks = rests f .fits .built .blocks; staged = fits-staged c b n ws (es f) (items f) (rests f .fits .batch) })
 
     -- 13
-    pub block-nowhere : r .found ≡ false → Does (Put key v) s (record { control = c; setup = k; buffer = after }) bytes bytes table table (R.Refused N.NoSpace)
+    pub block-nowhere : r .found ≡ false → Does (Put key v) (memory s bytes table) (memoryOf c k after bytes table) (R.Refused N.NoSpace)
     block-nowhere z =
         rw (staged .nothing z .0)
         (refused 12 limit s bytes table N.NoSpace (Put key v) refl (λ f. f) (λ f. sym (rw (S.opened c k b bytes table g asks passes, plan-is f, none-found f)))
@@ -150,7 +151,7 @@ module _ (c : Control) (k : Setup) (b bytes table : List ℕ) (g : Gated) (asks 
     -- BEGUN
     module _ (z : r .found ≡ true) where
       abbrev c′ : Control
-      c′ = record { phase = 2; next = 0; items = c .items + 1; words = r .words; keys = c .keys; fresh = fresh }
+      c′ = stagedMore 0 (r .words) fresh c
 
       abbrev s′ : Session
       s′ = record { control = c′; setup = r .setup; buffer = after }
@@ -235,7 +236,7 @@ module _ (c : Control) (k : Setup) (b bytes table : List ℕ) (g : Gated) (asks 
                   in-room written (omega arith) (omega arith) right (counts-more (es f) (items f) item (q .batch .counts) h) marked keys (rw l at o)),
             )
 
-      pub block-begun : Does (Put key v) s s′ bytes bytes table table (R.Begun (r .count))
+      pub block-begun : Does (Put key v) (memory s bytes table) (memory s′ bytes table) (R.Begun (r .count))
       unfolding next
       block-begun = record {
         exact = λ f. record {

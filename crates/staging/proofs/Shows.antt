@@ -29,7 +29,8 @@ use Rattle.session.specs.declared.Gated.{Gated}
 use Rattle.session.specs.declared.Gated.the-variants as G
 use Rattle.session.specs.Asks.{gateOf, Asking}
 use Rattle.session.proofs.Gates.{refused, Gating, turned-down, AtRest, at-rest, Passed, gate-passed}
-use Rattle.session.specs.Promise.{Does}
+use Rattle.session.specs.Promise.{Does, memory}
+use Rattle.session.specs.Numbers.{emptied}
 
 module _ (c : Control) (k : Setup) (b bytes table : List ℕ) where
   abbrev s : Session
@@ -38,7 +39,7 @@ module _ (c : Control) (k : Setup) (b bytes table : List ℕ) where
   -- ## The gate
 
   module _ (g : Gated) (asks : Asking c k (length bytes) (length table) g) where
-    pub at-gate : (call : Call) → Gating call → (n : Refusal) → g ≡ G.Refused n → Does call s s bytes bytes table table (R.Refused n)
+    pub at-gate : (call : Call) → Gating call → (n : Refusal) → g ≡ G.Refused n → Does call (memory s bytes table) (memory s bytes table) (R.Refused n)
     at-gate call t n e = turned-down 12 limit s bytes table n (asks .asked b ∙ ap gateOf e) call t
 
     module _ (passes : g ≡ G.Open) where
@@ -69,7 +70,7 @@ module _ (c : Control) (k : Setup) (b bytes table : List ℕ) where
       abandons : (r : Report) → pick (isEmpty (batchItems c b)) (R.Refused N.NothingStaged) R.Abandoned ≡ r → answer 12 limit Abandon (stateOf s) (wordsOf bytes) (length bytes) (length table) ≡ r
       abandons r h = rw (opened, lengths .state) h
 
-      pub abandon-none : anyItem b (c .words) ≡ false → Does Abandon s s bytes bytes table table (R.Refused N.NothingStaged)
+      pub abandon-none : anyItem b (c .words) ≡ false → Does Abandon (memory s bytes table) (memory s bytes table) (R.Refused N.NothingStaged)
       unfolding next
       abandon-none h =
           refused 12 limit s bytes table N.NothingStaged Abandon refl (λ f. f) (λ f. sym answered) (passed (R.Refused N.NothingStaged)) (inr (inr (inr (inl refl)))) (refl, refl) (sym answered, sym (rw answered))
@@ -79,7 +80,7 @@ module _ (c : Control) (k : Setup) (b bytes table : List ℕ) where
 
       -- the record with nothing staged
       abbrev bare : Session
-      bare = record { control = record { phase = 1; next = 0; items = 0; words = 0; keys = c .keys; fresh = 0 }; setup = k; buffer = b }
+      bare = record { control = emptied c; setup = k; buffer = b }
 
       bare-fits : (items : List Entry) → RestFits s (wordsOf bytes) table items → RestFits bare (wordsOf bytes) table []
       unfolding batchWords
@@ -101,7 +102,7 @@ module _ (c : Control) (k : Setup) (b bytes table : List ℕ) where
       unfolding stateAt batchItems batchWords
       bare-state = refl
 
-      pub abandon-done : anyItem b (c .words) ≡ true → Does Abandon s bare bytes bytes table table R.Abandoned
+      pub abandon-done : anyItem b (c .words) ≡ true → Does Abandon (memory s bytes table) (memory bare bytes table) R.Abandoned
       unfolding next
       abandon-done h = record {
         exact = λ f. record { answered = sym answered; became = became; fits = (f .0, rw bare-state (bare-fits (rests f .items) (rests f .fits))) };

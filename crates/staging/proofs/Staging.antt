@@ -54,8 +54,9 @@ use Rattle.staging.specs.Staging.{NewestOf, VersionOf, presentBy, admitO
 use Rattle.staging.proofs.Shows as Shows
 use Rattle.staging.proofs.Known.{Numbered, Says, newest-says, version-says}
 use Rattle.staging.proofs.Admits.{planBy, Admitting, admitted, turned, fresh-then, plan-admits}
-use Rattle.session.specs.Promise.{Does}
+use Rattle.session.specs.Promise.{Does, memory, memoryOf}
 use Rattle.session.specs.Fits.{Proper}
+use Rattle.session.specs.Numbers.{stagedMore}
 
 -- ## The new entries are right
 
@@ -82,8 +83,8 @@ module _ (c : Control) (k : Setup) (b bytes table : List ℕ) where
   room = capacity (length table)
 
   -- a refusal that is answered leaves the record
-  pub left : (call : Call) (n : Refusal) (r : Stepped) → r ≡ refusedWith c n → Does call s s bytes bytes table table (R.Refused n)
-      → Does call s (record { control = r .control; setup = k; buffer = b }) bytes bytes table table (r .report)
+  pub left : (call : Call) (n : Refusal) (r : Stepped) → r ≡ refusedWith c n → Does call (memory s bytes table) (memory s bytes table) (R.Refused n)
+      → Does call (memory s bytes table) (memoryOf (r .control) k b bytes table) (r .report)
   left call n r e h = rw e h
 
   module _ (g : Gated) (asks : Asking c k (length bytes) (length table) g) (passes : g ≡ G.Open) where
@@ -125,7 +126,7 @@ module _ (c : Control) (k : Setup) (b bytes table : List ℕ) where
 
     -- ## Too long
 
-    pub put-long : (key : ℕ) (v : List ℕ) → limit < length v → Does (Put key v) s s bytes bytes table table (R.Refused N.TooLong)
+    pub put-long : (key : ℕ) (v : List ℕ) → limit < length v → Does (Put key v) (memory s bytes table) (memory s bytes table) (R.Refused N.TooLong)
     unfolding planPut
     put-long key v l =
         refused 12 limit s bytes table N.TooLong (Put key v) refl (λ f. f) (λ f. sym (rw (opened, lt-leb (length v) limit l)))
@@ -137,7 +138,7 @@ module _ (c : Control) (k : Setup) (b bytes table : List ℕ) where
 
       module _ (e : Entry) (most fresh : ℕ) (adm : Admitting c most last (2 + length (e .value)) room fresh) (after : List ℕ) (words : ℕ) (added : Added b after (c .words) words e) where
         abbrev s′ : Session
-        s′ = record { control = record { phase = 2; next = behindAll; items = c .items + 1; words = words; keys = c .keys; fresh = fresh }; setup = k; buffer = after }
+        s′ = record { control = stagedMore behindAll words fresh c; setup = k; buffer = after }
 
         -- for any memory
         none-to-do : drop behindAll (blockActions k after) ≡ []
@@ -205,7 +206,7 @@ module _ (c : Control) (k : Setup) (b bytes table : List ℕ) where
             → ((f : Fits s ws table) → (answer 12 limit call (stateOf s) ws (length bytes) (length table) ≡ R.Begun 0)
             × (next 12 limit call (stateOf s) ws (length bytes) (length table) ≡ Busy (k .image) (k .table) (items f ++ (e ∷ [])) Staging []))
             → Anyway 12 limit call (stateOf s) (stateOf s′) ws (length bytes) (length table) (R.Begun 0)
-            → Does call s s′ bytes bytes table table (R.Begun 0)
+            → Does call (memory s bytes table) (memory s′ bytes table) (R.Begun 0)
         staged call ready again bars right in-log at-zero version of-key goes any = record {
           exact = λ r. let f = ready r in record {
             answered = sym (goes f .0);
@@ -240,14 +241,14 @@ module _ (c : Control) (k : Setup) (b bytes table : List ℕ) where
             ∙ ap (λ (h : ℕ). planBy (admitOf c maxPutVersion last need-words room) (Begin (items f ++ (entry 1 0 (suc h) (length v) key (packed v) ∷ [])) Staging [])) (sym (y .version)))
 
         module _ (l : length v ≤ 256) (a : Admission) (told : a ≡ admitOf c maxPutVersion last need-words room) where
-          pub put-refused : (x : Refusal) → a ≡ A.Refused x → Does (Put key v) s s bytes bytes table table (R.Refused x)
+          pub put-refused : (x : Refusal) → a ≡ A.Refused x → Does (Put key v) (memory s bytes table) (memory s bytes table) (R.Refused x)
           put-refused x e =
               refused 12 limit s bytes table x (Put key v) refl (λ f. f) (λ f. sym (rw (opened, put-plan l f, sym told ∙ e)))
               (barred (R.Refused x)) (inr (inr (inr (inr (turned c maxPutVersion last need-words room x (sym told ∙ e)))))) (refl, refl) (inl (x, refl))
 
           pub put-done : (small : AreBytes v) (fresh : ℕ) → a ≡ A.Admitted fresh → (after : List ℕ) (words : ℕ)
               → Added b after (c .words) words (entry 1 0 (last + 1) (length v) key (packed v)) → (r : Stepped) → r ≡ oneMore c words fresh
-              → Does (Put key v) s (record { control = r .control; setup = k; buffer = after }) bytes bytes table table (r .report)
+              → Does (Put key v) (memory s bytes table) (memoryOf (r .control) k after bytes table) (r .report)
           unfolding next
           put-done small fresh e after words added r is-r = rw is-r
               (staged item maxPutVersion fresh adm after words added (Put key v) (λ f. f) (λ Fit f. f) (barred (R.Begun 0)) right refl refl next-is refl
@@ -285,21 +286,21 @@ module _ (c : Control) (k : Setup) (b bytes table : List ℕ) where
           (plan-admits c b (chunksIn 12 (k .image)) ws (es f) (items f) (batch f) maxVersion key (n .version) 2 (length table) (y .version) (y .old) _
           ∙ ap (λ (h′ : ℕ). planBy (admitOf c maxVersion (n .version) 2 room) (Begin (items f ++ (entry 2 0 (suc h′) 0 key [] ∷ [])) Staging [])) (sym (y .version)))
 
-      pub delete-absent : presentBy ws n ≡ false → Does (Delete key) s s bytes bytes table table (R.Refused N.KeyAbsent)
+      pub delete-absent : presentBy ws n ≡ false → Does (Delete key) (memory s bytes table) (memory s bytes table) (R.Refused N.KeyAbsent)
       unfolding planDelete
       delete-absent h =
           refused 12 limit s bytes table N.KeyAbsent (Delete key) refl (λ f. f) (λ f. sym (rw (opened, parsed f, rests f .state, sym (says f key n is .shown) ∙ h)))
           (barred (R.Refused N.KeyAbsent)) (inr (inr (inr (inl refl)))) (refl, refl) (inl (N.KeyAbsent, refl))
 
       module _ (h : presentBy ws n ≡ true) (a : Admission) (told : a ≡ admitOf c maxVersion (n .version) 2 room) where
-        pub delete-refused : (x : Refusal) → a ≡ A.Refused x → Does (Delete key) s s bytes bytes table table (R.Refused x)
+        pub delete-refused : (x : Refusal) → a ≡ A.Refused x → Does (Delete key) (memory s bytes table) (memory s bytes table) (R.Refused x)
         delete-refused x e =
             refused 12 limit s bytes table x (Delete key) refl (λ f. f) (λ f. sym (rw (opened, delete-plan h f, sym told ∙ e)))
             (barred (R.Refused x)) (inr (inr (inr (inr (turned c maxVersion (n .version) 2 room x (sym told ∙ e)))))) (refl, refl) (inl (x, refl))
 
         pub delete-done : (fresh : ℕ) → a ≡ A.Admitted fresh → (after : List ℕ) (words : ℕ)
             → Added b after (c .words) words (entry 2 0 (n .version + 1) 0 key []) → (r : Stepped) → r ≡ oneMore c words fresh
-            → Does (Delete key) s (record { control = r .control; setup = k; buffer = after }) bytes bytes table table (r .report)
+            → Does (Delete key) (memory s bytes table) (memoryOf (r .control) k after bytes table) (r .report)
         unfolding next
         delete-done fresh e after words added r is-r = rw is-r
             (staged key (n .version) version-is item maxVersion fresh adm after words added (Delete key) (λ f. f) (λ Fit f. f) (barred (R.Begun 0)) right refl refl next-is refl

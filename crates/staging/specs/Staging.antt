@@ -21,13 +21,14 @@ use Rattle.spec.specs.declared.Report.the-variants as R
 use Rattle.index.specs.Index.{get}
 use Rattle.index.specs.Packed.{unpackOf}
 use Rattle.session.specs.State.{batchRoom, behindAll}
-use Rattle.session.specs.Promise.{Does}
+use Rattle.session.specs.Promise.{Memory, Does}
 use Rattle.batch.specs.declared.Latest.{Latest}
 use Rattle.batch.specs.Items.{StagedIn, latestOf}
 use Rattle.staging.specs.declared.Newest.{Newest}
 use Rattle.staging.specs.declared.Admission.{Admission}
 use Rattle.staging.specs.declared.Admission.the-variants as A
 use Rattle.session.specs.declared.Stepped.{Stepped}
+use Rattle.session.specs.Numbers.{stagedMore}
 
 -- by what the last staged item says and by the table's word of the key
 abbrev pub committedBy : ℕ → Newest
@@ -73,12 +74,12 @@ abbrev pub refusedWith : Control → Refusal → Stepped
 refusedWith c n = record { control = c; report = R.Refused n }
 
 abbrev pub oneMore : Control → ℕ → ℕ → Stepped
-oneMore c words fresh = record { control = record { phase = 2; next = behindAll; items = c .items + 1; words = words; keys = c .keys; fresh = fresh }; report = R.Begun 0 }
+oneMore c words fresh = record { control = stagedMore behindAll words fresh c; report = R.Begun 0 }
 
 -- A put where `Here` holds of the value's length; elsewhere nothing is done.
-pub record PutWhere (Here : ℕ → Type 0) (key : ℕ) (v : List ℕ) (s s′ : Session) (bytes table : List ℕ) (r : Report) : Type 0 where
-  pub within : Here (length v) → Does (Put key v) s s′ bytes bytes table table r
-  pub without : (Here (length v) → ⊥) → (s′ ≡ s) × (r ≡ R.Idle)
+pub record PutWhere (Here : ℕ → Type 0) (key : ℕ) (v : List ℕ) (m m′ : Memory) (r : Report) : Type 0 where
+  pub within : Here (length v) → Does (Put key v) m m′ r
+  pub without : (Here (length v) → ⊥) → (m′ ≡ m) × (r ≡ R.Idle)
 
 -- a value that goes into the log, and one that does not
 abbrev pub Short : ℕ → Type 0

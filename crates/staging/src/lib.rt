@@ -7,7 +7,7 @@ ghost use Rattle.spec.specs.Words.{wordsOf};
 ghost use Rattle.spec.specs.Log.{firstOf};
 ghost use Rattle.spec.specs.Machine.{Put, Delete, Abandon};
 ghost use Rattle.staging.specs.Staging.{NewestOf, VersionOf, putIn, presentBy, newKeys, admitOf, refusedWith, oneMore, PutWhere, Short, Long};
-ghost use Rattle.session.specs.Promise.{Does};
+ghost use Rattle.session.specs.Promise.{Does, memoryOf};
 use blocks::Buffer;
 use session::Control;
 use session::Gated;
@@ -28,7 +28,7 @@ pub fn abandon_core(
     image: &[u8],
     table: &[u64],
 ) -> Outcome
-    ensures { λ r. ⌜ Does Abandon (record { control = control; setup = setup; buffer = now (buffer .entry) }) (record { control = r .control; setup = r .setup; buffer = now (buffer .entry) }) (now (image .entry)) (now (image .entry)) (now (table .entry)) (now (table .entry)) (r .report) ⌝ }
+    ensures { λ r. ⌜ Does Abandon (memoryOf control setup (now (buffer .entry)) (now (image .entry)) (now (table .entry))) (memoryOf (r .control) (r .setup) (now (buffer .entry)) (now (image .entry)) (now (table .entry))) (r .report) ⌝ }
 {
     let g = session::gate(control, setup, image.len(), table.len());
     match g {
@@ -38,16 +38,10 @@ pub fn abandon_core(
             report: Report::Refused(n),
         },
         Gated::Open => {
-            let staged = batch::any_item(buffer, control.words);
+            let held = control.words;
+            let staged = batch::any_item(buffer, held);
             if staged {
-                let next = Control {
-                    phase: 1,
-                    next: 0,
-                    items: 0,
-                    words: 0,
-                    keys: control.keys,
-                    fresh: 0,
-                };
+                let next = session::emptied(control);
                 return Outcome {
                     control: next,
                     setup,
@@ -208,14 +202,7 @@ fn one_more(control: Control, words: usize, fresh: usize) -> Stepped
     requires { ⌜ control .items < 16 ⌝ }
     ensures { λ r. ⌜ r ≡ oneMore control words fresh ⌝ }
 {
-    let next = Control {
-        phase: 2,
-        next: 1024,
-        items: control.items + 1,
-        words,
-        keys: control.keys,
-        fresh,
-    };
+    let next = session::one_more(control, 1024, words, fresh);
     Stepped {
         control: next,
         report: Report::Begun(0),
@@ -233,7 +220,7 @@ fn put_in_log(
     value: &[u8],
 ) -> Stepped
     requires { ⌜ length (now value) ≤ 256 ⌝ }
-    ensures { λ r. ⌜ Does (Put key (now (value .entry))) (record { control = control; setup = setup; buffer = now (buffer .entry) }) (record { control = r .control; setup = setup; buffer = now (buffer .exit) }) (now (image .entry)) (now (image .entry)) (now (table .entry)) (now (table .entry)) (r .report) ⌝ }
+    ensures { λ r. ⌜ Does (Put key (now (value .entry))) (memoryOf control setup (now (buffer .entry)) (now (image .entry)) (now (table .entry))) (memoryOf (r .control) setup (now (buffer .exit)) (now (image .entry)) (now (table .entry))) (r .report) ⌝ }
 {
     let g = session::gate(control, setup, image.len(), table.len());
     match g {
@@ -273,7 +260,7 @@ fn put_in_block(
     value: &[u8],
 ) -> Outcome
     requires { ⌜ 256 < length (now value) ⌝ }
-    ensures { λ r. ⌜ Does (Put key (now (value .entry))) (record { control = control; setup = setup; buffer = now (buffer .entry) }) (record { control = r .control; setup = r .setup; buffer = now (buffer .exit) }) (now (image .entry)) (now (image .entry)) (now (table .entry)) (now (table .entry)) (r .report) ⌝ }
+    ensures { λ r. ⌜ Does (Put key (now (value .entry))) (memoryOf control setup (now (buffer .entry)) (now (image .entry)) (now (table .entry))) (memoryOf (r .control) (r .setup) (now (buffer .exit)) (now (image .entry)) (now (table .entry))) (r .report) ⌝ }
 {
     let g = session::gate(control, setup, image.len(), table.len());
     match g {
@@ -310,14 +297,7 @@ fn put_in_block(
                         value,
                     );
                     if large.found {
-                        let begun = Control {
-                            phase: 2,
-                            next: 0,
-                            items: control.items + 1,
-                            words: large.words,
-                            keys: control.keys,
-                            fresh,
-                        };
+                        let begun = session::one_more(control, 0, large.words, fresh);
                         let bound = large.setup;
                         return Outcome {
                             control: begun,
@@ -354,7 +334,7 @@ pub fn put_short(
     key: u64,
     value: &[u8],
 ) -> Stepped
-    ensures { λ r. ⌜ PutWhere Short key (now (value .entry)) (record { control = control; setup = setup; buffer = now (buffer .entry) }) (record { control = r .control; setup = setup; buffer = now (buffer .exit) }) (now (image .entry)) (now (table .entry)) (r .report) ⌝ }
+    ensures { λ r. ⌜ PutWhere Short key (now (value .entry)) (memoryOf control setup (now (buffer .entry)) (now (image .entry)) (now (table .entry))) (memoryOf (r .control) setup (now (buffer .exit)) (now (image .entry)) (now (table .entry))) (r .report) ⌝ }
 {
     if value.len() <= 256 {
         return put_in_log(control, setup, buffer, image, table, key, value);
@@ -375,7 +355,7 @@ pub fn put_long(
     key: u64,
     value: &[u8],
 ) -> Outcome
-    ensures { λ r. ⌜ PutWhere Long key (now (value .entry)) (record { control = control; setup = setup; buffer = now (buffer .entry) }) (record { control = r .control; setup = r .setup; buffer = now (buffer .exit) }) (now (image .entry)) (now (table .entry)) (r .report) ⌝ }
+    ensures { λ r. ⌜ PutWhere Long key (now (value .entry)) (memoryOf control setup (now (buffer .entry)) (now (image .entry)) (now (table .entry))) (memoryOf (r .control) (r .setup) (now (buffer .exit)) (now (image .entry)) (now (table .entry))) (r .report) ⌝ }
 {
     if 256 < value.len() {
         return put_in_block(control, setup, buffer, image, table, key, value);
@@ -397,7 +377,7 @@ pub fn put_core(
     key: u64,
     value: &[u8],
 ) -> Outcome
-    ensures { λ r. ⌜ Does (Put key (now (value .entry))) (record { control = control; setup = setup; buffer = now (buffer .entry) }) (record { control = r .control; setup = r .setup; buffer = now (buffer .exit) }) (now (image .entry)) (now (image .entry)) (now (table .entry)) (now (table .entry)) (r .report) ⌝ }
+    ensures { λ r. ⌜ Does (Put key (now (value .entry))) (memoryOf control setup (now (buffer .entry)) (now (image .entry)) (now (table .entry))) (memoryOf (r .control) (r .setup) (now (buffer .exit)) (now (image .entry)) (now (table .entry))) (r .report) ⌝ }
 {
     if value.len() <= 256 {
         let staged = put_in_log(control, setup, buffer, image, table, key, value);
@@ -421,7 +401,7 @@ pub fn delete_core(
     table: &[u64],
     key: u64,
 ) -> Stepped
-    ensures { λ r. ⌜ Does (Delete key) (record { control = control; setup = setup; buffer = now (buffer .entry) }) (record { control = r .control; setup = setup; buffer = now (buffer .exit) }) (now (image .entry)) (now (image .entry)) (now (table .entry)) (now (table .entry)) (r .report) ⌝ }
+    ensures { λ r. ⌜ Does (Delete key) (memoryOf control setup (now (buffer .entry)) (now (image .entry)) (now (table .entry))) (memoryOf (r .control) setup (now (buffer .exit)) (now (image .entry)) (now (table .entry))) (r .report) ⌝ }
 {
     let g = session::gate(control, setup, image.len(), table.len());
     match g {

@@ -16,13 +16,13 @@ use Rattle.session.specs.declared.Session.{Session}
 use Rattle.spec.specs.declared.Report.{Report}
 use Rattle.session.specs.State.{batchWords, batchItems, cleanActions, stateAt}
 use Rattle.session.specs.Fits.{CleanFits, RestFits, Fits}
-use Rattle.session.proofs.Kept.{emptied}
 use Rattle.actions.specs.Nth.{nth}
 use Rattle.cleaning.specs.Record.{cleanCount}
 use Rattle.cleaning.proofs.Acting.{clean-next, clean-done}
 use Rattle.cleaning_step.specs.Moves.{Acts, Over, CleanStepped}
 use Rattle.actions.proofs.States.{busy, at-6, step-acts, step-ends}
-use Rattle.session.specs.Promise.{Does}
+use Rattle.session.specs.Promise.{Does, memory}
+use Rattle.session.specs.Numbers.{emptied}
 
 module _ (c : Control) (k : Setup) (b bytes table : List ℕ) (e : c .phase ≡ 6) (same-bytes : k .image ≡ length bytes) (same-words : k .table ≡ length table) where
   abbrev s : Session
@@ -54,7 +54,7 @@ module _ (c : Control) (k : Setup) (b bytes table : List ℕ) (e : c .phase ≡ 
         at-6 c′ k b′ (ap (λ (x : Control). x .phase) (t .control))
         ∙ ap (λ (n : ℕ). F (drop n (cleanActions k f b′))) (ap (λ (x : Control). x .next) (t .control))
 
-    acted : Does Step s (with′ c′ b′) bytes bytes′ table table′ r
+    acted : Does Step (memory s bytes table) (memory (with′ c′ b′) bytes′ table′) r
     acted =
         rw (t .report)
         (step-acts s (with′ c′ b′) bytes bytes′ table table′ (k .image) (k .table) (f .entries) (Rest (k .image) (k .table) []) F (busy (k .image) (k .table) [] (Cleaning (f .entries))) same-bytes same-words
@@ -69,13 +69,13 @@ module _ (c : Control) (k : Setup) (b bytes table : List ℕ) (e : c .phase ≡ 
     rests : CleanFits c k f b (wordsOf bytes) table (drop (c .next) acts) → RestFits (with′ (emptied c) b) (wordsOf bytes) table []
     rests = rw (t .control, t .buffer, t .unchanged, t .same) at (t .fits)
 
-    over : Does Step s (with′ c′ b′) bytes bytes′ table table′ r
+    over : Does Step (memory s bytes table) (memory (with′ c′ b′) bytes′ table′) r
     unfolding stateAt batchItems batchWords
     over =
         rw (t .report, t .control, t .buffer, t .unchanged, t .same)
         (step-ends s (with′ (emptied c) b) bytes bytes table table (k .image) (k .table) (f .entries) (Rest (k .image) (k .table) []) F (busy (k .image) (k .table) [] (Cleaning (f .entries)))
         same-bytes same-words last refl (λ q. (q .0, rests (fitting q))))
 
-  pub cleans : (c′ : Control) (b′ bytes′ table′ : List ℕ) (r : Report) → CleanStepped c c′ k f b b′ bytes bytes′ table table′ r → Does Step s (with′ c′ b′) bytes bytes′ table table′ r
+  pub cleans : (c′ : Control) (b′ bytes′ table′ : List ℕ) (r : Report) → CleanStepped c c′ k f b b′ bytes bytes′ table table′ r → Does Step (memory s bytes table) (memory (with′ c′ b′) bytes′ table′) r
   cleans c′ b′ bytes′ table′ r (inl t) = acted c′ b′ bytes′ table′ r t
   cleans c′ b′ bytes′ table′ r (inr t) = over c′ b′ bytes′ table′ r t

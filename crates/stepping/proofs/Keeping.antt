@@ -24,6 +24,7 @@ use Rattle.session.specs.Fits.{keyList, batchPlace, CommitFits}
 use Rattle.session.proofs.Kept.{words-kept, batch-kept, built-kept}
 use Rattle.apply.specs.Joining.{Fenced, Joining}
 use Rattle.ahead.proofs.Staged.{lo, hi, action-length}
+use Rattle.session.specs.Numbers.{keyed}
 
 -- THE KNOWN KEYS, with a batch placed among the entries.
 placed-keys : (at : ℕ) (items : List Entry) → keyList (placed at items) ≡ keyList items
@@ -49,7 +50,7 @@ joined-keys at front back items =
 
 -- after an action of a commit: its number counted on, so many known keys, so many fresh ones
 abbrev pub acted : Control → ℕ → ℕ → Control
-acted c keys fresh = record { phase = 3; next = c .next + 1; items = c .items; words = c .words; keys = keys; fresh = fresh }
+acted c keys fresh = keyed 3 (c .next + 1) keys fresh c
 
 module _ (c : Control) (k : Setup) (b : List ℕ) where
   abbrev s : Session

@@ -26,7 +26,7 @@ use Rattle.spec.specs.declared.Report.the-variants as R
 use Rattle.words.specs.Image.{Saved}
 use Rattle.session.specs.State.{bufferPart, batchRoom, batchWords, batchItems, chunkIn, linesIn, commitActions, formatActions, blockActions, stateAt}
 use Rattle.session.specs.Fits.{Fits}
-use Rattle.session.proofs.Kept.{words-kept, same-items, same-acts, emptied, staged, end-kept, staging-kept}
+use Rattle.session.proofs.Kept.{words-kept, same-items, same-acts, end-kept, staging-kept}
 use Rattle.actions.specs.Nth.{nth, nthReport, commitCount, formatCount}
 use Rattle.actions.proofs.Nth.{drop-nth, drop-past}
 use Rattle.actions.proofs.Committing.{commit-next, commit-done, shows-store}
@@ -36,17 +36,18 @@ use Rattle.ahead.proofs.Steps.{rest-same}
 use Rattle.apply.specs.Joining.{Joining}
 use Rattle.actions.proofs.States.{busy, formatting, at-2, at-3, at-4, at-5, nothing-begun, in-call, table-kept, step-idle, step-refused, step-acts, step-ends}
 use Rattle.stepping.proofs.Keeping.{acted, action-kept, last-kept}
-use Rattle.session.specs.Promise.{Does}
+use Rattle.session.specs.Promise.{Does, memory}
+use Rattle.session.specs.Numbers.{closed, emptied, toNext, acting, staged}
 
 -- NOTHING BEGUN, and lengths unlike those at the begin
 module _ (c : Control) (k : Setup) (b bytes table : List ℕ) where
   abbrev same : Session
   same = record { control = c; setup = k; buffer = b }
 
-  pub idles : (2 ≤ c .phase → c .phase ≤ 6 → ⊥) → Does Step same same bytes bytes table table R.Idle
+  pub idles : (2 ≤ c .phase → c .phase ≤ 6 → ⊥) → Does Step (memory same bytes table) (memory same bytes table) R.Idle
   idles h = step-idle same bytes table (nothing-begun c k b h)
 
-  pub turned-down : 2 ≤ c .phase → c .phase ≤ 6 → (k .image ≡ length bytes → k .table ≡ length table → ⊥) → Does Step same same bytes bytes table table (R.Refused N.ImageLength)
+  pub turned-down : 2 ≤ c .phase → c .phase ≤ 6 → (k .image ≡ length bytes → k .table ≡ length table → ⊥) → Does Step (memory same bytes table) (memory same bytes table) (R.Refused N.ImageLength)
   turned-down l h unlike = step-refused same bytes table (in-call c k b l h) (go (ℕ-discrete (k .image) (length bytes)) (ℕ-discrete (k .table) (length table)))
     where
       go : Dec (k .image ≡ length bytes) → Dec (k .table ≡ length table) → both (eqb (k .image) (length bytes)) (eqb (k .table) (length table)) ≡ false
@@ -64,13 +65,13 @@ module _ (c : Control) (k : Setup) (b bytes table : List ℕ) (same-bytes : k .i
   -- STAGING
   -- after an action of one
   abbrev pub stored : Control
-  stored = record { phase = 2; next = c .next + 1; items = c .items; words = c .words; keys = c .keys; fresh = c .fresh }
+  stored = acting 2 (c .next + 1) c
 
   module _ (e : c .phase ≡ 2) where
     abbrev S : List Action → State
     S = Busy (k .image) (k .table) (batchItems c b) Staging
 
-    pub staging-ends : length (blockActions k b) ≤ c .next → Does Step s (with′ (staged c) b) bytes bytes table table (R.End 0)
+    pub staging-ends : length (blockActions k b) ≤ c .next → Does Step (memory s bytes table) (memory (with′ (staged c) b) bytes table) (R.End 0)
     unfolding stateAt batchItems batchWords
     staging-ends h =
         step-ends s (with′ (staged c) b) bytes bytes table table (k .image) (k .table) 0 (Rest (k .image) (k .table) (batchItems c b)) S (busy (k .image) (k .table) (batchItems c b) Staging)
@@ -80,7 +81,7 @@ module _ (c : Control) (k : Setup) (b bytes table : List ℕ) (same-bytes : k .i
         last = at-2 c k b e ∙ ap S (drop-past (blockActions k b) (c .next) h)
 
     pub staging-acts : (bytes′ : List ℕ) (r : Report) → c .next < length (blockActions k b) → r ≡ nthReport (blockActions k b) (c .next) → Changed r bytes bytes′
-        → Does Step s (with′ stored b) bytes bytes′ table table r
+        → Does Step (memory s bytes table) (memory (with′ stored b) bytes′ table) r
     unfolding batchItems batchWords
     staging-acts bytes′ r h er changed =
         rw er
@@ -134,7 +135,7 @@ module _ (c : Control) (k : Setup) (b bytes table : List ℕ) (same-bytes : k .i
       words = changed-words (asReport act) bytes bytes′ done
 
       -- an action that is not the last
-      pub commit-acts : c .next + 1 < commitCount (c .words) → Does Step s (with′ (acted c (c .keys) (c .fresh)) b) bytes bytes′ table table r
+      pub commit-acts : c .next + 1 < commitCount (c .words) → Does Step (memory s bytes table) (memory (with′ (acted c (c .keys) (c .fresh)) b) bytes′ table) r
       commit-acts h =
           rw er
           (step-acts s s′ bytes bytes′ table table (k .image) (k .table) 0 (Rest (k .image) (k .table) []) F (busy (k .image) (k .table) (batchItems c b) Committing) same-bytes same-words
@@ -154,7 +155,7 @@ module _ (c : Control) (k : Setup) (b bytes table : List ℕ) (same-bytes : k .i
 
       -- the last, with its batch joined
       pub commit-joins : (b′ table′ : List ℕ) (keys : ℕ) → c .next + 1 ≡ commitCount (c .words) → Joining c k b b′ (wordsOf bytes′) table table′ keys
-          → Does Step s (with′ (acted c keys 0) b′) bytes bytes′ table table′ r
+          → Does Step (memory s bytes table) (memory (with′ (acted c keys 0) b′) bytes′ table′) r
       commit-joins b′ table′ keys h j =
           rw er
           (step-acts s s′ bytes bytes′ table table′ (k .image) (k .table) 0 (Rest (k .image) (k .table) []) F (busy (k .image) (k .table) (batchItems c b) Committing) same-bytes same-words
@@ -175,12 +176,12 @@ module _ (c : Control) (k : Setup) (b bytes table : List ℕ) (same-bytes : k .i
     -- a store of one of the batch's words
     pub commit-stores : (bytes′ : List ℕ) (w v : ℕ) → c .next < 8 * linesFor (min (c .words) batchRoom) → w ≡ 512 * chunkIn k + 8 * linesIn k + c .next
         → v ≡ getD (padded (bufferPart b 0 (min (c .words) batchRoom))) (c .next) 0 → Saved bytes bytes′ w v
-        → Does Step s (with′ (acted c (c .keys) (c .fresh)) b) bytes bytes′ table table (R.Store w v)
+        → Does Step (memory s bytes table) (memory (with′ (acted c (c .keys) (c .fresh)) b) bytes′ table) (R.Store w v)
     commit-stores bytes′ w v h ew ev saved =
         commit-acts bytes′ (R.Store w v) (shows-store c k b (c .next) (min (c .words) batchRoom) refl w v h ew ev)
         (changed-store (R.Store w v) bytes bytes′ w v refl saved) (omega arith)
 
-    pub commit-ends : commitCount (c .words) ≤ c .next → Does Step s (with′ (emptied c) b) bytes bytes table table (R.End 0)
+    pub commit-ends : commitCount (c .words) ≤ c .next → Does Step (memory s bytes table) (memory (with′ (emptied c) b) bytes table) (R.End 0)
     unfolding stateAt batchItems batchWords
     commit-ends h =
         step-ends s (with′ (emptied c) b) bytes bytes table table (k .image) (k .table) 0 (Rest (k .image) (k .table) []) F (busy (k .image) (k .table) (batchItems c b) Committing)
@@ -192,10 +193,7 @@ module _ (c : Control) (k : Setup) (b bytes table : List ℕ) (same-bytes : k .i
   -- FORMAT
   -- after an action; after the last
   abbrev pub counted : Control
-  counted = record { phase = c .phase; next = c .next + 1; items = c .items; words = c .words; keys = c .keys; fresh = c .fresh }
-
-  abbrev pub closed : Control
-  closed = record { phase = 0; next = 0; items = 0; words = 0; keys = 0; fresh = 0 }
+  counted = toNext (c .next + 1) c
 
   module _ (low : 4 ≤ c .phase) (high : c .phase ≤ 5) where
     abbrev isOpen : Dec (c .phase ≡ 5) → Bool
@@ -213,14 +211,14 @@ module _ (c : Control) (k : Setup) (b bytes table : List ℕ) (same-bytes : k .i
         go (no q) = at-4 c′ k b (omega arith)
 
     pub format-acts : (bytes′ : List ℕ) (r : Report) → c .next < formatCount → r ≡ nthReport (formatActions k) (c .next) → Changed r bytes bytes′
-        → Does Step s (with′ counted b) bytes bytes′ table table r
+        → Does Step (memory s bytes table) (memory (with′ counted b) bytes′ table) r
     format-acts bytes′ r h er changed =
         rw er
         (step-acts s (with′ counted b) bytes bytes′ table table (k .image) (k .table) 0 Closed (Formatting o (k .image) (k .table)) (formatting o (k .image) (k .table)) same-bytes same-words
         (nth (formatActions k) (c .next)) (drop (c .next + 1) (formatActions k)) (by-phase c refl ∙ ap (Formatting o (k .image) (k .table)) (format-next k (c .next) h)) (by-phase counted refl)
         (rw er at changed) refl (table-kept (stateAt c k b) table) (λ f. (f .0, rw (by-phase counted refl) tt)))
 
-    pub format-ends : formatCount ≤ c .next → Does Step s (with′ closed b) bytes bytes table table (R.End 0)
+    pub format-ends : formatCount ≤ c .next → Does Step (memory s bytes table) (memory (with′ closed b) bytes table) (R.End 0)
     unfolding stateAt
     format-ends h =
         step-ends s (with′ closed b) bytes bytes table table (k .image) (k .table) 0 Closed (Formatting o (k .image) (k .table)) (formatting o (k .image) (k .table)) same-bytes same-words

@@ -5,7 +5,7 @@ ghost use lib.Dec.{leb};
 ghost use lib.ListN.{length};
 ghost use Rattle.spec.specs.Machine.{Step};
 ghost use Rattle.session.specs.State.{blockActions};
-ghost use Rattle.session.specs.Promise.{Does};
+ghost use Rattle.session.specs.Promise.{Does, memoryOf};
 use blocks::Buffer;
 use session::Control;
 use session::Setup;
@@ -22,20 +22,12 @@ fn commit_step(
     table: &mut [u64],
 ) -> Stepped
     requires { ⌜ (control .phase ≡ 3) × (setup .image ≡ length (now image)) × (setup .table ≡ length (now table)) ⌝ }
-    ensures { λ r. ⌜ Does Step (record { control = control; setup = setup; buffer = now (buffer .entry) }) (record { control = r .control; setup = setup; buffer = now (buffer .exit) }) (now (image .entry)) (now (image .exit)) (now (table .entry)) (now (table .exit)) (r .report) ⌝ }
+    ensures { λ r. ⌜ Does Step (memoryOf control setup (now (buffer .entry)) (now (image .entry)) (now (table .entry))) (memoryOf (r .control) setup (now (buffer .exit)) (now (image .exit)) (now (table .exit))) (r .report) ⌝ }
 {
     let at = control.next;
     let count = actions::commit_count(control.words);
     if count <= at {
-        let items = 0;
-        let ended = Control {
-            phase: 1,
-            next: 0,
-            items,
-            words: 0,
-            keys: control.keys,
-            fresh: 0,
-        };
+        let ended = session::emptied(control);
         return Stepped {
             control: ended,
             report: Report::End(0),
@@ -45,28 +37,14 @@ fn commit_step(
     actions::perform(image, act);
     let next = at + 1;
     if next < count {
-        let moved = Control {
-            phase: 3,
-            next,
-            items: control.items,
-            words: control.words,
-            keys: control.keys,
-            fresh: control.fresh,
-        };
+        let moved = session::acting(control, session::COMMIT, next);
         return Stepped {
             control: moved,
             report: act,
         };
     }
     let keys = apply::join(control, setup, buffer, image, table);
-    let moved = Control {
-        phase: 3,
-        next,
-        items: control.items,
-        words: control.words,
-        keys,
-        fresh: 0,
-    };
+    let moved = session::keyed(control, session::COMMIT, next, keys, 0);
     Stepped {
         control: moved,
         report: act,
@@ -92,18 +70,11 @@ fn stage_step(
     table: &[u64],
 ) -> Stepped
     requires { ⌜ (control .phase ≡ 2) × (setup .image ≡ length (now image)) × (setup .table ≡ length (now table)) ⌝ }
-    ensures { λ r. ⌜ Does Step (record { control = control; setup = setup; buffer = now (buffer .entry) }) (record { control = r .control; setup = setup; buffer = now (buffer .entry) }) (now (image .entry)) (now (image .exit)) (now (table .entry)) (now (table .entry)) (r .report) ⌝ }
+    ensures { λ r. ⌜ Does Step (memoryOf control setup (now (buffer .entry)) (now (image .entry)) (now (table .entry))) (memoryOf (r .control) setup (now (buffer .entry)) (now (image .exit)) (now (table .entry))) (r .report) ⌝ }
 {
     let at = control.next;
     if is_stored(setup, buffer, at) {
-        let staged = Control {
-            phase: 1,
-            next: 0,
-            items: control.items,
-            words: control.words,
-            keys: control.keys,
-            fresh: control.fresh,
-        };
+        let staged = session::at_rest(control);
         return Stepped {
             control: staged,
             report: Report::End(0),
@@ -112,14 +83,7 @@ fn stage_step(
     let action = block_acts::block_action(setup, buffer, at);
     actions::perform(image, action);
     let next = at + 1;
-    let moved = Control {
-        phase: 2,
-        next,
-        items: control.items,
-        words: control.words,
-        keys: control.keys,
-        fresh: control.fresh,
-    };
+    let moved = session::acting(control, session::STAGING, next);
     Stepped {
         control: moved,
         report: action,
@@ -135,18 +99,11 @@ fn format_step(
     table: &[u64],
 ) -> Stepped
     requires { ⌜ (4 ≤ control .phase) × (control .phase ≤ 5) × (setup .image ≡ length (now image)) × (setup .table ≡ length (now table)) ⌝ }
-    ensures { λ r. ⌜ Does Step (record { control = control; setup = setup; buffer = now (buffer .entry) }) (record { control = r .control; setup = setup; buffer = now (buffer .entry) }) (now (image .entry)) (now (image .exit)) (now (table .entry)) (now (table .entry)) (r .report) ⌝ }
+    ensures { λ r. ⌜ Does Step (memoryOf control setup (now (buffer .entry)) (now (image .entry)) (now (table .entry))) (memoryOf (r .control) setup (now (buffer .entry)) (now (image .exit)) (now (table .entry))) (r .report) ⌝ }
 {
     let at = control.next;
     if actions::format_count() <= at {
-        let closed = Control {
-            phase: 0,
-            next: 0,
-            items: 0,
-            words: 0,
-            keys: 0,
-            fresh: 0,
-        };
+        let closed = session::closed();
         return Stepped {
             control: closed,
             report: Report::End(0),
@@ -155,14 +112,7 @@ fn format_step(
     let action = actions::format_action(setup, at);
     actions::perform(image, action);
     let next = at + 1;
-    let moved = Control {
-        phase: control.phase,
-        next,
-        items: control.items,
-        words: control.words,
-        keys: control.keys,
-        fresh: control.fresh,
-    };
+    let moved = session::moved(control, next);
     Stepped {
         control: moved,
         report: action,
@@ -179,7 +129,7 @@ fn clean_step(
     table: &mut [u64],
 ) -> Stepped
     requires { ⌜ (control .phase ≡ 6) × (setup .image ≡ length (now image)) × (setup .table ≡ length (now table)) ⌝ }
-    ensures { λ r. ⌜ Does Step (record { control = control; setup = setup; buffer = now (buffer .entry) }) (record { control = r .control; setup = setup; buffer = now (buffer .exit) }) (now (image .entry)) (now (image .exit)) (now (table .entry)) (now (table .exit)) (r .report) ⌝ }
+    ensures { λ r. ⌜ Does Step (memoryOf control setup (now (buffer .entry)) (now (image .entry)) (now (table .entry))) (memoryOf (r .control) setup (now (buffer .exit)) (now (image .exit)) (now (table .exit))) (r .report) ⌝ }
 {
     let source = setup.source;
     let moved = cleaning_step::clean_step(control, setup, source, buffer, image, table);
@@ -199,7 +149,7 @@ pub fn step_core(
     image: &mut [u8],
     table: &mut [u64],
 ) -> Stepped
-    ensures { λ r. ⌜ Does Step (record { control = control; setup = setup; buffer = now (buffer .entry) }) (record { control = r .control; setup = setup; buffer = now (buffer .exit) }) (now (image .entry)) (now (image .exit)) (now (table .entry)) (now (table .exit)) (r .report) ⌝ }
+    ensures { λ r. ⌜ Does Step (memoryOf control setup (now (buffer .entry)) (now (image .entry)) (now (table .entry))) (memoryOf (r .control) setup (now (buffer .exit)) (now (image .exit)) (now (table .exit))) (r .report) ⌝ }
 {
     let phase = control.phase;
     if phase < 2 {

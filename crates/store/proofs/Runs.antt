@@ -18,32 +18,31 @@ use Rattle.spec.specs.declared.Report.{Report}
 use Rattle.spec.specs.declared.Report.the-variants as R
 use Rattle.session.specs.State.{stateOf, limit}
 use Rattle.session.specs.Fits.{Fits}
-use Rattle.fast_path.specs.Fast.{Idles, OnFastPath}
+use Rattle.fast_path.specs.Fast.{Idles, HereIn, OnFastPath}
 use Rattle.fast_path.specs.Run.{Ran, Runs}
 use Rattle.session.specs.Fits.{Proper}
+use Rattle.session.specs.Promise.{Memory}
 
 -- reports that each tell of a store
 pub data AllStores : List Report → Type 0 where
   none : AllStores []
   one : (w v : ℕ) (rs : List Report) → AllStores rs → AllStores (R.Store w v ∷ rs)
 
-abbrev pub Steps : (s s′ : Session) (bytes bytes′ table table′ : List ℕ) → Report → Medium → Type 0
-Steps s s′ bytes bytes′ table table′ r m =
-    (rs : List Report) × (AllStores rs × ((m′ : Medium) × Stepped Proper stateOf Fits 12 limit (rs ++ (r ∷ [])) m s bytes table m′ s′ bytes′ table′))
+abbrev pub Steps : (m m′ : Memory) → Report → Medium → Type 0
+Steps m m′ r o =
+    (rs : List Report) × (AllStores rs × ((o′ : Medium) × Stepped Proper stateOf Fits 12 limit (rs ++ (r ∷ [])) o (m .session) (m .image) (m .table) o′ (m′ .session) (m′ .image) (m′ .table)))
 
-ran-steps : (n : ℕ) (s s′ : Session) (bytes bytes′ table table′ : List ℕ) (r : Report) (m : Medium) → Ran n s s′ bytes bytes′ table table′ r → Steps s s′ bytes bytes′ table table′ r m
-ran-steps zero s s′ bytes bytes′ table table′ r m q = ([], (none, (mediumAfter r m, (s′, (bytes′, (table′, (q, (refl, (refl, (refl, refl))))))))))
-ran-steps (suc n) s s′ bytes bytes′ table table′ r m (s₁, (bytes₁, (table₁, (w, (v, (q, more)))))) =
-    let later = ran-steps n s₁ s′ bytes₁ bytes′ table₁ table′ r (mediumAfter (R.Store w v) m) more in
-    (R.Store w v ∷ later .0, (one w v (later .0) (later .1 .0), (later .1 .1 .0, (s₁, (bytes₁, (table₁, (q, later .1 .1 .1)))))))
+ran-steps : (n : ℕ) (m m′ : Memory) (r : Report) (o : Medium) → Ran n m m′ r → Steps m m′ r o
+ran-steps zero m m′ r o q = ([], (none, (mediumAfter r o, (m′ .session, (m′ .image, (m′ .table, (q, (refl, (refl, (refl, refl))))))))))
+ran-steps (suc n) m m′ r o (m₁, (w, (v, (q, more)))) =
+    let later = ran-steps n m₁ m′ r (mediumAfter (R.Store w v) o) more in
+    (R.Store w v ∷ later .0, (one w v (later .0) (later .1 .0), (later .1 .1 .0, (m₁ .session, (m₁ .image, (m₁ .table, (q, later .1 .1 .1)))))))
 
-pub runs-are-steps : (s s′ : Session) (bytes bytes′ table table′ : List ℕ) (r : Report) (m : Medium) → Runs s s′ bytes bytes′ table table′ r → Steps s s′ bytes bytes′ table table′ r m
-runs-are-steps s s′ bytes bytes′ table table′ r m (n, ran) = ran-steps n s s′ bytes bytes′ table table′ r m ran
+pub runs-are-steps : (m m′ : Memory) (r : Report) (o : Medium) → Runs m m′ r → Steps m m′ r o
+runs-are-steps m m′ r o (n, ran) = ran-steps n m m′ r o ran
 
--- THE FAST PATH is a step, or a run, where it is taken; elsewhere it is no event at all: record, image and table stay
--- as they were.
-pub fast-or-nothing : (Here : Control → Setup → (bytes words : ℕ) → Type 0) (P : (s s′ : Session) (bytes bytes′ table table′ : List ℕ) → Report → Type 0)
-    (s s′ : Session) (bytes bytes′ table table′ : List ℕ) (r : Report) → OnFastPath Here P s s′ bytes bytes′ table table′ r
-    → Dec (Here (s .control) (s .setup) (length bytes) (length table)) → P s s′ bytes bytes′ table table′ r ⊎ Idles s s′ bytes bytes′ table table′ r
-fast-or-nothing Here P s s′ bytes bytes′ table table′ r f (yes h) = inl (f .within h)
-fast-or-nothing Here P s s′ bytes bytes′ table table′ r f (no n) = inr (f .without n)
+-- THE FAST PATH is a step, or a run, where it is taken; elsewhere it is no event at all: memory stays as it was.
+pub fast-or-nothing : (Here : Control → Setup → (bytes words : ℕ) → Type 0) (P : (m m′ : Memory) → Report → Type 0) (m m′ : Memory) (r : Report)
+    → OnFastPath Here P m m′ r → Dec (HereIn Here m) → P m m′ r ⊎ Idles m m′ r
+fast-or-nothing Here P m m′ r f (yes h) = inl (f .within h)
+fast-or-nothing Here P m m′ r f (no n) = inr (f .without n)

@@ -8,9 +8,9 @@ use Rattle.spec.specs.Machine.{Choose}
 use Rattle.session.specs.declared.Session.{Session}
 use Rattle.spec.specs.declared.Report.{Report}
 use Rattle.choosing.specs.Choices.{ChosenIn}
-use Rattle.session.specs.Promise.{Does}
+use Rattle.session.specs.Promise.{Does, memory}
 
 -- the call's report, for any memory a refusal or a chunk of the lent image
 pub record Chosen (s : Session) (bytes table : List ℕ) (r : Report) : Type 0 where
-  pub called : Does Choose s s bytes bytes table table r
+  pub called : Does Choose (memory s bytes table) (memory s bytes table) r
   pub inside : ChosenIn (chunksIn 12 (length bytes)) r

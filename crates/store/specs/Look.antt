@@ -11,11 +11,11 @@ use Rattle.spec.specs.declared.Report.{Report}
 use Rattle.spec.specs.declared.Report.the-variants as R
 use Rattle.lookup.specs.declared.Located.{Located}
 use Rattle.lookup.specs.Look.{reportOf, InImage, numberOf}
-use Rattle.session.specs.Promise.{Does}
+use Rattle.session.specs.Promise.{Does, memory}
 
 -- the call's report, for any memory a refusal or a part of the image
 pub record Reported (s : Session) (key : ℕ) (bytes table : List ℕ) (r : Report) : Type 0 where
-  pub called : Does (LookUp key) s s bytes bytes table table r
+  pub called : Does (LookUp key) (memory s bytes table) (memory s bytes table) r
   pub located : Located
   pub is-report : r ≡ reportOf located
   pub inside : InImage (length bytes) located
@@ -23,7 +23,7 @@ pub record Reported (s : Session) (key : ℕ) (bytes table : List ℕ) (r : Repo
 -- the part itself, and 0 or the refusal's number: `located` is what the call answers
 pub record Shown (s : Session) (key : ℕ) (bytes table part : List ℕ) (answer : ℕ) : Type 0 where
   pub located : Located
-  pub called : Does (LookUp key) s s bytes bytes table table (reportOf located)
+  pub called : Does (LookUp key) (memory s bytes table) (memory s bytes table) (reportOf located)
   pub inside : InImage (length bytes) located
   pub is-part : part ≡ partBytes (reportOf located) bytes
   pub is-number : answer ≡ numberOf located

@@ -12,7 +12,7 @@ ghost use Rattle.fast_path.specs.Fast.{FastStep, Late, InStaging, OnFastPath};
 ghost use Rattle.store.specs.Look.{Reported, Shown};
 ghost use Rattle.store.specs.Choice.{Chosen};
 ghost use Rattle.store.specs.List.{KeysListed, KeyListed};
-ghost use Rattle.session.specs.Promise.{Does};
+ghost use Rattle.session.specs.Promise.{Does, memory};
 use listing::Counted;
 use listing::Listed;
 use session::Session;
@@ -28,7 +28,7 @@ pub fn format(
     centre_given: bool,
     centre: u64,
 ) -> Report
-    ensures { λ r. ⌜ Does (Format (given «station_given» station) (given «centre_given» centre)) (now (s .entry)) (now (s .exit)) (now (image .entry)) (now (image .entry)) (now (table .entry)) (now (table .entry)) r ⌝ }
+    ensures { λ r. ⌜ Does (Format (given «station_given» station) (given «centre_given» centre)) (memory (now (s .entry)) (now (image .entry)) (now (table .entry))) (memory (now (s .exit)) (now (image .entry)) (now (table .entry))) r ⌝ }
 {
     let c = s.control;
     let k = s.setup;
@@ -50,7 +50,7 @@ pub fn format(
 
 // Opens the register of the lent image, whatever record and table hold: the refusal 1 to 7, or opened.
 pub fn open_register(s: &mut Session, image: &[u8], table: &mut [u64]) -> Report
-    ensures { λ r. ⌜ Does Open (now (s .entry)) (now (s .exit)) (now (image .entry)) (now (image .entry)) (now (table .entry)) (now (table .exit)) r ⌝ }
+    ensures { λ r. ⌜ Does Open (memory (now (s .entry)) (now (image .entry)) (now (table .entry))) (memory (now (s .exit)) (now (image .entry)) (now (table .exit))) r ⌝ }
 {
     let c = s.control;
     let k = s.setup;
@@ -62,7 +62,7 @@ pub fn open_register(s: &mut Session, image: &[u8], table: &mut [u64]) -> Report
 
 // Begins staging a put of up to 4,088 bytes.
 pub fn stage_put(s: &mut Session, image: &[u8], table: &[u64], key: u64, value: &[u8]) -> Report
-    ensures { λ r. ⌜ Does (Put key (now (value .entry))) (now (s .entry)) (now (s .exit)) (now (image .entry)) (now (image .entry)) (now (table .entry)) (now (table .entry)) r ⌝ }
+    ensures { λ r. ⌜ Does (Put key (now (value .entry))) (memory (now (s .entry)) (now (image .entry)) (now (table .entry))) (memory (now (s .exit)) (now (image .entry)) (now (table .entry))) r ⌝ }
 {
     let c = s.control;
     let k = s.setup;
@@ -75,7 +75,7 @@ pub fn stage_put(s: &mut Session, image: &[u8], table: &[u64], key: u64, value: 
 // The same for a value that goes into the log (`staging::is_short`); elsewhere nothing is done. Of the record's small
 // parts it alters the control alone.
 pub fn stage_short(s: &mut Session, image: &[u8], table: &[u64], key: u64, value: &[u8]) -> Report
-    ensures { λ r. ⌜ PutWhere Short key (now (value .entry)) (now (s .entry)) (now (s .exit)) (now (image .entry)) (now (table .entry)) r ⌝ }
+    ensures { λ r. ⌜ PutWhere Short key (now (value .entry)) (memory (now (s .entry)) (now (image .entry)) (now (table .entry))) (memory (now (s .exit)) (now (image .entry)) (now (table .entry))) r ⌝ }
 {
     let c = s.control;
     let k = s.setup;
@@ -86,7 +86,7 @@ pub fn stage_short(s: &mut Session, image: &[u8], table: &[u64], key: u64, value
 
 // The same for a longer value; elsewhere nothing is done.
 pub fn stage_long(s: &mut Session, image: &[u8], table: &[u64], key: u64, value: &[u8]) -> Report
-    ensures { λ r. ⌜ PutWhere Long key (now (value .entry)) (now (s .entry)) (now (s .exit)) (now (image .entry)) (now (table .entry)) r ⌝ }
+    ensures { λ r. ⌜ PutWhere Long key (now (value .entry)) (memory (now (s .entry)) (now (image .entry)) (now (table .entry))) (memory (now (s .exit)) (now (image .entry)) (now (table .entry))) r ⌝ }
 {
     let c = s.control;
     let k = s.setup;
@@ -98,7 +98,7 @@ pub fn stage_long(s: &mut Session, image: &[u8], table: &[u64], key: u64, value:
 
 // Begins staging a delete.
 pub fn stage_delete(s: &mut Session, image: &[u8], table: &[u64], key: u64) -> Report
-    ensures { λ r. ⌜ Does (Delete key) (now (s .entry)) (now (s .exit)) (now (image .entry)) (now (image .entry)) (now (table .entry)) (now (table .entry)) r ⌝ }
+    ensures { λ r. ⌜ Does (Delete key) (memory (now (s .entry)) (now (image .entry)) (now (table .entry))) (memory (now (s .exit)) (now (image .entry)) (now (table .entry))) r ⌝ }
 {
     let c = s.control;
     let k = s.setup;
@@ -109,7 +109,7 @@ pub fn stage_delete(s: &mut Session, image: &[u8], table: &[u64], key: u64) -> R
 
 // Begins the commit of the staged items.
 pub fn commit(s: &mut Session, image: &[u8], table: &[u64]) -> Report
-    ensures { λ r. ⌜ Does Commit (now (s .entry)) (now (s .exit)) (now (image .entry)) (now (image .entry)) (now (table .entry)) (now (table .entry)) r ⌝ }
+    ensures { λ r. ⌜ Does Commit (memory (now (s .entry)) (now (image .entry)) (now (table .entry))) (memory (now (s .exit)) (now (image .entry)) (now (table .entry))) r ⌝ }
 {
     let c = s.control;
     let k = s.setup;
@@ -121,7 +121,7 @@ pub fn commit(s: &mut Session, image: &[u8], table: &[u64]) -> Report
 
 // Forgets the staged items.
 pub fn abandon(s: &mut Session, image: &[u8], table: &[u64]) -> Report
-    ensures { λ r. ⌜ Does Abandon (now (s .entry)) (now (s .exit)) (now (image .entry)) (now (image .entry)) (now (table .entry)) (now (table .entry)) r ⌝ }
+    ensures { λ r. ⌜ Does Abandon (memory (now (s .entry)) (now (image .entry)) (now (table .entry))) (memory (now (s .exit)) (now (image .entry)) (now (table .entry))) r ⌝ }
 {
     let c = s.control;
     let k = s.setup;
@@ -143,7 +143,7 @@ pub fn choose(s: &Session, image: &[u8], table: &[u64]) -> Report
 
 // Begins the cleaning of a chunk: what it keeps is to be copied, and the chunk to be freed.
 pub fn clean(s: &mut Session, image: &[u8], table: &[u64], chunk: usize) -> Report
-    ensures { λ r. ⌜ Does (Clean chunk) (now (s .entry)) (now (s .exit)) (now (image .entry)) (now (image .entry)) (now (table .entry)) (now (table .entry)) r ⌝ }
+    ensures { λ r. ⌜ Does (Clean chunk) (memory (now (s .entry)) (now (image .entry)) (now (table .entry))) (memory (now (s .exit)) (now (image .entry)) (now (table .entry))) r ⌝ }
 {
     let c = s.control;
     let k = s.setup;
@@ -155,7 +155,7 @@ pub fn clean(s: &mut Session, image: &[u8], table: &[u64], chunk: usize) -> Repo
 
 // One step of the call that is begun: one store, flush or fence, done on the image and reported; or the end; or idle.
 pub fn step(s: &mut Session, image: &mut [u8], table: &mut [u64]) -> Report
-    ensures { λ r. ⌜ Does Step (now (s .entry)) (now (s .exit)) (now (image .entry)) (now (image .exit)) (now (table .entry)) (now (table .exit)) r ⌝ }
+    ensures { λ r. ⌜ Does Step (memory (now (s .entry)) (now (image .entry)) (now (table .entry))) (memory (now (s .exit)) (now (image .exit)) (now (table .exit))) r ⌝ }
 {
     let c = s.control;
     let k = s.setup;
@@ -167,7 +167,7 @@ pub fn step(s: &mut Session, image: &mut [u8], table: &mut [u64]) -> Report
 // THE FAST PATH: the same step where `fast_path::is_fast_step` says so; elsewhere nothing is done, and the report is
 // idle. Of the record it alters the number of the next action alone.
 pub fn step_fast(s: &mut Session, image: &mut [u8], table: &mut [u64]) -> Report
-    ensures { λ r. ⌜ OnFastPath FastStep (Does Step) (now (s .entry)) (now (s .exit)) (now (image .entry)) (now (image .exit)) (now (table .entry)) (now (table .exit)) r ⌝ }
+    ensures { λ r. ⌜ OnFastPath FastStep (Does Step) (memory (now (s .entry)) (now (image .entry)) (now (table .entry))) (memory (now (s .exit)) (now (image .exit)) (now (table .exit))) r ⌝ }
 {
     let c = s.control;
     let k = s.setup;
@@ -179,7 +179,7 @@ pub fn step_fast(s: &mut Session, image: &mut [u8], table: &mut [u64]) -> Report
 // The stores of a commit that come next, and the action behind them, whose report is told; elsewhere nothing, as
 // before.
 pub fn run_fast(s: &mut Session, image: &mut [u8], table: &mut [u64]) -> Report
-    ensures { λ r. ⌜ OnFastPath FastStep RunsOn (now (s .entry)) (now (s .exit)) (now (image .entry)) (now (image .exit)) (now (table .entry)) (now (table .exit)) r ⌝ }
+    ensures { λ r. ⌜ OnFastPath FastStep RunsOn (memory (now (s .entry)) (now (image .entry)) (now (table .entry))) (memory (now (s .exit)) (now (image .exit)) (now (table .exit))) r ⌝ }
 {
     let c = s.control;
     let k = s.setup;
@@ -190,7 +190,7 @@ pub fn run_fast(s: &mut Session, image: &mut [u8], table: &mut [u64]) -> Report
 
 // The last action of a commit, which is a fence, or its end: a step that stores no word.
 pub fn step_late(s: &mut Session, image: &mut [u8], table: &mut [u64]) -> Report
-    ensures { λ r. ⌜ OnFastPath Late StepsOn (now (s .entry)) (now (s .exit)) (now (image .entry)) (now (image .exit)) (now (table .entry)) (now (table .exit)) r ⌝ }
+    ensures { λ r. ⌜ OnFastPath Late StepsOn (memory (now (s .entry)) (now (image .entry)) (now (table .entry))) (memory (now (s .exit)) (now (image .exit)) (now (table .exit))) r ⌝ }
 {
     let c = s.control;
     let k = s.setup;
@@ -201,7 +201,7 @@ pub fn step_late(s: &mut Session, image: &mut [u8], table: &mut [u64]) -> Report
 
 // A run in a staging: its end is told too.
 pub fn run_staging(s: &mut Session, image: &mut [u8], table: &mut [u64]) -> Report
-    ensures { λ r. ⌜ OnFastPath InStaging RunsOn (now (s .entry)) (now (s .exit)) (now (image .entry)) (now (image .exit)) (now (table .entry)) (now (table .exit)) r ⌝ }
+    ensures { λ r. ⌜ OnFastPath InStaging RunsOn (memory (now (s .entry)) (now (image .entry)) (now (table .entry))) (memory (now (s .exit)) (now (image .exit)) (now (table .exit))) r ⌝ }
 {
     let c = s.control;
     let k = s.setup;
@@ -213,7 +213,7 @@ pub fn run_staging(s: &mut Session, image: &mut [u8], table: &mut [u64]) -> Repo
 // The same whatever is begun: the steps that store a word, as many as come next, and the step behind them, whose report
 // is told.
 pub fn run_rest(s: &mut Session, image: &mut [u8], table: &mut [u64]) -> Report
-    ensures { λ r. ⌜ RunsOn (now (s .entry)) (now (s .exit)) (now (image .entry)) (now (image .exit)) (now (table .entry)) (now (table .exit)) r ⌝ }
+    ensures { λ r. ⌜ RunsOn (memory (now (s .entry)) (now (image .entry)) (now (table .entry))) (memory (now (s .exit)) (now (image .exit)) (now (table .exit))) r ⌝ }
 {
     let c = s.control;
     let k = s.setup;

@@ -5,6 +5,7 @@
 use mathlib.Core.Path.{_≡_}
 use Rattle.staging.specs.Staging.{PutWhere, Long}
 use Rattle.capi.specs.Answers.{answerOf}
+use Rattle.session.specs.Promise.{memory}
 use mathlib.Core.Path.{refl}
 use mathlib.Core.Bool.{Bool}
 use Prim.Native.Nat.{ℕ, _<_, _^_}
@@ -74,7 +75,7 @@ abbrev Of-stage-long′ : {M : Type 1} (𝓤 : URA M) (H : Heap 𝓤) (A : Atoms
 Of-stage-long′ 𝓤 H A mem run = tripleOf 𝓤 H A stage-long′.signature (stage-long′.spec 𝓤 H A mem run)
 
 abbrev Said-stage-long′ : Report → Session → Session → List ℕ → List ℕ → ℕ → List ℕ → Type 0
-Said-stage-long′ r x-s z-s x-image x-table key x-value = PutWhere Long key (x-value) (x-s) (z-s) (x-image) (x-table) r
+Said-stage-long′ r x-s z-s x-image x-table key x-value = PutWhere Long key (x-value) (memory (x-s) (x-image) (x-table)) (memory (z-s) (x-image) (x-table)) r
 
 -- the contract of `told`, and what it ensures
 abbrev Of-told′ : {M : Type 1} (𝓤 : URA M) (H : Heap 𝓤) (A : Atoms 𝓤) (mem : Memory → SProp 𝓤) (run : Routine → Fun 𝓤) → Contract 𝓤

@@ -6,7 +6,7 @@ use mathlib.Core.Path.{_≡_}
 use Rattle.spec.specs.Machine.{Format}
 use Rattle.formatting.specs.Begun.{given}
 use Rattle.capi.specs.Answers.{answerOf, isGiven}
-use Rattle.session.specs.Promise.{Does}
+use Rattle.session.specs.Promise.{Does, memory}
 use mathlib.Core.Path.{refl}
 use mathlib.Core.Bool.{Bool}
 use Prim.Native.Nat.{ℕ, _<_, _^_}
@@ -87,7 +87,7 @@ abbrev Of-format′ : {M : Type 1} (𝓤 : URA M) (H : Heap 𝓤) (A : Atoms �
 Of-format′ 𝓤 H A mem run = tripleOf 𝓤 H A format′.signature (format′.spec 𝓤 H A mem run)
 
 abbrev Said-format′ : Report → Session → Session → List ℕ → List ℕ → Bool → ℕ → Bool → ℕ → Type 0
-Said-format′ r x-s z-s x-image x-table station-given station centre-given centre = Does (Format (given station-given station) (given centre-given centre)) (x-s) (z-s) (x-image) (x-image) (x-table) (x-table) r
+Said-format′ r x-s z-s x-image x-table station-given station centre-given centre = Does (Format (given station-given station) (given centre-given centre)) (memory (x-s) (x-image) (x-table)) (memory (z-s) (x-image) (x-table)) r
 
 -- the contract of `told`, and what it ensures
 abbrev Of-told′ : {M : Type 1} (𝓤 : URA M) (H : Heap 𝓤) (A : Atoms 𝓤) (mem : Memory → SProp 𝓤) (run : Routine → Fun 𝓤) → Contract 𝓤

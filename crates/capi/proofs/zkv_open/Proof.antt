@@ -5,7 +5,7 @@
 use mathlib.Core.Path.{_≡_}
 use Rattle.spec.specs.Machine.{Open}
 use Rattle.capi.specs.Answers.{answerOf}
-use Rattle.session.specs.Promise.{Does}
+use Rattle.session.specs.Promise.{Does, memory}
 use mathlib.Core.Path.{refl}
 use mathlib.Core.Bool.{Bool}
 use Prim.Native.Nat.{ℕ, _<_, _^_}
@@ -75,7 +75,7 @@ abbrev Of-open-register′ : {M : Type 1} (𝓤 : URA M) (H : Heap 𝓤) (A : At
 Of-open-register′ 𝓤 H A mem run = tripleOf 𝓤 H A open-register′.signature (open-register′.spec 𝓤 H A mem run)
 
 abbrev Said-open-register′ : Report → Session → Session → List ℕ → List ℕ → List ℕ → Type 0
-Said-open-register′ r x-s z-s x-image x-table z-table = Does Open (x-s) (z-s) (x-image) (x-image) (x-table) (z-table) r
+Said-open-register′ r x-s z-s x-image x-table z-table = Does Open (memory (x-s) (x-image) (x-table)) (memory (z-s) (x-image) (z-table)) r
 
 -- the contract of `told`, and what it ensures
 abbrev Of-told′ : {M : Type 1} (𝓤 : URA M) (H : Heap 𝓤) (A : Atoms 𝓤) (mem : Memory → SProp 𝓤) (run : Routine → Fun 𝓤) → Contract 𝓤

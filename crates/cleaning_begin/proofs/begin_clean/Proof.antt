@@ -25,9 +25,16 @@ returns c =
 
 returns-2 : tie.Need-returns-2
 returns-2 c =
-    let a = c .before .before .before .before .before .before .before .before .before .before .before .args in
-    let p = c .before .before .before .before .before .before .plan-clean in
-    set (a .control) (a .setup) (a .buffer .now) (a .image .now) (a .table .now) _ (a .number) (p .result) (p .ensures) _ _ _ _ _ _ (c .before .before .before .before .plan2 .given .1) _ (c .store-kept .ensures)
+    let a = c .before .before .before .before .before .before .before .before .before .before .before .before .before .args in
+    let p = c .before .before .before .before .before .before .before .before .plan-clean in
+    rw (c .before .acting .ensures, c .writing .ensures)
+    (set (a .control) (a .setup) (a .buffer .now) (a .image .now) (a .table .now) _ (a .number) (p .result) (p .ensures) _ _ _ _ _ _ (c .before .before .before .before .before .before .plan2 .given .1) _ (c .before .before .store-kept .ensures))
+
+acting-requires : tie.Need-acting-requires
+acting-requires c κs = search needs
+
+writing-requires : tie.Need-writing-requires
+writing-requires c κs = search needs
 
 pub begin-clean-spec : {M : Type 1} → statement M
 begin-clean-spec =
@@ -37,5 +44,7 @@ begin-clean-spec =
     enum-known-plan
     enum-known-plan-2
     store-kept-requires
+    acting-requires
+    writing-requires
     returns
     returns-2)

@@ -10,7 +10,9 @@ clean-count-requires : tie.Need-clean-count-requires
 clean-count-requires c κs = search needs
 
 returns : tie.Need-returns
-returns c = let a = c .before .before .before .before .args in shows-over (a .control) (a .setup) (a .source) (a .buffer .now) (a .image .now) (a .table .now) (omega arith)
+returns c =
+    let a = c .before .before .before .before .before .args in
+    rw (c .emptied .ensures) (shows-over (a .control) (a .setup) (a .source) (a .buffer .now) (a .image .now) (a .table .now) (omega arith))
 
 clean-action-requires : tie.Need-clean-action-requires
 clean-action-requires c κs = search needs
@@ -26,8 +28,9 @@ same-length c = search needs
 
 returns-2 : tie.Need-returns-2
 returns-2 c =
-    let a = c .before .before .before .before .before .before .before .before .before .before .before .args in
-    shows-acts (a .control) (a .setup) (a .source) (a .buffer .now) (a .image .now) (a .table .now) _ _ (c .before .before .before .before .before .clean-action .ensures) (c .before .before .before .perform .ensures) (omega arith)
+    let a = c .before .before .before .before .before .before .before .before .before .before .before .before .args in
+    rw (c .acting .ensures)
+    (shows-acts (a .control) (a .setup) (a .source) (a .buffer .now) (a .image .now) (a .table .now) _ _ (c .before .before .before .before .before .before .clean-action .ensures) (c .before .before .before .before .perform .ensures) (omega arith))
 
 leave-chunk-requires : tie.Need-leave-chunk-requires
 leave-chunk-requires c κs = search needs
@@ -40,21 +43,34 @@ same-length-3 c = search needs
 
 returns-3 : tie.Need-returns-3
 returns-3 c =
-    let a = c .before .before .before .before .before .before .before .before .before .before .before .before .before .before .before .before .before .args in
-    shows-last (a .control) (a .setup) (a .source) (a .buffer .now) (a .image .now) (a .table .now) _ _ (c .before .before .before .before .before .before .before .before .before .before .before .clean-action .ensures) (c .before .before .before .before .before .before .before .before .before .perform .ensures) _ _ _ (omega arith) (c .before .before .leave-chunk .ensures)
+    let a = c .before .before .before .before .before .before .before .before .before .before .before .before .before .before .before .before .before .before .args in
+    rw (c .keyed .ensures)
+    (shows-last (a .control) (a .setup) (a .source) (a .buffer .now) (a .image .now) (a .table .now) _ _ (c .before .before .before .before .before .before .before .before .before .before .before .before .clean-action .ensures) (c .before .before .before .before .before .before .before .before .before .before .perform .ensures) _ _ _ (omega arith) (c .before .before .before .leave-chunk .ensures))
+
+emptied-requires : tie.Need-emptied-requires
+emptied-requires c κs = search needs
+
+acting-requires : tie.Need-acting-requires
+acting-requires c κs = search needs
+
+keyed-requires : tie.Need-keyed-requires
+keyed-requires c κs = search needs
 
 pub clean-step-spec : {M : Type 1} → statement M
 clean-step-spec =
     tie.close
     (tie.spec
     clean-count-requires
+    emptied-requires
     returns
     clean-action-requires
     perform-requires
     add-next
+    acting-requires
     same-length
     returns-2
     leave-chunk-requires
+    keyed-requires
     same-length-2
     same-length-3
     returns-3)

@@ -30,7 +30,7 @@ returns c =
     }
 
 returns-2 : tie.Need-returns-2
-returns-2 c = record { within = λ h. absurd (c .before .is-fast-step .ensures .1 (c .if1 .left) h); without = λ no. (refl, (refl, (refl, refl))) }
+returns-2 c = record { within = λ h. absurd (c .before .is-fast-step .ensures .1 (c .if1 .left) h); without = λ no. (refl, refl) }
 
 pub fast-step-spec : {M : Type 1} → statement M
 fast-step-spec =

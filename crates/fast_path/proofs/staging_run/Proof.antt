@@ -55,14 +55,19 @@ word-offset-requires c κs = search needs
 add-line : tie.Need-add-line
 add-line c = search needs
 
-add-t16 : tie.Need-add-t16
-add-t16 c = search needs
+add-moved : tie.Need-add-moved
+add-moved c = search needs
 
 returns-4 : tie.Need-returns-4
-returns-4 c = record { within = λ h. flush-acts _ _ _ _ _ _ (c .before .before .before .before .take-count .ensures .0) (c .before .before .before .before .before .held-words .ensures) (omega arith) _ h _ (omega arith) (let u = c .before .unit-of .ensures .0 in let l = c .before .unit-of .ensures .1 in let w = c .word-offset .ensures in omega arith); without = λ no. absurd (no (c .before .before .before .before .before .before .before .before .is-staging .ensures .0 (c .before .before .before .before .before .before .before .if1 .taken))) }
+returns-4 c =
+    rw (c .moved .ensures)
+    (record { within = λ h. flush-acts _ _ _ _ _ _ (c .before .before .before .before .before .take-count .ensures .0) (c .before .before .before .before .before .before .held-words .ensures) (omega arith) _ h _ (omega arith) (let u = c .before .before .unit-of .ensures .0 in let l = c .before .before .unit-of .ensures .1 in let w = c .before .word-offset .ensures in omega arith); without = λ no. absurd (no (c .before .before .before .before .before .before .before .before .is-staging .ensures .0 (c .before .before .before .before .before .before .before .if1 .taken))) })
 
 returns-5 : tie.Need-returns-5
-returns-5 c = record { within = λ h. absurd (c .before .is-staging .ensures .1 (c .if1 .left) h); without = λ no. (refl, (refl, (refl, refl))) }
+returns-5 c = record { within = λ h. absurd (c .before .is-staging .ensures .1 (c .if1 .left) h); without = λ no. (refl, refl) }
+
+moved-requires : tie.Need-moved-requires
+moved-requires c κs = search needs
 
 pub staging-run-spec : {M : Type 1} → statement M
 staging-run-spec =
@@ -84,6 +89,7 @@ staging-run-spec =
     unit-of-requires
     word-offset-requires
     add-line
-    add-t16
+    add-moved
+    moved-requires
     returns-4
     returns-5)

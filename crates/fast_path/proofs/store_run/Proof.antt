@@ -39,7 +39,12 @@ same-length-2 : tie.Need-same-length-2
 same-length-2 c = search needs
 
 returns-2 : tie.Need-returns-2
-returns-2 c = store-acts _ _ _ _ _ _ (c .before .before .before .before .before .store-block .ensures) _ (leb-false _ _ (sym (c .before .before .is-stored .ensures) ∙ c .before .if1 .left)) (c .block-action .ensures)
+returns-2 c =
+    rw (c .moved .ensures)
+    (store-acts _ _ _ _ _ _ (c .before .before .before .before .before .before .store-block .ensures) _ (leb-false _ _ (sym (c .before .before .before .is-stored .ensures) ∙ c .before .before .if1 .left)) (c .before .block-action .ensures))
+
+moved-requires : tie.Need-moved-requires
+moved-requires c κs = search needs
 
 pub store-run-spec : {M : Type 1} → statement M
 store-run-spec =
@@ -52,5 +57,6 @@ store-run-spec =
     returns
     block-action-requires
     add-next
+    moved-requires
     same-length-2
     returns-2)

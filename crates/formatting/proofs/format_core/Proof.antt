@@ -1,4 +1,4 @@
--- `calls::format_core` meets its contract.
+-- `formatting::format_core` meets its contract.
 -- Assumes nothing.
 use mathlib.Core.Path.{sym, _∙_}
 use borrow.Author.Needs.{needs}
@@ -27,15 +27,18 @@ number-in-requires c κs = search needs
 number-in-requires-2 : tie.Need-number-in-requires-2
 number-in-requires-2 c κs = search needs
 
-no-source-requires : tie.Need-no-source-requires
-no-source-requires c κs = search needs
+formatting-requires : tie.Need-formatting-requires
+formatting-requires c κs = search needs
+
+told-requires : tie.Need-told-requires
+told-requires c κs = search needs
 
 returns-2 : tie.Need-returns-2
 returns-2 c =
-    format-begun _ _ _ _ _ _ _ _ _ _ _ _ (c .before .before .before .before .formatting-phase .ensures) (c .before .before .before .header-map .ensures) (c .before .before .number-in .ensures) (c .before .number-in2 .ensures)
-    (c .no-source .ensures)
-    (sym (c .before .before .before .before .before .before .before .before .length-allowed .ensures) ∙ c .before .before .before .before .before .before .before .if1 .taken)
-    (sym (c .before .before .before .before .before .before .is-unfinished .ensures) ∙ c .before .before .before .before .before .if2 .left)
+    format-begun _ _ _ _ _ _ _ _ _ _ _ _ _ (c .before .before .before .before .before .formatting-phase .ensures) (c .before .before .before .header-map .ensures) (c .before .before .number-in .ensures) (c .before .number-in2 .ensures)
+    (c .before .before .before .before .formatting .ensures) (c .told .ensures)
+    (sym (c .before .before .before .before .before .before .before .before .before .length-allowed .ensures) ∙ c .before .before .before .before .before .before .before .before .if1 .taken)
+    (sym (c .before .before .before .before .before .before .before .is-unfinished .ensures) ∙ c .before .before .before .before .before .before .if2 .left)
 
 returns-3 : tie.Need-returns-3
 returns-3 c = format-length _ _ _ _ _ _ _ (sym (c .before .length-allowed .ensures) ∙ c .if1 .left)
@@ -48,9 +51,10 @@ format-core-spec =
     is-unfinished-requires
     returns
     formatting-phase-requires
+    formatting-requires
     header-map-requires
     number-in-requires
     number-in-requires-2
-    no-source-requires
+    told-requires
     returns-2
     returns-3)

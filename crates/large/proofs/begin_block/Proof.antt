@@ -26,13 +26,18 @@ chunk-requires c κs = search needs
 place-requires : tie.Need-place-requires
 place-requires c κs = search needs
 
+placing-requires : tie.Need-placing-requires
+placing-requires c κs = search needs
+
 block-count-requires : tie.Need-block-count-requires
 block-count-requires c κs = search needs
 
 returns : tie.Need-returns
 returns c =
     let a = c .before .before .before .before .before .before .before .before .before .before .before .args in
-    begun (a .buffer .now) _ _ (a .setup) (a .words) (a .version) (a .key) (a .value .now) (a .unit .0) (a .old) (a .size) _ _ _ _ (c .before .before .before .before .before .before .before .before .hold-value .ensures) (c .before .before .before .before .before .add-entry .ensures) (c .before .before .before .chunk .ensures) (c .before .before .place .ensures) (c .block-count .ensures)
+    begun (a .buffer .now) _ _ (a .setup) (a .words) (a .version) (a .key) (a .value .now) (a .unit .0) (a .old) (a .size) _ _ _ _ _
+    (c .before .before .before .before .before .before .before .before .hold-value .ensures) (c .before .before .before .before .before .add-entry .ensures)
+    (c .before .before .before .before .chunk .ensures) (c .before .before .before .place .ensures) (c .before .before .placing .ensures) (c .block-count .ensures)
 
 pub begin-block-spec : {M : Type 1} → statement M
 begin-block-spec =
@@ -45,5 +50,6 @@ begin-block-spec =
     add-entry-requires
     chunk-requires
     place-requires
+    placing-requires
     block-count-requires
     returns)

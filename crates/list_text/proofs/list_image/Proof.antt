@@ -4,11 +4,11 @@ use Rattle.list_text.proofs.Prints.{image-refused, image-opened}
 use Rattle.list_text.proofs.list_image.Statement.{statement}
 use Rattle.list_text.proofs.list_image.Tie as tie
 
-no-control-requires : tie.Need-no-control-requires
-no-control-requires c κs = search needs
+closed-requires : tie.Need-closed-requires
+closed-requires c κs = search needs
 
-no-setup-requires : tie.Need-no-setup-requires
-no-setup-requires c κs = search needs
+nothing-requires : tie.Need-nothing-requires
+nothing-requires c κs = search needs
 
 open-core-requires : tie.Need-open-core-requires
 open-core-requires c κs = search needs
@@ -47,8 +47,8 @@ pub list-image-spec : {M : Type 1} → statement M
 list-image-spec =
     tie.close
     (tie.spec
-    no-control-requires
-    no-setup-requires
+    closed-requires
+    nothing-requires
     open-core-requires
     enum-known-report
     put-refusal-requires

@@ -15,8 +15,12 @@ same-length : tie.Need-same-length
 same-length c = search needs
 
 returns : tie.Need-returns
-returns c = copies _ _ _ _ _ _ _ _ _ (c .before .before .before .before .before .before .store-kept .ensures) (c .before .before .run-cleaning .ensures)
+returns c =
+    copies _ _ _ _ _ _ _ _ _ (c .before .before .before .before .before .before .before .store-kept .ensures) (rw (c .before .before .before .before .moved .ensures) at (c .before .before .run-cleaning .ensures))
+
+moved-requires : tie.Need-moved-requires
+moved-requires c κs = search needs
 
 pub run-copying-spec : {M : Type 1} → statement M
 run-copying-spec =
-    tie.close (tie.spec store-kept-requires run-cleaning-requires same-length returns)
+    tie.close (tie.spec store-kept-requires moved-requires run-cleaning-requires same-length returns)

@@ -14,7 +14,9 @@ same-length : tie.Need-same-length
 same-length c = search needs
 
 returns : tie.Need-returns
-returns c = c .before .before .run-copying .ensures .runs _ (c .before .before .before .before .before .before .is-copying .ensures .0 (c .before .before .before .before .before .if1 .taken))
+returns c =
+    rw (c .moved .ensures)
+    (c .before .before .before .run-copying .ensures .runs _ (c .before .before .before .before .before .before .before .is-copying .ensures .0 (c .before .before .before .before .before .before .if1 .taken)))
 
 run-steps-requires : tie.Need-run-steps-requires
 run-steps-requires c κs = search needs
@@ -28,12 +30,16 @@ same-length-3 c = search needs
 returns-2 : tie.Need-returns-2
 returns-2 c = c .before .before .before .before .run-steps .ensures
 
+moved-requires : tie.Need-moved-requires
+moved-requires c κs = search needs
+
 pub run-core-spec : {M : Type 1} → statement M
 run-core-spec =
     tie.close
     (tie.spec
     is-copying-requires
     run-copying-requires
+    moved-requires
     same-length
     returns
     run-steps-requires

@@ -43,12 +43,10 @@ add-stage-large c = let q = admitted _ _ _ _ _ _ (sym (c .before .before .before
 stage-large-requires : tie.Need-stage-large-requires
 stage-large-requires c κs = search needs
 
-add-t33 : tie.Need-add-t33
-add-t33 c = let q = admitted _ _ _ _ _ _ (sym (c .before .before .before .before .before .before .before .admit .ensures) ∙ c .before .before .before .before .before .a2 .given .1) in omega arith
-
 returns-2 : tie.Need-returns-2
 returns-2 c =
-    block-begun _ _ _ _ _ _ (c .before .before .before .before .before .before .before .before .before .before .before .before .before .before .before .gate .ensures) (c .before .before .before .before .before .before .before .before .before .before .before .before .before .enum-told .given .1) _ _ (c .before .before .before .before .before .before .before .before .before .before .version-of .ensures) _ (c .before .before .before .before .before .before .before .before .before .before .before .before .before .before .before .before .before .before .before .pre) (within (c .before .before .before .before .before .before .before .before .before .before .before .before .if1 .left)) _ (told-room _ _ _ _ _ _ _ (c .before .before .before .before .before .before .before .before .before .capacity .ensures) (c .before .before .before .before .before .before .before .before .admit .ensures)) _ (c .before .before .before .before .before .before .a2 .given .1) (λ i. omega (arith, c .before .before .before .before .before .before .before .before .before .before .before .before .before .before .before .before .shared-slice-known3 .given i)) _ _ (c .before .before .before .stage-large .ensures) (c .before .before .if2 .taken)
+    rw (c .before .one-more .ensures)
+    (block-begun _ _ _ _ _ _ (c .before .before .before .before .before .before .before .before .before .before .before .before .before .before .before .gate .ensures) (c .before .before .before .before .before .before .before .before .before .before .before .before .before .enum-told .given .1) _ _ (c .before .before .before .before .before .before .before .before .before .before .version-of .ensures) _ (c .before .before .before .before .before .before .before .before .before .before .before .before .before .before .before .before .before .before .before .pre) (within (c .before .before .before .before .before .before .before .before .before .before .before .before .if1 .left)) _ (told-room _ _ _ _ _ _ _ (c .before .before .before .before .before .before .before .before .before .capacity .ensures) (c .before .before .before .before .before .before .before .before .admit .ensures)) _ (c .before .before .before .before .before .before .a2 .given .1) (λ i. omega (arith, c .before .before .before .before .before .before .before .before .before .before .before .before .before .before .before .before .shared-slice-known3 .given i)) _ _ (c .before .before .before .stage-large .ensures) (c .before .before .if2 .taken))
 
 returns-3 : tie.Need-returns-3
 returns-3 c = at-gate _ _ _ _ _ _ (c .before .before .before .gate .ensures) _ tt _ (c .before .g .given .1)
@@ -60,6 +58,10 @@ returns-4 c =
 returns-5 : tie.Need-returns-5
 returns-5 c =
     block-nowhere _ _ _ _ _ _ (c .before .before .before .before .before .before .before .before .before .before .before .before .before .gate .ensures) (c .before .before .before .before .before .before .before .before .before .before .before .enum-told .given .1) _ _ (c .before .before .before .before .before .before .before .before .version-of .ensures) _ (c .before .before .before .before .before .before .before .before .before .before .before .before .before .before .before .before .before .pre) (within (c .before .before .before .before .before .before .before .before .before .before .if1 .left)) _ (told-room _ _ _ _ _ _ _ (c .before .before .before .before .before .before .before .capacity .ensures) (c .before .before .before .before .before .before .admit .ensures)) _ (c .before .before .before .before .a2 .given .1) (λ i. omega (arith, c .before .before .before .before .before .before .before .before .before .before .before .before .before .before .shared-slice-known3 .given i)) _ _ (c .before .stage-large .ensures) (c .if2 .left)
+
+one-more-requires : tie.Need-one-more-requires
+one-more-requires c κs =
+    let q = admitted _ _ _ _ _ _ (sym (c .before .before .before .before .before .before .admit .ensures) ∙ c .before .before .before .before .a2 .given .1) in omega arith
 
 pub put-in-block-spec : {M : Type 1} → statement M
 put-in-block-spec =
@@ -76,7 +78,7 @@ put-in-block-spec =
     enum-known-a-2
     add-stage-large
     stage-large-requires
-    add-t33
+    one-more-requires
     returns-2
     returns-3
     returns-4

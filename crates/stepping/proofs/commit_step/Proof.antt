@@ -10,7 +10,9 @@ commit-count-requires : tie.Need-commit-count-requires
 commit-count-requires c κs = search needs
 
 returns : tie.Need-returns
-returns c = S.commit-ends _ _ _ _ _ (omega arith) (omega arith) (omega arith) (omega arith)
+returns c =
+    rw (c .emptied .ensures)
+    (S.commit-ends _ _ _ _ _ (omega arith) (omega arith) (omega arith) (omega arith))
 
 commit-action-requires : tie.Need-commit-action-requires
 commit-action-requires c κs = search needs
@@ -26,7 +28,8 @@ same-length c = search needs
 
 returns-2 : tie.Need-returns-2
 returns-2 c =
-    S.commit-acts _ _ _ _ _ (omega arith) (omega arith) (omega arith) _ _ (c .before .before .before .before .before .commit-action .ensures) (c .before .before .before .perform .ensures) (omega arith)
+    rw (c .acting .ensures)
+    (S.commit-acts _ _ _ _ _ (omega arith) (omega arith) (omega arith) _ _ (c .before .before .before .before .before .before .commit-action .ensures) (c .before .before .before .before .perform .ensures) (omega arith))
 
 join-requires : tie.Need-join-requires
 join-requires c κs = search needs
@@ -39,20 +42,33 @@ same-length-3 c = search needs
 
 returns-3 : tie.Need-returns-3
 returns-3 c =
-    S.commit-joins _ _ _ _ _ (omega arith) (omega arith) (omega arith) _ _ (c .before .before .before .before .before .before .before .before .before .before .before .commit-action .ensures) (c .before .before .before .before .before .before .before .before .before .perform .ensures) _ _ _ (omega arith) (c .before .before .join .ensures)
+    rw (c .keyed .ensures)
+    (S.commit-joins _ _ _ _ _ (omega arith) (omega arith) (omega arith) _ _ (c .before .before .before .before .before .before .before .before .before .before .before .before .commit-action .ensures) (c .before .before .before .before .before .before .before .before .before .before .perform .ensures) _ _ _ (omega arith) (c .before .before .before .join .ensures))
+
+emptied-requires : tie.Need-emptied-requires
+emptied-requires c κs = search needs
+
+acting-requires : tie.Need-acting-requires
+acting-requires c κs = search needs
+
+keyed-requires : tie.Need-keyed-requires
+keyed-requires c κs = search needs
 
 pub commit-step-spec : {M : Type 1} → statement M
 commit-step-spec =
     tie.close
     (tie.spec
     commit-count-requires
+    emptied-requires
     returns
     commit-action-requires
     perform-requires
     add-next
+    acting-requires
     same-length
     returns-2
     join-requires
+    keyed-requires
     same-length-2
     same-length-3
     returns-3)

@@ -10,7 +10,9 @@ format-count-requires : tie.Need-format-count-requires
 format-count-requires c κs = search needs
 
 returns : tie.Need-returns
-returns c = S.format-ends _ _ _ _ _ (omega arith) (omega arith) (omega arith) (omega arith) (omega arith)
+returns c =
+    rw (c .closed .ensures)
+    (S.format-ends _ _ _ _ _ (omega arith) (omega arith) (omega arith) (omega arith) (omega arith))
 
 format-action-requires : tie.Need-format-action-requires
 format-action-requires c κs = search needs
@@ -26,16 +28,25 @@ same-length c = search needs
 
 returns-2 : tie.Need-returns-2
 returns-2 c =
-    S.format-acts _ _ _ _ _ (omega arith) (omega arith) (omega arith) (omega arith) _ _ (omega arith) (c .before .before .before .before .format-action .ensures) (c .before .before .perform .ensures)
+    rw (c .moved .ensures)
+    (S.format-acts _ _ _ _ _ (omega arith) (omega arith) (omega arith) (omega arith) _ _ (omega arith) (c .before .before .before .before .before .format-action .ensures) (c .before .before .before .perform .ensures))
+
+closed-requires : tie.Need-closed-requires
+closed-requires c κs = search needs
+
+moved-requires : tie.Need-moved-requires
+moved-requires c κs = search needs
 
 pub format-step-spec : {M : Type 1} → statement M
 format-step-spec =
     tie.close
     (tie.spec
     format-count-requires
+    closed-requires
     returns
     format-action-requires
     perform-requires
     add-next
+    moved-requires
     same-length
     returns-2)

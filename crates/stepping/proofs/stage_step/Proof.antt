@@ -15,7 +15,9 @@ is-stored-requires : tie.Need-is-stored-requires
 is-stored-requires c κs = search needs
 
 returns : tie.Need-returns
-returns c = S.staging-ends _ _ _ _ _ (omega arith) (omega arith) (omega arith) (leb-true _ _ (sym (c .before .is-stored .ensures) ∙ c .if1 .taken))
+returns c =
+    rw (c .at-rest .ensures)
+    (S.staging-ends _ _ _ _ _ (omega arith) (omega arith) (omega arith) (leb-true _ _ (sym (c .before .before .is-stored .ensures) ∙ c .before .if1 .taken)))
 
 block-action-requires : tie.Need-block-action-requires
 block-action-requires c κs = search needs
@@ -35,16 +37,25 @@ same-length c = search needs
 
 returns-2 : tie.Need-returns-2
 returns-2 c =
-    S.staging-acts _ _ _ _ _ (omega arith) (omega arith) (omega arith) _ _ (leb-false _ _ (sym (c .before .before .before .before .before .before .is-stored .ensures) ∙ c .before .before .before .before .before .if1 .left)) (c .before .before .before .before .block-action .ensures) (c .before .before .perform .ensures)
+    rw (c .acting .ensures)
+    (S.staging-acts _ _ _ _ _ (omega arith) (omega arith) (omega arith) _ _ (leb-false _ _ (sym (c .before .before .before .before .before .before .before .is-stored .ensures) ∙ c .before .before .before .before .before .before .if1 .left)) (c .before .before .before .before .before .block-action .ensures) (c .before .before .before .perform .ensures))
+
+at-rest-requires : tie.Need-at-rest-requires
+at-rest-requires c κs = search needs
+
+acting-requires : tie.Need-acting-requires
+acting-requires c κs = search needs
 
 pub stage-step-spec : {M : Type 1} → statement M
 stage-step-spec =
     tie.close
     (tie.spec
     is-stored-requires
+    at-rest-requires
     returns
     block-action-requires
     perform-requires
     add-next
+    acting-requires
     same-length
     returns-2)

@@ -5,7 +5,7 @@
 -- Assumes nothing.
 use mathlib.Core.Path.{_≡_}
 use Rattle.spec.specs.Machine.{Clean}
-use Rattle.session.specs.Promise.{Does}
+use Rattle.session.specs.Promise.{Does, memoryOf}
 use mathlib.Core.Path.{refl, ap}
 use mathlib.Core.Bool.{Bool}
 use Prim.Native.Nat.{ℕ, _+_, _<_, _^_}
@@ -87,7 +87,7 @@ Core 𝓤 H A mem run = tripleOf 𝓤 H A core.signature (core.spec 𝓤 H A mem
 
 -- what it ensures
 abbrev Said : Outcome → Control → Setup → List ℕ → List ℕ → List ℕ → List ℕ → ℕ → Type 0
-Said r control setup x-buffer z-buffer x-image x-table number = Does (Clean number) (record { control = control; setup = setup; buffer = x-buffer }) (record { control = r .control; setup = r .setup; buffer = z-buffer }) (x-image) (x-image) (x-table) (x-table) (r .report)
+Said r control setup x-buffer z-buffer x-image x-table number = Does (Clean number) (memoryOf control setup (x-buffer) (x-image) (x-table)) (memoryOf (r .control) (r .setup) (z-buffer) (x-image) (x-table)) (r .report)
 
 -- machine values
 abbrev mach : Session → Val

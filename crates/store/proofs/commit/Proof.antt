@@ -5,7 +5,7 @@
 -- Assumes nothing.
 use mathlib.Core.Path.{_≡_}
 use Rattle.spec.specs.Machine.{Commit}
-use Rattle.session.specs.Promise.{Does}
+use Rattle.session.specs.Promise.{Does, memoryOf}
 use Prim.Native.Nat.{min}
 use mathlib.Core.Path.{refl, ap}
 use mathlib.Core.Bool.{Bool}
@@ -88,7 +88,7 @@ Core 𝓤 H A mem run = tripleOf 𝓤 H A core.signature (core.spec 𝓤 H A mem
 
 -- what it ensures
 abbrev Said : Outcome → Control → Setup → List ℕ → List ℕ → List ℕ → Type 0
-Said r control setup x-buffer x-image x-table = Does Commit (record { control = control; setup = setup; buffer = x-buffer }) (record { control = r .control; setup = r .setup; buffer = x-buffer }) (x-image) (x-image) (x-table) (x-table) (r .report)
+Said r control setup x-buffer x-image x-table = Does Commit (memoryOf control setup (x-buffer) (x-image) (x-table)) (memoryOf (r .control) (r .setup) (x-buffer) (x-image) (x-table)) (r .report)
 
 -- machine values
 abbrev mach : Session → Val

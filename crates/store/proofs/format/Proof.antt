@@ -6,7 +6,7 @@
 use mathlib.Core.Path.{_≡_}
 use Rattle.spec.specs.Machine.{Format}
 use Rattle.formatting.specs.Begun.{given}
-use Rattle.session.specs.Promise.{Does}
+use Rattle.session.specs.Promise.{Does, memoryOf}
 use Prim.Native.Nat.{_≤_}
 use mathlib.Core.Path.{refl, ap}
 use mathlib.Core.Bool.{Bool}
@@ -89,7 +89,7 @@ Core 𝓤 H A mem run = tripleOf 𝓤 H A core.signature (core.spec 𝓤 H A mem
 
 -- what it ensures
 abbrev Said : Outcome → Control → Setup → List ℕ → List ℕ → List ℕ → Bool → ℕ → Bool → ℕ → Type 0
-Said r control setup x-buffer x-image x-table station-given station centre-given centre = Does (Format (given station-given station) (given centre-given centre)) (record { control = control; setup = setup; buffer = x-buffer }) (record { control = r .control; setup = r .setup; buffer = x-buffer }) (x-image) (x-image) (x-table) (x-table) (r .report)
+Said r control setup x-buffer x-image x-table station-given station centre-given centre = Does (Format (given station-given station) (given centre-given centre)) (memoryOf control setup (x-buffer) (x-image) (x-table)) (memoryOf (r .control) (r .setup) (x-buffer) (x-image) (x-table)) (r .report)
 
 -- machine values
 abbrev mach : Session → Val

@@ -6,6 +6,7 @@
 use mathlib.Core.Path.{_≡_}
 use Rattle.fast_path.specs.Run.{RunsOn}
 use Rattle.fast_path.specs.Fast.{InStaging, OnFastPath}
+use Rattle.session.specs.Promise.{memoryOf}
 use mathlib.Core.Bool.{true, false}
 use Prim.Native.Nat.{_-_, _^_, _≤_, _<_}
 use mathlib.Core.Path.{refl, ap}
@@ -89,7 +90,7 @@ Core 𝓤 H A mem run = tripleOf 𝓤 H A core.signature (core.spec 𝓤 H A mem
 
 -- what it ensures
 abbrev Said : Stepped → Control → Setup → List ℕ → List ℕ → List ℕ → List ℕ → List ℕ → Type 0
-Said r control setup x-buffer x-image z-image x-table z-table = OnFastPath InStaging RunsOn (record { control = control; setup = setup; buffer = x-buffer }) (record { control = r .control; setup = setup; buffer = x-buffer }) (x-image) (z-image) (x-table) (z-table) (r .report)
+Said r control setup x-buffer x-image z-image x-table z-table = OnFastPath InStaging RunsOn (memoryOf control setup (x-buffer) (x-image) (x-table)) (memoryOf (r .control) setup (x-buffer) (z-image) (z-table)) (r .report)
 
 -- machine values
 abbrev mach : Session → Val

@@ -5,7 +5,7 @@
 -- Assumes nothing.
 use mathlib.Core.Path.{_≡_}
 use Rattle.spec.specs.Machine.{Step}
-use Rattle.session.specs.Promise.{Does}
+use Rattle.session.specs.Promise.{Does, memoryOf}
 use Prim.Native.Nat.{_≤_}
 use lib.Dec.{leb}
 use lib.ListN.{length}
@@ -89,7 +89,7 @@ Core 𝓤 H A mem run = tripleOf 𝓤 H A core.signature (core.spec 𝓤 H A mem
 
 -- what it ensures
 abbrev Said : Stepped → Control → Setup → List ℕ → List ℕ → List ℕ → List ℕ → List ℕ → List ℕ → Type 0
-Said r control setup x-buffer z-buffer x-image z-image x-table z-table = Does Step (record { control = control; setup = setup; buffer = x-buffer }) (record { control = r .control; setup = setup; buffer = z-buffer }) (x-image) (z-image) (x-table) (z-table) (r .report)
+Said r control setup x-buffer z-buffer x-image z-image x-table z-table = Does Step (memoryOf control setup (x-buffer) (x-image) (x-table)) (memoryOf (r .control) setup (z-buffer) (z-image) (z-table)) (r .report)
 
 -- machine values
 abbrev mach : Session → Val

@@ -1,0 +1,14 @@
+-- `session::nothing` meets its contract.
+-- Assumes nothing.
+use borrow.Author.Needs.{needs}
+use Rattle.session.proofs.nothing.Statement.{statement}
+use Rattle.session.proofs.nothing.Tie as tie
+
+no-source-requires : tie.Need-no-source-requires
+no-source-requires c κs = search needs
+
+returns : tie.Need-returns
+returns c = rw (c .no-source .ensures)
+
+pub nothing-spec : {M : Type 1} → statement M
+nothing-spec = tie.close (tie.spec no-source-requires returns)
