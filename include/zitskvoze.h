@@ -357,7 +357,7 @@ uint64_t zkv_centre(const uint8_t *image, size_t bytes, uint64_t *number);
 zkv_key_entry zkv_entry(const uint8_t *image, size_t bytes, uint64_t key, size_t from);
 
 /* Why an opening refuses the image, and where; 0 where it does not, or only because the keys do not fit the table (7).
- * Of 5 and 6 it takes time by the square of the entries. */
+ * Where no fault of 1 to 4 is found it takes time by the square of the entries: ask it after a refusal, not before. */
 zkv_place zkv_fault(const uint8_t *image, size_t bytes);
 
 /* Beside the proved calls, in plain C over them (host/library.c). Images in files: zitskvoze_file.h. */
