@@ -1,5 +1,5 @@
-// What an opening takes beside a plain one of the same 60,000 entries: with values in blocks, with several top entries of
-// a key as a cut in a cleaning leaves them, and with a key table that is too small, by keys of several kinds. The
+// What an opening takes beside a plain one of the same 60,000 entries: with values in blocks, with several top entries
+// of a key as a cut in a cleaning leaves them, and with a key table that is too small, by keys of several kinds. The
 // aims: at most 1.5 times the plain one where it is accepted, at most 100 times where it is refused for the table.
 // Processor time, the best of some rounds.
 #include <stdint.h>
