@@ -99,8 +99,9 @@
  * - The format has no checksum: a byte of a value that is changed behind the calls' back opens as another value (57 to
  *   83 of 100 one-bit flips in committed lines did). Hold what was printed against the register, and keep a digest of
  *   the image elsewhere.
- * - A table too small for the image's keys makes a refused opening slow (time by the square of the entries). Lend one
- *   of ZKV_TABLE_WORDS_MAX words where memory allows.
+ * - A table too small for the image's keys makes a refused opening slow: up to some 70 times an accepted one, whatever
+ *   the table's length. Lend one of ZKV_TABLE_WORDS_MAX words where memory allows.
+ * - An opening takes some 64 KB of stack, and so does a cleaning's last step where a key's entries stand twice.
  * - The log only grows until it is cleaned: superseded and deleted values take space until then, and known keys include
  *   deleted ones that still have an entry. Clean when time allows, or when 13 comes; it may take several cleanings
  *   until a commit finds space. Commits leave a free chunk to clean into (they take one only where three are free, two

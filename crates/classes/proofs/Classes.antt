@@ -14,7 +14,6 @@ use Rattle.spec.specs.Basics.{pick, both, larger, filter, first}
 use Rattle.spec.specs.Log.{Entry}
 use Rattle.spec.specs.Contents.{highest, isTopOf, tops, chosen}
 use Rattle.theory_base.proofs.Lists.{not-both, both-l, both-r, both-i, filter-all, filter-length}
-use Rattle.theory_log.specs.Contents.{Mem}
 use Rattle.theory_log.proofs.Contents.{mem-filter}
 use Rattle.theory_log.proofs.Tops.{in-all}
 use Rattle.volatile.specs.Known.{several, Bounded}

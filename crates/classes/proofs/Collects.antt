@@ -7,7 +7,7 @@ use Prim.Native.Nat.{ℕ, _+_, _/_, _≤_, _<_}
 use native.Mathlib.Omega.{arith}
 use lib.ListN.{length, length-replicate}
 use borrow.Author.Tests.{le-ltb}
-use Rattle.spec.specs.Basics.{negate, both, filter}
+use Rattle.spec.specs.Basics.{negate, both}
 use Rattle.spec.specs.Places.{maxChunks}
 use Rattle.spec.specs.Log.{Entry, Entries, imageEntries}
 use Rattle.theory_base.proofs.Lists.{not-both, filter-append, filter-none}
@@ -16,7 +16,7 @@ use Rattle.theory_log.proofs.Tops.{in-all}
 use Rattle.index.specs.Index.{infoAt, stopOf, get, insert, putAt, zeros, capacity as tableRoom}
 use Rattle.index.proofs.Laws.{insert-length}
 use Rattle.index.proofs.Answers.{look-in, put-insert}
-use Rattle.volatile.specs.Known.{extentOf, alone, ownOf, noted, Bounded, FillInv}
+use Rattle.volatile.specs.Known.{extentOf, alone, noted, FillInv}
 use Rattle.volatile.proofs.Info.{bounded-front}
 use Rattle.volatile.proofs.Grow.{capacity-same}
 use Rattle.volatile.proofs.Image.{image-bounded}
@@ -29,7 +29,7 @@ use Rattle.log.specs.Stands.{entryIn}
 use Rattle.classes.specs.Classes.{classOf, within, marked, asked, classIn}
 use Rattle.classes.specs.Passing.{Passed, PassedOver, Entering, Collecting}
 use Rattle.classes.proofs.Classes.{class-bounded}
-use Rattle.classes.proofs.Passed.{passed-start, passed-done, passed-wrong, passed-split, passed-next}
+use Rattle.classes.proofs.Passed.{passed-start, passed-done, passed-next}
 
 -- ## One more entry
 

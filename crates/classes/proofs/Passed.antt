@@ -2,26 +2,30 @@
 -- Assumes nothing.
 use mathlib.Core.Path.{_≡_, refl, sym, _∙_, ap}
 use mathlib.Core.Logic.{_⊎_, inl, inr}
-use mathlib.Core.Bool.{false}
+use mathlib.Core.Bool.{Bool, true, false}
 use mathlib.Core.List.{List, [], _∷_, _++_, append-nil, append-assoc}
-use Prim.Native.Nat.{ℕ, _+_}
+use Prim.Native.Nat.{ℕ, _+_, _*_, _/_, _%_, _≤_, _<_, min}
+use native.Mathlib.Decide.{decLe}
 use native.Mathlib.Omega.{arith}
+use lib.Dec.{eqb, leb}
+use lib.ListN.{length, getD, drop}
 use lib.Seq.{slice}
+use borrow.Author.Tests.{ne-eqb}
 use Rattle.spec.specs.declared.LogStep.the-variants as S
-use Rattle.spec.specs.Log.{Entry, Wrong, Entries, stepOf, imageEntries}
+use Rattle.spec.specs.declared.FirstWord.the-variants as F
+use Rattle.spec.specs.Basics.{pick}
+use Rattle.spec.specs.Log.{Entry, Wrong, Entries, maxInLog, firstOf, filled, stepOf, imageEntries}
 use Rattle.spec.specs.Blocks.{pointed}
 use Rattle.theory_log.specs.Contents.{Mem}
 use Rattle.theory_log.proofs.Contents.{mem-cases}
 use Rattle.theory_log.proofs.Parse.{cons-inv}
+use Rattle.theory_log.proofs.Walk.{step-first, step-short, step-fill}
 use Rattle.log.specs.declared.Cursor.{Cursor}
 use Rattle.log.specs.declared.Next.{Next}
 use Rattle.log.specs.declared.Next.the-variants as N
-use Rattle.log.specs.declared.Short.{Short}
-use Rattle.log.specs.declared.Short.the-variants as P
-use Rattle.log.specs.Short.{ShortAt}
 use Rattle.log.specs.Stands.{entryIn}
-use Rattle.log.specs.Cursor.{start, cursorAt, remaining, Handed, Advanced}
-use Rattle.log.proofs.Walk.{remaining-start, handed, next-found}
+use Rattle.log.specs.Cursor.{start, cursorAt, remaining, left, Handed, Advanced}
+use Rattle.log.proofs.Walk.{remaining-start, handed, next-wrong, next-found}
 use Rattle.classes.specs.Classes.{asked}
 use Rattle.classes.specs.Passing.{Passed, PassedOver}
 
@@ -58,9 +62,42 @@ module _ (n : ℕ) (ws : List ℕ) (c : Cursor) (es xs : List Entry) (r : Next) 
 
 -- ## Passing over
 
--- what a put that was found says, for a caller that goes by its case
-pub put-told : (ws : List ℕ) (at end : ℕ) (r : Short) → ShortAt ws at end r → (v x k m : ℕ) → r ≡ P.Put v x k m → stepOf (slice at end ws) ≡ S.Entry 1 0 v x k m
-put-told ws at end r told v x k m e = rw e at told
+-- a first word with the low bits 0001 is that of a put with its value in the log, or a wrong one
+first-put : (w : ℕ) → w % 16 ≡ 1 → (firstOf w ≡ F.Wrong) ⊎ (firstOf w ≡ F.Entry 1 0 (w / 16 % 1048576) (w / 16777216))
+unfolding firstOf
+first-put w l =
+    let q : w ≡ 16 * (w / 16) + 1 = omega arith in
+    let o : w % 4 ≡ 1 = omega arith in
+    let d : w / 4 ≡ 4 * (w / 16) = omega arith in
+    let p : w / 4 % 4 ≡ 0 = rw d (omega arith) in
+    rw (ne-eqb w 0 (omega arith), o, p) (go (eqb (w / 16 % 1048576) 0) (leb (w / 16777216) maxInLog))
+  where
+    go : (a b : Bool) → (pick a F.Wrong (pick b (F.Entry 1 0 (w / 16 % 1048576) (w / 16777216)) F.Wrong) ≡ F.Wrong)
+        ⊎ (pick a F.Wrong (pick b (F.Entry 1 0 (w / 16 % 1048576) (w / 16777216)) F.Wrong) ≡ F.Entry 1 0 (w / 16 % 1048576) (w / 16777216))
+    go true b = inl refl
+    go false true = inr refl
+    go false false = inl refl
+
+-- so such a put stands there, or the log is wrong
+module _ (ws : List ℕ) (at end w : ℕ) (h : at < end) (l : at < length ws) (is-word : w ≡ getD ws at 0) (low : w % 16 ≡ 1) where
+  put-stands : (stepOf (slice at end ws) ≡ S.Wrong) ⊎ (stepOf (slice at end ws) ≡ S.Entry 1 0 (w / 16 % 1048576) (w / 16777216) (getD ws (at + 1) 0) ((w / 16777216 + 7) / 8))
+  put-stands = go (first-put w low) (decLe (at + (2 + (w / 16777216 + 7) / 8)) (min end (length ws)))
+    where
+      by-fill : (b : Bool) → stepOf (slice at end ws) ≡ pick b (S.Entry 1 0 (w / 16 % 1048576) (w / 16777216) (getD ws (at + 1) 0) ((w / 16777216 + 7) / 8)) S.Wrong
+          → (stepOf (slice at end ws) ≡ S.Wrong) ⊎ (stepOf (slice at end ws) ≡ S.Entry 1 0 (w / 16 % 1048576) (w / 16777216) (getD ws (at + 1) 0) ((w / 16777216 + 7) / 8))
+      by-fill true q = inr q
+      by-fill false q = inl q
+
+      go : (firstOf w ≡ F.Wrong) ⊎ (firstOf w ≡ F.Entry 1 0 (w / 16 % 1048576) (w / 16777216)) → Dec (at + (2 + (w / 16777216 + 7) / 8) ≤ min end (length ws))
+          → (stepOf (slice at end ws) ≡ S.Wrong) ⊎ (stepOf (slice at end ws) ≡ S.Entry 1 0 (w / 16 % 1048576) (w / 16777216) (getD ws (at + 1) 0) ((w / 16777216 + 7) / 8))
+      go (inl q) d = inl (step-first at end ws F.Wrong h l (ap firstOf (sym is-word) ∙ q))
+      go (inr q) (no n) = inl (step-short 1 0 (w / 16 % 1048576) (w / 16777216) at end ws h l (ap firstOf (sym is-word) ∙ q) (omega arith))
+      go (inr q) (yes y) =
+          by-fill (filled 0 (w / 16777216) (drop at ws)) (step-fill 1 0 (w / 16 % 1048576) (w / 16777216) at end ws (ap firstOf (sym is-word) ∙ q) (omega arith) (omega arith) (filled 0 (w / 16777216) (drop at ws)) refl)
+
+left-less : (n : ℕ) (ws : List ℕ) (c at k end : ℕ) → left n ws (cursorAt c (at + k) end) ≤ left n ws (cursorAt c at end)
+unfolding left
+left-less n ws c at k end = omega arith
 
 module _ (ws : List ℕ) (end : ℕ) (marks : List ℕ) (low high at : ℕ) where
   pub over-start : PassedOver ws end marks low high at at
@@ -72,19 +109,22 @@ module _ (ws : List ℕ) (end : ℕ) (marks : List ℕ) (low high at : ℕ) wher
     passes = λ n c es xs p. rw (append-nil xs) p;
   }
 
-  pub over-more : (at′ : ℕ) → PassedOver ws end marks low high at at′ → (v x k m : ℕ) → stepOf (slice at′ end ws) ≡ S.Entry 1 0 v x k m → asked marks low high k ≡ false
-      → PassedOver ws end marks low high at (at′ + (2 + m))
-  over-more at′ so-far v x k m q no-one = record {
-    nearer = λ n c. let f = next-found n ws c at′ end 1 0 v x k m q .falls in let g = so-far .nearer n c in omega arith;
+  pub over-more : (at′ : ℕ) → PassedOver ws end marks low high at at′ → at′ < end → at′ < length ws → (w : ℕ) → w ≡ getD ws at′ 0 → w % 16 ≡ 1 → (k : ℕ) → k ≡ getD ws (at′ + 1) 0
+      → asked marks low high k ≡ false → (m : ℕ) → m ≡ (w / 16777216 + 7) / 8 → PassedOver ws end marks low high at (at′ + (2 + m))
+  over-more at′ so-far h l w is-word put k is-key none-asked m is-words = record {
+    nearer = λ n c. let f = left-less n ws c at′ (2 + m) end in let g = so-far .nearer n c in omega arith;
     over = so-far .over ++ f ∷ [];
     unpointed = λ e i. either-of (λ (y : Entry). pointed y ≡ false) e (so-far .unpointed e) refl (mem-cases e (so-far .over) (f ∷ []) i);
-    unasked = λ e i. either-of (λ (y : Entry). asked marks low high (y .key) ≡ false) e (so-far .unasked e) no-one (mem-cases e (so-far .over) (f ∷ []) i);
-    passes = λ n c es xs p.
-        rw (append-assoc xs (so-far .over) (f ∷ [])) at
-        (passed-next n ws (cursorAt c at′ end) es (xs ++ so-far .over) (N.Entry 1 0 v x k m at′ (cursorAt c (at′ + (2 + m)) end)) (next-found n ws c at′ end 1 0 v x k m q) (so-far .passes n c es xs p) 1 0 v x k m at′
-        (cursorAt c (at′ + (2 + m)) end) refl);
+    unasked = λ e i. either-of (λ (y : Entry). asked marks low high (y .key) ≡ false) e (so-far .unasked e) none-asked (mem-cases e (so-far .over) (f ∷ []) i);
+    passes = λ n c es xs p. on n c es xs (so-far .passes n c es xs p) (put-stands ws at′ end w h l is-word put);
   }
     where
+      v : ℕ
+      v = w / 16 % 1048576
+
+      x : ℕ
+      x = w / 16777216
+
       f : Entry
       f = entryIn ws 1 0 v x k m at′
 
@@ -92,3 +132,12 @@ module _ (ws : List ℕ) (end : ℕ) (marks : List ℕ) (low high at : ℕ) wher
       either-of P e a b (inl i) = a i
       either-of P e a b (inr (inl y)) = rw y b
       either-of P e a b (inr (inr i)) = absurd i
+
+      on : (n c : ℕ) (es xs : List Entry) → Passed n ws (cursorAt c at′ end) es (xs ++ so-far .over)
+          → (stepOf (slice at′ end ws) ≡ S.Wrong) ⊎ (stepOf (slice at′ end ws) ≡ S.Entry 1 0 (w / 16 % 1048576) (w / 16777216) (getD ws (at′ + 1) 0) ((w / 16777216 + 7) / 8))
+          → Passed n ws (cursorAt c (at′ + (2 + m)) end) es (xs ++ (so-far .over ++ f ∷ []))
+      on n c es xs p (inl q) = absurd (passed-wrong n ws (cursorAt c at′ end) es (xs ++ so-far .over) N.Wrong (next-wrong n ws c at′ end q) p refl)
+      on n c es xs p (inr q) =
+          rw (append-assoc xs (so-far .over) (f ∷ [])) at
+          (passed-next n ws (cursorAt c at′ end) es (xs ++ so-far .over) (N.Entry 1 0 v x k m at′ (cursorAt c (at′ + (2 + m)) end)) (next-found n ws c at′ end 1 0 v x k m (q ∙ rw (is-key, is-words))) p 1 0 v x k m at′
+          (cursorAt c (at′ + (2 + m)) end) refl)

@@ -21,8 +21,8 @@ pub record Passed (n : ℕ) (ws : List ℕ) (c : Cursor) (es xs : List Entry) : 
   pub split : es ≡ xs ++ rest
   pub remains : remaining 12 n ws c ≡ Entries rest
 
--- from word `at` to word `at′` of any chunk stand entries that a pass may leave out: no value of them lies in a block,
--- and none is asked for
+-- from word `at` to word `at′` of any chunk stand entries that a pass may leave out: no value of them lies in a
+-- block, and none is asked for
 pub record PassedOver (ws : List ℕ) (end : ℕ) (marks : List ℕ) (low high at at′ : ℕ) : Type 0 where
   pub nearer : (n c : ℕ) → left n ws (cursorAt c at′ end) ≤ left n ws (cursorAt c at end)
   pub over : List Entry

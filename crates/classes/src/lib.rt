@@ -1,14 +1,14 @@
 // Classes of keys, for passes over the log that look at some keys only: the keys of a range of classes, collected into
 // a table of any size, and marks that say which of them have several top entries.
 ghost use mathlib.Core.Path.{_≡_};
-ghost use Prim.Native.Nat.{_/_, _<_};
+ghost use Prim.Native.Nat.{_/_, _<_, min};
 ghost use lib.ListN.{length};
 ghost use Rattle.spec.specs.Words.{wordsOf};
 ghost use Rattle.classes.specs.Classes.{classOf, within, asked};
 ghost use Rattle.classes.specs.Passing.{PassedOver, Entering, Collecting, OneMarked, QuietFrom, TwinsMarked};
 use log::Cursor;
 use log::Next;
-use log::Short;
+use words::load;
 
 // Marks of keys: one for each 2^18 classes.
 pub const MARKS: usize = 16384;
@@ -53,30 +53,32 @@ fn is_asked(marks: &[u8], low: u64, high: u64, key: u64) -> bool
 }
 
 // PASSING
-// From word `at` on, past puts with their values in the log whose keys are not asked for.
+fn lesser(a: usize, b: usize) -> usize
+    ensures { λ r. ⌜ r ≡ min a b ⌝ }
+{
+    if a < b { a } else { b }
+}
+
+// From word `at` on, past puts with their values in the log whose keys are not asked for. Of a put it takes the length
+// from the first word and asks nothing more: in a log without a wrong entry that is where the next one stands.
 pub fn pass_over(image: &[u8], at: usize, end: usize, marks: &[u8], low: u64, high: u64) -> usize
     ensures { λ r. ⌜ PassedOver (wordsOf (now (image .entry))) end (now (marks .entry)) low high at r ⌝ }
 {
+    let stop = lesser(end, image.len() / 8);
     let mut place = at;
-    loop {
-        let s = log::short_put(image, place, end);
-        match s {
-            Short::Other => {
-                return place;
-            }
-            Short::Put {
-                version: _,
-                field: _,
-                key,
-                words,
-            } => {
-                if is_asked(marks, low, high, key) {
-                    return place;
-                }
-                place += 2 + words;
-            }
+    while place < stop {
+        let word = load(image, place);
+        if word % 16 != 1 {
+            return place;
         }
+        let key = load(image, place + 1);
+        if is_asked(marks, low, high, key) {
+            return place;
+        }
+        let words = ((word / 0x100_0000 + 7) / 8) as usize;
+        place += 2 + words;
     }
+    place
 }
 
 // COLLECTING

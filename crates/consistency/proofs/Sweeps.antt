@@ -4,7 +4,7 @@ use mathlib.Core.Path.{_≡_, refl, sym, _∙_, ap}
 use mathlib.Core.Logic.{_⊎_, inl, inr}
 use mathlib.Core.Bool.{Bool, true, false}
 use mathlib.Core.List.{List, [], _∷_, _++_, append-nil, append-assoc}
-use Prim.Native.Nat.{ℕ, _+_, _-_, _≤_, _<_}
+use Prim.Native.Nat.{ℕ, _+_, _-_, _<_}
 use native.Mathlib.Decide.{decLt}
 use native.Mathlib.Omega.{arith}
 use Rattle.spec.specs.Basics.{pick, both, all}
@@ -12,7 +12,7 @@ use Rattle.spec.specs.Places.{base}
 use Rattle.spec.specs.Log.{Entry}
 use Rattle.spec.specs.Blocks.{pointed}
 use Rattle.spec.specs.Contents.{isTop, chosen}
-use Rattle.spec.specs.Opening.{fine, agreeWith, blocksTest}
+use Rattle.spec.specs.Opening.{fine, agreeWith}
 use Rattle.theory_base.proofs.Lists.{not-both, pick-i, filter-append}
 use Rattle.theory_log.specs.Contents.{Mem}
 use Rattle.theory_log.proofs.Places.{rising-before, all-sound}
@@ -26,17 +26,15 @@ use Rattle.log.specs.declared.Next.{Next}
 use Rattle.log.specs.declared.Next.the-variants as N
 use Rattle.log.specs.Stands.{entryIn}
 use Rattle.log.specs.Cursor.{start, cursorAt, Advanced}
-use Rattle.volatile.specs.Check.{Live, Marks, CheckInv}
-use Rattle.volatile.specs.Known.{infoOf, several}
+use Rattle.volatile.specs.Check.{Live, CheckInv}
+use Rattle.volatile.specs.Known.{several}
 use Rattle.volatile.proofs.Plain.{low-single, single-agrees}
-use Rattle.classes.specs.Classes.{within, marked, asked, classIn}
+use Rattle.classes.specs.Classes.{within, marked, classIn}
 use Rattle.classes.specs.Passing.{Passed, PassedOver, TwinsMarked}
 use Rattle.classes.proofs.Classes.{class-several}
 use Rattle.classes.proofs.Passed.{passed-start, passed-done, passed-wrong, passed-split, passed-next}
 use Rattle.classes.proofs.Collects.{marked-none}
-use Rattle.consistency.specs.declared.Head.{Head}
 use Rattle.consistency.specs.declared.Checked.{Checked}
-use Rattle.consistency.specs.Heads.{entryOf}
 use Rattle.consistency.specs.Pass.{Part, VisitedIs, Ahead, Noted, SweptAs, ClassChecked}
 
 -- ## Entries of which there is nothing to find

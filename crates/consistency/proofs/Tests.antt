@@ -3,7 +3,7 @@
 use mathlib.Core.Path.{_≡_, refl, sym, _∙_, ap}
 use mathlib.Core.Logic.{_⊎_, inl, inr}
 use mathlib.Core.Bool.{Bool, true, false}
-use mathlib.Core.List.{List, [], _∷_, _++_}
+use mathlib.Core.List.{List, [], _++_}
 use Prim.Native.Nat.{ℕ, _-_, _≤_}
 use native.Mathlib.Omega.{arith}
 use lib.Dec.{ltb}
@@ -23,12 +23,12 @@ use Rattle.blocks.proofs.Laws.{kept-all, kept-then}
 use Rattle.volatile.specs.Check.{CheckInv}
 use Rattle.volatile.proofs.Check.{check-start, check-blocks, check-tops, check-live}
 use Rattle.volatile.proofs.Plain.{plain-check}
-use Rattle.classes.specs.Classes.{classOf, within, classIn}
+use Rattle.classes.specs.Classes.{within, classIn}
 use Rattle.classes.specs.Passing.{Collecting}
-use Rattle.classes.proofs.Classes.{within-is, not-within, within-other, within-first, within-second, within-either, class-all}
+use Rattle.classes.proofs.Classes.{not-within, within-other, within-first, within-second, within-either, class-all}
 use Rattle.consistency.specs.declared.Checked.{Checked}
 use Rattle.consistency.specs.Pass.{Listed, Part, Ahead, ClassChecked, Tested, AllChecked, Examined}
-use Rattle.consistency.proofs.Sweeps.{Harmless, check-more}
+use Rattle.consistency.proofs.Sweeps.{check-more}
 
 -- ## The end
 

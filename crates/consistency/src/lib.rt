@@ -1,7 +1,7 @@
 // What an opening asks of the top entries: whether their blocks are right, whether they agree and share no block with
-// another key, and the blocks in use as bits. A second pass looks at the entries that can tell it: values in blocks, and
-// keys with several top entries. Where the key table does not hold the keys, there is a pass for each of some ranges of
-// classes of keys, with a table of the call's own.
+// another key, and the blocks in use as bits. A second pass looks at the entries that can tell it: values in blocks,
+// and keys with several top entries. Where the key table does not hold the keys, there is a pass for each of some
+// ranges of classes of keys, with a table of the call's own.
 ghost use mathlib.Core.Path.{_≡_};
 ghost use Prim.Native.Nat.{_+_, _-_, _*_, _^_, _≤_, _<_, min};
 ghost use mathlib.Core.Bool.{true};

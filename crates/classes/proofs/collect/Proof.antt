@@ -2,11 +2,11 @@
 -- passed.
 -- Assumes nothing.
 use borrow.Author.Needs.{needs}
-use mathlib.Core.Path.{refl, sym, _∙_, ap}
+use mathlib.Core.Path.{refl, _∙_, ap}
 use native.Mathlib.Omega.{arith}
 use lib.ListN.{length, length-replicate}
 use Rattle.spec.specs.Words.{wordsOf}
-use Rattle.log.specs.Cursor.{cursorAt, left}
+use Rattle.log.specs.Cursor.{left}
 use Rattle.log.proofs.Walk.{handed}
 use Rattle.classes.proofs.Collects.{Reached, reached-start, reached-over, reached-next, reached-done, reached-full, own-alone}
 use Rattle.classes.proofs.collect.Statement.{statement}

@@ -1,6 +1,5 @@
 -- `consistency::is_enough` meets its contract. Assumes nothing.
 use borrow.Author.Needs.{needs}
-use mathlib.Core.Path.{refl}
 use Rattle.consistency.proofs.is_enough.Statement.{statement}
 use Rattle.consistency.proofs.is_enough.Tie as tie
 

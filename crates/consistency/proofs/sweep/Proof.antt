@@ -1,5 +1,5 @@
--- `consistency::sweep` meets its contract. The loop's invariant: the tests and the marks of the entries passed, of which
--- none has failed.
+-- `consistency::sweep` meets its contract. The loop's invariant: the tests and the marks of the entries passed, of
+-- which none has failed.
 -- Assumes nothing.
 use borrow.Author.Needs.{needs}
 use native.Mathlib.Omega.{arith}
