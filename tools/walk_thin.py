@@ -215,7 +215,7 @@ parts {vars_} = vstruct {vl}
 pub made : {bnd} → {' → '.join(isf(a) for a in fs)} → Is T.the-row ({rec}) (mach ({rec}) ∷ [])
 made {vars_} {' '.join(js[a[0]] for a in fs)} = LL.owes T.the-type T′.the-laws ({rec}) {tupl}
 
-same-mach : {bnd} → mach ({rec}) ≡ parts {vars_}
+pub same-mach : {bnd} → mach ({rec}) ≡ parts {vars_}
 same-mach {vars_} = λ i. parts {' '.join(f'(map-id {vn(a)} i)' if a[1]=='array' else vn(a) for a in fs)}
 
 module _ {{M : Type 1}} (𝓤 : URA M) (H : Heap 𝓤) (A : Atoms 𝓤) (W : Given 𝓤 H A) (b o : ℕ) where

@@ -117,7 +117,7 @@ parts c-control c-setup x-buffer = vstruct (vcons (val-control c-control) (vcons
 pub made : (c-control : Control) (c-setup : Setup) (x-buffer : List ℕ) → Is T-Control.the-row c-control (val-control c-control ∷ []) → Is T-Setup.the-row c-setup (val-setup c-setup ∷ []) → Is Row-buffer x-buffer (val-buffer x-buffer ∷ []) → Is T.the-row (record { control = c-control; setup = c-setup; buffer = x-buffer }) (mach (record { control = c-control; setup = c-setup; buffer = x-buffer }) ∷ [])
 made c-control c-setup x-buffer j-control j-setup j-buffer = LL.owes T.the-type T′.the-laws (record { control = c-control; setup = c-setup; buffer = x-buffer }) (j-control, (j-setup, (subst (λ (zs : List ℕ). Is Row-buffer zs (val-buffer zs ∷ [])) (sym (map-id x-buffer)) j-buffer, tt)))
 
-same-mach : (c-control : Control) (c-setup : Setup) (x-buffer : List ℕ) → mach (record { control = c-control; setup = c-setup; buffer = x-buffer }) ≡ parts c-control c-setup x-buffer
+pub same-mach : (c-control : Control) (c-setup : Setup) (x-buffer : List ℕ) → mach (record { control = c-control; setup = c-setup; buffer = x-buffer }) ≡ parts c-control c-setup x-buffer
 same-mach c-control c-setup x-buffer = λ i. parts c-control c-setup (map-id x-buffer i)
 
 module _ {M : Type 1} (𝓤 : URA M) (H : Heap 𝓤) (A : Atoms 𝓤) (W : Given 𝓤 H A) (b o : ℕ) where
