@@ -1,3 +1,4 @@
 pub mod Keeping
 pub mod Shows
 pub mod Cleaning
+pub mod Lengths
