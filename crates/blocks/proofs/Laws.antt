@@ -127,13 +127,13 @@ kept-then a b d k m =
 
 -- what stands before the bits
 pub front-kept : (b d : List ℕ) → WordsKept b d → FrontKept b d
-front-kept b d k = record { size = k .size; long = k .long; below = k .below }
+front-kept b d k = record { size = k .size; long = k .long; below = k .below; between = λ i l h. k .above i l }
 
 pub front-all : (b : List ℕ) → length b ≡ 1664 → FrontKept b b
 front-all b n = front-kept b b (kept-all b n)
 
 pub front-then : (a b d : List ℕ) → FrontKept a b → FrontKept b d → FrontKept a d
-front-then a b d k m = record { size = k .size; long = m .long ∙ k .long; below = λ i l. m .below i l ∙ k .below i l }
+front-then a b d k m = record { size = k .size; long = m .long ∙ k .long; below = λ i l. m .below i l ∙ k .below i l; between = λ i l h. m .between i l h ∙ k .between i l h }
 
 -- what stands before the bits is the same list
 pub kept-take : (b d : List ℕ) (n : ℕ) → WordsKept b d → n ≤ 1024 → take n d ≡ take n b

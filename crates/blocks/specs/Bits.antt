@@ -24,11 +24,12 @@ pub record WordsKept (before after : List ℕ) : Type 0 where
   pub below : (i : ℕ) → i < 1024 → getD after i 0 ≡ getD before i 0
   pub above : (i : ℕ) → 1150 ≤ i → getD after i 0 ≡ getD before i 0
 
--- both are buffers of the record, and agree at every word before the bits
+-- both are buffers of the record, and agree at every word before the bits, and at the two between these and the sums
 pub record FrontKept (before after : List ℕ) : Type 0 where
   pub size : length before ≡ 1664
   pub long : length after ≡ length before
   pub below : (i : ℕ) → i < 1024 → getD after i 0 ≡ getD before i 0
+  pub between : (i : ℕ) → 1150 ≤ i → i < 1152 → getD after i 0 ≡ getD before i 0
 
 -- unit u is in the set if so told, and out of it otherwise; every other unit is as it was
 pub record BitWritten (before after : List ℕ) (u : ℕ) (value : Bool) : Type 0 where

@@ -18,8 +18,8 @@ opened keys = record { phase = 1; next = 0; items = 0; words = 0; keys = keys; f
 abbrev pub toNext : ℕ → Control → Control
 toNext n c = record { phase = c .phase; next = n; items = c .items; words = c .words; keys = c .keys; fresh = c .fresh }
 
--- before an action of a call of this phase; the same, with the known keys and the staged ones that are not known counted
--- anew
+-- before an action of a call of this phase; the same, with the known keys and the staged ones that are not known
+-- counted anew
 abbrev pub acting : (phase next : ℕ) → Control → Control
 acting phase next c = record { phase = phase; next = next; items = c .items; words = c .words; keys = c .keys; fresh = c .fresh }
 

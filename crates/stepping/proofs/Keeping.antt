@@ -122,7 +122,7 @@ module _ (c : Control) (k : Setup) (b : List ℕ) where
             accepted = f .accepted;
             long = long′;
             lent = j .sized ∙ f .lent;
-            batch = batch-kept c (acted c keys 0) b b′ (chunksIn basePower (k .image)) _ (f .front ++ f .back) items refl refl (words-kept c (acted c keys 0) b b′ (j .kept) refl) (j .kept .above filterPlace (omega arith)) e (f .batch);
+            batch = batch-kept c (acted c keys 0) b b′ (chunksIn basePower (k .image)) _ (f .front ++ f .back) items refl refl (words-kept c (acted c keys 0) b b′ (j .kept) refl) (j .kept .between filterPlace (omega arith) (omega arith)) e (f .batch);
             agree = f .agree;
             apart = f .apart;
             built = record { indexed = q .0 .indexed; blocks = q .0 .blocks; sums = q .0 .sums };

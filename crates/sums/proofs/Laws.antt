@@ -35,7 +35,7 @@ changed-none b n = record { kept = alone-self b n; sums = λ c l. refl; narrow =
 
 -- neither the words before the bits nor these change
 pub alone-front : (b d : List ℕ) → SumsAlone b d → FrontKept b d
-alone-front b d k = record { size = k .size; long = k .long; below = λ i l. k .below i (omega arith) }
+alone-front b d k = record { size = k .size; long = k .long; below = λ i l. k .below i (omega arith); between = λ i l h. k .below i (omega arith) }
 
 pub alone-bits : (b d : List ℕ) → SumsAlone b d → (u : ℕ) → hasBit d u ≡ hasBit b u
 alone-bits b d k u = bit-agrees d b u (λ l. rw (k .below (wordOf u) (omega arith)))
