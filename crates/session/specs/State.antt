@@ -11,7 +11,8 @@
 --   6             | a cleaning, from its action number control.next on; nothing is staged
 --   others        | as 0
 --
---   buffer words  | 0 to 511: the staged entries, as a commit writes them; from 1024: the blocks in use
+--   buffer words  | 0 to 511: the staged entries, as a commit writes them; from 1024: the blocks in use; from 1152: the
+--                 | words of the chosen entries of each chunk
 --                 | in a cleaning, 512 to 1023: the entries that it keeps, as a commit writes them
 --                 | in a staging with actions, 512: the value's length in bytes; 513 to 1023: its words, zero-filled
 --   setup         | in a staging with actions, chunk: the block's chunk; lines: the block's first unit there; fields: 0

@@ -55,7 +55,8 @@ pub struct Setup {
 
 // The station record: 64-bit numbers alone, in this order, so that a host in C may lend any memory of its size. Its
 // buffer has the staged entries (512 words), a large value on its way or the entries that a cleaning keeps (512 words),
-// and a bit for each unit that starts a block in use (126 words).
+// a bit for each unit that starts a block in use (126 words, and 2 to spare), and for each chunk the words of its
+// chosen entries (512 words).
 #[repr(C)]
 pub struct Session {
     pub control: Control,
