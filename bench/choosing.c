@@ -1,6 +1,6 @@
-// Choosing at 504 chunks and 60,000 entries, each of another key, with one entry in `dead` superseded by a later one:
-// the time of a zkv_choose. By the chunks' sums it is a pass over 504 numbers, and a chunk's entries are read only where
-// it has a chosen delete and its chosen puts alone do not rule it out.
+// Choosing at 504 chunks and 60,000 entries, one in `dead` of which supersedes an earlier one: the time of a
+// zkv_choose. By the chunks' sums it is a pass over 504 numbers, and a chunk's entries are read only where it has a
+// chosen delete and its chosen puts alone do not rule it out.
 #include <stdint.h>
 #include <stdio.h>
 #include <stdlib.h>

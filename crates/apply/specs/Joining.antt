@@ -38,7 +38,8 @@ pub record Superseded (ws before after : List ℕ) (info : Info) : Type 0 where
   pub freed : (n key : ℕ) (xs more ys : List Entry) (f : Entry) → imageEntries basePower n ws ≡ Entries (xs ++ (more ++ ys)) → chosen key (xs ++ ys) ≡ some f → info ≡ said key (xs ++ ys) f
       → Freed before after (topBlock key (xs ++ ys))
 
--- table, bits and sums are those of the entries es, whose top entries agree and of which no two keys' top puts share a block
+-- table, bits and sums are those of the entries es, whose top entries agree and of which no two keys' top puts share a
+-- block
 pub record Shown (buffer table : List ℕ) (keys : ℕ) (es : List Entry) : Type 0 where
   pub indexed : Indexed table keys es
   pub blocks : (u : ℕ) → hasBit buffer u ≡ isIn u (liveBlocks es)

@@ -71,8 +71,8 @@ fn claim(buffer: &mut Buffer, op: u64, placement: u64, field: u64)
 }
 
 // An entry joins the table, which has so many keys: how many it has then. `own` is what it would hold of the key with
-// this entry alone, `weight` what it adds to the sum of its chunk. The blocks that it supersedes leave the bits; its own
-// is not yet there.
+// this entry alone, `weight` what it adds to the sum of its chunk. The blocks that it supersedes leave the bits; its
+// own is not yet there.
 fn join_one(
     image: &[u8],
     buffer: &mut Buffer,

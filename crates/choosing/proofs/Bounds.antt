@@ -1,5 +1,5 @@
--- What a chunk's sum says of the words that a cleaning of it copies: no fewer than those of its chosen puts, and no more
--- where it has no chosen delete.
+-- What a chunk's sum says of the words that a cleaning of it copies: no fewer than those of its chosen puts, and no
+-- more where it has no chosen delete.
 -- Assumes nothing.
 use mathlib.Core.Path.{_≡_, refl, sym, _∙_, ap}
 use mathlib.Core.Logic.{_⊎_, inl, inr}

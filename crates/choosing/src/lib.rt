@@ -96,8 +96,8 @@ fn better_of(best: Candidate, next: Candidate) -> Candidate
     best
 }
 
-// The better of the best so far and the next chunk, by its sum: the words of its chosen puts, which a cleaning copies at
-// least. Where they are more than the best one's, the chunk is no better; where it has no chosen delete, a cleaning
+// The better of the best so far and the next chunk, by its sum: the words of its chosen puts, which a cleaning copies
+// at least. Where they are more than the best one's, the chunk is no better; where it has no chosen delete, a cleaning
 // copies no more; else its entries are read.
 fn better_at(
     best: Candidate,

@@ -1,5 +1,5 @@
--- The sums before and after a cleaning, key by key: the chunk's chosen entries are gone, and those of them that are kept
--- stand where the copies stand.
+-- The sums before and after a cleaning, key by key: the chunk's chosen entries are gone, and those of them that are
+-- kept stand where the copies stand.
 -- Assumes nothing.
 use mathlib.Core.Path.{_≡_, refl, sym, _∙_, ap}
 use mathlib.Core.Logic.{by-cases, _⊎_, inl, inr}

@@ -12,7 +12,7 @@
 --   others        | as 0
 --
 --   buffer words  | 0 to 511: the staged entries, as a commit writes them; 1024 to 1149: the blocks in use
---                 | 1150: the filter of the staged keys
+--                 | 1150: the filter of the staged keys; from 1152: the words of the chosen entries of each chunk
 --                 | in a cleaning, 512 to 1023: the entries that it keeps, as a commit writes them
 --                 | in a staging with actions, 512: the value's length in bytes; 513 to 1023: its words, zero-filled
 --   setup         | in a staging with actions, chunk: the block's chunk; lines: the block's first unit there; fields: 0

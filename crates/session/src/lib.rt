@@ -59,7 +59,8 @@ pub struct Setup {
 
 // The station record: 64-bit numbers alone, in this order, so that a host in C may lend any memory of its size. Its
 // buffer has the staged entries (512 words), a large value on its way or the entries that a cleaning keeps (512 words),
-// a bit for each unit that starts a block in use (126 words), and the filter of the staged keys (1 word).
+// a bit for each unit that starts a block in use (126 words), the filter of the staged keys (1 word, and 1 to spare), and
+// for each chunk the words of its chosen entries (512 words).
 #[repr(C)]
 pub struct Session {
     pub control: Control,

@@ -1,5 +1,5 @@
-// For each chunk the words of its chosen entries, kept in words 1152 to 1663 of the station record's buffer, and what an
-// entry that joins, or a chunk that is cleaned, does to them.
+// For each chunk the words of its chosen entries, kept in words 1152 to 1663 of the station record's buffer, and what
+// an entry that joins, or a chunk that is cleaned, does to them.
 ghost use mathlib.Core.Path.{_≡_};
 ghost use Prim.Native.Nat.{_+_, _%_};
 ghost use lib.ListN.{getD};
