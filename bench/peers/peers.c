@@ -1,5 +1,5 @@
-/* The register beside stores that are in use, and beside plain C, side by side in one run: the sides take turns in every
- * round, and of the rounds the median counts; the lowest and the highest stand behind it.
+/* The register beside stores that are in use, and beside plain C, side by side in one run: the sides take turns in
+ * every round, and of the rounds the median counts; the lowest and the highest stand behind it.
  *
  * peers FOLDER [ROUNDS]    files are made in FOLDER; 12 rounds */
 #define _GNU_SOURCE

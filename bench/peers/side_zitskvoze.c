@@ -1,5 +1,5 @@
-/* The register: zkv_put and zkv_commit, each carried out by zkv_run; where it is full a chunk is chosen and cleaned, and
- * that is part of the put's time. */
+/* The register: zkv_put and zkv_commit, each carried out by zkv_run; where it is full a chunk is chosen and cleaned,
+ * and that is part of the put's time. */
 #include <sys/mman.h>
 
 #include "device.h"

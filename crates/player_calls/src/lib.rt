@@ -1,5 +1,5 @@
-// The calls that a script's commands name, on lent image, key table and record: the cores, with the record's small parts
-// by value and its buffer lent. tests/scripts.py has the commands.
+// The calls that a script's commands name, on lent image, key table and record: the cores, with the record's small
+// parts by value and its buffer lent. tests/scripts.py has the commands.
 use blocks::Buffer;
 use script::Command;
 use script::Line;

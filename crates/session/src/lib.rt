@@ -39,9 +39,9 @@ pub struct Source {
 // once that is begun), where the begun call writes (chunk, its directory word, its committed lines), where the next
 // commit looks for space (`first` and `least`, the hint), what a formatting was told (the header's map of fields,
 // station and centre number), and what a cleaning has begun with. Below chunk `first % 512` no log chunk has space for
-// `least` lines; where `first` is 512 or more, none behind it has either, and no chunk below it is free. In the staging of a large
-// value `lines` is the block's first unit in its chunk, and `fields` the block size that a free chunk is taken for, 0
-// where the chunk has it already.
+// `least` lines; where `first` is 512 or more, none behind it has either, and no chunk below it is free. In the staging
+// of a large value `lines` is the block's first unit in its chunk, and `fields` the block size that a free chunk is
+// taken for, 0 where the chunk has it already.
 #[repr(C)]
 pub struct Setup {
     pub image: usize,
@@ -59,8 +59,8 @@ pub struct Setup {
 
 // The station record: 64-bit numbers alone, in this order, so that a host in C may lend any memory of its size. Its
 // buffer has the staged entries (512 words), a large value on its way or the entries that a cleaning keeps (512 words),
-// a bit for each unit that starts a block in use (126 words), the filter of the staged keys (1 word, and 1 to spare), and
-// for each chunk the words of its chosen entries (512 words).
+// a bit for each unit that starts a block in use (126 words), the filter of the staged keys (1 word, and 1 to spare),
+// and for each chunk the words of its chosen entries (512 words).
 #[repr(C)]
 pub struct Session {
     pub control: Control,
