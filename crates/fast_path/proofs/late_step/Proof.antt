@@ -45,7 +45,7 @@ returns-2 c =
     }
 
 returns-3 : tie.Need-returns-3
-returns-3 c = record { within = λ h. absurd (c .before .is-late .ensures .1 (c .if1 .left) h); without = λ no. (refl, (refl, (refl, refl))) }
+returns-3 c = record { within = λ h. absurd (c .before .is-late .ensures .1 (c .if1 .left) h); without = λ no. (refl, refl) }
 
 pub late-step-spec : {M : Type 1} → statement M
 late-step-spec =

@@ -61,7 +61,7 @@ add-moved c = search needs
 returns-4 : tie.Need-returns-4
 returns-4 c =
     rw (c .moved .ensures)
-    (record { within = λ h. flush-acts _ _ _ _ _ _ (c .before .before .before .before .before .take-count .ensures .0) (c .before .before .before .before .before .before .held-words .ensures) (omega arith) _ h _ (omega arith) (let u = c .before .before .unit-of .ensures .0 in let l = c .before .before .unit-of .ensures .1 in let w = c .before .word-offset .ensures in omega arith); without = λ no. absurd (no (c .before .before .before .before .before .before .before .before .is-staging .ensures .0 (c .before .before .before .before .before .before .before .if1 .taken))) })
+    (record { within = λ h. flush-acts _ _ _ _ _ _ (c .before .before .before .before .before .take-count .ensures .0) (c .before .before .before .before .before .before .held-words .ensures) (omega arith) _ h _ (omega arith) (let u = c .before .before .unit-of .ensures .0 in let l = c .before .before .unit-of .ensures .1 in let w = c .before .word-offset .ensures in omega arith); without = λ no. absurd (no (c .before .before .before .before .before .before .before .before .before .is-staging .ensures .0 (c .before .before .before .before .before .before .before .before .if1 .taken))) })
 
 returns-5 : tie.Need-returns-5
 returns-5 c = record { within = λ h. absurd (c .before .is-staging .ensures .1 (c .if1 .left) h); without = λ no. (refl, refl) }
