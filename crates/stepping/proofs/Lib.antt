@@ -1,4 +1,3 @@
 pub mod Keeping
 pub mod Shows
 pub mod Cleaning
-pub mod Lengths

@@ -5,11 +5,9 @@ ghost use lib.Dec.{leb};
 ghost use lib.ListN.{length};
 ghost use Rattle.spec.specs.Machine.{Step};
 ghost use Rattle.session.specs.State.{blockActions};
-ghost use Rattle.session.specs.Asks.{sameLengths};
 ghost use Rattle.session.specs.Promise.{Does, memoryOf};
 use blocks::Buffer;
 use session::Control;
-use session::Phase;
 use session::Setup;
 use session::Stepped;
 use spec::Refusal;
@@ -143,16 +141,6 @@ fn clean_step(
     }
 }
 
-// Whether the lent lengths are those at the begin.
-fn same_lengths(setup: Setup, bytes: usize, words: usize) -> bool
-    ensures { λ r. ⌜ r ≡ sameLengths setup bytes words ⌝ }
-{
-    if setup.image == bytes {
-        return setup.table == words;
-    }
-    false
-}
-
 // Idle where nothing is begun, 1 where a lent length is unlike that at the begin; else the call that is begun goes on.
 pub fn step_core(
     control: Control,
@@ -163,61 +151,39 @@ pub fn step_core(
 ) -> Stepped
     ensures { λ r. ⌜ Does Step (memoryOf control setup (now (buffer .entry)) (now (image .entry)) (now (table .entry))) (memoryOf (r .control) setup (now (buffer .exit)) (now (image .exit)) (now (table .exit))) (r .report) ⌝ }
 {
-    let same = same_lengths(setup, image.len(), table.len());
-    let phase = session::phase_of(control.phase);
-    match phase {
-        Phase::Closed => Stepped {
+    let phase = control.phase;
+    if phase < 2 {
+        return Stepped {
             control,
             report: Report::Idle,
-        },
-        Phase::Rest => Stepped {
-            control,
-            report: Report::Idle,
-        },
-        Phase::Staging => {
-            if same {
-                return stage_step(control, setup, buffer, image, table);
-            }
-            Stepped {
-                control,
-                report: Report::Refused(Refusal::ImageLength),
-            }
-        }
-        Phase::Commit => {
-            if same {
-                return commit_step(control, setup, buffer, image, table);
-            }
-            Stepped {
-                control,
-                report: Report::Refused(Refusal::ImageLength),
-            }
-        }
-        Phase::Cleaning => {
-            if same {
-                return clean_step(control, setup, buffer, image, table);
-            }
-            Stepped {
-                control,
-                report: Report::Refused(Refusal::ImageLength),
-            }
-        }
-        Phase::Format => {
-            if same {
-                return format_step(control, setup, buffer, image, table);
-            }
-            Stepped {
-                control,
-                report: Report::Refused(Refusal::ImageLength),
-            }
-        }
-        Phase::Reformat => {
-            if same {
-                return format_step(control, setup, buffer, image, table);
-            }
-            Stepped {
-                control,
-                report: Report::Refused(Refusal::ImageLength),
-            }
-        }
+        };
     }
+    if 6 < phase {
+        return Stepped {
+            control,
+            report: Report::Idle,
+        };
+    }
+    if setup.image != image.len() {
+        return Stepped {
+            control,
+            report: Report::Refused(Refusal::ImageLength),
+        };
+    }
+    if setup.table != table.len() {
+        return Stepped {
+            control,
+            report: Report::Refused(Refusal::ImageLength),
+        };
+    }
+    if phase == 2 {
+        return stage_step(control, setup, buffer, image, table);
+    }
+    if phase == 3 {
+        return commit_step(control, setup, buffer, image, table);
+    }
+    if phase == 6 {
+        return clean_step(control, setup, buffer, image, table);
+    }
+    format_step(control, setup, buffer, image, table)
 }
