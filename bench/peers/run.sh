@@ -1,6 +1,6 @@
 #!/usr/bin/env bash
-# Installs LMDB and libpmemobj from Debian's packages if they are missing, builds the drivers over the proved archive and
-# runs them on files in memory (/dev/shm). No part of the gate.
+# Installs LMDB and libpmemobj from Debian's packages if they are missing, builds the drivers over the proved archive
+# and runs them on files in memory (/dev/shm). No part of the gate.
 #   bench/peers/run.sh [ROUNDS]
 set -euo pipefail
 cd "$(dirname "${BASH_SOURCE[0]}")/../.."

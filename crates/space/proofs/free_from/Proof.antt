@@ -1,5 +1,5 @@
--- `space::free_from` meets its contract. The loop's invariant: where no chunk below `from` is free, of the chunks before
--- c so many are free, too few, and `lowest` is the first of them.
+-- `space::free_from` meets its contract. The loop's invariant: where no chunk below `from` is free, of the chunks
+-- before c so many are free, too few, and `lowest` is the first of them.
 -- Assumes nothing.
 use Prim.Native.Nat.{ℕ, _+_, _-_, _≤_, _<_}
 use mathlib.Core.Path.{_≡_, sym, _∙_, ap}
