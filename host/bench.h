@@ -41,5 +41,6 @@ void measure_cleaning(void);
 void measure_full_room(void);
 void measure_choosing(void);
 void print_full_room(void);
+double full_room_live(void);
 
 #endif

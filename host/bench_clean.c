@@ -8,12 +8,19 @@
 
 #include "bench.h"
 
+/* The full room: bench/full_room.sh asks for a larger one. The puts before the clock starts fill it. */
+#ifndef ROOM_CHUNKS
+#define ROOM_CHUNKS 16
+#define ROOM_TABLE 4096
+#define ROOM_KEYS 300
+#define ROOM_WARM_UP 3000
+#define PLAIN_BITS 10
+#endif
+
 enum {
-    ROOM_CHUNKS = 16,
     ROOM_BYTES = ROOM_CHUNKS * ZKV_CHUNK_BYTES,
-    ROOM_TABLE = 4096,
-    KEYS = 300,                             /* of the full room */
-    WARM_UP = 3000,                         /* puts before the clock starts: the room is then full */
+    KEYS = ROOM_KEYS,
+    WARM_UP = ROOM_WARM_UP,
     PUTS = 10000,
     REGISTERS = 8,                          /* cleaned one behind the other, between two looks at the clock */
     CLEAN_KEYS = 128,                       /* in the chunk to be cleaned, of 16 bytes each: all of its 64 lines */
@@ -61,17 +68,18 @@ static void new_register(struct ours *s)
 }
 
 /* ---- plain C: the same log with a plain hash */
-enum { SLOTS = 1024 };
+enum { SLOTS = 1 << PLAIN_BITS };
 
 struct plain {
     _Alignas(64) uint64_t image[ROOM_BYTES / 8];
     uint64_t key[SLOTS], at[SLOTS];         /* at: the word of its newest entry, and above bit 32 the version; 0: free */
     uint32_t used[ROOM_CHUNKS];             /* words of newest entries in a chunk */
+    size_t low, least;                      /* no log chunk below `low` has space for `least` lines */
 };
 
 static size_t slot_of(const struct plain *p, uint64_t key)
 {
-    size_t s = key * 0x9E3779B97F4A7C15u >> 54;
+    size_t s = key * 0x9E3779B97F4A7C15u >> (64 - PLAIN_BITS);
     while (p->at[s] != 0 && p->key[s] != key) {
         s = (s + 1) % SLOTS;
     }
@@ -110,21 +118,32 @@ static size_t append(struct plain *p, size_t chunk, const uint64_t *payload, siz
     return at;
 }
 
-/* The first log chunk with space that is not `other`, else the first free one if so many are free, else 0. */
-static size_t place(const struct plain *p, size_t lines, size_t needed_free, size_t other)
+/* The first log chunk with space that is not `other`, else the first free one if so many are free, else 0. A chunk passed
+ * over has no space for so many lines, or is about to be freed. */
+static size_t place(struct plain *p, size_t lines, size_t needed_free, size_t other)
 {
     size_t free_chunks = 0, first_free = 0;
-    for (size_t c = 1; c < ROOM_CHUNKS; c++) {
+    for (size_t c = lines >= p->least && p->low != 0 ? p->low : 1; c < ROOM_CHUNKS; c++) {
         uint64_t word = p->image[8 + c];
         if (word != 0 && c != other && (word >> 8) + lines <= 64) {
+            p->low = c;
+            p->least = lines;
             return c;
         }
-        if (word == 0) {
+    }
+    for (size_t c = 1; c < ROOM_CHUNKS; c++) {
+        if (p->image[8 + c] == 0) {
             first_free = free_chunks == 0 ? c : first_free;
             free_chunks++;
         }
     }
-    return free_chunks >= needed_free ? first_free : 0;
+    if (free_chunks < needed_free) {
+        return 0;
+    }
+    if (first_free < p->low) {
+        p->low = first_free;
+    }
+    return first_free;
 }
 
 /* The entries of a payload are the newest of their keys. */
@@ -278,6 +297,7 @@ void measure_cleaning(void)
 static struct {
     uint64_t puts, cleanings, copied, stored, items;     /* words stored, words of the items put */
     double our_ns, floor_ns;                             /* a put, in the best pass */
+    double live;
 } room;
 
 static void our_put(struct ours *s, uint64_t key, const uint8_t *value, size_t size, bool count)
@@ -357,11 +377,23 @@ void measure_full_room(void)
     if (room.cleanings < 100) {
         wrong("the room was not full");
     }
+    uint64_t used = 0, log_chunks = 0;
+    for (size_t c = 1; c < ROOM_CHUNKS; c++) {
+        used += p.used[c];
+        log_chunks += p.image[8 + c] != 0;
+    }
+    room.live = 100.0 * (double)used / (double)(CHUNK * log_chunks);
     ours /= PUTS;
     floor /= PUTS;
     room.our_ns = room.our_ns == 0 || ours < room.our_ns ? ours : room.our_ns;
     room.floor_ns = room.floor_ns == 0 || floor < room.floor_ns ? floor : room.floor_ns;
     note("put in a full room, cleanings included", "ns", ours, floor, false);
+}
+
+/* Of the room as it was left: the words of newest entries, of those that log chunks have, in percent. */
+double full_room_live(void)
+{
+    return room.live;
 }
 
 void print_full_room(void)
