@@ -18,14 +18,34 @@ static int by_steps;
 
 #define LENT &record, image, BYTES, table, TABLE
 
-static void finish(zkv_report r)
+static void refused(zkv_report r)
+{
+    fprintf(stderr, "refused %d\n", (int)r.first);
+    exit(1);
+}
+
+static void finish_by_steps(zkv_report r)
 {
     while (r.kind >= ZKV_BEGUN && r.kind <= ZKV_FENCE) {
-        r = by_steps ? zkv_step(LENT) : zkv_run(LENT);
+        r = zkv_step(LENT);
     }
     if (r.kind == ZKV_REFUSED) {
-        fprintf(stderr, "refused %d\n", (int)r.first);
-        exit(1);
+        refused(r);
+    }
+}
+
+// Runs up to the end of a call: what a host does, less the flushes and fences themselves.
+static inline void finish(zkv_report r)
+{
+    if (by_steps) {
+        finish_by_steps(r);
+        return;
+    }
+    while (r.kind >= ZKV_BEGUN && r.kind <= ZKV_FENCE) {
+        r = zkv_run(LENT);
+    }
+    if (r.kind == ZKV_REFUSED) {
+        refused(r);
     }
 }
 

@@ -1,6 +1,7 @@
 #!/usr/bin/env bash
 # Counts the instructions of the public calls (callgrind) and compares them with the kept figures, bench/instructions.txt:
 # more than 3 % above one of them is an error. They do not depend on the machine's speed. No part of the gate.
+# A row has the instructions inside the calls, and those with the loop of the driver around them.
 #   bench/instructions.sh            compare
 #   bench/instructions.sh --keep     write the figures anew
 set -euo pipefail
@@ -16,7 +17,10 @@ while read -r row what; do
     valgrind --tool=callgrind --instr-atstart=no --callgrind-out-file="$now.out" target/bench/instructions "$row" \
         > "$now.ops" 2> /dev/null
     total=$(awk '/^totals:/ {print $2; exit}' "$now.out")
-    echo "$row $((total / $(cat "$now.ops"))) $what"
+    inside=$(callgrind_annotate --inclusive=yes --threshold=100 "$now.out" 2> /dev/null \
+        | awk '/:zkv_[a-z_]+ / {gsub(",", "", $1); sum += $1} END {print sum}')
+    ops=$(cat "$now.ops")
+    echo "$row $((inside / ops)) $((total / ops)) $what"
 done > "$now" <<'END'
 put16 put of 16 bytes with its commit, a known key
 step16 the same by zkv_step
@@ -30,13 +34,13 @@ open opening, an entry
 END
 [ "${1:-}" != --keep ] || cp "$now" "$kept"
 worse=0
-while read -r row count what; do
+while read -r row count all what; do
     before=$(awk -v r="$row" '$1 == r {print $2}' "$kept")
     mark=""
     if [ "$count" -gt $((before * 103 / 100)) ]; then
         mark="   more than 3 % above"
         worse=1
     fi
-    printf '%-48s %7d   kept %7d%s\n' "$what" "$count" "$before" "$mark"
+    printf '%-48s %7d   with the driver %7d   kept %7d%s\n' "$what" "$count" "$all" "$before" "$mark"
 done < "$now"
 exit $worse
