@@ -18,34 +18,26 @@ static int by_steps;
 
 #define LENT &record, image, BYTES, table, TABLE
 
-static void refused(zkv_report r)
+static void finish_by_steps(uint64_t kind)
 {
-    fprintf(stderr, "refused %d\n", (int)r.first);
-    exit(1);
-}
-
-static void finish_by_steps(zkv_report r)
-{
-    while (r.kind >= ZKV_BEGUN && r.kind <= ZKV_FENCE) {
-        r = zkv_step(LENT);
-    }
-    if (r.kind == ZKV_REFUSED) {
-        refused(r);
+    while (kind >= ZKV_BEGUN && kind <= ZKV_FENCE) {
+        kind = zkv_step(LENT).kind;
     }
 }
 
-// Runs up to the end of a call: what a host does, less the flushes and fences themselves.
-static inline void finish(zkv_report r)
+// Carries a call out, of whose report this is the kind, by runs up to its end; flushes and fences are left out.
+static inline void finish(uint64_t kind)
 {
+    if (kind == ZKV_REFUSED) {
+        fprintf(stderr, "a call was refused\n");
+        exit(1);
+    }
     if (by_steps) {
-        finish_by_steps(r);
+        finish_by_steps(kind);
         return;
     }
-    while (r.kind >= ZKV_BEGUN && r.kind <= ZKV_FENCE) {
-        r = zkv_run(LENT);
-    }
-    if (r.kind == ZKV_REFUSED) {
-        refused(r);
+    while (kind >= ZKV_BEGUN && kind <= ZKV_FENCE) {
+        kind = zkv_run(LENT).kind;
     }
 }
 
@@ -53,9 +45,9 @@ static inline void finish(zkv_report r)
 static void batch(uint64_t first, size_t items, size_t length)
 {
     for (size_t i = 0; i < items; i++) {
-        finish(zkv_put(LENT, (first + i) * 0x9E3779B97F4A7C15u, value, length));
+        finish(zkv_put(LENT, (first + i) * 0x9E3779B97F4A7C15u, value, length).kind);
     }
-    finish(zkv_commit(LENT));
+    finish(zkv_commit(LENT).kind);
 }
 
 static int puts_counted(size_t items, size_t length)
@@ -91,7 +83,7 @@ static int opening_counted(void)
         batch(16 * k, 16, 8);
     }
     CALLGRIND_START_INSTRUMENTATION;
-    finish(zkv_open(LENT));
+    finish(zkv_open(LENT).kind);
     CALLGRIND_STOP_INSTRUMENTATION;
     return ENTRIES;
 }
@@ -101,8 +93,8 @@ int main(int count, char **words)
     const char *row = count == 2 ? words[1] : "";
     int operations = 0;
     memset(value, 7, sizeof value);
-    finish(zkv_format(LENT, 0, 0, 0, 0));
-    finish(zkv_open(LENT));
+    finish(zkv_format(LENT, 0, 0, 0, 0).kind);
+    finish(zkv_open(LENT).kind);
     by_steps = strcmp(row, "step16") == 0;
     if (strncmp(row, "put", 3) == 0) {
         operations = puts_counted(1, (size_t)atoi(row + 3));
