@@ -12,18 +12,12 @@ use session::Setup;
 use spec::Given;
 use spec::Report;
 
-pub fn at_most(x: usize, bound: usize) -> usize
-    ensures { λ r. ⌜ r ≡ min x bound ⌝ }
-{
-    if x < bound { x } else { bound }
-}
-
 // COMMIT
 // How many actions a commit of so many words has.
 pub fn commit_count(words: usize) -> usize
     ensures { λ r. ⌜ r ≡ commitCount words ⌝ }
 {
-    let lines = (at_most(words, 512) + 7) / 8;
+    let lines = (words::lesser(words, 512) + 7) / 8;
     9 * lines + 4
 }
 
@@ -31,7 +25,7 @@ pub fn commit_count(words: usize) -> usize
 pub fn commit_stores(words: usize) -> usize
     ensures { λ r. ⌜ r ≡ 8 * linesFor (min words batchRoom) ⌝ }
 {
-    let lines = (at_most(words, 512) + 7) / 8;
+    let lines = (words::lesser(words, 512) + 7) / 8;
     8 * lines
 }
 
@@ -46,7 +40,7 @@ pub fn batch_start(setup: Setup) -> usize
 pub fn batch_word(buffer: &Buffer, words: usize, i: usize) -> u64
     ensures { λ r. ⌜ r ≡ getD (padded (bufferPart (now (buffer .entry)) 0 (min words batchRoom))) i 0 ⌝ }
 {
-    let staged = at_most(words, 512);
+    let staged = words::lesser(words, 512);
     if i < staged {
         return buffer[i];
     }
@@ -58,7 +52,7 @@ pub fn commit_action(control: Control, setup: Setup, buffer: &Buffer, at: usize)
     ensures { λ r. ⌜ r ≡ nthReport (commitActions control setup (now (buffer .entry))) at ⌝ }
 {
     let words = control.words;
-    let lines = (at_most(words, 512) + 7) / 8;
+    let lines = (words::lesser(words, 512) + 7) / 8;
     let chunk = setup.chunk % 512;
     let committed = setup.lines % 128;
     let stores = 8 * lines;

@@ -159,7 +159,7 @@ pub fn join(
 {
     blocks::buffer_length(buffer);
     let place = actions::batch_start(setup);
-    let end = actions::at_most(control.words, 512);
+    let end = words::lesser(control.words, 512);
     let mut keys = control.keys;
     let mut at: usize = 0;
     loop {

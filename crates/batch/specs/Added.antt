@@ -6,14 +6,14 @@ use Prim.Native.Nat.{ℕ, _+_, _^_, _≤_, _<_}
 use lib.ListN.{length, getD}
 use Rattle.spec.specs.Log.{Entry, encodeAll}
 use Rattle.theory_log.specs.Batch.{Right}
-use Rattle.blocks.specs.Bits.{hasBit}
+use Rattle.blocks.specs.Bits.{bufferWords, hasBit}
 use Rattle.session.specs.State.{batchRoom, bufferPart}
 use Rattle.session.specs.Filter.{filterPlace, AllMarked}
 
 -- from `words` words to `next`: the item is behind the others and its key in the filter if there is room for it, and
 -- nothing is changed if there is not. The field of an item has 40 bits.
 pub record Added (before after : List ℕ) (words next : ℕ) (e : Entry) : Type 0 where
-  pub size : length before ≡ 1664
+  pub size : length before ≡ bufferWords
   pub long : length after ≡ length before
   pub above : (i : ℕ) → batchRoom ≤ i → i < filterPlace → getD after i 0 ≡ getD before i 0
   pub behind : (i : ℕ) → filterPlace < i → getD after i 0 ≡ getD before i 0

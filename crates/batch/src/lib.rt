@@ -1,16 +1,19 @@
 // The staged entries, kept in words 0 to 511 of the station record's buffer as the very words that a commit writes.
 ghost use mathlib.Core.Path.{_≡_};
-ghost use Prim.Native.Nat.{_+_, _^_, _<_, _≤_, min};
-ghost use lib.ListN.{getD, drop};
+ghost use Prim.Native.Nat.{_+_, _-_, _^_, _<_, _≤_, min};
+ghost use lib.ListN.{getD, take, drop};
 ghost use lib.Seq.{slice};
 ghost use Rattle.spec.specs.Words.{packed};
 ghost use Rattle.spec.specs.Log.{wordsFor, filled, stepOf};
 ghost use Rattle.spec.specs.Plans.{entry};
+ghost use Rattle.words.specs.Overlay.{overlay};
+ghost use Rattle.blocks.specs.Bits.{bufferWords};
 ghost use Rattle.session.specs.State.{batchRoom};
 ghost use Rattle.session.specs.Filter.{filterBit, isMarked};
 ghost use Rattle.batch.specs.Items.{itemOf, laterOf, LastStaged, OnlyDeletes, anyItem};
 ghost use Rattle.batch.specs.Marks.{marksOf, MarkedWith};
 ghost use Rattle.batch.specs.Added.{Added};
+use blocks::BUFFER_WORDS;
 use blocks::Buffer;
 use blocks::buffer_length;
 use codec::first_of;
@@ -18,7 +21,9 @@ use codec::first_word;
 use log::words_for;
 use spec::FirstWord;
 use spec::LogStep;
-use words::pack_into;
+use words::last_word;
+use words::lesser;
+use words::read_word;
 
 // What the last staged item of a key says, 0 and 0 where there is none.
 pub struct Latest {
@@ -32,13 +37,6 @@ pub struct Item {
     pub version: u64,
     pub key: u64,
     pub size: usize,
-}
-
-// How many words of the buffer the batch fills.
-fn batch_end(words: usize) -> usize
-    ensures { λ r. ⌜ r ≡ min words batchRoom ⌝ }
-{
-    if words < 512 { words } else { 512 }
 }
 
 // What two words say, of an item's: of others something, and a size.
@@ -110,7 +108,7 @@ fn marked_with(marks: u64, key: u64) -> u64
 fn last_of(buffer: &Buffer, words: usize, key: u64) -> Latest
     ensures { λ r. ⌜ LastStaged (now (buffer .entry)) words key r ⌝ }
 {
-    let end = batch_end(words);
+    let end = lesser(words, 512);
     let mut latest = Latest { op: 0, version: 0 };
     let mut at = 0;
     while at < end {
@@ -136,7 +134,7 @@ pub fn last_staged(buffer: &Buffer, words: usize, key: u64) -> Latest
 pub fn only_deletes(buffer: &Buffer, words: usize) -> bool
     ensures { λ r. ⌜ OnlyDeletes (now (buffer .entry)) words r ⌝ }
 {
-    let end = batch_end(words);
+    let end = lesser(words, 512);
     let mut at = 0;
     while at < end {
         let item = item_at(buffer, at);
@@ -209,7 +207,7 @@ fn step_at(buffer: &Buffer, at: usize, end: usize) -> LogStep
 pub fn any_item(buffer: &Buffer, words: usize) -> bool
     ensures { λ r. ⌜ r ≡ anyItem (now (buffer .entry)) words ⌝ }
 {
-    let end = batch_end(words);
+    let end = lesser(words, 512);
     let mut any = false;
     let mut at = 0;
     buffer_length(buffer);
@@ -238,6 +236,36 @@ pub fn any_item(buffer: &Buffer, words: usize) -> bool
             }
         }
     }
+}
+
+// VALUES
+// How many words of a value are copied to place `at` of the record's buffer: all, or as many as fit.
+fn copied(words: usize, at: usize) -> usize
+    ensures { λ r. ⌜ r ≡ min words (bufferWords - at) ⌝ }
+{
+    if BUFFER_WORDS <= at {
+        return 0;
+    }
+    lesser(words, BUFFER_WORDS - at)
+}
+
+// The words of a value laid over the record's buffer from place `at`; what does not fit is dropped.
+pub fn pack_into(value: &[u8], buffer: &mut Buffer, at: usize)
+    ensures { λ _. ⌜ now (buffer .exit) ≡ overlay (now (buffer .entry)) at (take (bufferWords - at) (packed (now (value .entry)))) ⌝ }
+{
+    let count = copied((value.len() + 7) / 8, at);
+    let whole = copied(value.len() / 8, at);
+    let mut i = 0;
+    while i < whole {
+        let v = read_word(value, i);
+        buffer[at + i] = v;
+        i += 1;
+    }
+    if count <= i {
+        return;
+    }
+    let v = last_word(value, i);
+    buffer[at + i] = v;
 }
 
 // One more staged item, if it fits: its words behind the others, its key in the filter. The answer is the number of

@@ -5,12 +5,12 @@ use mathlib.Core.List.{List, _∷_}
 use Prim.Native.Nat.{ℕ, _+_, _/_, _≤_, _<_}
 use lib.ListN.{length, getD}
 use Rattle.spec.specs.Words.{packed}
-use Rattle.blocks.specs.Bits.{hasBit}
+use Rattle.blocks.specs.Bits.{bufferWords, hasBit}
 use Rattle.session.specs.State.{bufferPart, areaStart, mostBytes, heldWords}
 
 -- a value put into the second area, if it fits into a block
 pub record Kept (before after bytes : List ℕ) : Type 0 where
-  pub size : length before ≡ 1664
+  pub size : length before ≡ bufferWords
   pub long : length after ≡ length before
   pub below : (i : ℕ) → i < 512 → getD after i 0 ≡ getD before i 0
   pub above : (i : ℕ) → 1024 ≤ i → getD after i 0 ≡ getD before i 0

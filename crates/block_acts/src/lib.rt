@@ -7,13 +7,13 @@ ghost use Rattle.spec.specs.Actions.{takeOf, blockOf};
 ghost use Rattle.actions.specs.Nth.{nthReport};
 ghost use Rattle.session.specs.State.{heldCount, heldWords, unitOf, blockActions};
 ghost use Rattle.block_acts.specs.Staging.{Kept};
-use actions::at_most;
+use batch::pack_into;
 use blocks::Buffer;
 use blocks::buffer_length;
 use codec::Unit;
 use session::Setup;
 use spec::Report;
-use words::pack_into;
+use words::lesser;
 
 // THE VALUE
 // A value's length and its words into the second area; a value too long for a block changes nothing.
@@ -32,7 +32,7 @@ pub fn hold_value(buffer: &mut Buffer, value: &[u8])
 pub fn held_words(buffer: &Buffer) -> usize
     ensures { λ r. ⌜ r ≡ heldCount (now (buffer .entry)) ⌝ }
 {
-    let bytes = at_most(buffer[512] as usize, 4088);
+    let bytes = lesser(buffer[512] as usize, 4088);
     1 + (bytes + 7) / 8
 }
 

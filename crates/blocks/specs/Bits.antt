@@ -10,6 +10,10 @@ use lib.Dec.{eqb, ltb}
 use lib.ListN.{length, getD}
 use Rattle.spec.specs.Basics.{both}
 
+-- the words of the record's buffer: the length of each array `blocks::Buffer`
+abbrev pub bufferWords : ℕ
+bufferWords = 1664
+
 -- the word of unit u
 abbrev pub wordOf : ℕ → ℕ
 wordOf u = 1024 + u / 64
@@ -19,14 +23,14 @@ hasBit buffer u = both (ltb u 8064) (eqb (getD buffer (wordOf u) 0 / 2 ^ (u % 64
 
 -- both are buffers of the record, and agree at every word that holds no bits
 pub record WordsKept (before after : List ℕ) : Type 0 where
-  pub size : length before ≡ 1664
+  pub size : length before ≡ bufferWords
   pub long : length after ≡ length before
   pub below : (i : ℕ) → i < 1024 → getD after i 0 ≡ getD before i 0
   pub above : (i : ℕ) → 1150 ≤ i → getD after i 0 ≡ getD before i 0
 
 -- both are buffers of the record, and agree at every word before the bits, and at the two between these and the sums
 pub record FrontKept (before after : List ℕ) : Type 0 where
-  pub size : length before ≡ 1664
+  pub size : length before ≡ bufferWords
   pub long : length after ≡ length before
   pub below : (i : ℕ) → i < 1024 → getD after i 0 ≡ getD before i 0
   pub between : (i : ℕ) → 1150 ≤ i → i < 1152 → getD after i 0 ≡ getD before i 0

@@ -2,7 +2,7 @@
 ghost use mathlib.Core.Path.{_≡_};
 ghost use mathlib.Core.Bool.{true, false};
 ghost use lib.ListN.{length};
-ghost use Rattle.blocks.specs.Bits.{hasBit, BitWritten, BitsCleared};
+ghost use Rattle.blocks.specs.Bits.{bufferWords, hasBit, BitWritten, BitsCleared};
 
 // The station record's buffer: so many words. `session` says which of them hold what.
 pub const BUFFER_WORDS: usize = 1664;
@@ -17,7 +17,7 @@ fn count(words: &[u64]) -> usize
 
 // The number of words of the buffer: a call tells its caller that the list behind the reference has that length.
 pub fn buffer_length(buffer: &Buffer) -> usize
-    ensures { λ r. ⌜ (r ≡ 1664) × (length (now (buffer .entry)) ≡ 1664) ⌝ }
+    ensures { λ r. ⌜ (r ≡ bufferWords) × (length (now (buffer .entry)) ≡ bufferWords) ⌝ }
 {
     count(buffer)
 }

@@ -13,7 +13,8 @@ ghost use Rattle.fast_path.specs.Run.{RunsOn};
 ghost use Rattle.store.specs.Look.{Reported};
 ghost use Rattle.store.specs.Choice.{Chosen};
 ghost use Rattle.store.specs.List.{KeysListed, KeyListed};
-ghost use Rattle.stat.specs.Counts.{linesUsed, Known};
+ghost use Rattle.directory.specs.Counts.{linesUsed};
+ghost use Rattle.stat.specs.Counts.{Known};
 ghost use Rattle.inspect.specs.Numbers.{stationOf, centreOf, ToldAs};
 ghost use Rattle.inspect.specs.History.{entryFrom};
 ghost use Rattle.faults.specs.Faults.{Told as Located};
@@ -467,20 +468,20 @@ pub extern "C" fn zkv_keys(s: &Session) -> u64
     stat::keys(s)
 }
 
-// How many chunks the directory says are free (`stat::free_chunks`).
+// How many chunks the directory says are free (`directory::free_chunks`).
 #[no_mangle]
 pub extern "C" fn zkv_free_chunks(image: &[u8]) -> u64
     ensures { λ r. ⌜ r ≡ length (freeChunks 12 (chunksIn 12 (length (now (image .entry)))) (wordsOf (now (image .entry)))) ⌝ }
 {
-    stat::free_chunks(image)
+    directory::free_chunks(image)
 }
 
-// The committed lines of all log chunks (`stat::lines_used`).
+// The committed lines of all log chunks (`directory::lines_used`).
 #[no_mangle]
 pub extern "C" fn zkv_lines_used(image: &[u8]) -> u64
     ensures { λ r. ⌜ r ≡ linesUsed 12 (chunksIn 12 (length (now (image .entry)))) (wordsOf (now (image .entry))) ⌝ }
 {
-    stat::lines_used(image)
+    directory::lines_used(image)
 }
 
 // INSPECTION

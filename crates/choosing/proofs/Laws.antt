@@ -20,7 +20,7 @@ use Rattle.theory_crash.specs.Accepted.{Ok}
 use Rattle.volatile.specs.Known.{Indexed}
 use Rattle.volatile.specs.Sums.{highHalf, Summed}
 use Rattle.choosing.proofs.Bounds.{least-copied, all-copied}
-use Rattle.space.proofs.Space.{log-lines}
+use Rattle.directory.proofs.Roles.{log-lines}
 use Rattle.gathering.specs.declared.Tally.{Tally}
 use Rattle.gathering.specs.Gathering.{Measured}
 use Rattle.gathering.proofs.Chunks.{chunk-measured}

@@ -14,7 +14,7 @@ use Rattle.spec.specs.Plans.{worthCleaning, better, best, chosenChunk}
 use Rattle.theory_crash.specs.Accepted.{Ok}
 use Rattle.volatile.specs.Known.{Indexed}
 use Rattle.volatile.specs.Sums.{Summed}
-use Rattle.space.proofs.Search.{taken, taken-start, taken-more}
+use Rattle.directory.proofs.Search.{taken, taken-start, taken-more}
 use Rattle.choosing.specs.declared.Candidate.{Candidate}
 use Rattle.choosing.specs.declared.Choice.the-variants as C
 use Rattle.choosing.specs.Choices.{bestSoFar, Known, BetteredAt, Chooses}

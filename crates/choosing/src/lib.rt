@@ -6,7 +6,7 @@ ghost use Rattle.spec.specs.Words.{wordsOf};
 ghost use Rattle.spec.specs.Actions.{linesFor};
 ghost use Rattle.choosing.specs.Choices.{Weighed, Counted, Worth, Compared, Bettered, BetteredAt, Chooses, Choosing};
 use blocks::Buffer;
-use log::lines_of;
+use directory::lines_of;
 use session::Control;
 use session::Gated;
 use session::Setup;

@@ -34,8 +34,8 @@ use Rattle.session.specs.Fits.{Fits}
 use Rattle.session.specs.declared.Gated.{Gated}
 use Rattle.session.specs.declared.Gated.the-variants as G
 use Rattle.session.specs.Asks.{gateOf, Asking}
-use Rattle.space.specs.Found.{Stops}
-use Rattle.space.proofs.Search.{taken, first-here, taken-before, taken-end}
+use Rattle.directory.specs.Found.{Stops}
+use Rattle.directory.proofs.Search.{taken, first-here, taken-before, taken-end}
 use Rattle.lookup.specs.Look.{sessionOf}
 use Rattle.listing.specs.Contract.{entriesOf}
 use Rattle.session.proofs.Gates.{at-rest}

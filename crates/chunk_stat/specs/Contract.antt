@@ -18,7 +18,7 @@ use Rattle.session.specs.declared.Setup.{Setup}
 use Rattle.session.specs.declared.Session.{Session}
 use Rattle.session.specs.State.{stateOf}
 use Rattle.session.specs.Fits.{Fits}
-use Rattle.space.specs.Found.{Stops}
+use Rattle.directory.specs.Found.{Stops}
 use Rattle.lookup.specs.Look.{sessionOf}
 use Rattle.listing.specs.Contract.{entriesOf}
 use Rattle.chunk_stat.specs.declared.ChunkRow.{ChunkRow}

@@ -6,8 +6,7 @@ ghost use lib.ListN.{length};
 ghost use Rattle.spec.specs.Basics.{both, negate};
 ghost use Rattle.spec.specs.Words.{wordsOf};
 ghost use Rattle.spec.specs.Places.{chunksIn};
-ghost use Rattle.spec.specs.Directory.{isData};
-ghost use Rattle.space.specs.Found.{Stops};
+ghost use Rattle.directory.specs.Found.{Stops};
 ghost use Rattle.chunk_stat.specs.Rows.{blocksFor, plainRow};
 ghost use Rattle.chunk_stat.specs.ByTable.{chosenBy, more, pointsInto, countEntry, tallyBy, countBlock, blocksBy, rowBy, rowAt, emptyBy, foundBy};
 ghost use Rattle.chunk_stat.specs.Contract.{Described, DescribedBy, Emptied, EmptiedBy};
@@ -273,7 +272,7 @@ fn row_at(image: &[u8], table: &[u64], chunk: usize) -> ChunkRow
     let count = image.len() / 4096;
     if 1 <= chunk {
         if chunk < count {
-            let role = log::role_at(image, chunk);
+            let role = directory::role_at(image, chunk);
             return row_for(image, table, count, chunk, role);
         }
     }
@@ -307,23 +306,12 @@ pub fn describe_chunk(s: &Session, image: &[u8], table: &[u64], chunk: usize) ->
 }
 
 // A DATA CHUNK TO CLEAN
-fn is_data(role: Role) -> bool
-    ensures { λ r. ⌜ r ≡ isData role ⌝ }
-{
-    match role {
-        Role::Free => false,
-        Role::Log(_) => false,
-        Role::Data(_) => true,
-        Role::Wrong => false,
-    }
-}
-
 // Whether a chunk is a data chunk none of whose blocks is live, and not below `from`.
 fn is_empty(image: &[u8], table: &[u64], count: usize, from: usize, chunk: usize) -> bool
     ensures { λ r. ⌜ r ≡ emptyBy (wordsOf (now (image .entry))) (now (table .entry)) count from chunk ⌝ }
 {
     if from <= chunk {
-        if is_data(log::role_at(image, chunk)) {
+        if directory::is_data(directory::role_at(image, chunk)) {
             let used = count_blocks(image, table, count, chunk);
             return used == 0;
         }

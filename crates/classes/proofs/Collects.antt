@@ -75,10 +75,6 @@ module _ (table : List ℕ) (keys low high key own : ℕ) where
           rw last (fill-old (length table) (classIn low high xs) e table table′ keys old info inv (rw last at b) (rw k is-old) (rw o is-info) (rw k is-table) n);
     }
 
--- what an entry of the log would give alone
-pub own-alone : (pl x extent a v own : ℕ) → extent ≡ extentOf pl x → own ≡ alone extent a v → own ≡ alone (extentOf pl x) a v
-own-alone pl x extent a v own is-extent is-own = is-own ∙ ap (λ (y : ℕ). alone y a v) is-extent
-
 -- ## The pass
 
 -- entries that are passed over with no marks are of other classes

@@ -1,13 +1,14 @@
 // Classes of keys, for passes over the log that look at some keys only: the keys of a range of classes, collected into
 // a table of any size, and marks that say which of them have several top entries.
 ghost use mathlib.Core.Path.{_≡_};
-ghost use Prim.Native.Nat.{_/_, _<_, min};
+ghost use Prim.Native.Nat.{_/_, _<_};
 ghost use lib.ListN.{length};
 ghost use Rattle.spec.specs.Words.{wordsOf};
 ghost use Rattle.classes.specs.Classes.{classOf, within, asked};
 ghost use Rattle.classes.specs.Passing.{PassedOver, Entering, Collecting, OneMarked, QuietFrom, TwinsMarked};
 use log::Cursor;
 use log::Next;
+use words::lesser;
 use words::load;
 
 // Marks of keys: one for each 2^18 classes.
@@ -53,12 +54,6 @@ fn is_asked(marks: &[u8], low: u64, high: u64, key: u64) -> bool
 }
 
 // PASSING
-fn lesser(a: usize, b: usize) -> usize
-    ensures { λ r. ⌜ r ≡ min a b ⌝ }
-{
-    if a < b { a } else { b }
-}
-
 // From word `at` on, past puts with their values in the log whose keys are not asked for. Of a put it takes the length
 // from the first word and asks nothing more: in a log without a wrong entry that is where the next one stands.
 pub fn pass_over(image: &[u8], at: usize, end: usize, marks: &[u8], low: u64, high: u64) -> usize

@@ -35,7 +35,7 @@ pub fn clean_count(words: usize) -> usize
 fn kept_word(buffer: &Buffer, words: usize, i: usize) -> u64
     ensures { λ r. ⌜ r ≡ getD (padded (keptWords words (now (buffer .entry)))) i 0 ⌝ }
 {
-    let kept = actions::at_most(words, 512);
+    let kept = words::lesser(words, 512);
     if i < kept {
         return buffer[512 + i];
     }
@@ -46,7 +46,7 @@ fn kept_word(buffer: &Buffer, words: usize, i: usize) -> u64
 fn copy_action(setup: Setup, buffer: &Buffer, words: usize, at: usize) -> Report
     ensures { λ r. ⌜ r ≡ nthReport (appendActions setup words (now (buffer .entry))) at ⌝ }
 {
-    let lines = (actions::at_most(words, 512) + 7) / 8;
+    let lines = (words::lesser(words, 512) + 7) / 8;
     let chunk = setup.chunk % 512;
     let committed = setup.lines % 128;
     let stores = 8 * lines;

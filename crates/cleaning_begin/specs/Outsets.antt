@@ -11,6 +11,7 @@ use Rattle.spec.specs.Log.{Entry}
 use Rattle.spec.specs.Plans.{Refuse, planClean}
 use Rattle.spec.specs.Machine.{Clean, refusals}
 use Rattle.spec.specs.Contract.{MemRefusal}
+use Rattle.blocks.specs.Bits.{bufferWords}
 use Rattle.session.specs.declared.Control.{Control}
 use Rattle.session.specs.declared.Setup.{Setup}
 use Rattle.spec.specs.declared.Refusal.{Refusal}
@@ -19,13 +20,13 @@ use Rattle.spec.specs.declared.Report.the-variants as R
 use Rattle.session.specs.Fits.{RestFits}
 use Rattle.gathering.specs.Gathering.{Copied}
 use Rattle.session.specs.declared.Source.{Source}
-use Rattle.session.specs.State.{cleanActions}
+use Rattle.session.specs.State.{batchRoom, cleanActions}
 use Rattle.cleaning.specs.Record.{cleaning}
 use Rattle.planning.proofs.Begun.{Begun}
 
 -- the kept words are stored in the record's buffer, if there are any
 abbrev pub KeptStored : (f : Source) (kept b b′ : List ℕ) → Type 0
-KeptStored f kept b b′ = ((f .words ≡ 0) × (b′ ≡ b)) ⊎ ((f .words ≡ 0 → ⊥) × (length b ≡ 1664) × (n : ℕ) × (n ≡ min (f .words) 512) × Copied kept b b′ 0 512 n)
+KeptStored f kept b b′ = ((f .words ≡ 0) × (b′ ≡ b)) ⊎ ((f .words ≡ 0 → ⊥) × (length b ≡ bufferWords) × (n : ℕ) × (n ≡ min (f .words) batchRoom) × Copied kept b b′ 0 batchRoom n)
 
 -- turned down: nothing is changed, and the number is one of the call's
 pub record Turned (c c′ : Control) (k k′ : Setup) (b b′ image table : List ℕ) (s : ℕ) (r : Report) : Type 0 where

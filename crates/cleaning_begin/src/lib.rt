@@ -4,6 +4,7 @@ ghost use Rattle.spec.specs.Machine.{Clean};
 ghost use Rattle.cleaning_begin.specs.Outsets.{KeptStored, Outsets};
 ghost use Rattle.session.specs.Promise.{Does, memoryOf};
 use blocks::Buffer;
+use gathering::Kept;
 use planning::CleanPlan;
 use session::Control;
 use session::Gated;
@@ -13,7 +14,7 @@ use session::Source;
 use spec::Report;
 
 // The kept words go to the buffer's second area, if there are any.
-fn store_kept(source: Source, buffer: &mut Buffer, kept: &[u64; 512])
+fn store_kept(source: Source, buffer: &mut Buffer, kept: &Kept)
     ensures { λ _. ⌜ KeptStored source (now (kept .entry)) (now (buffer .entry)) (now (buffer .exit)) ⌝ }
 {
     blocks::buffer_length(buffer);
@@ -21,7 +22,7 @@ fn store_kept(source: Source, buffer: &mut Buffer, kept: &[u64; 512])
     if words == 0 {
         return;
     }
-    let n = actions::at_most(words, 512);
+    let n = words::lesser(words, 512);
     gathering::store_kept(buffer, kept, n);
 }
 
@@ -36,7 +37,7 @@ fn begin_clean(
 ) -> Outcome
     ensures { λ r. ⌜ Outsets control (r .control) setup (r .setup) (now (buffer .entry)) (now (buffer .exit)) (now (image .entry)) (now (table .entry)) number (r .report) ⌝ }
 {
-    let mut kept: [u64; 512] = [0; 512];
+    let mut kept: Kept = [0; 512];
     let plan = planning::plan_clean(control, setup, buffer, image, table, &mut kept, number);
     match plan {
         CleanPlan::Refused(n) => Outcome {

@@ -22,7 +22,7 @@ fn leave_chunk(
     ensures { λ r. ⌜ ChunkLeft setup source (wordsOf (now (image .entry))) (now (buffer .entry)) (now (buffer .exit)) (now (table .entry)) (now (table .exit)) keys r ⌝ }
 {
     let from = actions::batch_start(setup);
-    let kept = actions::at_most(source.words, 512);
+    let kept = words::lesser(source.words, 512);
     let until = from + 8 * ((kept + 7) / 8);
     let at = 512 * (source.chunk % 512);
     let end = at + 8 * (source.lines % 128);

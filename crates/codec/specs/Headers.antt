@@ -24,19 +24,6 @@ secondGiven (G.Number s) (G.Number c) = c
 secondGiven (G.Number s) G.Absent = 0
 secondGiven G.Absent centre = 0
 
--- the bit map, by what is given
-abbrev pub mapOf : Given → Given → ℕ
-mapOf (G.Number s) (G.Number c) = 7
-mapOf (G.Number s) G.Absent = 3
-mapOf G.Absent (G.Number c) = 5
-mapOf G.Absent G.Absent = 1
-
-map-of : (station centre : Given) → headerMap station centre ≡ mapOf station centre
-map-of (G.Number s) (G.Number c) = refl
-map-of (G.Number s) G.Absent = refl
-map-of G.Absent (G.Number c) = refl
-map-of G.Absent G.Absent = refl
-
 given-fields : (station centre : Given) → givenFields station centre ≡ firstGiven station centre ∷ secondGiven station centre ∷ 0 ∷ 0 ∷ 0 ∷ []
 given-fields (G.Number s) (G.Number c) = refl
 given-fields (G.Number s) G.Absent = refl
@@ -45,15 +32,15 @@ given-fields G.Absent G.Absent = refl
 
 -- the header's words, written out
 pub header-words : (n : ℕ) (station centre : Given) → headerWords n station centre ≡
-    mapOf station centre ∷ n ∷ firstGiven station centre ∷ secondGiven station centre ∷ 0 ∷ 0 ∷ 0
-    ∷ checkWord (mapOf station centre + n + firstGiven station centre + secondGiven station centre) ∷ []
+    headerMap station centre ∷ n ∷ firstGiven station centre ∷ secondGiven station centre ∷ 0 ∷ 0 ∷ 0
+    ∷ checkWord (headerMap station centre + n + firstGiven station centre + secondGiven station centre) ∷ []
 unfolding headerWords headerTail
 header-words n station centre =
     let f = firstGiven station centre in
     let s = secondGiven station centre in
-    let m = mapOf station centre in
+    let m = headerMap station centre in
     let e : m + (n + (f + (s + 0))) ≡ m + n + f + s = omega arith in
-    rw (given-fields station centre, map-of station centre, e)
+    rw (given-fields station centre, e)
 
 -- the check word makes the sum 0
 pub check-word : (s : ℕ) → (s + checkWord s) % wordValues ≡ 0

@@ -6,11 +6,11 @@ ghost use lib.Dec.{eqb, leb};
 ghost use lib.ListN.{getD};
 ghost use Rattle.spec.specs.Basics.{pick, both, either};
 ghost use Rattle.spec.specs.Places.{unitChunk, unitIn, unitWord};
-ghost use Rattle.spec.specs.Header.{wordValues, headerTest, checkWord, headerWords};
+ghost use Rattle.spec.specs.Header.{wordValues, headerTest, checkWord, bitOf, headerMap, headerWords};
 ghost use Rattle.spec.specs.Directory.{roleOf, logWord, dataWord, freedWord, sizeFor};
 ghost use Rattle.spec.specs.Log.{firstOf};
 ghost use Rattle.spec.specs.Blocks.{blockSize};
-ghost use Rattle.codec.specs.Headers.{mapOf, firstGiven, secondGiven};
+ghost use Rattle.codec.specs.Headers.{firstGiven, secondGiven};
 ghost use Rattle.codec.specs.Firsts.{headWord};
 use spec::FirstWord;
 use spec::Given;
@@ -84,19 +84,22 @@ pub fn header_check_word(sum: u64) -> u64
     std::num::wrapping_sub_u64(0, sum)
 }
 
-fn header_map(station: Given, centre: Given) -> u64
-    ensures { λ r. ⌜ r ≡ mapOf station centre ⌝ }
+// The bit of the header's map for a number that is given.
+fn bit(b: u64, given: Given) -> u64
+    requires { ⌜ b ≤ 4 ⌝ }
+    ensures { λ r. ⌜ (r ≡ bitOf b given) × (r ≤ 4) ⌝ }
 {
-    match station {
-        Given::Number(_) => match centre {
-            Given::Number(_) => 7,
-            Given::Absent => 3,
-        },
-        Given::Absent => match centre {
-            Given::Number(_) => 5,
-            Given::Absent => 1,
-        },
+    match given {
+        Given::Number(_) => b,
+        Given::Absent => 0,
     }
+}
+
+// The bit map of the header's fields, by what is given.
+pub fn header_map(station: Given, centre: Given) -> u64
+    ensures { λ r. ⌜ r ≡ headerMap station centre ⌝ }
+{
+    1 + bit(2, station) + bit(4, centre)
 }
 
 fn first_given(station: Given, centre: Given) -> u64

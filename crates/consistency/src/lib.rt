@@ -3,7 +3,7 @@
 // and keys with several top entries. Where the key table does not hold the keys, there is a pass for each of some
 // ranges of classes of keys, with a table of the call's own.
 ghost use mathlib.Core.Path.{_≡_};
-ghost use Prim.Native.Nat.{_+_, _-_, _*_, _^_, _≤_, _<_, min};
+ghost use Prim.Native.Nat.{_+_, _-_, _*_, _^_, _≤_, _<_};
 ghost use mathlib.Core.Bool.{true};
 ghost use lib.Dec.{ltb};
 ghost use Rattle.spec.specs.Basics.{pick, either, every};
@@ -21,6 +21,7 @@ use classes::is_within;
 use classes::mark_twins;
 use classes::pass_over;
 use codec::Unit;
+use directory::size_of;
 use index::look;
 use index::unpack;
 use log::Best;
@@ -29,8 +30,8 @@ use log::Next;
 use log::best_of;
 use log::first_cursor;
 use log::next_in_log;
-use log::size_of;
 use log::words_for;
+use words::lesser;
 use words::load;
 
 // An entry of the log but for its value: `place` is its first word.
@@ -48,12 +49,6 @@ pub struct Checked {
     pub blocks: bool,
     pub agreeing: bool,
     pub apart: bool,
-}
-
-fn lesser(a: usize, b: usize) -> usize
-    ensures { λ r. ⌜ r ≡ min a b ⌝ }
-{
-    if a < b { a } else { b }
 }
 
 // BLOCKS
@@ -114,7 +109,7 @@ pub fn block_right(image: &[u8], count: usize, unit: u64) -> bool
 
 // AGREEMENT
 // Whether n words from word a are those from word b.
-fn same_words(image: &[u8], a: usize, b: usize, n: usize) -> bool
+pub fn same_words(image: &[u8], a: usize, b: usize, n: usize) -> bool
     requires { ⌜ (a < 2 ^ 62) × (b < 2 ^ 62) × (n < 2 ^ 62) ⌝ }
     ensures { λ r. ⌜ r ≡ sameFrom (wordsOf (now (image .entry))) a b n ⌝ }
 {
@@ -156,7 +151,7 @@ pub fn top_of(image: &[u8], count: usize, table: &[u64], fits: bool, key: u64) -
 
 // MARKS
 // Whether an entry with these parts is a put of a block.
-fn points(op: u64, placement: u64) -> bool
+pub fn points(op: u64, placement: u64) -> bool
     ensures { λ r. ⌜ r ≡ points op placement ⌝ }
 {
     if op == 1 {

@@ -30,9 +30,10 @@ use Rattle.faults.specs.declared.Fault.{Fault}
 use Rattle.faults.specs.declared.Fault.the-variants as F
 use Rattle.faults.specs.declared.Stop.the-variants as T
 use Rattle.faults.specs.Reading.{Reading, Whole, Upto, readImage, stopBy, parsedOf}
-use Rattle.faults.specs.Faults.{headerFault, directoryFault, blockFault, logFault, chunksFault, faultOf, spotFault, Answers, Located}
+use Rattle.directory.specs.Tests.{directoryFault}
+use Rattle.directory.proofs.Tests.{directory-tested}
+use Rattle.faults.specs.Faults.{headerFault, blockFault, logFault, chunksFault, faultOf, spotFault, Answers, Located}
 use Rattle.faults.proofs.Left.{parsed-image}
-use Rattle.faults.proofs.Searches.{directory-tested}
 
 -- ## The tests of the top entries, and the first that fails
 

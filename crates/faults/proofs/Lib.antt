@@ -1,3 +1,2 @@
 pub mod Left
-pub mod Searches
 pub mod Answers

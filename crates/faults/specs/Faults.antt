@@ -5,17 +5,17 @@ use mathlib.Core.Logic.{_⊎_}
 use mathlib.Core.Bool.{Bool, true}
 use mathlib.Core.Option.{Option, none, some}
 use mathlib.Core.List.{List, [], _∷_}
-use Prim.Native.Nat.{ℕ, zero, suc, _/_}
+use Prim.Native.Nat.{ℕ, suc, _/_}
 use lib.Dec.{eqb, ltb}
 use lib.ListN.{length, getD}
 use Rattle.spec.specs.Basics.{pick, either}
 use Rattle.spec.specs.Words.{wordsOf}
 use Rattle.spec.specs.Places.{lengthAllowed, chunksIn, maxChunks, directoryWord}
 use Rattle.spec.specs.Header.{headerRight}
-use Rattle.spec.specs.Directory.{directoryRight}
 use Rattle.spec.specs.Log.{Entry}
 use Rattle.spec.specs.Opening.{Opening, Refused, Accepted, opening, fine}
 use Rattle.spec.specs.declared.Refusal.the-variants as N
+use Rattle.directory.specs.Tests.{directoryFault}
 use Rattle.top_faults.specs.Tops.{firstTop, atOne}
 use Rattle.faults.specs.declared.Fault.{Fault}
 use Rattle.faults.specs.declared.Fault.the-variants as F
@@ -38,20 +38,6 @@ failing (b ∷ bs) = pick b (suc (failing bs)) 0
 -- the first word that is wrong by itself; word 7, of the sum, where none is
 unfoldable pub headerFault : ℕ → List ℕ → ℕ
 headerFault n ws = failing (wordTests n (getD ws 0 0) (getD ws 1 0) (getD ws 2 0) (getD ws 3 0) (getD ws 4 0) (getD ws 5 0) (getD ws 6 0))
-
--- ## 3: the directory
-
--- of i numbers from c the first of which a test does not hold; past the last where it holds of all
-unfoldable pub firstNot : (ℕ → Bool) → ℕ → ℕ → ℕ
-firstNot test zero c = c
-firstNot test (suc i) c = pick (test c) (firstNot test i (suc c)) c
-
-abbrev pub wordRight : ℕ → ℕ → List ℕ → ℕ → Bool
-wordRight p n ws c = directoryRight p n c (getD ws (directoryWord c) 0)
-
--- the first chunk whose directory word is wrong
-abbrev pub directoryFault : ℕ → ℕ → List ℕ → ℕ
-directoryFault p n ws = firstNot (wordRight p n ws) maxChunks 0
 
 -- ## 5 and 6: top entries (`top_faults.Tops`)
 

@@ -2,15 +2,13 @@
 ghost use mathlib.Core.Path.{_≡_};
 ghost use mathlib.Core.Bool.{true};
 ghost use mathlib.Core.List.{[], _∷_};
-ghost use Prim.Native.Nat.{_≤_, _<_};
+ghost use Prim.Native.Nat.{_≤_};
 ghost use lib.Dec.{eqb};
 ghost use Rattle.spec.specs.Basics.{pick, either};
 ghost use Rattle.spec.specs.Words.{wordsOf};
-ghost use Rattle.spec.specs.Directory.{isRole};
 ghost use Rattle.faults.specs.Reading.{readImage, stopBy};
-ghost use Rattle.faults.specs.Faults.{failing, headerFault, wordRight, directoryFault, spotFault, logFault, placeAt, numbersOf, Located, Told};
+ghost use Rattle.faults.specs.Faults.{failing, headerFault, spotFault, logFault, placeAt, numbersOf, Located, Told};
 use spec::LogStep;
-use spec::Role;
 use top_faults::Spots;
 
 // Why an opening refuses an image, and where: the word of the header, the chunk whose directory word is wrong and that
@@ -116,47 +114,6 @@ fn header_fault(image: &[u8], count: usize) -> usize
     first_failing(a, b, c, d, e, f, g)
 }
 
-// 3: THE DIRECTORY
-fn is_role(role: Role) -> bool
-    ensures { λ r. ⌜ r ≡ isRole role ⌝ }
-{
-    match role {
-        Role::Free => true,
-        Role::Log(_) => true,
-        Role::Data(_) => true,
-        Role::Wrong => false,
-    }
-}
-
-// Whether the directory word of chunk c is right.
-fn word_right(image: &[u8], count: usize, c: usize) -> bool
-    requires { ⌜ c < 504 ⌝ }
-    ensures { λ r. ⌜ r ≡ wordRight 12 count (wordsOf (now (image .entry))) c ⌝ }
-{
-    let word = words::load(image, 8 + c);
-    if 1 <= c {
-        if c < count {
-            return is_role(codec::role_of(word));
-        }
-    }
-    word == 0
-}
-
-// The first chunk whose directory word is wrong, 504 where none is.
-fn directory_fault(image: &[u8], count: usize) -> usize
-    ensures { λ r. ⌜ r ≡ directoryFault 12 count (wordsOf (now (image .entry))) ⌝ }
-{
-    let mut c: usize = 0;
-    while c < 504 {
-        if word_right(image, count, c) {
-            c += 1;
-        } else {
-            return c;
-        }
-    }
-    c
-}
-
 // 4: THE LOG
 // Where a reading of the log stops: nowhere, or at the first word of a wrong entry with so many entries before it.
 pub enum Stop {
@@ -182,7 +139,7 @@ fn read_log(image: &[u8], count: usize) -> Stop
                 }
                 chunk += 1;
                 at = 512 * chunk;
-                let lines = log::lines_of(image, chunk);
+                let lines = directory::lines_of(image, chunk);
                 end = at + 8 * lines;
             }
             LogStep::Wrong => {
@@ -242,7 +199,7 @@ pub fn fault_of(image: &[u8]) -> Fault
     if opening::length_allowed(bytes) {
         let count = bytes / 4096;
         if opening::header_fits(image, count) {
-            let chunk = directory_fault(image, count);
+            let chunk = directory::directory_fault(image, count);
             if chunk < 504 {
                 return Fault::Directory {
                     chunk,

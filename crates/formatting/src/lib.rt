@@ -1,7 +1,5 @@
 // The begin of a formatting.
 ghost use mathlib.Core.Path.{_≡_};
-ghost use Prim.Native.Nat.{_≤_};
-ghost use Rattle.spec.specs.Header.{bitOf, headerMap};
 ghost use Rattle.spec.specs.Machine.{Format};
 ghost use Rattle.formatting.specs.Begun.{given, numberIn, unfinishedAt, formattingAt};
 ghost use Rattle.session.specs.Promise.{Does, memoryOf};
@@ -14,23 +12,6 @@ use spec::Refusal;
 use spec::Report;
 
 // FORMAT
-// The bit of the header's map for a number that is given.
-fn bit(b: u64, given: Given) -> u64
-    requires { ⌜ b ≤ 4 ⌝ }
-    ensures { λ r. ⌜ (r ≡ bitOf b given) × (r ≤ 4) ⌝ }
-{
-    match given {
-        Given::Number(_) => b,
-        Given::Absent => 0,
-    }
-}
-
-fn header_map(station: Given, centre: Given) -> u64
-    ensures { λ r. ⌜ r ≡ headerMap station centre ⌝ }
-{
-    1 + bit(2, station) + bit(4, centre)
-}
-
 // The number given, 0 where none is.
 fn number_in(given: Given) -> u64
     ensures { λ r. ⌜ r ≡ numberIn given ⌝ }
@@ -84,7 +65,7 @@ pub fn format_core(
         let told = session::told(
             bytes,
             words,
-            header_map(station, centre),
+            codec::header_map(station, centre),
             number_in(station),
             number_in(centre),
         );

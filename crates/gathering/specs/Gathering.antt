@@ -17,8 +17,9 @@ use Rattle.log.specs.Stands.{StandsIn}
 use Rattle.log.specs.Cursor.{cursorAt, remaining, left}
 use Rattle.index.specs.Index.{get}
 use Rattle.index.specs.Packed.{unpackOf}
+use Rattle.blocks.specs.Bits.{bufferWords}
 use Rattle.volatile.specs.Known.{entryCount, Bounded, Indexed}
-use Rattle.session.specs.State.{bufferPart}
+use Rattle.session.specs.State.{batchRoom, bufferPart}
 use Rattle.session.specs.Cleaned.{before, keptOf, Stand}
 use Rattle.gathering.specs.declared.Tally.{Tally}
 
@@ -62,9 +63,9 @@ pub record Copied (ws buffer buffer′ : List ℕ) (from to n : ℕ) : Type 0 wh
 
 -- the buffer's words outside the second area stay
 pub record AreaWritten (buffer buffer′ : List ℕ) : Type 0 where
-  pub size : length buffer ≡ 1664
+  pub size : length buffer ≡ bufferWords
   pub long : length buffer′ ≡ length buffer
-  pub below : (j : ℕ) → j < 512 → getD buffer′ j 0 ≡ getD buffer j 0
+  pub below : (j : ℕ) → j < batchRoom → getD buffer′ j 0 ≡ getD buffer j 0
   pub above : (j : ℕ) → 1024 ≤ j → getD buffer′ j 0 ≡ getD buffer j 0
 
 abbrev pub keptTest : (xs mid ys : List Entry) → Entry → Bool
@@ -72,16 +73,16 @@ keptTest xs mid ys = isKept (before xs mid ys) (xs ++ ys)
 
 -- there is room for so many words of value behind so many words
 pub record Room (words entries place size : ℕ) (r : Bool) : Type 0 where
-  pub fits : r ≡ true → (words + (2 + size) ≤ 512) × (entries < 512) × (place < 0x4_0000)
-  pub lacks : r ≡ false → words + (2 + size) ≤ 512 → entries < 512 → place < 0x4_0000 → ⊥
+  pub fits : r ≡ true → (words + (2 + size) ≤ batchRoom) × (entries < 512) × (place < 0x4_0000)
+  pub lacks : r ≡ false → words + (2 + size) ≤ batchRoom → entries < 512 → place < 0x4_0000 → ⊥
 
 -- THE GATHERING, with the words in the record's buffer: of any memory, and where the table is that of the image's
 -- entries
 pub record Gathered (ws table buffer buffer′ : List ℕ) (at end : ℕ) (t : Tally) : Type 0 where
   pub area : AreaWritten buffer buffer′
-  pub bound : t .words ≤ 512
+  pub bound : t .words ≤ batchRoom
   pub gathers : (keys : ℕ) (xs mid ys : List Entry) → Gatherable ws table keys at end xs mid ys
-      → (bufferPart buffer′ 512 (t .words) ≡ encodeAll (keptOf xs mid ys)) × (t .entries ≡ length (keptOf xs mid ys))
+      → (bufferPart buffer′ batchRoom (t .words) ≡ encodeAll (keptOf xs mid ys)) × (t .entries ≡ length (keptOf xs mid ys))
 
 -- MEASURING, for a plan that may yet be refused, and for choosing: as gathering, and nothing is written
 pub record Weighing (test : Entry → Bool) (mid : List Entry) (t : Tally) (left : List Entry) : Type 0 where
@@ -90,7 +91,7 @@ pub record Weighing (test : Entry → Bool) (mid : List Entry) (t : Tally) (left
   pub inside : (e : Entry) → Mem e left → Mem e mid
 
 pub record OneWeighed (t : Tally) (kept : Bool) (place size : ℕ) (t′ : Tally) : Type 0 where
-  pub bound : t .words ≤ 512 → t′ .words ≤ 512
+  pub bound : t .words ≤ batchRoom → t′ .words ≤ batchRoom
   pub adds : (ws table : List ℕ) (at end keys : ℕ) (xs mid ys left : List Entry) (e : Entry) → Gatherable ws table keys at end xs mid ys → kept ≡ keptTest xs mid ys e → e .at ≡ place
       → length (e .value) ≡ size → Weighing (keptTest xs mid ys) mid t (e ∷ left) → Weighing (keptTest xs mid ys) mid t′ left
 
@@ -98,11 +99,11 @@ pub record OneWeighed (t : Tally) (kept : Bool) (place size : ℕ) (t′ : Tally
 -- from there on is owed
 pub record Hastened (ws table : List ℕ) (until from : ℕ) (t : Tally) (at′ : ℕ) (t′ : Tally) : Type 0 where
   pub nearer : (n c : ℕ) → left n ws (cursorAt c at′ until) ≤ left n ws (cursorAt c from until)
-  pub bound : t .words ≤ 512 → t′ .words ≤ 512
+  pub bound : t .words ≤ batchRoom → t′ .words ≤ batchRoom
   pub passes : (c at end keys : ℕ) (xs mid ys es : List Entry) → Gatherable ws table keys at end xs mid ys → remaining 12 0 ws (cursorAt c from until) ≡ Entries es → Weighing (keptTest xs mid ys) mid t es
       → (es′ : List Entry) × (remaining 12 0 ws (cursorAt c at′ until) ≡ Entries es′) × Weighing (keptTest xs mid ys) mid t′ es′
 
 pub record Measured (ws table : List ℕ) (at end : ℕ) (t : Tally) : Type 0 where
-  pub bound : t .words ≤ 512
+  pub bound : t .words ≤ batchRoom
   pub measures : (keys : ℕ) (xs mid ys : List Entry) → Gatherable ws table keys at end xs mid ys
       → (t .words ≡ length (encodeAll (keptOf xs mid ys))) × (t .entries ≡ length (keptOf xs mid ys))

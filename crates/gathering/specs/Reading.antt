@@ -14,7 +14,7 @@ use Rattle.theory_log.specs.Contents.{Mem}
 use Rattle.log.specs.declared.Cursor.{Cursor}
 use Rattle.log.specs.Cursor.{cursorAt, left}
 use Rattle.leaving.proofs.Walks.{Left}
-use Rattle.session.specs.State.{bufferPart}
+use Rattle.session.specs.State.{batchRoom, bufferPart}
 use Rattle.session.specs.Cleaned.{keptOf}
 use Rattle.gathering.specs.declared.Tally.{Tally}
 use Rattle.gathering.specs.Gathering.{Gatherable, keptTest}
@@ -38,15 +38,15 @@ pub record Owing (kept : List ℕ) (test : Entry → Bool) (mid : List Entry) (t
 
 -- before and after one entry, kept or not, with so many words of value
 pub record OneTaken (ws kept kept′ : List ℕ) (t : Tally) (is : Bool) (place size : ℕ) (t′ : Tally) : Type 0 where
-  pub long : length kept′ ≡ 512
-  pub bound : t .words ≤ 512 → t′ .words ≤ 512
-  pub adds : (test : Entry → Bool) (mid todo : List Entry) (e : Entry) → length (encodeAll (filter test mid)) ≤ 512 → place < 0x4_0000 → is ≡ test e → length (e .value) ≡ size
+  pub long : length kept′ ≡ batchRoom
+  pub bound : t .words ≤ batchRoom → t′ .words ≤ batchRoom
+  pub adds : (test : Entry → Bool) (mid todo : List Entry) (e : Entry) → length (encodeAll (filter test mid)) ≤ batchRoom → place < 0x4_0000 → is ≡ test e → length (e .value) ≡ size
       → take (2 + size) (drop place ws) ≡ encode e → place + (2 + size) ≤ length ws → Owing kept test mid t (e ∷ todo) → Owing kept′ test mid t′ todo
 
 -- up to a cursor of the copy, whose words are ws
 pub record Collecting (ws table kept : List ℕ) (at n : ℕ) (t : Tally) (c : Cursor) : Type 0 where
-  pub long : length kept ≡ 512
-  pub bound : t .words ≤ 512
+  pub long : length kept ≡ batchRoom
+  pub bound : t .words ≤ batchRoom
   pub goes : (real : List ℕ) (end keys : ℕ) (xs mid ys : List Entry) → n ≤ 512 → length ws ≡ 512 → slice 0 n ws ≡ slice at end real → Gatherable real table keys at end xs mid ys
       → (todo : List Entry) × Left ws c todo × Owing kept (keptTest xs mid ys) mid t (lifted at todo)
 
@@ -57,8 +57,8 @@ pub record PutsTaken (ws table kept kept′ : List ℕ) (at until from : ℕ) (t
 
 -- all entries
 pub record Walked (ws table kept : List ℕ) (at n : ℕ) (t : Tally) : Type 0 where
-  pub long : length kept ≡ 512
-  pub bound : t .words ≤ 512
+  pub long : length kept ≡ batchRoom
+  pub bound : t .words ≤ batchRoom
   pub gathers : (real : List ℕ) (end keys : ℕ) (xs mid ys : List Entry) → n ≤ 512 → length ws ≡ 512 → slice 0 n ws ≡ slice at end real → Gatherable real table keys at end xs mid ys
       → (bufferPart kept 0 (t .words) ≡ encodeAll (keptOf xs mid ys)) × (t .entries ≡ length (keptOf xs mid ys))
 
@@ -68,7 +68,7 @@ pub record RestTaken (ws table kept kept′ : List ℕ) (at n : ℕ) (c : Cursor
 
 -- THE GATHERING, into memory of the call's own: of any memory, and where the table is that of the image's entries
 pub record Collected (ws table kept : List ℕ) (at end : ℕ) (t : Tally) : Type 0 where
-  pub long : length kept ≡ 512
-  pub bound : t .words ≤ 512
+  pub long : length kept ≡ batchRoom
+  pub bound : t .words ≤ batchRoom
   pub gathers : (keys : ℕ) (xs mid ys : List Entry) → Gatherable ws table keys at end xs mid ys
       → (bufferPart kept 0 (t .words) ≡ encodeAll (keptOf xs mid ys)) × (t .entries ≡ length (keptOf xs mid ys))

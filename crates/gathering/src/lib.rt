@@ -2,15 +2,19 @@
 // call's own; all else goes by that copy: a pass over its entries, and where a delete asks for it one before that
 // counts the entries of each key.
 ghost use mathlib.Core.Path.{_≡_};
-ghost use Prim.Native.Nat.{_+_, _≤_, _<_, _^_, min};
+ghost use Prim.Native.Nat.{_+_, _≤_, _<_, _^_};
 ghost use lib.ListN.{length};
 ghost use Rattle.spec.specs.Words.{wordsOf};
+ghost use Rattle.session.specs.State.{batchRoom};
 ghost use Rattle.gathering.specs.Gathering.{Counting, CountedOnce, KeptTest, Copied, Room, OneWeighed, Hastened, Measured};
 ghost use Rattle.gathering.specs.Reading.{ChunkRead, OneTaken, PutsTaken, RestTaken, Walked, Collected};
 use blocks::Buffer;
 use log::Cursor;
 use log::Next;
 use log::Short;
+
+// Words that a cleaning keeps: as many as a batch has room for.
+pub type Kept = [u64; 512];
 
 // How many words are gathered, and how many entries.
 pub struct Tally {
@@ -235,8 +239,8 @@ fn count_bytes(bytes: &[u8]) -> usize
 
 // How many words and bytes there is room for: a call tells its caller that the list behind the reference has that
 // length.
-pub fn kept_length(kept: &[u64; 512]) -> usize
-    ensures { λ r. ⌜ (r ≡ 512) × (length (now (kept .entry)) ≡ 512) ⌝ }
+pub fn kept_length(kept: &Kept) -> usize
+    ensures { λ r. ⌜ (r ≡ batchRoom) × (length (now (kept .entry)) ≡ batchRoom) ⌝ }
 {
     count(kept)
 }
@@ -247,22 +251,16 @@ fn copy_length(copy: &[u8; 4096]) -> usize
     count_bytes(copy)
 }
 
-fn least(a: usize, b: usize) -> usize
-    ensures { λ r. ⌜ r ≡ min a b ⌝ }
-{
-    if a < b { a } else { b }
-}
-
 // THE READING: the words from `at` to `end`, each once, from the first to the last. How many there are.
 fn read_chunk(image: &[u8], copy: &mut [u8; 4096], at: usize, end: usize) -> usize
     ensures { λ r. ⌜ ChunkRead (now (image .entry)) (now (copy .exit)) at end r ⌝ }
 {
     copy_length(copy);
-    let stop = least(end, image.len() / 8);
+    let stop = words::lesser(end, image.len() / 8);
     if stop <= at {
         return 0;
     }
-    let words = least(stop - at, 512);
+    let words = words::lesser(stop - at, 512);
     let from = 8 * at;
     let bytes = 8 * words;
     let mut i = 0;
@@ -274,8 +272,8 @@ fn read_chunk(image: &[u8], copy: &mut [u8; 4096], at: usize, end: usize) -> usi
 }
 
 // So many words of the copy, from word `from` on, go to those that are kept.
-fn copy_words(copy: &[u8], kept: &mut [u64; 512], from: usize, to: usize, n: usize)
-    requires { ⌜ (to + n ≤ 512) × (from < 2 ^ 62) ⌝ }
+fn copy_words(copy: &[u8], kept: &mut Kept, from: usize, to: usize, n: usize)
+    requires { ⌜ (to + n ≤ batchRoom) × (from < 2 ^ 62) ⌝ }
     ensures { λ _. ⌜ Copied (wordsOf (now (copy .entry))) (now (kept .entry)) (now (kept .exit)) from to n ⌝ }
 {
     kept_length(kept);
@@ -288,7 +286,7 @@ fn copy_words(copy: &[u8], kept: &mut [u64; 512], from: usize, to: usize, n: usi
 }
 
 // One entry: its words are gathered if it is kept.
-fn take(copy: &[u8], kept: &mut [u64; 512], so: Tally, is: bool, place: usize, size: usize) -> Tally
+fn take(copy: &[u8], kept: &mut Kept, so: Tally, is: bool, place: usize, size: usize) -> Tally
     ensures { λ r. ⌜ OneTaken (wordsOf (now (copy .entry))) (now (kept .entry)) (now (kept .exit)) so is place size r ⌝ }
 {
     kept_length(kept);
@@ -311,7 +309,7 @@ fn take(copy: &[u8], kept: &mut [u64; 512], so: Tally, is: bool, place: usize, s
 fn take_puts(
     copy: &[u8],
     table: &[u64],
-    kept: &mut [u64; 512],
+    kept: &mut Kept,
     at: usize,
     from: usize,
     until: usize,
@@ -346,7 +344,7 @@ fn take_puts(
 fn take_rest(
     copy: &[u8],
     table: &[u64],
-    kept: &mut [u64; 512],
+    kept: &mut Kept,
     at: usize,
     n: usize,
     start: Cursor,
@@ -388,7 +386,7 @@ fn take_rest(
 }
 
 // All entries of the copy's first n words.
-fn take_all(copy: &[u8], table: &[u64], kept: &mut [u64; 512], at: usize, n: usize) -> Tally
+fn take_all(copy: &[u8], table: &[u64], kept: &mut Kept, at: usize, n: usize) -> Tally
     requires { ⌜ at < 2 ^ 62 ⌝ }
     ensures { λ r. ⌜ Walked (wordsOf (now (copy .entry))) (now (table .entry)) (now (kept .exit)) at n r ⌝ }
 {
@@ -443,7 +441,7 @@ fn take_all(copy: &[u8], table: &[u64], kept: &mut [u64; 512], at: usize, n: usi
 }
 
 // What a cleaning keeps of the words from `at` to `end`: its words, and how many words and entries there are.
-pub fn gather(image: &[u8], table: &[u64], kept: &mut [u64; 512], at: usize, end: usize) -> Tally
+pub fn gather(image: &[u8], table: &[u64], kept: &mut Kept, at: usize, end: usize) -> Tally
     requires { ⌜ at < 2 ^ 62 ⌝ }
     ensures { λ r. ⌜ Collected (wordsOf (now (image .entry))) (now (table .entry)) (now (kept .exit)) at end r ⌝ }
 {
@@ -453,9 +451,9 @@ pub fn gather(image: &[u8], table: &[u64], kept: &mut [u64; 512], at: usize, end
 }
 
 // The words that are kept go to the second area of the record's buffer.
-pub fn store_kept(buffer: &mut Buffer, kept: &[u64; 512], n: usize)
-    requires { ⌜ n ≤ 512 ⌝ }
-    ensures { λ _. ⌜ Copied (now (kept .entry)) (now (buffer .entry)) (now (buffer .exit)) 0 512 n ⌝ }
+pub fn store_kept(buffer: &mut Buffer, kept: &Kept, n: usize)
+    requires { ⌜ n ≤ batchRoom ⌝ }
+    ensures { λ _. ⌜ Copied (now (kept .entry)) (now (buffer .entry)) (now (buffer .exit)) 0 batchRoom n ⌝ }
 {
     blocks::buffer_length(buffer);
     kept_length(kept);

@@ -8,10 +8,10 @@ use block_acts::hold_value;
 use blocks::Buffer;
 use codec::Unit;
 use codec::block_size;
+use directory::directory_word;
 use session::Setup;
 use slots::Slot;
 use slots::slot_for;
-use space::directory_word;
 
 // What a staging of a large value leaves: the setup, the staged words, and the number of actions; or nothing found, and
 // nothing changed.

@@ -11,7 +11,7 @@ use Rattle.spec.specs.Log.{Entry}
 use Rattle.spec.specs.Contents.{capacity}
 use Rattle.spec.specs.Opening.{Opening, Refused, Accepted, opening}
 use Rattle.spec.specs.Machine.{gate}
-use Rattle.session.specs.Fits.{bufferWords}
+use Rattle.blocks.specs.Bits.{bufferWords}
 use Rattle.session.specs.declared.Control.{Control}
 use Rattle.session.specs.declared.Setup.{Setup}
 use Rattle.session.specs.State.{stateAt}

@@ -1,4 +1,4 @@
-pub mod Roles
+pub mod Chunks
 pub mod Stands
 pub mod Walk
 pub mod Scan

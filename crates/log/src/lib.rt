@@ -1,19 +1,18 @@
-// Walking the entries of an image: what stands at a place, what the directory says of a chunk, and the log in order.
+// Walking the entries of an image: what stands at a place, and the log in order.
 ghost use mathlib.Core.Path.{_≡_};
-ghost use Prim.Native.Nat.{_+_, _*_, _/_, _≤_, _<_, min};
+ghost use Prim.Native.Nat.{_+_, _*_, _/_, _≤_};
 ghost use lib.ListN.{length, drop};
 ghost use lib.Seq.{slice};
 ghost use Rattle.spec.specs.Words.{wordsOf};
-ghost use Rattle.spec.specs.Directory.{roleAt, linesOf, sizeOf};
 ghost use Rattle.spec.specs.Log.{wordsFor, filled, stepOf};
 ghost use Rattle.log.specs.Cursor.{Opened, Advanced, start};
 ghost use Rattle.log.specs.Best.{raise, bestIn};
 ghost use Rattle.log.specs.Short.{ShortAt};
 use codec::first_of;
-use codec::role_of;
+use directory::lines_of;
 use spec::FirstWord;
 use spec::LogStep;
-use spec::Role;
+use words::lesser;
 use words::load;
 
 // A place in the walk of the log: the chunk, the next word to look at, and the end of the chunk's committed words.
@@ -82,12 +81,6 @@ fn fill_right(img: &[u8], at: usize, placement: u64, field: u64, words: usize) -
     }
     let last = load(img, at + (1 + words));
     last < 1 << (8 * odd)
-}
-
-fn lesser(a: usize, b: usize) -> usize
-    ensures { λ r. ⌜ r ≡ min a b ⌝ }
-{
-    if a < b { a } else { b }
 }
 
 // What stands at word `at`, of the words before word `end`.
@@ -163,42 +156,6 @@ pub fn short_put(img: &[u8], at: usize, end: usize) -> Short
         }
     }
     Short::Other
-}
-
-// What the directory says of chunk c; a directory word past the image reads 0.
-pub fn role_at(img: &[u8], c: usize) -> Role
-    ensures { λ r. ⌜ r ≡ roleAt 12 (wordsOf (now (img .entry))) c ⌝ }
-{
-    if c < 0x8000_0000_0000_0000 {
-        return role_of(load(img, 8 + c));
-    }
-    role_of(0)
-}
-
-// The committed lines of chunk c, 0 unless it is a log chunk.
-pub fn lines_of(img: &[u8], c: usize) -> usize
-    ensures { λ r. ⌜ (r ≡ linesOf 12 (wordsOf (now (img .entry))) c) × (r ≤ 64) ⌝ }
-{
-    let role = role_at(img, c);
-    match role {
-        Role::Free => 0,
-        Role::Log(lines) => lines as usize,
-        Role::Data(_) => 0,
-        Role::Wrong => 0,
-    }
-}
-
-// The block size of chunk c in units, 0 unless it is a data chunk.
-pub fn size_of(img: &[u8], c: usize) -> usize
-    ensures { λ r. ⌜ (r ≡ sizeOf 12 (wordsOf (now (img .entry))) c) × (r ≤ 16) ⌝ }
-{
-    let role = role_at(img, c);
-    match role {
-        Role::Free => 0,
-        Role::Log(_) => 0,
-        Role::Data(size) => size as usize,
-        Role::Wrong => 0,
-    }
 }
 
 // The beginning of the log.

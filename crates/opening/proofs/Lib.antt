@@ -1,4 +1,3 @@
-pub mod Tests
 pub mod Pass
 pub mod Runs
 pub mod Opens

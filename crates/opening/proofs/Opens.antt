@@ -24,7 +24,7 @@ use Rattle.spec.specs.declared.Report.the-variants as R
 use Rattle.words.specs.Image.{length-wordsOf}
 use Rattle.theory_base.proofs.Lists.{not-both, both-l}
 use Rattle.theory_base.proofs.Places.{length-allowed}
-use Rattle.log.proofs.Roles.{base-is}
+use Rattle.log.proofs.Chunks.{base-is}
 use Rattle.index.specs.Index.{zeros}
 use Rattle.blocks.specs.Bits.{hasBit}
 use Rattle.volatile.specs.Known.{Indexed, FillInv}

@@ -95,10 +95,6 @@ module _ (ws buffer buffer′ table table′ : List ℕ) (keys : ℕ) (fits plai
   pub entered-over : SumsAlone buffer buffer′ → Entering table table′ keys fits plain key own keys′ false plain′ → EnteredIs ws buffer buffer′ table table′ keys fits plain key own w keys′ false plain′
   entered-over k e = record { entered = e; kept = k; renewed = λ t. absurd (not-both true refl (sym t)) }
 
--- what an entry of the log would give alone
-pub own-alone : (pl x extent a v own : ℕ) → extent ≡ extentOf pl x → own ≡ alone extent a v → own ≡ alone (extentOf pl x) a v
-own-alone pl x extent a v own is-extent is-own = is-own ∙ ap (λ (y : ℕ). alone y a v) is-extent
-
 -- THE PASS: its steps.
 pub pass-start : (n : ℕ) (ws : List ℕ) (words : ℕ) (table : List ℕ) → table ≡ zeros words → (before buffer : List ℕ) → Cleared before buffer → Passing n ws (length table) table 0 true true buffer 0 0 start
 pass-start n ws words table e before buffer cleared = record {

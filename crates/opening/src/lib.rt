@@ -2,15 +2,12 @@
 // second one, where it is needed, asks blocks and top entries.
 ghost use mathlib.Core.Path.{_≡_};
 ghost use mathlib.Core.Bool.{false};
-ghost use Prim.Native.Nat.{_+_, _<_};
 ghost use lib.Dec.{eqb, ltb};
-ghost use lib.ListN.{length, getD};
+ghost use lib.ListN.{length};
 ghost use Rattle.spec.specs.Basics.{pick, both};
 ghost use Rattle.spec.specs.Words.{wordsOf};
 ghost use Rattle.spec.specs.Places.{lengthAllowed};
 ghost use Rattle.spec.specs.Header.{headerRight};
-ghost use Rattle.spec.specs.Directory.{isRole, directoryRight};
-ghost use Rattle.spec.specs.Opening.{directoryTest};
 ghost use Rattle.spec.specs.Machine.{Open};
 ghost use Rattle.index.specs.Index.{zeros};
 ghost use Rattle.opening.specs.Pass.{EnteredIs, Hastened, Filling};
@@ -24,7 +21,6 @@ use session::Setup;
 use spec::LogStep;
 use spec::Refusal;
 use spec::Report;
-use spec::Role;
 
 // THE TESTS OF AN IMAGE
 // 1: the length is that of 4 to 504 whole chunks.
@@ -55,46 +51,6 @@ pub fn header_fits(image: &[u8], count: usize) -> bool
         words::load(image, 7),
     ];
     codec::header_right(words, count as u64)
-}
-
-fn is_role(role: Role) -> bool
-    ensures { λ r. ⌜ r ≡ isRole role ⌝ }
-{
-    match role {
-        Role::Free => true,
-        Role::Log(_) => true,
-        Role::Data(_) => true,
-        Role::Wrong => false,
-    }
-}
-
-// The directory word of chunk c is right.
-fn directory_word_fits(image: &[u8], count: usize, c: usize) -> bool
-    requires { ⌜ c < 504 ⌝ }
-    ensures { λ r. ⌜ r ≡ directoryRight 12 count c (getD (wordsOf (now (image .entry))) (8 + c) 0) ⌝ }
-{
-    let word = words::load(image, 8 + c);
-    if 1 <= c {
-        if c < count {
-            return is_role(codec::role_of(word));
-        }
-    }
-    word == 0
-}
-
-// 3: every word of the directory is right.
-pub fn directory_fits(image: &[u8], count: usize) -> bool
-    ensures { λ r. ⌜ r ≡ directoryTest 12 count (wordsOf (now (image .entry))) ⌝ }
-{
-    let mut c: usize = 0;
-    while c < 504 {
-        if directory_word_fits(image, count, c) {
-            c += 1;
-        } else {
-            return false;
-        }
-    }
-    true
 }
 
 // THE FIRST PASS: every entry goes into the key table and the sums
@@ -378,7 +334,7 @@ fn judge(image: &[u8], table: &mut [u64], buffer: &mut Buffer) -> Verdict
     if length_allowed(bytes) {
         let count = bytes / 4096;
         if header_fits(image, count) {
-            if directory_fits(image, count) {
+            if directory::directory_fits(image, count) {
                 return judge_log(image, count, table, buffer);
             }
             return Verdict::Refused(Refusal::DirectoryWrong);

@@ -19,13 +19,14 @@ use Rattle.spec.specs.Contents.{liveBlocks}
 use Rattle.spec.specs.Plans.{hasSpace, freeChunk, logPlace, hasLive}
 use Rattle.theory_base.proofs.Lists.{isIn-mem, mem-isIn, not-both}
 use Rattle.blocks.specs.Bits.{hasBit}
-use Rattle.space.specs.declared.Found.{Found}
-use Rattle.space.specs.declared.Found.the-variants as F
+use Rattle.directory.specs.declared.Found.{Found}
+use Rattle.directory.specs.declared.Found.the-variants as F
 use Rattle.space.specs.declared.Place.{Place}
-use Rattle.space.specs.Found.{foundOf, placeOf, Stops}
-use Rattle.space.proofs.Search.{taken-before, taken-end, first-here}
-use Rattle.space.proofs.Space.{log-lines}
-use Rattle.space.proofs.Answer.{found-at, found-nothing}
+use Rattle.directory.specs.Found.{foundOf, Stops}
+use Rattle.directory.proofs.Roles.{log-lines}
+use Rattle.directory.proofs.Search.{taken-before, taken-end, first-here}
+use Rattle.directory.proofs.Answer.{found-at, found-nothing}
+use Rattle.space.specs.Found.{placeOf}
 use Rattle.planning.specs.Plans.{anyBit}
 
 -- SPACE, in a chunk other than x

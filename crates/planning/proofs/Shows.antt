@@ -31,7 +31,7 @@ use Rattle.session.specs.Fits.{soleMark, RestFits, Built}
 use Rattle.space.specs.declared.Place.{Place}
 use Rattle.space.specs.Found.{placeOf}
 use Rattle.space.proofs.Answer.{placed-at, placed-nowhere}
-use Rattle.space.proofs.Space.{log-lines}
+use Rattle.directory.proofs.Roles.{log-lines}
 use Rattle.gathering.specs.declared.Tally.{Tally}
 use Rattle.gathering.specs.Gathering.{Measured}
 use Rattle.gathering.specs.Reading.{Collected}

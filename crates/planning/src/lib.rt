@@ -5,17 +5,18 @@ ghost use mathlib.Core.Path.{_≡_};
 ghost use Prim.Native.Nat.{_*_, _%_};
 ghost use Rattle.spec.specs.Words.{wordsOf};
 ghost use Rattle.spec.specs.Plans.{hasSpace, logPlace};
-ghost use Rattle.space.specs.Found.{placeOf, Stops};
+ghost use Rattle.directory.specs.Found.{Stops};
+ghost use Rattle.space.specs.Found.{placeOf};
 ghost use Rattle.planning.specs.Plans.{anyBit, LogPlanned, DataPlanned, CleanPlanned};
 use blocks::Buffer;
-use log::lines_of;
+use directory::Found;
+use directory::lines_of;
+use gathering::Kept;
 use session::Control;
 use session::Setup;
 use session::Source;
-use space::Found;
 use space::Place;
 use spec::Refusal;
-use spec::Role;
 
 // A cleaning's begin: turned down, or where its copies go (chunk, its directory word, its committed lines), where the
 // next commit looks for space, what the record is to hold of the cleaned chunk, and the number of actions.
@@ -71,7 +72,7 @@ fn copy_place(image: &[u8], count: usize, lines: usize, x: usize) -> Place
     if next < count {
         return space::place_at(image, next);
     }
-    let free = space::free_chunk(image, count, 1);
+    let free = directory::free_chunk(image, count, 1);
     match free {
         Found::At(c) => space::place_at(image, c),
         Found::Nothing => Place {
@@ -102,14 +103,14 @@ fn has_live(buffer: &Buffer, chunk: usize) -> bool
 fn plan_log(
     image: &[u8],
     table: &[u64],
-    kept: &mut [u64; 512],
+    kept: &mut Kept,
     count: usize,
     chunk: usize,
     first: usize,
 ) -> CleanPlan
     ensures { λ r. ⌜ LogPlanned (wordsOf (now (image .entry))) (now (table .entry)) (now (kept .exit)) count chunk first r ⌝ }
 {
-    let old = space::directory_word(image, chunk);
+    let old = directory::directory_word(image, chunk);
     let lines = lines_of(image, chunk);
     let at = 512 * (chunk % 512);
     let end = at + 8 * lines;
@@ -135,7 +136,7 @@ fn plan_log(
     let place = copy_place(image, count, (words + 7) / 8, chunk);
     if place.found {
         let actions = cleaning::clean_count(words);
-        let low = actions::at_most(first, place.chunk);
+        let low = words::lesser(first, place.chunk);
         return CleanPlan::At {
             chunk: place.chunk,
             old: place.old,
@@ -155,7 +156,7 @@ fn plan_data(buffer: &Buffer, image: &[u8], chunk: usize, first: usize) -> Clean
     if has_live(buffer, chunk) {
         return CleanPlan::Refused(Refusal::NotCleanable);
     }
-    let old = space::directory_word(image, chunk);
+    let old = directory::directory_word(image, chunk);
     let lines = lines_of(image, chunk);
     let source = Source {
         chunk,
@@ -181,7 +182,7 @@ pub fn plan_clean(
     buffer: &Buffer,
     image: &[u8],
     table: &[u64],
-    kept: &mut [u64; 512],
+    kept: &mut Kept,
     chunk: usize,
 ) -> CleanPlan
     ensures { λ r. ⌜ CleanPlanned control setup (now (buffer .entry)) (now (image .entry)) (now (table .entry)) (now (kept .exit)) chunk r ⌝ }
@@ -194,7 +195,7 @@ pub fn plan_clean(
         if count <= chunk {
             return CleanPlan::Refused(Refusal::NotCleanable);
         }
-        if space::is_free(image, chunk) {
+        if directory::is_free(image, chunk) {
             return CleanPlan::Refused(Refusal::NotCleanable);
         }
         if lines_of(image, chunk) == 0 {

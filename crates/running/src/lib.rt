@@ -80,7 +80,7 @@ fn store_kept(control: Control, setup: Setup, buffer: &Buffer, image: &mut [u8])
     ensures { λ r. ⌜ KeptStores control setup (now (buffer .entry)) (now (image .entry)) (now (image .exit)) r ⌝ }
 {
     let source = setup.source;
-    let kept = actions::at_most(source.words, 512);
+    let kept = words::lesser(source.words, 512);
     let at = control.next;
     if kept <= at {
         return at;

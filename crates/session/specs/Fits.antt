@@ -25,7 +25,7 @@ use Rattle.session.specs.declared.Source.{Source}
 use Rattle.session.specs.declared.Session.{Session}
 use Rattle.theory_log.specs.Batch.{AllRight}
 use Rattle.theory_log.specs.Contents.{CountsOn, Mem, Top, Agree}
-use Rattle.blocks.specs.Bits.{hasBit}
+use Rattle.blocks.specs.Bits.{bufferWords, hasBit}
 use Rattle.volatile.specs.Known.{Indexed}
 use Rattle.volatile.specs.Sums.{Summed}
 use Rattle.session.specs.State.{batchRoom, batchWords, stateOf}
@@ -34,9 +34,6 @@ use Rattle.session.specs.Cleaned.{before, copiesOf, after, Cleaned, Move
 
 -- A value of the type `Session`: antt's list has no length, the array has so many words. Every record that is lent is
 -- one: `blocks::buffer_length` shows it of any such array.
-abbrev pub bufferWords : ℕ
-bufferWords = 1664
-
 abbrev pub Proper : Session → Type 0
 Proper s = length (s .buffer) ≡ bufferWords
 

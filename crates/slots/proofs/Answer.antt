@@ -12,11 +12,11 @@ use Rattle.spec.specs.Directory.{roleAt, isFree}
 use Rattle.spec.specs.Log.{Entry}
 use Rattle.spec.specs.Plans.{freeChunk, orFree, slotFor}
 use Rattle.codec.specs.declared.Unit.{Unit as UnitNumber}
-use Rattle.space.specs.declared.Found.{Found}
-use Rattle.space.specs.declared.Found.the-variants as F
-use Rattle.space.specs.Found.{foundOf}
-use Rattle.space.proofs.Answer.{found-at}
-use Rattle.space.proofs.Answer as P
+use Rattle.directory.specs.declared.Found.{Found}
+use Rattle.directory.specs.declared.Found.the-variants as F
+use Rattle.directory.specs.Found.{foundOf}
+use Rattle.directory.proofs.Answer.{found-at}
+use Rattle.directory.proofs.Answer as P
 use Rattle.theory_plans.proofs.LogPlace.{free-chunk}
 use Rattle.slots.specs.declared.Block.{Block}
 use Rattle.slots.specs.declared.Block.the-variants as B

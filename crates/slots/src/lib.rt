@@ -1,7 +1,7 @@
 // Where a large value goes: the first data chunk of its block size with a block neither live nor staged, else the first
 // free chunk.
 ghost use mathlib.Core.Path.{_≡_};
-ghost use Prim.Native.Nat.{_+_, _*_, _/_, _^_, _<_, _≤_, min};
+ghost use Prim.Native.Nat.{_+_, _*_, _/_, _^_, _<_, _≤_};
 ghost use lib.Dec.{eqb};
 ghost use lib.ListN.{length, getD};
 ghost use Rattle.spec.specs.Basics.{pick, both};
@@ -16,12 +16,13 @@ use codec::Unit;
 use codec::data_word;
 use codec::first_of;
 use codec::role_of;
+use directory::Found;
+use directory::directory_word;
+use directory::free_chunk;
+use directory::size_in;
 use log::words_for;
-use space::Found;
-use space::directory_word;
-use space::free_chunk;
 use spec::FirstWord;
-use spec::Role;
+use words::lesser;
 
 // A block that was looked for, by its first unit.
 pub enum Block {
@@ -41,12 +42,6 @@ pub enum Slot {
 pub struct Met {
     pub here: bool,
     pub size: usize,
-}
-
-fn lesser(a: usize, b: usize) -> usize
-    ensures { λ r. ⌜ r ≡ min a b ⌝ }
-{
-    if a < b { a } else { b }
 }
 
 // STAGED BLOCKS
@@ -119,19 +114,6 @@ pub fn is_spare(buffer: &Buffer, words: usize, u: usize) -> bool
 }
 
 // THE SEARCH
-// The block size that a directory word says, 0 unless it is a data chunk's.
-fn size_said(word: u64) -> usize
-    ensures { λ r. ⌜ r ≡ sizeIn (roleOf 12 word) ⌝ }
-{
-    let role = role_of(word);
-    match role {
-        Role::Free => 0,
-        Role::Log(_) => 0,
-        Role::Data(size) => size as usize,
-        Role::Wrong => 0,
-    }
-}
-
 // How many blocks of that size a data chunk of that block size has, whose directory word is `word`.
 fn blocks_of(word: u64, size: usize) -> usize
     ensures { λ r. ⌜ r ≡ pick (eqb (sizeIn (roleOf 12 word)) size) (16 / size) 0 ⌝ }
@@ -139,7 +121,7 @@ fn blocks_of(word: u64, size: usize) -> usize
     if size == 0 {
         return 0;
     }
-    if size_said(word) == size {
+    if size_in(role_of(word)) == size {
         return 16 / size;
     }
     0

@@ -1,28 +1,16 @@
--- What the answer of a search says of what was looked for.
+-- What a place says of what was looked for.
 -- Assumes nothing.
 use mathlib.Core.Path.{_≡_, refl, sym, _∙_, ap}
 use mathlib.Core.Bool.{true, false}
 use mathlib.Core.Option.{Option, none, some}
 use mathlib.Core.List.{List}
-use Prim.Native.Nat.{ℕ, _-_}
+use Prim.Native.Nat.{ℕ}
 use native.Mathlib.Omega.{arith}
 use lib.ListN.{getD}
-use Rattle.spec.specs.Basics.{upFrom, filter, first}
 use Rattle.spec.specs.Places.{directoryWord}
 use Rattle.spec.specs.Directory.{linesOf}
-use Rattle.spec.specs.Plans.{hasSpace, freeChunk, logPlace}
-use Rattle.space.specs.declared.Found.{Found}
-use Rattle.space.specs.declared.Found.the-variants as F
 use Rattle.space.specs.declared.Place.{Place}
-use Rattle.space.specs.Found.{foundOf, placeOf}
-
-pub found-at : (q : Option ℕ) (c : ℕ) → foundOf q ≡ F.At c → q ≡ some c
-found-at none c h = absurd (let z : _≡_ {A = ℕ} 0 1 = cc in omega arith)
-found-at (some d) c h = cc
-
-pub found-nothing : (q : Option ℕ) → foundOf q ≡ F.Nothing → q ≡ none
-found-nothing none h = refl
-found-nothing (some d) h = absurd (let z : _≡_ {A = ℕ} 0 1 = cc in omega arith)
+use Rattle.space.specs.Found.{placeOf}
 
 -- a place by its field `found`
 pub record PlacedAt (ws : List ℕ) (q : Option ℕ) (r : Place) : Type 0 where

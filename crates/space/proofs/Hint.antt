@@ -18,14 +18,15 @@ use Rattle.spec.specs.Directory.{isLog, isFree, roleAt, linesOf, freeChunks}
 use Rattle.spec.specs.Plans.{hasSpace, freeChunk, logPlace}
 use Rattle.theory_base.proofs.Lists.{not-both}
 use Rattle.session.specs.Fits.{NoneBelow, NoneAbove, NoneFree, soleMark, Hint}
-use Rattle.space.specs.declared.Found.{Found}
-use Rattle.space.specs.declared.Found.the-variants as F
+use Rattle.directory.specs.declared.Found.{Found}
+use Rattle.directory.specs.declared.Found.the-variants as F
+use Rattle.directory.specs.Found.{foundOf, Stops, FreeFound}
+use Rattle.directory.proofs.Search.{taken, taken-before, first-here}
+use Rattle.directory.proofs.Answer.{found-at, found-nothing}
 use Rattle.space.specs.declared.Place.{Place}
 use Rattle.space.specs.declared.Placed.{Placed}
 use Rattle.space.specs.declared.Start.{Start}
-use Rattle.space.specs.Found.{foundOf, placeOf, Stops, Near, FreeFound, Started, FreeStart, Hinted, Searched, Searching}
-use Rattle.space.proofs.Search.{taken, taken-before, first-here}
-use Rattle.space.proofs.Answer.{found-at, found-nothing}
+use Rattle.space.specs.Found.{placeOf, Near, Started, FreeStart, Hinted, Searched, Searching}
 
 -- no space for some lines is none for more
 pub less-space : (ws : List ℕ) (a b c : ℕ) → a ≤ b → hasSpace 12 ws a 0 c ≡ false → hasSpace 12 ws b 0 c ≡ false
@@ -41,14 +42,7 @@ pub same-space : (ws ws′ : List ℕ) (b x c : ℕ) → getD ws′ (directoryWo
 unfolding linesOf
 same-space ws ws′ b x c e = rw e
 
--- A SEARCH: one more number that the test does not take; and a search for as many lines
-pub before-more : (test : ℕ → Bool) (a c : ℕ) → ((d : ℕ) → a ≤ d → d < c → test d ≡ false) → test c ≡ false → (d : ℕ) → a ≤ d → d < c + 1 → test d ≡ false
-before-more test a c h e d l u = go (ℕ-discrete d c)
-  where
-    go : Dec (d ≡ c) → test d ≡ false
-    go (yes q) = ap test q ∙ e
-    go (no n) = h d l (omega arith)
-
+-- a search for as many lines
 pub stops-same : (ws : List ℕ) (a b from count r : ℕ) → a ≡ b → Stops (hasSpace 12 ws a 0) from count r → Stops (hasSpace 12 ws b 0) from count r
 stops-same ws a b from count r e s = rw e at s
 

@@ -1,4 +1,4 @@
--- What a search for a chunk answers, and the place that it gives.
+-- What a search for space answers, and the place that it gives.
 -- Assumes nothing.
 use mathlib.Core.Path.{_≡_}
 use mathlib.Core.Logic.{_⊎_}
@@ -8,39 +8,23 @@ use mathlib.Core.List.{List}
 use Prim.Native.Nat.{ℕ, _%_, _≤_, _<_}
 use lib.ListN.{getD}
 use Rattle.spec.specs.Places.{directoryWord}
-use Rattle.spec.specs.Directory.{roleAt, isFree, linesOf}
-use Rattle.spec.specs.Plans.{hasSpace, freeChunk, logPlace}
+use Rattle.spec.specs.Directory.{linesOf}
+use Rattle.spec.specs.Plans.{hasSpace, logPlace}
 use Rattle.session.specs.Fits.{NoneAbove, soleMark, Hint}
-use Rattle.space.specs.declared.Found.{Found}
-use Rattle.space.specs.declared.Found.the-variants as F
+use Rattle.directory.specs.Found.{Stops}
 use Rattle.space.specs.declared.Place.{Place}
 use Rattle.space.specs.declared.Placed.{Placed}
 use Rattle.space.specs.declared.Start.{Start}
-
-abbrev pub foundOf : Option ℕ → Found
-foundOf none = F.Nothing
-foundOf (some c) = F.At c
 
 -- the chunk found, its committed lines and its directory word
 abbrev pub placeOf : List ℕ → Option ℕ → Place
 placeOf ws none = record { found = false; chunk = 0; committed = 0; old = 0 }
 placeOf ws (some c) = record { found = true; chunk = c; committed = linesOf 12 ws c; old = getD ws (directoryWord c) 0 }
 
--- a search from `from` on and below `count` stopped at r: the test takes nothing before r, and takes r, unless that is
--- not below the count
-pub record Stops (test : ℕ → Bool) (from count r : ℕ) : Type 0 where
-  pub behind : from ≤ r
-  pub before : (c : ℕ) → from ≤ c → c < r → test c ≡ false
-  pub here : r < count → test r ≡ true
-
--- such a search for a log chunk with space; where `sole` is told, there is none behind `from`
+-- a search for a log chunk with space; where `sole` is told, there is none behind `from`
 pub record Near (ws : List ℕ) (from count lines : ℕ) (sole : Bool) (r : ℕ) : Type 0 where
   pub behind : from ≤ r
   pub stops : (sole ≡ true → NoneAbove count ws from lines) → Stops (hasSpace 12 ws lines 0) from count r
-
--- a search for free chunks, where no chunk below `from` is free
-abbrev pub FreeFound : (ws : List ℕ) (from count needed : ℕ) → Found → Type 0
-FreeFound ws from count needed r = ((c : ℕ) → 1 ≤ c → c < from → isFree (roleAt 12 ws c) ≡ false) → r ≡ foundOf (freeChunk 12 count ws needed)
 
 -- the start of a search by a hint: a hint holds for no fewer lines than it speaks of; chunk 0 is no log chunk
 pub record Started (first least lines : ℕ) (r : Start) : Type 0 where

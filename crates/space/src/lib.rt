@@ -1,23 +1,15 @@
 // Where a commit writes: the first log chunk with space, else the first free chunk if enough are free.
 ghost use mathlib.Core.Path.{_≡_};
-ghost use Prim.Native.Nat.{_%_, _≤_, _<_, min};
-ghost use lib.ListN.{getD};
+ghost use Prim.Native.Nat.{_≤_};
 ghost use mathlib.Core.Option.{some};
 ghost use Rattle.spec.specs.Words.{wordsOf};
-ghost use Rattle.spec.specs.Places.{directoryWord};
-ghost use Rattle.spec.specs.Directory.{roleAt, isFree};
-ghost use Rattle.spec.specs.Plans.{hasSpace, freeChunk};
-ghost use Rattle.space.specs.Found.{foundOf, placeOf, Stops, Near, FreeFound, Started, FreeStart, Hinted, Searching};
-use log::lines_of;
-use log::role_at;
-use spec::Role;
-use words::load;
-
-// A chunk that was looked for.
-pub enum Found {
-    At(usize),
-    Nothing,
-}
+ghost use Rattle.spec.specs.Plans.{hasSpace};
+ghost use Rattle.directory.specs.Found.{Stops};
+ghost use Rattle.space.specs.Found.{placeOf, Near, Started, FreeStart, Hinted, Searching};
+use directory::Found;
+use directory::directory_word;
+use directory::free_from;
+use directory::lines_of;
 
 // Where the lines go: `committed` is the chunk's committed lines, `old` its directory word; all 0 where nothing was
 // found.
@@ -33,29 +25,6 @@ pub struct Placed {
     pub place: Place,
     pub first: usize,
     pub least: usize,
-}
-
-// The directory word of chunk c, 0 past the image.
-pub fn directory_word(image: &[u8], c: usize) -> u64
-    ensures { λ r. ⌜ r ≡ getD (wordsOf (now (image .entry))) (directoryWord c) 0 ⌝ }
-{
-    let n = image.len() / 8;
-    if c < n {
-        return load(image, 8 + c);
-    }
-    0
-}
-
-pub fn is_free(image: &[u8], c: usize) -> bool
-    ensures { λ r. ⌜ r ≡ isFree (roleAt 12 (wordsOf (now (image .entry))) c) ⌝ }
-{
-    let role = role_at(image, c);
-    match role {
-        Role::Free => true,
-        Role::Log(_) => false,
-        Role::Data(_) => false,
-        Role::Wrong => false,
-    }
 }
 
 // Whether c is a log chunk with space for so many lines behind its committed ones.
@@ -114,36 +83,6 @@ fn wider_chunk(image: &[u8], from: usize, count: usize, least: usize, lines: usi
         return next_chunk(image, from, count, lines);
     }
     from
-}
-
-// The first free chunk, if at least `needed` are free; no chunk below `from` is.
-fn free_from(image: &[u8], from: usize, count: usize, needed: usize) -> Found
-    requires { ⌜ 1 ≤ from ⌝ }
-    ensures { λ r. ⌜ FreeFound (wordsOf (now (image .entry))) from count needed r ⌝ }
-{
-    let mut lowest = 0;
-    let mut seen: usize = 0;
-    let mut c = from;
-    while c < count {
-        if is_free(image, c) {
-            if seen == 0 {
-                lowest = c;
-            }
-            seen += 1;
-            if needed <= seen {
-                return Found::At(lowest);
-            }
-        }
-        c += 1;
-    }
-    Found::Nothing
-}
-
-// The first free chunk, if at least `needed` are free.
-pub fn free_chunk(image: &[u8], count: usize, needed: usize) -> Found
-    ensures { λ r. ⌜ r ≡ foundOf (freeChunk 12 count (wordsOf (now (image .entry))) needed) ⌝ }
-{
-    free_from(image, 1, count, needed)
 }
 
 pub fn place_at(image: &[u8], c: usize) -> Place
@@ -208,13 +147,7 @@ fn hint_of(chunk: usize, sole: bool) -> usize
             return 512 + chunk;
         }
     }
-    fewer(chunk, 511)
-}
-
-fn fewer(a: usize, b: usize) -> usize
-    ensures { λ r. ⌜ r ≡ min a b ⌝ }
-{
-    if a < b { a } else { b }
+    words::lesser(chunk, 511)
 }
 
 // The place for so many lines in an image of `count` chunks, told where to look: `first` and `least` are the hint. A
@@ -231,7 +164,7 @@ pub fn log_place(
     ensures { λ r. ⌜ Searching (wordsOf (now (image .entry))) count lines needed first least r ⌝ }
 {
     let start = start_of(first, least, lines);
-    let room = fewer(least, lines);
+    let room = words::lesser(least, lines);
     let next = near_chunk(image, start.from, count, room, start.sole);
     let at = wider_chunk(image, next, count, room, lines);
     if at < count {
@@ -250,7 +183,7 @@ pub fn log_place(
             let full = count <= next;
             Placed {
                 place,
-                first: hint_of(fewer(next, c), full),
+                first: hint_of(words::lesser(next, c), full),
                 least: room,
             }
         }

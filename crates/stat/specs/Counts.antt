@@ -1,15 +1,14 @@
--- What a station's display asks: the committed lines of an image, and the known keys of an open register.
+-- What a station's display asks: the known keys of an open register.
 -- Assumes nothing.
 use mathlib.Core.Path.{_≡_}
 use mathlib.Core.Bool.{Bool}
 use mathlib.Core.List.{List, [], _∷_, _++_}
-use Prim.Native.Nat.{ℕ, _+_, _-_}
+use Prim.Native.Nat.{ℕ}
 use lib.Dec.{eqb}
 use lib.ListN.{length}
-use Rattle.spec.specs.Basics.{pick, either, upFrom}
+use Rattle.spec.specs.Basics.{pick, either}
 use Rattle.spec.specs.Places.{basePower, chunksIn}
 use Rattle.spec.specs.Medium.{Action}
-use Rattle.spec.specs.Directory.{linesOf}
 use Rattle.spec.specs.Log.{Entry, placed}
 use Rattle.spec.specs.Contents.{keysOf, entriesIn}
 use Rattle.spec.specs.Opening.{Accepted, opening}
@@ -22,14 +21,6 @@ use Rattle.session.specs.declared.Session.{Session}
 use Rattle.session.specs.Cleaned.{before, after}
 use Rattle.session.specs.State.{stateOf}
 use Rattle.session.specs.Fits.{Fits, batchPlace}
-
-abbrev pub sumOver : (ℕ → ℕ) → List ℕ → ℕ
-sumOver f [] = 0
-sumOver f (c ∷ cs) = f c + sumOver f cs
-
--- the committed lines of the log chunks of n chunks; a chunk that is no log chunk has none
-abbrev pub linesUsed : ℕ → ℕ → List ℕ → ℕ
-linesUsed p n ws = sumOver (linesOf p ws) (upFrom 1 (n - 1))
 
 -- the known keys of an image of so many bytes whose words are ws: what refusal 7 counts
 abbrev pub keyCount : ℕ → List ℕ → ℕ

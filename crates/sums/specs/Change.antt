@@ -11,6 +11,7 @@ use Rattle.spec.specs.Basics.{pick}
 use Rattle.spec.specs.Log.{Entry}
 use Rattle.spec.specs.Contents.{chosen, known, highest}
 use Rattle.log.specs.Stands.{StandsIn}
+use Rattle.blocks.specs.Bits.{bufferWords}
 use Rattle.volatile.specs.Known.{extentOf, infoOf, ownOf, Small, Bounded}
 use Rattle.volatile.specs.Sums.{highHalf, weightOf, weight, chosenSum, sumsStart, sumsCount, Summed}
 
@@ -23,7 +24,7 @@ nothing c = 0
 
 -- both are buffers of the record, and agree at every word that is no sum
 pub record SumsAlone (before after : List ℕ) : Type 0 where
-  pub size : length before ≡ 1664
+  pub size : length before ≡ bufferWords
   pub long : length after ≡ length before
   pub below : (i : ℕ) → i < sumsStart → getD after i 0 ≡ getD before i 0
 

@@ -4,13 +4,14 @@ ghost use mathlib.Core.Path.{_≡_};
 ghost use Prim.Native.Nat.{_+_, _%_};
 ghost use lib.ListN.{getD};
 ghost use Rattle.spec.specs.Words.{wordsOf};
+ghost use Rattle.volatile.specs.Sums.{sumsStart, sumsCount};
 ghost use Rattle.sums.specs.Change.{only, nothing, Changed, Cleared, Weighed, WeighedAt, Renewed, TurnedOver};
 use blocks::Buffer;
 use spec::FirstWord;
 
 // The sum of a chunk.
 pub fn sum_at(buffer: &Buffer, chunk: usize) -> u64
-    ensures { λ r. ⌜ r ≡ getD (now (buffer .entry)) (1152 + chunk % 512) 0 ⌝ }
+    ensures { λ r. ⌜ r ≡ getD (now (buffer .entry)) (sumsStart + chunk % sumsCount) 0 ⌝ }
 {
     blocks::buffer_length(buffer);
     buffer[1152 + chunk % 512]

@@ -1,27 +1,10 @@
 // The first top entry whose block is wrong, and the first that disagrees with the chosen one of its key or shares its
 // block with another key's: the places of the refusals 5 and 6. Every entry is compared by a scan of the log.
 ghost use mathlib.Core.Path.{_≡_};
-ghost use Prim.Native.Nat.{_<_, _^_, min};
 ghost use Rattle.spec.specs.Basics.{either};
 ghost use Rattle.spec.specs.Words.{wordsOf};
-ghost use Rattle.consistency.specs.Heads.{sameFrom, points};
 ghost use Rattle.top_faults.specs.Spots.{topAt, blockWrong, differsAt, otherPoints, sharesIn, atOdds, keep, visited, spotsIn};
 use log::Next;
-
-fn lesser(a: usize, b: usize) -> usize
-    ensures { λ r. ⌜ r ≡ min a b ⌝ }
-{
-    if a < b { a } else { b }
-}
-
-fn is_pointed(op: u64, placement: u64) -> bool
-    ensures { λ r. ⌜ r ≡ points op placement ⌝ }
-{
-    if op == 1 {
-        return placement == 1;
-    }
-    false
-}
 
 // Whether an entry of a key with this version is a top entry of it, in the log of an image of `count` chunks.
 fn is_top(image: &[u8], count: usize, key: u64, version: u64) -> bool
@@ -35,7 +18,7 @@ fn is_top(image: &[u8], count: usize, key: u64, version: u64) -> bool
 fn block_wrong(image: &[u8], count: usize, op: u64, placement: u64, field: u64) -> bool
     ensures { λ r. ⌜ r ≡ blockWrong 12 count (wordsOf (now (image .entry))) op placement field ⌝ }
 {
-    if is_pointed(op, placement) {
+    if consistency::points(op, placement) {
         if consistency::block_right(image, count, field) {
             return false;
         }
@@ -45,30 +28,18 @@ fn block_wrong(image: &[u8], count: usize, op: u64, placement: u64, field: u64) 
 }
 
 // 6: AGREEMENT
-// Whether n words from word a are those from word b.
-fn same_words(image: &[u8], a: usize, b: usize, n: usize) -> bool
-    requires { ⌜ (a < 2 ^ 62) × (b < 2 ^ 62) × (n < 2 ^ 62) ⌝ }
-    ensures { λ r. ⌜ r ≡ sameFrom (wordsOf (now (image .entry))) a b n ⌝ }
-{
-    let mut i = 0;
-    while i < n {
-        let x = words::load(image, a + i);
-        let y = words::load(image, b + i);
-        if x != y {
-            return false;
-        }
-        i += 1;
-    }
-    true
-}
-
 // Whether an entry at word `at` is not, word for word, the one that stands at word `place`.
 fn differs(image: &[u8], placement: u64, field: u64, at: usize, place: usize) -> bool
     ensures { λ r. ⌜ r ≡ differsAt (wordsOf (now (image .entry))) placement field at place ⌝ }
 {
     let end = image.len() / 8;
     let words = log::words_for(placement, field);
-    if same_words(image, lesser(at, end), lesser(place, end), 2 + words) {
+    if consistency::same_words(
+        image,
+        words::lesser(at, end),
+        words::lesser(place, end),
+        2 + words,
+    ) {
         return false;
     }
     true
@@ -89,7 +60,7 @@ fn other_points(
 ) -> bool
     ensures { λ r. ⌜ r ≡ otherPoints 12 count (wordsOf (now (image .entry))) op placement version field k unit key ⌝ }
 {
-    if is_pointed(op, placement) {
+    if consistency::points(op, placement) {
         if field == unit {
             if k == key {
                 return false;
@@ -180,7 +151,7 @@ fn at_odds(
     if differs(image, placement, field, at, place) {
         return true;
     }
-    if is_pointed(op, placement) {
+    if consistency::points(op, placement) {
         return shares(image, count, field, key);
     }
     false

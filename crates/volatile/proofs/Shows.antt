@@ -6,7 +6,7 @@ use native.Mathlib.Omega.{arith}
 use borrow.Author.Tests.{eq-eqb, ne-eqb, lt-ltb, le-ltb}
 use Rattle.index.specs.declared.Info.{Info}
 use Rattle.index.specs.Packed.{packOf, unpackOf}
-use Rattle.volatile.specs.Known.{extentOf, raised, noted}
+use Rattle.volatile.specs.Known.{extentOf, alone, raised, noted}
 
 -- the extent of a value in the log, of an empty one, and of an entry with none in the log
 pub extent-log : (placement field : ℕ) → placement ≡ 0 → field - 1 ≡ extentOf placement field
@@ -17,6 +17,10 @@ extent-empty placement field z l = let q : 0 ≡ field - 1 = omega arith in q �
 
 pub extent-none : (placement field : ℕ) → (placement ≡ 0 → ⊥) → 0 ≡ extentOf placement field
 extent-none placement field n = sym (rw (ne-eqb placement 0 n))
+
+-- what an entry of the log would give alone
+pub own-alone : (pl x extent a v own : ℕ) → extent ≡ extentOf pl x → own ≡ alone extent a v → own ≡ alone (extentOf pl x) a v
+own-alone pl x extent a v own is-extent is-own = is-own ∙ ap (λ (y : ℕ). alone y a v) is-extent
 
 module _ (word own r : ℕ) (i j : Info) (is-i : i ≡ unpackOf word) (is-j : j ≡ unpackOf own) (some-word : word ≡ 0 → ⊥) where
   shows-raised : r ≡ packOf (raised i j) → r ≡ noted word own

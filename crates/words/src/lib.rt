@@ -1,13 +1,19 @@
 // Little-endian words of an image of bytes, and the words of a value's bytes.
 ghost use mathlib.Core.Path.{_≡_};
-ghost use Prim.Native.Nat.{_+_, _-_, _*_, _≤_, _<_, min};
+ghost use Prim.Native.Nat.{_+_, _*_, _≤_, _<_, min};
 ghost use lib.Dec.{leb};
-ghost use lib.ListN.{length, getD, take};
+ghost use lib.ListN.{length, getD};
 ghost use Rattle.spec.specs.Basics.{pick};
-ghost use Rattle.spec.specs.Words.{wordAt, wordsOf, packed};
-ghost use Rattle.words.specs.Overlay.{overlay};
+ghost use Rattle.spec.specs.Words.{wordAt, wordsOf};
 ghost use Rattle.words.specs.Store.{setWord};
 ghost use Rattle.words.specs.Image.{Saved};
+
+// The lesser of two numbers.
+pub fn lesser(a: usize, b: usize) -> usize
+    ensures { λ r. ⌜ r ≡ min a b ⌝ }
+{
+    if a < b { a } else { b }
+}
 
 fn wide(x: u8) -> u64
     ensures { λ r. ⌜ (r ≡ x) × (r < 256) ⌝ }
@@ -15,7 +21,8 @@ fn wide(x: u8) -> u64
     x as u64
 }
 
-fn read_word(img: &[u8], w: usize) -> u64
+// The word w of bytes that have it: of an image, or of a value but for a last word with fewer than eight bytes.
+pub fn read_word(img: &[u8], w: usize) -> u64
     requires { ⌜ 8 * w + 8 ≤ length (now img) ⌝ }
     ensures { λ r. ⌜ r ≡ wordAt (now (img .entry)) w ⌝ }
 {
@@ -90,7 +97,7 @@ pub fn save(img: &mut [u8], w: usize, v: u64)
 const FILL: u64 = 0;
 
 // The word i of a value that has fewer than eight bytes from there on, zero-filled. The last byte is taken first.
-fn last_word(value: &[u8], i: usize) -> u64
+pub fn last_word(value: &[u8], i: usize) -> u64
     requires { ⌜ (8 * i ≤ length (now value)) × (length (now value) < 8 * i + 8) ⌝ }
     ensures { λ r. ⌜ r ≡ wordAt (now (value .entry)) i ⌝ }
 {
@@ -102,34 +109,4 @@ fn last_word(value: &[u8], i: usize) -> u64
         v = 256 * v + wide(value[at]);
     }
     v
-}
-
-// How many words of a value are copied to place `at` of the record's buffer: all, or as many as fit.
-fn copied(words: usize, at: usize) -> usize
-    ensures { λ r. ⌜ r ≡ min words (1664 - at) ⌝ }
-{
-    if 1664 <= at {
-        return 0;
-    }
-    let room = 1664 - at;
-    if words < room { words } else { room }
-}
-
-// The words of a value laid over the record's buffer from place `at`; what does not fit is dropped.
-pub fn pack_into(value: &[u8], buffer: &mut [u64; 1664], at: usize)
-    ensures { λ _. ⌜ now (buffer .exit) ≡ overlay (now (buffer .entry)) at (take (1664 - at) (packed (now (value .entry)))) ⌝ }
-{
-    let count = copied((value.len() + 7) / 8, at);
-    let whole = copied(value.len() / 8, at);
-    let mut i = 0;
-    while i < whole {
-        let v = read_word(value, i);
-        buffer[at + i] = v;
-        i += 1;
-    }
-    if count <= i {
-        return;
-    }
-    let v = last_word(value, i);
-    buffer[at + i] = v;
 }

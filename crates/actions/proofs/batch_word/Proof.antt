@@ -7,8 +7,8 @@ use borrow.Author.Needs.{needs}
 use Rattle.actions.proofs.batch_word.Statement.{statement}
 use Rattle.actions.proofs.batch_word.Tie as tie
 
-at-most-requires : tie.Need-at-most-requires
-at-most-requires c κs = search needs
+lesser-requires : tie.Need-lesser-requires
+lesser-requires c κs = search needs
 
 mul-result : tie.Need-mul-result
 mul-result c = search needs
@@ -24,4 +24,4 @@ returns-2 c = let a = c .before .before .args in batch-behind (a .buffer .now) (
 
 pub batch-word-spec : {M : Type 1} → statement M
 batch-word-spec =
-    tie.close (tie.spec at-most-requires mul-result element-copy-out-result returns returns-2)
+    tie.close (tie.spec lesser-requires mul-result element-copy-out-result returns returns-2)

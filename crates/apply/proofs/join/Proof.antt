@@ -23,8 +23,8 @@ buffer-length-requires c κs = search needs
 batch-start-requires : tie.Need-batch-start-requires Inv-loop μ-loop
 batch-start-requires c κs = search needs
 
-at-most-requires : tie.Need-at-most-requires Inv-loop μ-loop
-at-most-requires c κs = search needs
+lesser-requires : tie.Need-lesser-requires Inv-loop μ-loop
+lesser-requires c κs = search needs
 
 loop-holds : tie.Need-loop-holds Inv-loop μ-loop
 loop-holds c = going-start _ _ _ _ _ _ _ (c .before .before .buffer-length .ensures .1)
@@ -39,7 +39,7 @@ same-length : tie.Need-same-length Inv-loop μ-loop
 same-length c = c .before .before .before .before .loop .inv .sized
 
 returns : tie.Need-returns Inv-loop μ-loop
-returns c = going-joins _ _ _ _ _ _ _ _ _ _ _ _ _ (c .before .before .before .before .loop .inv) _ (c .before .before .item-at .ensures) (c .enum-told .given .1) refl (c .before .before .before .before .before .before .batch-start .ensures) refl (c .before .before .before .before .before .at-most .ensures)
+returns c = going-joins _ _ _ _ _ _ _ _ _ _ _ _ _ (c .before .before .before .before .loop .inv) _ (c .before .before .item-at .ensures) (c .enum-told .given .1) refl (c .before .before .before .before .before .before .batch-start .ensures) refl (c .before .before .before .before .before .lesser .ensures)
 
 enum-known-item : tie.Need-enum-known-item Inv-loop μ-loop
 enum-known-item c = search needs
@@ -82,7 +82,7 @@ join-spec =
     μ-loop
     buffer-length-requires
     batch-start-requires
-    at-most-requires
+    lesser-requires
     loop-holds
     item-at-requires
     enum-told

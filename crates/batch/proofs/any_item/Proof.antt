@@ -21,8 +21,8 @@ Inv-loop buffer words end any₀ at₀ any at = anyItem buffer words ≡ anyIn a
 abbrev μ-loop : tie.MeasureT-loop
 μ-loop buffer words end any₀ at₀ any at = end - at
 
-batch-end-requires : tie.Need-batch-end-requires Inv-loop μ-loop
-batch-end-requires c κs = search needs
+lesser-requires : tie.Need-lesser-requires Inv-loop μ-loop
+lesser-requires c κs = search needs
 
 buffer-length-requires : tie.Need-buffer-length-requires Inv-loop μ-loop
 buffer-length-requires c κs = search needs
@@ -31,7 +31,7 @@ loop-holds : tie.Need-loop-holds Inv-loop μ-loop
 loop-holds c =
     let a = c .before .before .args in
     let n = c .buffer-length .ensures .1 in
-    any-start (a .buffer .now) (a .words) (c .before .batch-end .result) (c .before .batch-end .ensures) (omega arith)
+    any-start (a .buffer .now) (a .words) (c .before .lesser .result) (c .before .lesser .ensures) (omega arith)
 
 step-at-requires : tie.Need-step-at-requires Inv-loop μ-loop
 step-at-requires c κs = search needs
@@ -44,7 +44,7 @@ returns c =
     let a = c .before .before .before .before .before .before .args in
     let l = c .before .before .before .loop in
     let q = sym (c .before .before .step-at .ensures) ∙ c .enum-told .given .1 in
-    any-end (a .buffer .now) (a .words) (l .at) (c .before .before .before .before .before .batch-end .result) (l .any) (l .inv) q
+    any-end (a .buffer .now) (a .words) (l .at) (c .before .before .before .before .before .lesser .result) (l .any) (l .inv) q
 
 enum-told-2 : tie.Need-enum-told-2 Inv-loop μ-loop
 enum-told-2 c = search needs
@@ -54,7 +54,7 @@ returns-2 c =
     let a = c .before .before .before .before .before .before .args in
     let l = c .before .before .before .loop in
     let q = sym (c .before .before .step-at .ensures) ∙ c .enum-told2 .given .1 in
-    any-wrong (a .buffer .now) (a .words) (l .at) (c .before .before .before .before .before .batch-end .result) (l .any) (l .inv) q
+    any-wrong (a .buffer .now) (a .words) (l .at) (c .before .before .before .before .before .lesser .result) (l .any) (l .inv) q
 
 enum-told-3 : tie.Need-enum-told-3 Inv-loop μ-loop
 enum-told-3 c = search needs
@@ -64,7 +64,7 @@ add-at c =
     let a = c .before .before .before .before .before .before .args in
     let l = c .before .before .before .loop in
     let q = sym (c .before .before .step-at .ensures) ∙ c .enum-told3 .given .1 in
-    let r = room-padding (a .buffer .now) (l .at) (c .before .before .before .before .before .batch-end .result) q in
+    let r = room-padding (a .buffer .now) (l .at) (c .before .before .before .before .before .lesser .result) q in
     omega arith
 
 loop-less : tie.Need-loop-less Inv-loop μ-loop
@@ -72,7 +72,7 @@ loop-less c =
     let a = c .before .before .before .before .before .before .args in
     let l = c .before .before .before .loop in
     let q = sym (c .before .before .step-at .ensures) ∙ c .enum-told3 .given .1 in
-    let r = room-padding (a .buffer .now) (l .at) (c .before .before .before .before .before .batch-end .result) q in
+    let r = room-padding (a .buffer .now) (l .at) (c .before .before .before .before .before .lesser .result) q in
     omega arith
 
 loop-again : tie.Need-loop-again Inv-loop μ-loop
@@ -80,7 +80,7 @@ loop-again c =
     let a = c .before .before .before .before .before .before .args in
     let l = c .before .before .before .loop in
     let q = sym (c .before .before .step-at .ensures) ∙ c .enum-told3 .given .1 in
-    any-padding (a .buffer .now) (a .words) (l .at) (c .before .before .before .before .before .batch-end .result) (l .any) (l .inv) q
+    any-padding (a .buffer .now) (a .words) (l .at) (c .before .before .before .before .before .lesser .result) (l .any) (l .inv) q
 
 enum-known-s : tie.Need-enum-known-s Inv-loop μ-loop
 enum-known-s c = search needs
@@ -90,7 +90,7 @@ add-at-2 c =
     let a = c .before .before .before .before .before .before .before .args in
     let l = c .before .before .before .before .loop in
     let q = sym (c .before .before .before .step-at .ensures) ∙ c .before .s .given .1 in
-    let r = room-entry (a .buffer .now) (l .at) (c .before .before .before .before .before .before .batch-end .result) _ _ _ _ _ _ q in
+    let r = room-entry (a .buffer .now) (l .at) (c .before .before .before .before .before .before .lesser .result) _ _ _ _ _ _ q in
     omega arith
 
 add-at-3 : tie.Need-add-at-3 Inv-loop μ-loop
@@ -98,7 +98,7 @@ add-at-3 c =
     let a = c .before .before .before .before .before .before .before .args in
     let l = c .before .before .before .before .loop in
     let q = sym (c .before .before .before .step-at .ensures) ∙ c .before .s .given .1 in
-    let r = room-entry (a .buffer .now) (l .at) (c .before .before .before .before .before .before .batch-end .result) _ _ _ _ _ _ q in
+    let r = room-entry (a .buffer .now) (l .at) (c .before .before .before .before .before .before .lesser .result) _ _ _ _ _ _ q in
     omega arith
 
 loop-less-2 : tie.Need-loop-less-2 Inv-loop μ-loop
@@ -106,7 +106,7 @@ loop-less-2 c =
     let a = c .before .before .before .before .before .before .before .args in
     let l = c .before .before .before .before .loop in
     let q = sym (c .before .before .before .step-at .ensures) ∙ c .before .s .given .1 in
-    let r = room-entry (a .buffer .now) (l .at) (c .before .before .before .before .before .before .batch-end .result) _ _ _ _ _ _ q in
+    let r = room-entry (a .buffer .now) (l .at) (c .before .before .before .before .before .before .lesser .result) _ _ _ _ _ _ q in
     omega arith
 
 loop-again-2 : tie.Need-loop-again-2 Inv-loop μ-loop
@@ -114,7 +114,7 @@ loop-again-2 c =
     let a = c .before .before .before .before .before .before .before .args in
     let l = c .before .before .before .before .loop in
     let q = sym (c .before .before .before .step-at .ensures) ∙ c .before .s .given .1 in
-    any-entry (a .buffer .now) (a .words) (l .at) (c .before .before .before .before .before .before .batch-end .result) (l .any) (l .inv) _ _ _ _ _ _ q
+    any-entry (a .buffer .now) (a .words) (l .at) (c .before .before .before .before .before .before .lesser .result) (l .any) (l .inv) _ _ _ _ _ _ q
 
 pub any-item-spec : {M : Type 1} → statement M
 any-item-spec =
@@ -122,7 +122,7 @@ any-item-spec =
     (tie.spec
     Inv-loop
     μ-loop
-    batch-end-requires
+    lesser-requires
     buffer-length-requires
     loop-holds
     step-at-requires

@@ -17,8 +17,8 @@ Inv-loop buffer words key end latest₀ at₀ latest at = Passing buffer words (
 abbrev μ-loop : tie.MeasureT-loop
 μ-loop buffer words key end latest₀ at₀ latest at = end - at
 
-batch-end-requires : tie.Need-batch-end-requires Inv-loop μ-loop
-batch-end-requires c κs = search needs
+lesser-requires : tie.Need-lesser-requires Inv-loop μ-loop
+lesser-requires c κs = search needs
 
 loop-holds : tie.Need-loop-holds Inv-loop μ-loop
 unfolding latestOf
@@ -57,7 +57,7 @@ last-of-spec =
     (tie.spec
     Inv-loop
     μ-loop
-    batch-end-requires
+    lesser-requires
     loop-holds
     item-at-requires
     later-requires

@@ -19,8 +19,8 @@ Inv-loop buffer words end at₀ at = Passing buffer words (all isDelete) at (all
 abbrev μ-loop : tie.MeasureT-loop
 μ-loop buffer words end at₀ at = end - at
 
-batch-end-requires : tie.Need-batch-end-requires Inv-loop μ-loop
-batch-end-requires c κs = search needs
+lesser-requires : tie.Need-lesser-requires Inv-loop μ-loop
+lesser-requires c κs = search needs
 
 loop-holds : tie.Need-loop-holds Inv-loop μ-loop
 loop-holds c = let a = c .before .args in pass-start (a .buffer .now) (a .words) (all isDelete)
@@ -62,7 +62,7 @@ only-deletes-spec =
     (tie.spec
     Inv-loop
     μ-loop
-    batch-end-requires
+    lesser-requires
     loop-holds
     item-at-requires
     add-at

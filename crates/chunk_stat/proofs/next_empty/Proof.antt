@@ -5,7 +5,7 @@ use mathlib.Core.Path.{_≡_, sym, _∙_}
 use mathlib.Core.Bool.{false}
 use native.Mathlib.Omega.{arith}
 use Rattle.spec.specs.Words.{wordsOf}
-use Rattle.space.proofs.Hint.{before-more}
+use Rattle.directory.proofs.Search.{before-more}
 use Rattle.chunk_stat.specs.ByTable.{emptyBy}
 use borrow.Author.Needs.{needs}
 use Rattle.chunk_stat.proofs.next_empty.Statement.{statement}

@@ -8,7 +8,8 @@ use lib.ListN.{length, length-replicate}
 use Rattle.spec.specs.Words.{wordsOf}
 use Rattle.log.specs.Cursor.{left}
 use Rattle.log.proofs.Walk.{handed}
-use Rattle.classes.proofs.Collects.{Reached, reached-start, reached-over, reached-next, reached-done, reached-full, own-alone}
+use Rattle.volatile.proofs.Shows.{own-alone}
+use Rattle.classes.proofs.Collects.{Reached, reached-start, reached-over, reached-next, reached-done, reached-full}
 use Rattle.classes.proofs.collect.Statement.{statement}
 use Rattle.classes.proofs.collect.Tie as tie
 

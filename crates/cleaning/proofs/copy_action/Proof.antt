@@ -6,8 +6,8 @@ use borrow.Author.Needs.{needs}
 use Rattle.cleaning.proofs.copy_action.Statement.{statement}
 use Rattle.cleaning.proofs.copy_action.Tie as tie
 
-at-most-requires : tie.Need-at-most-requires
-at-most-requires c κs = search needs
+lesser-requires : tie.Need-lesser-requires
+lesser-requires c κs = search needs
 
 add-lines : tie.Need-add-lines
 add-lines c = search needs
@@ -42,7 +42,7 @@ kept-word-requires c κs = search needs
 returns : tie.Need-returns
 returns c =
     let a = c .before .before .before .before .before .args in
-    let m = c .before .before .before .before .at-most in
+    let m = c .before .before .before .before .lesser in
     shows-store (a .setup) (a .words) (a .buffer .now) (a .at) (m .result) (m .ensures) _ _ (omega arith) (omega arith) (c .kept-word .ensures)
 
 mul-line : tie.Need-mul-line
@@ -57,13 +57,13 @@ add-line-2 c = search needs
 returns-2 : tie.Need-returns-2
 returns-2 c =
     let a = c .before .before .before .before .before .args in
-    let m = c .before .before .before .before .at-most in
+    let m = c .before .before .before .before .lesser in
     shows-flush (a .setup) (a .words) (a .buffer .now) (a .at) (m .result) (m .ensures) _ (omega arith) (omega arith) (omega arith)
 
 returns-3 : tie.Need-returns-3
 returns-3 c =
     let a = c .before .before .before .before .before .before .args in
-    let m = c .before .before .before .before .before .at-most in
+    let m = c .before .before .before .before .before .lesser in
     shows-fence (a .setup) (a .words) (a .buffer .now) (a .at) (m .result) (m .ensures) (omega arith)
 
 add-word-3 : tie.Need-add-word-3
@@ -78,7 +78,7 @@ log-word-requires c κs = search needs
 returns-4 : tie.Need-returns-4
 returns-4 c =
     let a = c .before .before .before .before .before .before .before .before .args in
-    let m = c .before .before .before .before .before .before .before .at-most in
+    let m = c .before .before .before .before .before .before .before .lesser in
     shows-seal (a .setup) (a .words) (a .buffer .now) (a .at) (m .result) (m .ensures) _ _ _ (omega arith) (omega arith) (omega arith) (c .log-word .ensures)
 
 add-line-3 : tie.Need-add-line-3
@@ -87,20 +87,20 @@ add-line-3 c = search needs
 returns-5 : tie.Need-returns-5
 returns-5 c =
     let a = c .before .before .before .before .before .before .before .before .args in
-    let m = c .before .before .before .before .before .before .before .at-most in
+    let m = c .before .before .before .before .before .before .before .lesser in
     shows-seal-flush (a .setup) (a .words) (a .buffer .now) (a .at) (m .result) (m .ensures) _ (omega arith) (omega arith)
 
 returns-6 : tie.Need-returns-6
 returns-6 c =
     let a = c .before .before .before .before .before .before .before .before .args in
-    let m = c .before .before .before .before .before .before .before .at-most in
+    let m = c .before .before .before .before .before .before .before .lesser in
     shows-last (a .setup) (a .words) (a .buffer .now) (a .at) (m .result) (m .ensures) (omega arith)
 
 pub copy-action-spec : {M : Type 1} → statement M
 copy-action-spec =
     tie.close
     (tie.spec
-    at-most-requires
+    lesser-requires
     add-lines
     mul-stores
     mul-fence

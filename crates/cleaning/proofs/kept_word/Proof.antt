@@ -7,8 +7,8 @@ use borrow.Author.Needs.{needs}
 use Rattle.cleaning.proofs.kept_word.Statement.{statement}
 use Rattle.cleaning.proofs.kept_word.Tie as tie
 
-at-most-requires : tie.Need-at-most-requires
-at-most-requires c κs = search needs
+lesser-requires : tie.Need-lesser-requires
+lesser-requires c κs = search needs
 
 add-result : tie.Need-add-result
 add-result c = search needs
@@ -28,4 +28,4 @@ returns-2 c = let a = c .before .before .args in kept-behind (a .buffer .now) (a
 pub kept-word-spec : {M : Type 1} → statement M
 kept-word-spec =
     tie.close
-    (tie.spec at-most-requires add-result mul-result element-copy-out-result returns returns-2)
+    (tie.spec lesser-requires add-result mul-result element-copy-out-result returns returns-2)

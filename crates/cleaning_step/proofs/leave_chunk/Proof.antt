@@ -9,8 +9,8 @@ use Rattle.cleaning_step.proofs.leave_chunk.Tie as tie
 batch-start-requires : tie.Need-batch-start-requires
 batch-start-requires c κs = search needs
 
-at-most-requires : tie.Need-at-most-requires
-at-most-requires c κs = search needs
+lesser-requires : tie.Need-lesser-requires
+lesser-requires c κs = search needs
 
 add-until : tie.Need-add-until
 add-until c = search needs
@@ -38,7 +38,7 @@ same-length c = search needs
 
 returns : tie.Need-returns
 returns c =
-    let m = c .before .before .before .before .before .before .before .before .at-most in
+    let m = c .before .before .before .before .before .before .before .before .lesser in
     let s = c .before .before .before .before .before .before .before .before .before .batch-start in
     shows-left _ _ _ _ _ _ _ _ _ (m .result) _ _ (s .result) _ _ (m .ensures) refl refl (s .ensures) refl refl (c .before .before .leave .ensures)
 
@@ -47,7 +47,7 @@ leave-chunk-spec =
     tie.close
     (tie.spec
     batch-start-requires
-    at-most-requires
+    lesser-requires
     add-until
     mul-until
     add-until-2

@@ -18,44 +18,44 @@ abbrev μ-loop : tie.MeasureT-loop
 copy-length-requires : tie.Need-copy-length-requires Inv-loop μ-loop
 copy-length-requires c κs = search needs
 
-least-requires : tie.Need-least-requires Inv-loop μ-loop
-least-requires c κs = search needs
+lesser-requires : tie.Need-lesser-requires Inv-loop μ-loop
+lesser-requires c κs = search needs
 
 returns : tie.Need-returns Inv-loop μ-loop
-returns c = read-none _ _ _ _ _ (c .before .before .copy-length .ensures .1) (c .before .least .ensures) (c .if1 .taken)
+returns c = read-none _ _ _ _ _ (c .before .before .copy-length .ensures .1) (c .before .lesser .ensures) (c .if1 .taken)
 
-sub-least : tie.Need-sub-least Inv-loop μ-loop
-sub-least c = let s = c .if1 .left in omega arith
+sub-lesser : tie.Need-sub-lesser Inv-loop μ-loop
+sub-lesser c = let s = c .if1 .left in omega arith
 
-least-requires-2 : tie.Need-least-requires-2 Inv-loop μ-loop
-least-requires-2 c κs = search needs
+lesser-requires-2 : tie.Need-lesser-requires-2 Inv-loop μ-loop
+lesser-requires-2 c κs = search needs
 
 mul-from : tie.Need-mul-from Inv-loop μ-loop
-mul-from c = let s = c .before .if1 .left in let e = c .before .before .least .ensures in omega arith
+mul-from c = let s = c .before .if1 .left in let e = c .before .before .lesser .ensures in omega arith
 
 mul-bytes : tie.Need-mul-bytes Inv-loop μ-loop
-mul-bytes c = let e = c .least2 .ensures in omega arith
+mul-bytes c = let e = c .lesser2 .ensures in omega arith
 
 loop-holds : tie.Need-loop-holds Inv-loop μ-loop
 loop-holds c = (omega arith, reads-start _ _ _ (c .before .before .before .copy-length .ensures .1))
 
 add-copy : tie.Need-add-copy Inv-loop μ-loop
 add-copy c =
-    let e = c .before .before .before .before .least .ensures in
-    let f = c .before .before .least2 .ensures in
+    let e = c .before .before .before .before .lesser .ensures in
+    let f = c .before .before .lesser2 .ensures in
     let s = c .before .before .before .if1 .left in
     omega arith
 
 shared-slice-read-copy : tie.Need-shared-slice-read-copy Inv-loop μ-loop
 shared-slice-read-copy c =
-    let e = c .before .before .before .before .before .least .ensures in
-    let f = c .before .before .before .least2 .ensures in
+    let e = c .before .before .before .before .before .lesser .ensures in
+    let f = c .before .before .before .lesser2 .ensures in
     let s = c .before .before .before .before .if1 .left in
     omega arith
 
 element-write-copy : tie.Need-element-write-copy Inv-loop μ-loop
 element-write-copy c =
-    let f = c .before .before .before .least2 .ensures in
+    let f = c .before .before .before .lesser2 .ensures in
     omega arith
 
 add-i : tie.Need-add-i Inv-loop μ-loop
@@ -66,11 +66,11 @@ loop-less c = omega arith
 
 loop-again : tie.Need-loop-again Inv-loop μ-loop
 loop-again c =
-    let f = c .before .before .before .least2 .ensures in
+    let f = c .before .before .before .lesser2 .ensures in
     (omega arith, reads-next _ _ _ _ _ (c .before .before .loop .inv .1) (omega arith) refl)
 
 returns-2 : tie.Need-returns-2 Inv-loop μ-loop
-returns-2 c = read-all _ _ _ _ _ _ _ (c .before .before .before .before .least .ensures) (c .before .before .before .if1 .left) (c .before .before .least2 .ensures) (c .before .loop .inv .1) (c .loop-test .left)
+returns-2 c = read-all _ _ _ _ _ _ _ (c .before .before .before .before .lesser .ensures) (c .before .before .before .if1 .left) (c .before .before .lesser2 .ensures) (c .before .loop .inv .1) (c .loop-test .left)
 
 pub read-chunk-spec : {M : Type 1} → statement M
 read-chunk-spec =
@@ -79,10 +79,10 @@ read-chunk-spec =
     Inv-loop
     μ-loop
     copy-length-requires
-    least-requires
+    lesser-requires
     returns
-    sub-least
-    least-requires-2
+    sub-lesser
+    lesser-requires-2
     mul-from
     mul-bytes
     loop-holds

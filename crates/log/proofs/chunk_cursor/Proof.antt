@@ -6,7 +6,7 @@ use native.Mathlib.Omega.{arith}
 use lib.ListN.{length}
 use Rattle.spec.specs.Words.{wordsOf}
 use Rattle.words.specs.Image.{length-wordsOf}
-use Rattle.log.proofs.Roles.{base-is, chunk-past}
+use Rattle.log.proofs.Chunks.{base-is, chunk-past}
 use borrow.Author.Needs.{needs}
 use Rattle.log.proofs.chunk_cursor.Statement.{statement}
 use Rattle.log.proofs.chunk_cursor.Tie as tie

@@ -13,7 +13,8 @@ use Rattle.log.proofs.Walk.{next-none, next-wrong, next-chunk, next-padding, ne
 use Rattle.sums.specs.Change.{SumsAlone}
 use Rattle.sums.proofs.Laws.{alone-self, alone-then}
 use Rattle.opening.specs.Pass.{Passing}
-use Rattle.opening.proofs.Pass.{own-alone, pass-start, pass-on, pass-paid, pass-entered, pass-done, pass-wrong}
+use Rattle.volatile.proofs.Shows.{own-alone}
+use Rattle.opening.proofs.Pass.{pass-start, pass-on, pass-paid, pass-entered, pass-done, pass-wrong}
 use Rattle.opening.proofs.fill.Statement.{statement}
 use Rattle.opening.proofs.fill.Tie as tie
 

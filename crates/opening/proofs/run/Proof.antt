@@ -9,7 +9,7 @@ use Rattle.spec.specs.Words.{wordsOf}
 use Rattle.words.specs.Image.{length-wordsOf}
 use Rattle.theory_log.proofs.Walk.{room-entry}
 use Rattle.opening.specs.Pass.{Hastened}
-use Rattle.opening.proofs.Pass.{own-alone}
+use Rattle.volatile.proofs.Shows.{own-alone}
 use Rattle.opening.proofs.Runs.{put-told, run-start, run-more}
 use Rattle.opening.proofs.run.Statement.{statement}
 use Rattle.opening.proofs.run.Tie as tie

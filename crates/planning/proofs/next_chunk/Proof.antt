@@ -6,7 +6,7 @@ use mathlib.Core.Bool.{false}
 use native.Mathlib.Omega.{arith}
 use Rattle.spec.specs.Words.{wordsOf}
 use Rattle.spec.specs.Plans.{hasSpace}
-use Rattle.space.proofs.Hint.{before-more}
+use Rattle.directory.proofs.Search.{before-more}
 use borrow.Author.Needs.{needs}
 use Rattle.planning.proofs.next_chunk.Statement.{statement}
 use Rattle.planning.proofs.next_chunk.Tie as tie

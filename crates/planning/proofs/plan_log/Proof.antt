@@ -43,8 +43,8 @@ copy-place-requires c κs = search needs
 clean-count-requires : tie.Need-clean-count-requires
 clean-count-requires c κs = search needs
 
-at-most-requires : tie.Need-at-most-requires
-at-most-requires c κs = search needs
+lesser-requires : tie.Need-lesser-requires
+lesser-requires c κs = search needs
 
 returns-2 : tie.Need-returns-2
 returns-2 c =
@@ -52,7 +52,7 @@ returns-2 c =
     let o = c .before .before .before .before .before .before .before .before .directory-word in
     let l = c .before .before .before .before .before .before .before .lines-of in
     let m = c .before .before .before .before .before .gather in
-    log-copies (wordsOf (a .image .now)) (a .table .now) (a .count) (a .chunk) (a .first) (o .result) (l .result) _ _ (m .result) (o .ensures) (l .ensures .0) refl refl (l .ensures .1) _ (m .ensures) (c .before .before .before .before .if1 .left) _ refl _ (c .before .before .before .copy-place .ensures) (c .before .before .if2 .taken) _ _ (c .before .clean-count .ensures) (c .at-most .ensures)
+    log-copies (wordsOf (a .image .now)) (a .table .now) (a .count) (a .chunk) (a .first) (o .result) (l .result) _ _ (m .result) (o .ensures) (l .ensures .0) refl refl (l .ensures .1) _ (m .ensures) (c .before .before .before .before .if1 .left) _ refl _ (c .before .before .before .copy-place .ensures) (c .before .before .if2 .taken) _ _ (c .before .clean-count .ensures) (c .lesser .ensures)
 
 returns-3 : tie.Need-returns-3
 returns-3 c =
@@ -76,6 +76,6 @@ plan-log-spec =
     add-copy-place
     copy-place-requires
     clean-count-requires
-    at-most-requires
+    lesser-requires
     returns-2
     returns-3)

@@ -6,8 +6,8 @@ use borrow.Author.Needs.{needs}
 use Rattle.running.proofs.store_kept.Statement.{statement}
 use Rattle.running.proofs.store_kept.Tie as tie
 
-at-most-requires : tie.Need-at-most-requires
-at-most-requires c κs = search needs
+lesser-requires : tie.Need-lesser-requires
+lesser-requires c κs = search needs
 
 returns : tie.Need-returns
 returns c = kept-none _ _ _ _
@@ -22,13 +22,13 @@ same-length : tie.Need-same-length
 same-length c = search needs
 
 returns-2 : tie.Need-returns-2
-returns-2 c = let a = c .before .before .before .before .before .before .before .before .before .args in kept-stored (a .control) (a .setup) (a .buffer .now) (a .image .now) (c .before .before .before .before .batch-start .result) (c .before .before .before .before .before .before .at-most .result) (c .before .before .before .before .batch-start .ensures) (c .before .before .before .before .before .before .at-most .ensures) (omega arith) _ (c .before .before .store-area .ensures)
+returns-2 c = let a = c .before .before .before .before .before .before .before .before .before .args in kept-stored (a .control) (a .setup) (a .buffer .now) (a .image .now) (c .before .before .before .before .batch-start .result) (c .before .before .before .before .before .before .lesser .result) (c .before .before .before .before .batch-start .ensures) (c .before .before .before .before .before .before .lesser .ensures) (omega arith) _ (c .before .before .store-area .ensures)
 
 pub store-kept-spec : {M : Type 1} → statement M
 store-kept-spec =
     tie.close
     (tie.spec
-    at-most-requires
+    lesser-requires
     returns
     batch-start-requires
     store-area-requires

@@ -12,11 +12,11 @@ add-result c = search needs
 returns : tie.Need-returns
 returns c = hinted-sole _ _ (c .before .if1 .taken) (omega arith)
 
-fewer-requires : tie.Need-fewer-requires
-fewer-requires c κs = search needs
+lesser-requires : tie.Need-lesser-requires
+lesser-requires c κs = search needs
 
 returns-2 : tie.Need-returns-2
-returns-2 c = hinted-plain _ _ _ (c .fewer .ensures)
+returns-2 c = hinted-plain _ _ _ (c .lesser .ensures)
 
 pub hint-of-spec : {M : Type 1} → statement M
 hint-of-spec =
@@ -24,5 +24,5 @@ hint-of-spec =
     (tie.spec
     add-result
     returns
-    fewer-requires
+    lesser-requires
     returns-2)

@@ -10,8 +10,8 @@ use Rattle.space.proofs.log_place.Tie as tie
 start-of-requires : tie.Need-start-of-requires
 start-of-requires c κs = search needs
 
-fewer-requires : tie.Need-fewer-requires
-fewer-requires c κs = search needs
+lesser-requires : tie.Need-lesser-requires
+lesser-requires c κs = search needs
 
 near-chunk-requires : tie.Need-near-chunk-requires
 near-chunk-requires c κs = let s = c .before .start-of .ensures .low in search needs
@@ -29,7 +29,7 @@ returns : tie.Need-returns
 returns c =
     let w = c .before .before .before in
     let f = w .before .before in
-    shows-log _ _ _ _ _ _ _ _ _ _ (f .before .start-of .ensures) (f .fewer .ensures) (w .before .near-chunk .ensures) (w .wider-chunk .ensures) _ _ (omega arith) (c .before .place-at .ensures) (c .hint-of .ensures)
+    shows-log _ _ _ _ _ _ _ _ _ _ (f .before .start-of .ensures) (f .lesser .ensures) (w .before .near-chunk .ensures) (w .wider-chunk .ensures) _ _ (omega arith) (c .before .place-at .ensures) (c .hint-of .ensures)
 
 free-start-requires : tie.Need-free-start-requires
 free-start-requires c κs = c .before .before .before .before .start-of .ensures .low
@@ -43,8 +43,8 @@ enum-known-free c = search needs
 place-at-requires-2 : tie.Need-place-at-requires-2
 place-at-requires-2 c = search needs
 
-fewer-requires-2 : tie.Need-fewer-requires-2
-fewer-requires-2 c = search needs
+lesser-requires-2 : tie.Need-lesser-requires-2
+lesser-requires-2 c = search needs
 
 hint-of-requires-2 : tie.Need-hint-of-requires-2
 hint-of-requires-2 c = search needs
@@ -61,15 +61,15 @@ returns-2 c =
     let g = p .before .before .before .before in
     let w = g .before .before .before in
     let f = w .before .before in
-    shows-free _ _ _ _ _ _ _ _ _ _ (f .before .start-of .ensures) (f .fewer .ensures) (w .before .near-chunk .ensures) (w .wider-chunk .ensures) _ (g .before .free-start .ensures) _ (g .free-from .ensures)
-    _ _ _ _ _ (λ e. leb-true _ _ e) (omega arith) (p .before .before .free .given .1) (p .place-at2 .ensures) (c .before .fewer2 .ensures) (c .hint-of2 .ensures)
+    shows-free _ _ _ _ _ _ _ _ _ _ (f .before .start-of .ensures) (f .lesser .ensures) (w .before .near-chunk .ensures) (w .wider-chunk .ensures) _ (g .before .free-start .ensures) _ (g .free-from .ensures)
+    _ _ _ _ _ (λ e. leb-true _ _ e) (omega arith) (p .before .before .free .given .1) (p .place-at2 .ensures) (c .before .lesser2 .ensures) (c .hint-of2 .ensures)
 
 returns-3 : tie.Need-returns-3
 returns-3 c =
     let g = c .before .before .before in
     let w = g .before .before .before in
     let f = w .before .before in
-    shows-nowhere _ _ _ _ _ _ _ _ _ _ (f .before .start-of .ensures) (f .fewer .ensures) (w .before .near-chunk .ensures) (w .wider-chunk .ensures) _ (g .before .free-start .ensures) _ (g .free-from .ensures)
+    shows-nowhere _ _ _ _ _ _ _ _ _ _ (f .before .start-of .ensures) (f .lesser .ensures) (w .before .near-chunk .ensures) (w .wider-chunk .ensures) _ (g .before .free-start .ensures) _ (g .free-from .ensures)
     _ (omega arith) (c .before .enum-told .given .1) (c .hint-of3 .ensures)
 
 pub log-place-spec : {M : Type 1} → statement M
@@ -77,7 +77,7 @@ log-place-spec =
     tie.close
     (tie.spec
     start-of-requires
-    fewer-requires
+    lesser-requires
     near-chunk-requires
     wider-chunk-requires
     place-at-requires
@@ -87,7 +87,7 @@ log-place-spec =
     free-from-requires
     enum-known-free
     place-at-requires-2
-    fewer-requires-2
+    lesser-requires-2
     hint-of-requires-2
     enum-told
     hint-of-requires-3

@@ -8,7 +8,7 @@ use native.Mathlib.Decide.{ℕ-discrete}
 use Rattle.spec.specs.Words.{wordsOf}
 use Rattle.spec.specs.Plans.{hasSpace}
 use borrow.Author.Needs.{needs}
-use Rattle.space.proofs.Hint.{before-more}
+use Rattle.directory.proofs.Search.{before-more}
 use Rattle.space.proofs.next_chunk.Statement.{statement}
 use Rattle.space.proofs.next_chunk.Tie as tie
 

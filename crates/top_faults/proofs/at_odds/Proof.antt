@@ -11,17 +11,17 @@ differs-requires c κs = search needs
 returns : tie.Need-returns
 returns c = rw (sym (c .before .differs .ensures) ∙ c .if1 .taken)
 
-is-pointed-requires : tie.Need-is-pointed-requires
-is-pointed-requires c κs = search needs
+points-requires : tie.Need-points-requires
+points-requires c κs = search needs
 
 shares-requires : tie.Need-shares-requires
 shares-requires c κs = search needs
 
 returns-2 : tie.Need-returns-2
-returns-2 c = rw (sym (c .before .before .before .before .differs .ensures) ∙ c .before .before .before .if1 .left, sym (c .before .before .is-pointed .ensures) ∙ c .before .if2 .taken) (c .shares .ensures)
+returns-2 c = rw (sym (c .before .before .before .before .differs .ensures) ∙ c .before .before .before .if1 .left, sym (c .before .before .points .ensures) ∙ c .before .if2 .taken) (c .shares .ensures)
 
 returns-3 : tie.Need-returns-3
-returns-3 c = rw (sym (c .before .before .before .differs .ensures) ∙ c .before .before .if1 .left, sym (c .before .is-pointed .ensures) ∙ c .if2 .left)
+returns-3 c = rw (sym (c .before .before .before .differs .ensures) ∙ c .before .before .if1 .left, sym (c .before .points .ensures) ∙ c .if2 .left)
 
 pub at-odds-spec : {M : Type 1} → statement M
-at-odds-spec = tie.close (tie.spec differs-requires returns is-pointed-requires shares-requires returns-2 returns-3)
+at-odds-spec = tie.close (tie.spec differs-requires returns points-requires shares-requires returns-2 returns-3)
