@@ -23,11 +23,11 @@ pub record Passed (n : ℕ) (ws : List ℕ) (c : Cursor) (es xs : List Entry) : 
 
 -- from word `at` to word `at′` of any chunk stand entries that a pass may leave out: no value of them lies in a
 -- block, and none is asked for
-pub record PassedOver (ws : List ℕ) (end : ℕ) (marks : List ℕ) (low high at at′ : ℕ) : Type 0 where
+pub record PassedOver (ws : List ℕ) (end : ℕ) (single : Bool) (marks : List ℕ) (low high at at′ : ℕ) : Type 0 where
   pub nearer : (n c : ℕ) → left n ws (cursorAt c at′ end) ≤ left n ws (cursorAt c at end)
   pub over : List Entry
   pub unpointed : (e : Entry) → Mem e over → pointed e ≡ false
-  pub unasked : (e : Entry) → Mem e over → asked marks low high (e .key) ≡ false
+  pub unasked : (e : Entry) → Mem e over → asked single marks low high (e .key) ≡ false
   pub passes : (n c : ℕ) (es xs : List Entry) → Passed n ws (cursorAt c at end) es xs → Passed n ws (cursorAt c at′ end) es (xs ++ over)
 
 -- the table before and after one more entry of a key, of which it would hold `own` with this entry alone; with the

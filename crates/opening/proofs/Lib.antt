@@ -3,3 +3,4 @@ pub mod Pass
 pub mod Runs
 pub mod Opens
 pub mod Sums
+pub mod Skips
