@@ -130,7 +130,7 @@ module _ (ws : List ℕ) (end : ℕ) (single : Bool) (marks : List ℕ) (low hig
   }
 
   -- past a put
-  pub over-more : (at′ : ℕ) → PassedOver ws end single marks low high at at′ → at′ < end → at′ < length ws → (w : ℕ) → w ≡ getD ws at′ 0 → w % 16 ≡ 1 → (k : ℕ) → k ≡ getD ws (at′ + 1) 0
+  over-more : (at′ : ℕ) → PassedOver ws end single marks low high at at′ → at′ < end → at′ < length ws → (w : ℕ) → w ≡ getD ws at′ 0 → w % 16 ≡ 1 → (k : ℕ) → k ≡ getD ws (at′ + 1) 0
       → asked single marks low high k ≡ false → (m : ℕ) → m ≡ (w / 16777216 + 7) / 8 → PassedOver ws end single marks low high at (at′ + (2 + m))
   over-more at′ so-far h l w is-word put k is-key none-asked m is-words = record {
     nearer = λ n c. let f = left-less n ws c at′ (2 + m) end in let g = so-far .nearer n c in omega arith;
@@ -162,3 +162,10 @@ module _ (ws : List ℕ) (end : ℕ) (single : Bool) (marks : List ℕ) (low hig
           rw (append-assoc xs (so-far .over) (f ∷ [])) at
           (passed-next n ws (cursorAt c at′ end) es (xs ++ so-far .over) (N.Entry 1 0 v x k m at′ (cursorAt c (at′ + (2 + m)) end)) (next-found n ws c at′ end 1 0 v x k m (q ∙ rw (is-key, is-words))) p 1 0 v x k m at′
           (cursorAt c (at′ + (2 + m)) end) refl)
+
+  -- its first two words and the value's, counted together
+  pub over-put : (at′ : ℕ) → PassedOver ws end single marks low high at at′ → at′ < end → at′ < length ws → (w : ℕ) → w ≡ getD ws at′ 0 → w % 16 ≡ 1 → (k : ℕ) → k ≡ getD ws (at′ + 1) 0
+      → asked single marks low high k ≡ false → PassedOver ws end single marks low high at (at′ + (w / 16777216 + 23) / 8)
+  over-put at′ so-far h l w is-word put k is-key none-asked =
+      let sum : at′ + (w / 16777216 + 23) / 8 ≡ at′ + (2 + (w / 16777216 + 7) / 8) = omega arith in
+      rw sum (over-more at′ so-far h l w is-word put k is-key none-asked ((w / 16777216 + 7) / 8) refl)

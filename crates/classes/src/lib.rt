@@ -5,7 +5,7 @@ ghost use Prim.Native.Nat.{_/_, _<_, min};
 ghost use lib.ListN.{length};
 ghost use Rattle.spec.specs.Words.{wordsOf};
 ghost use Rattle.classes.specs.Classes.{classOf, within, asked};
-ghost use Rattle.classes.specs.Passing.{PassedOver, Entering, Collecting, OneMarked, QuietFrom, TwinsMarked};
+ghost use Rattle.classes.specs.Passing.{PassedOver, Onward, Entering, Collecting, OneMarked, QuietFrom, TwinsMarked};
 use log::Cursor;
 use log::Next;
 use words::load;
@@ -91,11 +91,28 @@ pub fn pass_over(
             if is_asked(single, marks, low, high, key) {
                 return place;
             }
-            let words = ((word / 0x100_0000 + 7) / 8) as usize;
-            place += 2 + words;
+            place += ((word / 0x100_0000 + 23) / 8) as usize;
         }
     }
     place
+}
+
+// From chunk c on, in an image of `count` chunks: the beginning of the first chunk that has committed words, or of the
+// last one.
+pub fn onward(image: &[u8], count: usize, c: usize) -> Cursor
+    ensures { λ r. ⌜ Onward count (wordsOf (now (image .entry))) c r ⌝ }
+{
+    let mut next = log::chunk_cursor(image, c);
+    while next.chunk < count {
+        if next.at < next.end {
+            return next;
+        }
+        if count - next.chunk == 1 {
+            return next;
+        }
+        next = log::chunk_cursor(image, next.chunk + 1);
+    }
+    next
 }
 
 // COLLECTING

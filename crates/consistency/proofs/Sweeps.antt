@@ -25,7 +25,7 @@ use Rattle.log.specs.declared.Cursor.{Cursor}
 use Rattle.log.specs.declared.Next.{Next}
 use Rattle.log.specs.declared.Next.the-variants as N
 use Rattle.log.specs.Stands.{entryIn}
-use Rattle.log.specs.Cursor.{start, cursorAt, Advanced}
+use Rattle.log.specs.Cursor.{start, cursorAt, remaining, Advanced}
 use Rattle.volatile.specs.Check.{Live, CheckInv}
 use Rattle.volatile.specs.Known.{several}
 use Rattle.volatile.specs.Plain.{Single}
@@ -124,6 +124,15 @@ module _ (n : ℕ) (ws table : List ℕ) (fits single : Bool) (marks : List ℕ)
           let f = mem-filter (λ (x : Entry). within low high (x .key)) e (run .over) m in
           let z = run .unpointed e (f .0) in
           inr (λ t. (rw z, single-agrees es e (singly (e .key) (f .1) (run .unasked e (f .0))) (part e (f .0)) t), z)
+
+  -- on to a cursor from which the same remains
+  pub going-on : (now : List ℕ) (s : Checked) (c d : Cursor) → Going n ws table fits single marks low high so before now s c → remaining 12 n ws c ≡ remaining 12 n ws d
+      → Going n ws table fits single marks low high so before now s d
+  going-on now s c d inv q = record {
+    kept = inv .kept;
+    sound = inv .sound;
+    tests = λ es xs a singly first. let i = inv .tests es xs a singly first in let p = i .1 in (i .0, record { rest = p .rest; split = p .split; remains = sym q ∙ p .remains }, i .2);
+  }
 
   module _ (now : List ℕ) (s : Checked) (c : Cursor) (inv : Going n ws table fits single marks low high so before now s c) (r : Next) (told : Advanced n ws c r) where
     pub going-done : r ≡ N.Done → SweptAs n ws table fits single marks low high so before now s

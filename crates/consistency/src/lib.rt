@@ -19,18 +19,17 @@ use classes::MARKS;
 use classes::collect;
 use classes::is_within;
 use classes::mark_twins;
+use classes::onward;
 use classes::pass_over;
 use codec::Unit;
 use index::look;
 use index::unpack;
 use log::Best;
-use log::Cursor;
-use log::Next;
 use log::best_of;
-use log::first_cursor;
-use log::next_in_log;
+use log::next_entry;
 use log::size_of;
 use log::words_for;
+use spec::LogStep;
 use words::load;
 
 // An entry of the log but for its value: `place` is its first word.
@@ -262,28 +261,38 @@ fn sweep(
     ensures { λ r. ⌜ SweptAs count (wordsOf (now (image .entry))) (now (table .entry)) fits single (now (marks .entry)) low high so (now (buffer .entry)) (now (buffer .exit)) r ⌝ }
 {
     let mut s = so;
-    let mut cursor = first_cursor();
+    let mut chunk: usize = 0;
+    let mut place: usize = 0;
+    let mut end: usize = 0;
     loop {
-        let chunk = cursor.chunk;
-        let end = cursor.end;
-        let at = pass_over(image, cursor.at, end, single, marks, low, high);
-        let n = next_in_log(image, count, Cursor { chunk, at, end });
-        match n {
-            Next::Done => {
+        let at = pass_over(image, place, end, single, marks, low, high);
+        let step = next_entry(image, at, end);
+        match step {
+            LogStep::End => {
+                if count <= chunk {
+                    return s;
+                }
+                if count - chunk == 1 {
+                    return s;
+                }
+                let next = onward(image, count, chunk + 1);
+                chunk = next.chunk;
+                place = next.at;
+                end = next.end;
+            }
+            LogStep::Wrong => {
                 return s;
             }
-            Next::Wrong => {
-                return s;
+            LogStep::Padding => {
+                place = at + 1;
             }
-            Next::Entry {
+            LogStep::Entry {
                 op,
                 placement,
                 version,
                 field,
                 key,
-                words: _,
-                place,
-                cursor: after,
+                words,
             } => {
                 let e = Head {
                     op,
@@ -291,11 +300,11 @@ fn sweep(
                     version,
                     field,
                     key,
-                    place,
+                    place: at,
                 };
                 s = visit(image, count, table, fits, low, high, buffer, s, e);
                 if s.blocks {
-                    cursor = after;
+                    place = at + (2 + words);
                 } else {
                     return s;
                 }

@@ -5,10 +5,6 @@ use Prim.Native.Nat.{ℕ, _+_, _<_}
 use native.Mathlib.Omega.{arith}
 use mathlib.Core.List.{List}
 use lib.ListN.{length, getD}
-use lib.Seq.{slice}
-use Rattle.spec.specs.declared.LogStep.the-variants as S
-use Rattle.spec.specs.Log.{stepOf}
-use Rattle.log.specs.Cursor.{cursorAt, remaining, left}
 use Rattle.log.proofs.Walk.{next-padding, left-padding}
 use Rattle.classes.proofs.Passed.{padding-stands}
 use Rattle.opening.specs.Pass.{Skipped}
@@ -24,11 +20,3 @@ module _ (ws : List ℕ) (end at : ℕ) where
         nearer = λ n c. let f = left-padding n ws c at′ end q in let g = so-far .nearer n c in omega arith;
         same = λ n c. so-far .same n c ∙ next-padding n ws c at′ end q;
       }
-
-  -- from a word that is padding on
-  module _ (q : stepOf (slice at end ws) ≡ S.Padding) (at′ : ℕ) (skipped : Skipped ws end (at + 1) at′) (n chunk : ℕ) where
-    pub skip-same : remaining 12 n ws (cursorAt chunk at end) ≡ remaining 12 n ws (cursorAt chunk at′ end)
-    skip-same = next-padding n ws chunk at end q ∙ skipped .same n chunk
-
-    pub skip-nearer : left n ws (cursorAt chunk at′ end) < left n ws (cursorAt chunk at end)
-    skip-nearer = let f = left-padding n ws chunk at end q in let g = skipped .nearer n chunk in omega arith

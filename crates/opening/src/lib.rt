@@ -281,6 +281,7 @@ fn fill(image: &[u8], count: usize, table: &mut [u64], buffer: &mut Buffer) -> F
     let mut at: usize = 0;
     let mut end: usize = 0;
     loop {
+        at = skip(image, at, end);
         let r = run(image, at, end, table, keys, fits);
         let passed = r.at - at;
         sums::add(buffer, at, passed as u64);
@@ -307,7 +308,7 @@ fn fill(image: &[u8], count: usize, table: &mut [u64], buffer: &mut Buffer) -> F
                         keys,
                     };
                 }
-                let next = log::chunk_cursor(image, chunk + 1);
+                let next = classes::onward(image, count, chunk + 1);
                 chunk = next.chunk;
                 at = next.at;
                 end = next.end;
@@ -322,7 +323,7 @@ fn fill(image: &[u8], count: usize, table: &mut [u64], buffer: &mut Buffer) -> F
                 };
             }
             LogStep::Padding => {
-                at = skip(image, at + 1, end);
+                at += 1;
             }
             LogStep::Entry {
                 op,

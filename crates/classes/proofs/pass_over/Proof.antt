@@ -6,7 +6,7 @@ use native.Mathlib.Omega.{arith}
 use Rattle.spec.specs.Words.{wordsOf}
 use Rattle.words.specs.Image.{length-wordsOf}
 use Rattle.classes.specs.Passing.{PassedOver}
-use Rattle.classes.proofs.Passed.{over-start, over-padding, over-more}
+use Rattle.classes.proofs.Passed.{over-start, over-padding, over-put}
 use Rattle.classes.proofs.pass_over.Statement.{statement}
 use Rattle.classes.proofs.pass_over.Tie as tie
 
@@ -53,9 +53,6 @@ is-asked-requires c κs = search needs
 returns-2 : tie.Need-returns-2 Inv-loop μ-loop
 returns-2 c = c .before .before .before .before .before .before .before .loop .inv
 
-add-words : tie.Need-add-words Inv-loop μ-loop
-add-words c = search needs
-
 add-place-2 : tie.Need-add-place-2 Inv-loop μ-loop
 add-place-2 c = search needs
 
@@ -70,7 +67,7 @@ loop-again-2 c =
     let a = c .before .before .before .before .before .before .before .before .before .before .before .args in
     let n = length-wordsOf (a .image .now) in
     let s = c .before .before .before .before .before .before .before .before .lesser .ensures in
-    over-more (wordsOf (a .image .now)) (a .end) (a .single) (a .marks .now) (a .low) (a .high) (a .at) (c .before .before .before .before .before .before .before .loop .place) (c .before .before .before .before .before .before .before .loop .inv) (omega arith) (omega arith) (c .before .before .before .before .before .load .result) (c .before .before .before .before .before .load .ensures) (omega arith) (c .before .before .load2 .result) (c .before .before .load2 .ensures) (sym (c .before .is-asked .ensures) ∙ c .if3 .left) _ refl
+    over-put (wordsOf (a .image .now)) (a .end) (a .single) (a .marks .now) (a .low) (a .high) (a .at) (c .before .before .before .before .before .before .before .loop .place) (c .before .before .before .before .before .before .before .loop .inv) (omega arith) (omega arith) (c .before .before .before .before .before .load .result) (c .before .before .before .before .before .load .ensures) (omega arith) (c .before .before .load2 .result) (c .before .before .load2 .ensures) (sym (c .before .is-asked .ensures) ∙ c .if3 .left)
 
 returns-3 : tie.Need-returns-3 Inv-loop μ-loop
 returns-3 c = c .before .loop .inv
@@ -92,7 +89,6 @@ pass-over-spec =
     load-requires-2
     is-asked-requires
     returns-2
-    add-words
     add-place-2
     add-place-3
     loop-less-2
