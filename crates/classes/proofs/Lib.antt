@@ -3,3 +3,4 @@ pub mod Asked
 pub mod Passed
 pub mod Collects
 pub mod Twins
+pub mod Onwards

@@ -25,7 +25,7 @@ use Rattle.log.specs.declared.Next.{Next}
 use Rattle.log.specs.declared.Next.the-variants as N
 use Rattle.log.specs.Stands.{entryIn}
 use Rattle.log.specs.Cursor.{start, cursorAt, remaining, left, Handed, Advanced}
-use Rattle.log.proofs.Walk.{remaining-start, handed, next-wrong, next-found}
+use Rattle.log.proofs.Walk.{remaining-start, handed, next-wrong, next-padding, next-found}
 use Rattle.classes.specs.Classes.{asked}
 use Rattle.classes.specs.Passing.{Passed, PassedOver}
 
@@ -61,6 +61,14 @@ module _ (n : ℕ) (ws : List ℕ) (c : Cursor) (es xs : List Entry) (r : Next) 
     passed-next = record { rest = next .0; split = inv .split ∙ ap (xs ++_) (next .2) ∙ sym (append-assoc xs (entryIn ws op pl v x k m a ∷ []) (next .0)); remains = next .1 }
 
 -- ## Passing over
+
+first-zero : firstOf 0 ≡ F.Padding
+unfolding firstOf
+first-zero = refl
+
+-- a word of zero is padding
+pub padding-stands : (ws : List ℕ) (at end : ℕ) → at < end → at < length ws → 0 ≡ getD ws at 0 → stepOf (slice at end ws) ≡ S.Padding
+padding-stands ws at end h l z = step-first at end ws F.Padding h l (ap firstOf (sym z) ∙ first-zero)
 
 -- a first word with the low bits 0001 is that of a put with its value in the log, or a wrong one
 first-put : (w : ℕ) → w % 16 ≡ 1 → (firstOf w ≡ F.Wrong) ⊎ (firstOf w ≡ F.Entry 1 0 (w / 16 % 1048576) (w / 16777216))
@@ -99,8 +107,8 @@ left-less : (n : ℕ) (ws : List ℕ) (c at k end : ℕ) → left n ws (cursorAt
 unfolding left
 left-less n ws c at k end = omega arith
 
-module _ (ws : List ℕ) (end : ℕ) (marks : List ℕ) (low high at : ℕ) where
-  pub over-start : PassedOver ws end marks low high at at
+module _ (ws : List ℕ) (end : ℕ) (single : Bool) (marks : List ℕ) (low high at : ℕ) where
+  pub over-start : PassedOver ws end single marks low high at at
   over-start = record {
     nearer = λ n c. omega arith;
     over = [];
@@ -109,13 +117,26 @@ module _ (ws : List ℕ) (end : ℕ) (marks : List ℕ) (low high at : ℕ) wher
     passes = λ n c es xs p. rw (append-nil xs) p;
   }
 
-  pub over-more : (at′ : ℕ) → PassedOver ws end marks low high at at′ → at′ < end → at′ < length ws → (w : ℕ) → w ≡ getD ws at′ 0 → w % 16 ≡ 1 → (k : ℕ) → k ≡ getD ws (at′ + 1) 0
-      → asked marks low high k ≡ false → (m : ℕ) → m ≡ (w / 16777216 + 7) / 8 → PassedOver ws end marks low high at (at′ + (2 + m))
+  -- past padding
+  pub over-padding : (at′ : ℕ) → PassedOver ws end single marks low high at at′ → at′ < end → at′ < length ws → 0 ≡ getD ws at′ 0 → PassedOver ws end single marks low high at (at′ + 1)
+  over-padding at′ so-far h l is-zero = record {
+    nearer = λ n c. let f = left-less n ws c at′ 1 end in let g = so-far .nearer n c in omega arith;
+    over = so-far .over;
+    unpointed = so-far .unpointed;
+    unasked = so-far .unasked;
+    passes = λ n c es xs p.
+        let q = so-far .passes n c es xs p in
+        record { rest = q .rest; split = q .split; remains = sym (next-padding n ws c at′ end (padding-stands ws at′ end h l is-zero)) ∙ q .remains };
+  }
+
+  -- past a put
+  over-more : (at′ : ℕ) → PassedOver ws end single marks low high at at′ → at′ < end → at′ < length ws → (w : ℕ) → w ≡ getD ws at′ 0 → w % 16 ≡ 1 → (k : ℕ) → k ≡ getD ws (at′ + 1) 0
+      → asked single marks low high k ≡ false → (m : ℕ) → m ≡ (w / 16777216 + 7) / 8 → PassedOver ws end single marks low high at (at′ + (2 + m))
   over-more at′ so-far h l w is-word put k is-key none-asked m is-words = record {
     nearer = λ n c. let f = left-less n ws c at′ (2 + m) end in let g = so-far .nearer n c in omega arith;
     over = so-far .over ++ f ∷ [];
     unpointed = λ e i. either-of (λ (y : Entry). pointed y ≡ false) e (so-far .unpointed e) refl (mem-cases e (so-far .over) (f ∷ []) i);
-    unasked = λ e i. either-of (λ (y : Entry). asked marks low high (y .key) ≡ false) e (so-far .unasked e) none-asked (mem-cases e (so-far .over) (f ∷ []) i);
+    unasked = λ e i. either-of (λ (y : Entry). asked single marks low high (y .key) ≡ false) e (so-far .unasked e) none-asked (mem-cases e (so-far .over) (f ∷ []) i);
     passes = λ n c es xs p. on n c es xs (so-far .passes n c es xs p) (put-stands ws at′ end w h l is-word put);
   }
     where
@@ -141,3 +162,10 @@ module _ (ws : List ℕ) (end : ℕ) (marks : List ℕ) (low high at : ℕ) wher
           rw (append-assoc xs (so-far .over) (f ∷ [])) at
           (passed-next n ws (cursorAt c at′ end) es (xs ++ so-far .over) (N.Entry 1 0 v x k m at′ (cursorAt c (at′ + (2 + m)) end)) (next-found n ws c at′ end 1 0 v x k m (q ∙ rw (is-key, is-words))) p 1 0 v x k m at′
           (cursorAt c (at′ + (2 + m)) end) refl)
+
+  -- its first two words and the value's, counted together
+  pub over-put : (at′ : ℕ) → PassedOver ws end single marks low high at at′ → at′ < end → at′ < length ws → (w : ℕ) → w ≡ getD ws at′ 0 → w % 16 ≡ 1 → (k : ℕ) → k ≡ getD ws (at′ + 1) 0
+      → asked single marks low high k ≡ false → PassedOver ws end single marks low high at (at′ + (w / 16777216 + 23) / 8)
+  over-put at′ so-far h l w is-word put k is-key none-asked =
+      let sum : at′ + (w / 16777216 + 23) / 8 ≡ at′ + (2 + (w / 16777216 + 7) / 8) = omega arith in
+      rw sum (over-more at′ so-far h l w is-word put k is-key none-asked ((w / 16777216 + 7) / 8) refl)

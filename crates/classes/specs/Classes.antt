@@ -1,6 +1,6 @@
 -- Classes of keys, ranges of them, and marks by which a pass over the log tells the keys that it is asked for.
 -- Assumes nothing.
-use mathlib.Core.Bool.{Bool, true}
+use mathlib.Core.Bool.{Bool, true, false}
 use mathlib.Core.List.{List}
 use Prim.Native.Nat.{ℕ, _+_, _*_, _/_, _%_}
 use lib.Dec.{leb, ltb}
@@ -23,8 +23,9 @@ markAt marks at = pick (ltb at (length marks)) (ltb 0 (getD marks at 0)) true
 abbrev pub marked : List ℕ → ℕ → Bool
 marked marks key = markAt marks (classOf key / 0x4_0000)
 
-abbrev pub asked : List ℕ → (low high key : ℕ) → Bool
-asked marks low high key = both (within low high key) (marked marks key)
+-- a pass asks for a key of the range with a mark; for none where each key has a single top entry
+abbrev pub asked : Bool → List ℕ → (low high key : ℕ) → Bool
+asked single marks low high key = pick single false (both (within low high key) (marked marks key))
 
 -- the entries of a range of classes
 abbrev pub classIn : (low high : ℕ) → List Entry → List Entry

@@ -11,7 +11,7 @@ use Rattle.spec.specs.Blocks.{pointed}
 use Rattle.theory_log.specs.Contents.{Mem}
 use Rattle.index.specs.Index.{slots, infoAt, get}
 use Rattle.log.specs.declared.Cursor.{Cursor}
-use Rattle.log.specs.Cursor.{cursorAt, remaining, left}
+use Rattle.log.specs.Cursor.{cursorAt, remaining, left, Opened}
 use Rattle.volatile.specs.Known.{ownOf, Bounded, Indexed, FillInv}
 use Rattle.classes.specs.Classes.{marked, asked, classIn}
 
@@ -23,12 +23,20 @@ pub record Passed (n : ℕ) (ws : List ℕ) (c : Cursor) (es xs : List Entry) : 
 
 -- from word `at` to word `at′` of any chunk stand entries that a pass may leave out: no value of them lies in a
 -- block, and none is asked for
-pub record PassedOver (ws : List ℕ) (end : ℕ) (marks : List ℕ) (low high at at′ : ℕ) : Type 0 where
+pub record PassedOver (ws : List ℕ) (end : ℕ) (single : Bool) (marks : List ℕ) (low high at at′ : ℕ) : Type 0 where
   pub nearer : (n c : ℕ) → left n ws (cursorAt c at′ end) ≤ left n ws (cursorAt c at end)
   pub over : List Entry
   pub unpointed : (e : Entry) → Mem e over → pointed e ≡ false
-  pub unasked : (e : Entry) → Mem e over → asked marks low high (e .key) ≡ false
+  pub unasked : (e : Entry) → Mem e over → asked single marks low high (e .key) ≡ false
   pub passes : (n c : ℕ) (es xs : List Entry) → Passed n ws (cursorAt c at end) es xs → Passed n ws (cursorAt c at′ end) es (xs ++ over)
+
+-- the chunks from c on that have no committed words are passed: what remains from the beginning of chunk c remains from
+-- the cursor
+pub record Onward (n : ℕ) (ws : List ℕ) (c : ℕ) (r : Cursor) : Type 0 where
+  pub first : Cursor
+  pub opened : Opened ws c first
+  pub nearer : left n ws r ≤ left n ws first
+  pub same : remaining 12 n ws first ≡ remaining 12 n ws r
 
 -- the table before and after one more entry of a key, of which it would hold `own` with this entry alone; with the
 -- numbers of keys before and after

@@ -5,7 +5,7 @@ ghost use Prim.Native.Nat.{_/_, _<_};
 ghost use lib.ListN.{length};
 ghost use Rattle.spec.specs.Words.{wordsOf};
 ghost use Rattle.classes.specs.Classes.{classOf, within, asked};
-ghost use Rattle.classes.specs.Passing.{PassedOver, Entering, Collecting, OneMarked, QuietFrom, TwinsMarked};
+ghost use Rattle.classes.specs.Passing.{PassedOver, Onward, Entering, Collecting, OneMarked, QuietFrom, TwinsMarked};
 use log::Cursor;
 use log::Next;
 use words::lesser;
@@ -36,10 +36,14 @@ pub fn is_within(low: u64, high: u64, key: u64) -> bool
     false
 }
 
-// Whether a key is asked for: its class is within the range, and its mark is set or there is none for it.
-fn is_asked(marks: &[u8], low: u64, high: u64, key: u64) -> bool
-    ensures { λ r. ⌜ r ≡ asked (now (marks .entry)) low high key ⌝ }
+// Whether a key is asked for: none is where each key has a single top entry, else its class is within the range, and its
+// mark is set or there is none for it.
+fn is_asked(single: bool, marks: &[u8], low: u64, high: u64, key: u64) -> bool
+    ensures { λ r. ⌜ r ≡ asked single (now (marks .entry)) low high key ⌝ }
 {
+    if single {
+        return false;
+    }
     let class = class_of(key);
     if low <= class {
         if class < high {
@@ -54,26 +58,56 @@ fn is_asked(marks: &[u8], low: u64, high: u64, key: u64) -> bool
 }
 
 // PASSING
-// From word `at` on, past puts with their values in the log whose keys are not asked for. Of a put it takes the length
-// from the first word and asks nothing more: in a log without a wrong entry that is where the next one stands.
-pub fn pass_over(image: &[u8], at: usize, end: usize, marks: &[u8], low: u64, high: u64) -> usize
-    ensures { λ r. ⌜ PassedOver (wordsOf (now (image .entry))) end (now (marks .entry)) low high at r ⌝ }
+// From word `at` on, past padding and puts with their values in the log whose keys are not asked for. Of a put it takes
+// the length from the first word and asks nothing more: in a log without a wrong entry that is where the next one
+// stands.
+pub fn pass_over(
+    image: &[u8],
+    at: usize,
+    end: usize,
+    single: bool,
+    marks: &[u8],
+    low: u64,
+    high: u64,
+) -> usize
+    ensures { λ r. ⌜ PassedOver (wordsOf (now (image .entry))) end single (now (marks .entry)) low high at r ⌝ }
 {
     let stop = lesser(end, image.len() / 8);
     let mut place = at;
     while place < stop {
         let word = load(image, place);
-        if word % 16 != 1 {
-            return place;
+        if word == 0 {
+            place += 1;
+        } else {
+            if word % 16 != 1 {
+                return place;
+            }
+            let key = load(image, place + 1);
+            if is_asked(single, marks, low, high, key) {
+                return place;
+            }
+            place += ((word / 0x100_0000 + 23) / 8) as usize;
         }
-        let key = load(image, place + 1);
-        if is_asked(marks, low, high, key) {
-            return place;
-        }
-        let words = ((word / 0x100_0000 + 7) / 8) as usize;
-        place += 2 + words;
     }
     place
+}
+
+// From chunk c on, in an image of `count` chunks: the beginning of the first chunk that has committed words, or of the
+// last one.
+pub fn onward(image: &[u8], count: usize, c: usize) -> Cursor
+    ensures { λ r. ⌜ Onward count (wordsOf (now (image .entry))) c r ⌝ }
+{
+    let mut next = log::chunk_cursor(image, c);
+    while next.chunk < count {
+        if next.at < next.end {
+            return next;
+        }
+        if count - next.chunk == 1 {
+            return next;
+        }
+        next = log::chunk_cursor(image, next.chunk + 1);
+    }
+    next
 }
 
 // COLLECTING
@@ -117,7 +151,7 @@ pub fn collect(image: &[u8], count: usize, table: &mut [u64], low: u64, high: u6
     loop {
         let chunk = cursor.chunk;
         let end = cursor.end;
-        let at = pass_over(image, cursor.at, end, &image[0..0], low, high);
+        let at = pass_over(image, cursor.at, end, false, &image[0..0], low, high);
         let n = log::next_in_log(image, count, Cursor { chunk, at, end });
         match n {
             Next::Done => {

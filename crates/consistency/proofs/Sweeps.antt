@@ -25,11 +25,12 @@ use Rattle.log.specs.declared.Cursor.{Cursor}
 use Rattle.log.specs.declared.Next.{Next}
 use Rattle.log.specs.declared.Next.the-variants as N
 use Rattle.log.specs.Stands.{entryIn}
-use Rattle.log.specs.Cursor.{start, cursorAt, Advanced}
+use Rattle.log.specs.Cursor.{start, cursorAt, remaining, Advanced}
 use Rattle.volatile.specs.Check.{Live, CheckInv}
 use Rattle.volatile.specs.Known.{several}
+use Rattle.volatile.specs.Plain.{Single}
 use Rattle.volatile.proofs.Plain.{low-single, single-agrees}
-use Rattle.classes.specs.Classes.{within, marked, classIn}
+use Rattle.classes.specs.Classes.{within, marked, asked, classIn}
 use Rattle.classes.specs.Passing.{Passed, PassedOver, TwinsMarked}
 use Rattle.classes.proofs.Classes.{class-several}
 use Rattle.classes.proofs.Passed.{passed-start, passed-done, passed-wrong, passed-split, passed-next}
@@ -90,19 +91,19 @@ class-part low high es xs ps a b e m = go (mem-cases e xs (classIn low high ps) 
     go (inr i) = b e (mem-filter (λ (f : Entry). within low high (f .key)) e ps i .0)
 
 -- at a cursor: the tests are those of the entries xs and of those of the range that are passed
-pub record Going (n : ℕ) (ws table : List ℕ) (fits : Bool) (marks : List ℕ) (low high : ℕ) (so : Checked) (before now : List ℕ) (s : Checked) (c : Cursor) : Type 0 where
+pub record Going (n : ℕ) (ws table : List ℕ) (fits single : Bool) (marks : List ℕ) (low high : ℕ) (so : Checked) (before now : List ℕ) (s : Checked) (c : Cursor) : Type 0 where
   pub kept : WordsKept before before → WordsKept before now
   pub sound : so .blocks ≡ true → s .blocks ≡ true
-  pub tests : (es xs : List Entry) → Ahead n ws table fits low high es xs → Noted marks low high es → CheckInv 12 n ws es xs (hasBit before) true (so .agreeing) (so .apart)
+  pub tests : (es xs : List Entry) → Ahead n ws table fits low high es xs → Noted single marks low high es → CheckInv 12 n ws es xs (hasBit before) true (so .agreeing) (so .apart)
       → (ps : List Entry) × Passed n ws c es ps × CheckInv 12 n ws es (xs ++ classIn low high ps) (hasBit now) true (s .agreeing) (s .apart)
 
-module _ (n : ℕ) (ws table : List ℕ) (fits : Bool) (marks : List ℕ) (low high : ℕ) (so : Checked) (before : List ℕ) where
-  pub going-start : (c : Cursor) → c ≡ start → Going n ws table fits marks low high so before before so c
+module _ (n : ℕ) (ws table : List ℕ) (fits single : Bool) (marks : List ℕ) (low high : ℕ) (so : Checked) (before : List ℕ) where
+  pub going-start : (c : Cursor) → c ≡ start → Going n ws table fits single marks low high so before before so c
   going-start c q = record { kept = λ k. k; sound = λ t. t; tests = λ es xs a singly inv. ([], passed-start n ws c es q (a .listed .entries), rw (append-nil xs) inv) }
 
   -- past entries of which there is nothing to find
-  pub going-over : (now : List ℕ) (s : Checked) (chunk at end : ℕ) → Going n ws table fits marks low high so before now s (cursorAt chunk at end) → (at′ : ℕ) → PassedOver ws end marks low high at at′
-      → Going n ws table fits marks low high so before now s (cursorAt chunk at′ end)
+  pub going-over : (now : List ℕ) (s : Checked) (chunk at end : ℕ) → Going n ws table fits single marks low high so before now s (cursorAt chunk at end) → (at′ : ℕ) → PassedOver ws end single marks low high at at′
+      → Going n ws table fits single marks low high so before now s (cursorAt chunk at′ end)
   going-over now s chunk at end inv at′ run = record {
     kept = inv .kept;
     sound = inv .sound;
@@ -117,26 +118,31 @@ module _ (n : ℕ) (ws table : List ℕ) (fits : Bool) (marks : List ℕ) (low h
         );
   }
     where
-      unmarked : (a b : Bool) → both a b ≡ false → a ≡ true → b ≡ false
-      unmarked true b h t = h
-      unmarked false b h t = absurd (not-both true refl (sym t))
-
-      new : (es : List Entry) → Noted marks low high es → (ys : List Entry) → Part (run .over) es → (e : Entry) → Mem e ys ⊎ Mem e (classIn low high (run .over)) → Mem e ys ⊎ Harmless 12 n ws es e
+      new : (es : List Entry) → Noted single marks low high es → (ys : List Entry) → Part (run .over) es → (e : Entry) → Mem e ys ⊎ Mem e (classIn low high (run .over)) → Mem e ys ⊎ Harmless 12 n ws es e
       new es singly ys part e (inl m) = inl m
       new es singly ys part e (inr m) =
           let f = mem-filter (λ (x : Entry). within low high (x .key)) e (run .over) m in
           let z = run .unpointed e (f .0) in
-          inr (λ t. (rw z, single-agrees es e (singly (e .key) (f .1) (unmarked (within low high (e .key)) (marked marks (e .key)) (run .unasked e (f .0)) (f .1))) (part e (f .0)) t), z)
+          inr (λ t. (rw z, single-agrees es e (singly (e .key) (f .1) (run .unasked e (f .0))) (part e (f .0)) t), z)
 
-  module _ (now : List ℕ) (s : Checked) (c : Cursor) (inv : Going n ws table fits marks low high so before now s c) (r : Next) (told : Advanced n ws c r) where
-    pub going-done : r ≡ N.Done → SweptAs n ws table fits marks low high so before now s
+  -- on to a cursor from which the same remains
+  pub going-on : (now : List ℕ) (s : Checked) (c d : Cursor) → Going n ws table fits single marks low high so before now s c → remaining 12 n ws c ≡ remaining 12 n ws d
+      → Going n ws table fits single marks low high so before now s d
+  going-on now s c d inv q = record {
+    kept = inv .kept;
+    sound = inv .sound;
+    tests = λ es xs a singly first. let i = inv .tests es xs a singly first in let p = i .1 in (i .0, record { rest = p .rest; split = p .split; remains = sym q ∙ p .remains }, i .2);
+  }
+
+  module _ (now : List ℕ) (s : Checked) (c : Cursor) (inv : Going n ws table fits single marks low high so before now s c) (r : Next) (told : Advanced n ws c r) where
+    pub going-done : r ≡ N.Done → SweptAs n ws table fits single marks low high so before now s
     going-done q = record {
       kept = inv .kept;
       right = λ es xs a singly first t. let i = inv .tests es xs a singly first in rw (passed-done n ws c es (i .0) r told (i .1) q) at (i .2);
       wrong = λ es xs a singly t first f. absurd (not-both (s .blocks) (inv .sound t) f);
     }
 
-    pub going-wrong : r ≡ N.Wrong → SweptAs n ws table fits marks low high so before now s
+    pub going-wrong : r ≡ N.Wrong → SweptAs n ws table fits single marks low high so before now s
     going-wrong q = record {
       kept = inv .kept;
       right = λ es xs a singly first t. let i = inv .tests es xs a singly first in absurd (passed-wrong n ws c es (i .0) r told (i .1) q);
@@ -171,7 +177,7 @@ module _ (n : ℕ) (ws table : List ℕ) (fits : Bool) (marks : List ℕ) (low h
         part : Part (xs ++ classIn low high ps) es
         part = class-part low high es xs ps (ahead .inside) (λ f i. rw (split .1) (mem-l f ps (e ∷ split .0) i))
 
-      pub going-next : s′ .blocks ≡ true → Going n ws table fits marks low high so before after s′ behind
+      pub going-next : s′ .blocks ≡ true → Going n ws table fits single marks low high so before after s′ behind
       going-next t = record {
         kept = more;
         sound = λ u. t;
@@ -184,7 +190,7 @@ module _ (n : ℕ) (ws table : List ℕ) (fits : Bool) (marks : List ℕ) (low h
             );
       }
 
-      pub going-stop : s′ .blocks ≡ false → SweptAs n ws table fits marks low high so before after s′
+      pub going-stop : s′ .blocks ≡ false → SweptAs n ws table fits single marks low high so before after s′
       going-stop f = record {
         kept = more;
         right = λ es xs ahead singly first t. absurd (not-both (s′ .blocks) t f);
@@ -193,29 +199,46 @@ module _ (n : ℕ) (ws table : List ℕ) (fits : Bool) (marks : List ℕ) (low h
 
 -- ## A range
 
-module _ (n : ℕ) (ws table : List ℕ) (fits : Bool) (low high : ℕ) (so : Checked) (before after : List ℕ) (r : Checked) where
+-- where marks are taken, the table holds the keys
+pub marks-fit : (fits single taken : Bool) → taken ≡ pick single false fits → taken ≡ true → fits ≡ true
+marks-fit fits single taken q t = go single (sym q ∙ t)
+  where
+    go : (b : Bool) → pick b false fits ≡ true → fits ≡ true
+    go true h = absurd (not-both true refl (sym h))
+    go false h = h
+
+-- a key of the range that is not asked for where some have twins has no mark
+not-marked : (a b : Bool) → both a b ≡ false → a ≡ true → b ≡ false
+not-marked true b h t = h
+not-marked false b h t = absurd (not-both true refl (sym t))
+
+module _ (n : ℕ) (ws table : List ℕ) (fits single : Bool) (low high : ℕ) (so : Checked) (before after : List ℕ) (r : Checked) where
   -- with the marks of its table
-  pub class-marked : fits ≡ true → (marks : List ℕ) → TwinsMarked table marks → SweptAs n ws table fits marks low high so before after r → ClassChecked n ws table fits low high so before after r
+  pub class-marked : fits ≡ true → (marks : List ℕ) → TwinsMarked table marks → SweptAs n ws table fits false marks low high so before after r → ClassChecked n ws table fits single low high so before after r
   class-marked t marks twins swept = record {
     kept = swept .kept;
-    right = λ es xs a first. swept .right es xs a (noted es xs a) first;
-    wrong = λ es xs a b first. swept .wrong es xs a (noted es xs a) b first;
+    right = λ es xs a s first. swept .right es xs a (noted es xs a) first;
+    wrong = λ es xs a s b first. swept .wrong es xs a (noted es xs a) b first;
   }
     where
-      noted : (es xs : List Entry) → Ahead n ws table fits low high es xs → Noted marks low high es
+      noted : (es xs : List Entry) → Ahead n ws table fits low high es xs → Noted false marks low high es
       noted es xs a k w u = go (decLt (get table k) 0x8000_0000_0000_0000)
         where
           go : Dec (get table k < 0x8000_0000_0000_0000) → several k es ≡ 0
           go (yes l) = sym (class-several low high k w es) ∙ low-single k (classIn low high es) (rw (a .listed .indexed t .info k) at l)
-          go (no l) = absurd (not-both (marked marks k) (twins .twins k (omega arith)) u)
+          go (no l) = absurd (not-both (marked marks k) (twins .twins k (omega arith)) (not-marked (within low high k) (marked marks k) u w))
 
   -- with none
-  pub class-unmarked : (marks : List ℕ) → marks ≡ [] → SweptAs n ws table fits marks low high so before after r → ClassChecked n ws table fits low high so before after r
+  pub class-unmarked : (marks : List ℕ) → marks ≡ [] → SweptAs n ws table fits single marks low high so before after r → ClassChecked n ws table fits single low high so before after r
   class-unmarked marks z swept = record {
     kept = swept .kept;
-    right = λ es xs a first. swept .right es xs a (noted es) first;
-    wrong = λ es xs a b first. swept .wrong es xs a (noted es) b first;
+    right = λ es xs a s first. swept .right es xs a (noted es s) first;
+    wrong = λ es xs a s b first. swept .wrong es xs a (noted es s) b first;
   }
     where
-      noted : (es : List Entry) → Noted marks low high es
-      noted es k w u = absurd (not-both (marked [] k) (marked-none k) (rw z at u))
+      noted : (es : List Entry) → (single ≡ true → Single es) → Noted single marks low high es
+      noted es s k w u = go single refl
+        where
+          go : (b : Bool) → single ≡ b → several k es ≡ 0
+          go true q = s q .each k
+          go false q = absurd (not-both (marked [] k) (marked-none k) (not-marked (within low high k) (marked [] k) (rw (z, q) at u) w))

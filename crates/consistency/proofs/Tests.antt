@@ -21,6 +21,7 @@ use Rattle.theory_log.proofs.Tops.{in-all}
 use Rattle.blocks.specs.Bits.{hasBit, WordsKept, BitsCleared}
 use Rattle.blocks.proofs.Laws.{kept-all, kept-then}
 use Rattle.volatile.specs.Check.{CheckInv}
+use Rattle.volatile.specs.Plain.{Single}
 use Rattle.volatile.proofs.Check.{check-start, check-blocks, check-tops, check-live}
 use Rattle.volatile.proofs.Plain.{plain-check}
 use Rattle.classes.specs.Classes.{within, classIn}
@@ -88,7 +89,7 @@ module _ (n : ℕ) (ws : List ℕ) (before : List ℕ) where
     }
 
     module _ (high : ℕ) (rises : low ≤ high) (own table : List ℕ) (fits : Bool) (keys : ℕ) (collected : Collecting n ws own table low high fits keys) (after : List ℕ) (s′ : Checked)
-        (checked : ClassChecked n ws table fits low high s now after s′) where
+        (checked : ClassChecked n ws table fits false low high s now after s′) where
       ahead : (es : List Entry) → n ≤ maxChunks → imageEntries 12 n ws ≡ Entries es → Ahead n ws table fits low high es (classIn 0 low es)
       ahead es few h = record {
         listed = record { few = few; entries = h; keys = keys; indexed = collected .holds few es h };
@@ -105,33 +106,33 @@ module _ (n : ℕ) (ws : List ℕ) (before : List ℕ) where
         sound = t;
         tests = λ es few h z.
             check-more 12 n ws es (classIn 0 low es ++ classIn low high es) (classIn 0 high es) (hasBit after) true (s′ .agreeing) (s′ .apart)
-            (checked .right es (classIn 0 low es) (ahead es few h) (inv .tests es few h z) t) (class-both low high es rises) (λ e m. inl (class-either low high es rises e m));
+            (checked .right es (classIn 0 low es) (ahead es few h) (λ t. absurd (not-both true refl (sym t))) (inv .tests es few h z) t) (class-both low high es rises) (λ e m. inl (class-either low high es rises e m));
       }
 
       pub done-wrong : s′ .blocks ≡ false → AllChecked n ws before after s′
       done-wrong f = record {
         kept = more;
-        tested = λ es few h z. told-wrong n ws es after s′ f (checked .wrong es (classIn 0 low es) (ahead es few h) (inv .sound) (inv .tests es few h z) f);
+        tested = λ es few h z. told-wrong n ws es after s′ f (checked .wrong es (classIn 0 low es) (ahead es few h) (λ t. absurd (not-both true refl (sym t))) (inv .sound) (inv .tests es few h z) f);
       }
 
 -- ## With the table, with none, and without a pass
 
-module _ (n : ℕ) (ws table : List ℕ) (fits plain : Bool) (before cleared : List ℕ) (clear : BitsCleared before cleared) where
+module _ (n : ℕ) (ws table : List ℕ) (fits single direct : Bool) (before cleared : List ℕ) (clear : BitsCleared before cleared) where
   whole : (after : List ℕ) → (WordsKept cleared cleared → WordsKept cleared after) → WordsKept before after
   whole after k = kept-then before cleared after (clear .kept) (k (kept-all cleared (clear .kept .long ∙ clear .kept .size)))
 
-  pub examined-plain : plain ≡ true → Examined n ws table fits plain before cleared (record { blocks = true; agreeing = true; apart = true })
-  examined-plain so = record {
+  pub examined-plain : single ≡ true → direct ≡ true → Examined n ws table fits single direct before cleared (record { blocks = true; agreeing = true; apart = true })
+  examined-plain s d = record {
     kept = clear .kept;
-    tested = λ es l p. told-right n ws es (l .entries) cleared (record { blocks = true; agreeing = true; apart = true }) refl (plain-check 12 n ws es (hasBit cleared) (clear .none) (p so));
+    tested = λ es l singly directly. told-right n ws es (l .entries) cleared (record { blocks = true; agreeing = true; apart = true }) refl (plain-check 12 n ws es (hasBit cleared) (clear .none) (singly s) (directly d));
   }
 
-  pub examined-classes : (after : List ℕ) (r : Checked) → AllChecked n ws cleared after r → Examined n ws table fits plain before after r
-  examined-classes after r checked = record { kept = whole after (checked .kept); tested = λ es l p. checked .tested es (l .few) (l .entries) (clear .none) }
+  pub examined-classes : (after : List ℕ) (r : Checked) → AllChecked n ws cleared after r → Examined n ws table fits single direct before after r
+  examined-classes after r checked = record { kept = whole after (checked .kept); tested = λ es l s d. checked .tested es (l .few) (l .entries) (clear .none) }
 
-  pub examined-table : (after : List ℕ) (r : Checked) → ClassChecked n ws table fits 0 0x1_0000_0000 (record { blocks = true; agreeing = true; apart = true }) cleared after r
-      → Examined n ws table fits plain before after r
-  examined-table after r checked = record { kept = whole after (checked .kept); tested = λ es l p. go es l (r .blocks) refl }
+  pub examined-table : (after : List ℕ) (r : Checked) → ClassChecked n ws table fits single 0 0x1_0000_0000 (record { blocks = true; agreeing = true; apart = true }) cleared after r
+      → Examined n ws table fits single direct before after r
+  examined-table after r checked = record { kept = whole after (checked .kept); tested = λ es l s d. go es l s (r .blocks) refl }
     where
       ahead : (es : List Entry) → Listed n ws table fits es → Ahead n ws table fits 0 0x1_0000_0000 es []
       ahead es l = record {
@@ -140,6 +141,6 @@ module _ (n : ℕ) (ws table : List ℕ) (fits plain : Bool) (before cleared : L
         others = λ e m. absurd m;
       }
 
-      go : (es : List Entry) → Listed n ws table fits es → (b : Bool) → r .blocks ≡ b → Tested n ws es after r
-      go es l true q = told-right n ws es (l .entries) after r q (rw (class-all es) at (checked .right es [] (ahead es l) (check-start 12 n ws es (hasBit cleared) (clear .none)) q))
-      go es l false q = told-wrong n ws es after r q (checked .wrong es [] (ahead es l) refl (check-start 12 n ws es (hasBit cleared) (clear .none)) q)
+      go : (es : List Entry) → Listed n ws table fits es → (single ≡ true → Single es) → (b : Bool) → r .blocks ≡ b → Tested n ws es after r
+      go es l s true q = told-right n ws es (l .entries) after r q (rw (class-all es) at (checked .right es [] (ahead es l) s (check-start 12 n ws es (hasBit cleared) (clear .none)) q))
+      go es l s false q = told-wrong n ws es after r q (checked .wrong es [] (ahead es l) s refl (check-start 12 n ws es (hasBit cleared) (clear .none)) q)

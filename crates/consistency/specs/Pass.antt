@@ -18,8 +18,8 @@ use Rattle.log.specs.Best.{bestOf}
 use Rattle.log.specs.Stands.{StandsIn}
 use Rattle.volatile.specs.Known.{several, Indexed}
 use Rattle.volatile.specs.Check.{Marks, CheckInv}
-use Rattle.volatile.specs.Plain.{Plain}
-use Rattle.classes.specs.Classes.{within, marked, classIn}
+use Rattle.volatile.specs.Plain.{Single, Direct}
+use Rattle.classes.specs.Classes.{within, asked, classIn}
 use Rattle.consistency.specs.Heads.{entryOf, points}
 use Rattle.consistency.specs.declared.Head.{Head}
 use Rattle.consistency.specs.declared.Checked.{Checked}
@@ -78,24 +78,24 @@ pub record Ahead (n : ℕ) (ws table : List ℕ) (fits : Bool) (low high : ℕ) 
   pub inside : Part xs es
   pub others : (e : Entry) → Mem e xs → within low high (e .key) ≡ false
 
--- every key of the range that has no mark has one top entry at most
-abbrev pub Noted : List ℕ → (low high : ℕ) → List Entry → Type 0
-Noted marks low high es = (k : ℕ) → within low high k ≡ true → marked marks k ≡ false → several k es ≡ 0
+-- every key of the range that is not asked for has one top entry at most
+abbrev pub Noted : Bool → List ℕ → (low high : ℕ) → List Entry → Type 0
+Noted single marks low high es = (k : ℕ) → within low high k ≡ true → asked single marks low high k ≡ false → several k es ≡ 0
 
 -- A pass for a range of classes: none of its blocks is wrong, and then the tests are those of its entries too.
-pub record SweptAs (n : ℕ) (ws table : List ℕ) (fits : Bool) (marks : List ℕ) (low high : ℕ) (so : Checked) (before after : List ℕ) (r : Checked) : Type 0 where
+pub record SweptAs (n : ℕ) (ws table : List ℕ) (fits single : Bool) (marks : List ℕ) (low high : ℕ) (so : Checked) (before after : List ℕ) (r : Checked) : Type 0 where
   pub kept : WordsKept before before → WordsKept before after
-  pub right : (es xs : List Entry) → Ahead n ws table fits low high es xs → Noted marks low high es → CheckInv 12 n ws es xs (hasBit before) true (so .agreeing) (so .apart)
+  pub right : (es xs : List Entry) → Ahead n ws table fits low high es xs → Noted single marks low high es → CheckInv 12 n ws es xs (hasBit before) true (so .agreeing) (so .apart)
       → r .blocks ≡ true → CheckInv 12 n ws es (xs ++ classIn low high es) (hasBit after) true (r .agreeing) (r .apart)
-  pub wrong : (es xs : List Entry) → Ahead n ws table fits low high es xs → Noted marks low high es → so .blocks ≡ true → CheckInv 12 n ws es xs (hasBit before) true (so .agreeing) (so .apart)
+  pub wrong : (es xs : List Entry) → Ahead n ws table fits low high es xs → Noted single marks low high es → so .blocks ≡ true → CheckInv 12 n ws es xs (hasBit before) true (so .agreeing) (so .apart)
       → r .blocks ≡ false → blocksTest 12 n ws es ≡ false
 
--- the same, whatever the marks
-pub record ClassChecked (n : ℕ) (ws table : List ℕ) (fits : Bool) (low high : ℕ) (so : Checked) (before after : List ℕ) (r : Checked) : Type 0 where
+-- the same, whatever the marks; `single` says that each key has a single top entry
+pub record ClassChecked (n : ℕ) (ws table : List ℕ) (fits single : Bool) (low high : ℕ) (so : Checked) (before after : List ℕ) (r : Checked) : Type 0 where
   pub kept : WordsKept before before → WordsKept before after
-  pub right : (es xs : List Entry) → Ahead n ws table fits low high es xs → CheckInv 12 n ws es xs (hasBit before) true (so .agreeing) (so .apart)
+  pub right : (es xs : List Entry) → Ahead n ws table fits low high es xs → (single ≡ true → Single es) → CheckInv 12 n ws es xs (hasBit before) true (so .agreeing) (so .apart)
       → r .blocks ≡ true → CheckInv 12 n ws es (xs ++ classIn low high es) (hasBit after) true (r .agreeing) (r .apart)
-  pub wrong : (es xs : List Entry) → Ahead n ws table fits low high es xs → so .blocks ≡ true → CheckInv 12 n ws es xs (hasBit before) true (so .agreeing) (so .apart)
+  pub wrong : (es xs : List Entry) → Ahead n ws table fits low high es xs → (single ≡ true → Single es) → so .blocks ≡ true → CheckInv 12 n ws es xs (hasBit before) true (so .agreeing) (so .apart)
       → r .blocks ≡ false → blocksTest 12 n ws es ≡ false
 
 -- THE TESTS: refusal 5, where it does not hold refusal 6, and where the top entries agree the blocks in use as bits
@@ -109,7 +109,8 @@ pub record AllChecked (n : ℕ) (ws : List ℕ) (before after : List ℕ) (r : C
   pub kept : WordsKept before before → WordsKept before after
   pub tested : (es : List Entry) → n ≤ maxChunks → imageEntries 12 n ws ≡ Entries es → ((u : ℕ) → hasBit before u ≡ false) → Tested n ws es after r
 
--- with the keys in the table or not; no pass where the entries are known to be plain
-pub record Examined (n : ℕ) (ws table : List ℕ) (fits plain : Bool) (before after : List ℕ) (r : Checked) : Type 0 where
+-- with the keys in the table or not; no pass where each key is known to have a single top entry and each value to be
+-- direct
+pub record Examined (n : ℕ) (ws table : List ℕ) (fits single direct : Bool) (before after : List ℕ) (r : Checked) : Type 0 where
   pub kept : WordsKept before after
-  pub tested : (es : List Entry) → Listed n ws table fits es → (plain ≡ true → Plain es) → Tested n ws es after r
+  pub tested : (es : List Entry) → Listed n ws table fits es → (single ≡ true → Single es) → (direct ≡ true → Direct es) → Tested n ws es after r

@@ -4,7 +4,7 @@
 // ranges of classes of keys, with a table of the call's own.
 ghost use mathlib.Core.Path.{_≡_};
 ghost use Prim.Native.Nat.{_+_, _-_, _*_, _^_, _≤_, _<_};
-ghost use mathlib.Core.Bool.{true};
+ghost use mathlib.Core.Bool.{true, false};
 ghost use lib.Dec.{ltb};
 ghost use Rattle.spec.specs.Basics.{pick, either, every};
 ghost use Rattle.spec.specs.Words.{wordsOf};
@@ -19,18 +19,17 @@ use classes::MARKS;
 use classes::collect;
 use classes::is_within;
 use classes::mark_twins;
+use classes::onward;
 use classes::pass_over;
 use codec::Unit;
 use directory::size_of;
 use index::look;
 use index::unpack;
 use log::Best;
-use log::Cursor;
-use log::Next;
 use log::best_of;
-use log::first_cursor;
-use log::next_in_log;
+use log::next_entry;
 use log::words_for;
+use spec::LogStep;
 use words::lesser;
 use words::load;
 
@@ -247,37 +246,48 @@ fn sweep(
     count: usize,
     table: &[u64],
     fits: bool,
+    single: bool,
     marks: &[u8],
     low: u64,
     high: u64,
     buffer: &mut Buffer,
     so: Checked,
 ) -> Checked
-    ensures { λ r. ⌜ SweptAs count (wordsOf (now (image .entry))) (now (table .entry)) fits (now (marks .entry)) low high so (now (buffer .entry)) (now (buffer .exit)) r ⌝ }
+    ensures { λ r. ⌜ SweptAs count (wordsOf (now (image .entry))) (now (table .entry)) fits single (now (marks .entry)) low high so (now (buffer .entry)) (now (buffer .exit)) r ⌝ }
 {
     let mut s = so;
-    let mut cursor = first_cursor();
+    let mut chunk: usize = 0;
+    let mut place: usize = 0;
+    let mut end: usize = 0;
     loop {
-        let chunk = cursor.chunk;
-        let end = cursor.end;
-        let at = pass_over(image, cursor.at, end, marks, low, high);
-        let n = next_in_log(image, count, Cursor { chunk, at, end });
-        match n {
-            Next::Done => {
+        let at = pass_over(image, place, end, single, marks, low, high);
+        let step = next_entry(image, at, end);
+        match step {
+            LogStep::End => {
+                if count <= chunk {
+                    return s;
+                }
+                if count - chunk == 1 {
+                    return s;
+                }
+                let next = onward(image, count, chunk + 1);
+                chunk = next.chunk;
+                place = next.at;
+                end = next.end;
+            }
+            LogStep::Wrong => {
                 return s;
             }
-            Next::Wrong => {
-                return s;
+            LogStep::Padding => {
+                place = at + 1;
             }
-            Next::Entry {
+            LogStep::Entry {
                 op,
                 placement,
                 version,
                 field,
                 key,
-                words: _,
-                place,
-                cursor: after,
+                words,
             } => {
                 let e = Head {
                     op,
@@ -285,11 +295,11 @@ fn sweep(
                     version,
                     field,
                     key,
-                    place,
+                    place: at,
                 };
                 s = visit(image, count, table, fits, low, high, buffer, s, e);
                 if s.blocks {
-                    cursor = after;
+                    place = at + (2 + words);
                 } else {
                     return s;
                 }
@@ -298,29 +308,53 @@ fn sweep(
     }
 }
 
-// A range of classes, of which the table holds the keys where `fits`; else each top entry is found by a scan.
+// Whether marks are of use: the table tells which keys have several top entries, and it may be that some have.
+fn takes_marks(fits: bool, single: bool) -> bool
+    ensures { λ r. ⌜ r ≡ pick single false fits ⌝ }
+{
+    if single {
+        return false;
+    }
+    fits
+}
+
+// A range of classes, of which the table holds the keys where `fits`; else each top entry is found by a scan. Where each
+// key has a `single` top entry, no marks are needed.
 fn check_class(
     image: &[u8],
     count: usize,
     table: &[u64],
     fits: bool,
+    single: bool,
     low: u64,
     high: u64,
     buffer: &mut Buffer,
     so: Checked,
 ) -> Checked
-    ensures { λ r. ⌜ ClassChecked count (wordsOf (now (image .entry))) (now (table .entry)) fits low high so (now (buffer .entry)) (now (buffer .exit)) r ⌝ }
+    ensures { λ r. ⌜ ClassChecked count (wordsOf (now (image .entry))) (now (table .entry)) fits single low high so (now (buffer .entry)) (now (buffer .exit)) r ⌝ }
 {
-    if fits {
+    if takes_marks(fits, single) {
         let mut marks: [u8; MARKS] = [0; MARKS];
         mark_twins(table, &mut marks);
-        return sweep(image, count, table, fits, &marks, low, high, buffer, so);
+        return sweep(
+            image,
+            count,
+            table,
+            fits,
+            false,
+            &marks,
+            low,
+            high,
+            buffer,
+            so,
+        );
     }
     sweep(
         image,
         count,
         table,
         fits,
+        single,
         &image[0..0],
         low,
         high,
@@ -389,7 +423,7 @@ fn check_classes(image: &[u8], count: usize, buffer: &mut Buffer) -> Checked
         let high = range_end(low, width);
         let c = collect(image, count, &mut own, low, high);
         if is_enough(c.fits, width) {
-            s = check_class(image, count, &own, c.fits, low, high, buffer, s);
+            s = check_class(image, count, &own, c.fits, false, low, high, buffer, s);
             if s.blocks {
                 low = high;
                 width = next_width(width, c.keys);
@@ -403,17 +437,18 @@ fn check_classes(image: &[u8], count: usize, buffer: &mut Buffer) -> Checked
     s
 }
 
-// What is found. Where the log is `plain`, with one top entry a key and no value in a block, nothing is left to find
-// and no pass is made.
+// What is found. Where each key has a `single` top entry and each value is `direct`, none of them in a block, nothing is
+// left to find and no pass is made.
 pub fn examine(
     image: &[u8],
     count: usize,
     table: &[u64],
     fits: bool,
-    plain: bool,
+    single: bool,
+    direct: bool,
     buffer: &mut Buffer,
 ) -> Checked
-    ensures { λ r. ⌜ Examined count (wordsOf (now (image .entry))) (now (table .entry)) fits plain (now (buffer .entry)) (now (buffer .exit)) r ⌝ }
+    ensures { λ r. ⌜ Examined count (wordsOf (now (image .entry))) (now (table .entry)) fits single direct (now (buffer .entry)) (now (buffer .exit)) r ⌝ }
 {
     clear_bits(buffer);
     let s = Checked {
@@ -421,11 +456,23 @@ pub fn examine(
         agreeing: true,
         apart: true,
     };
-    if plain {
-        return s;
+    if direct {
+        if single {
+            return s;
+        }
     }
     if fits {
-        return check_class(image, count, table, fits, 0, 0x1_0000_0000, buffer, s);
+        return check_class(
+            image,
+            count,
+            table,
+            fits,
+            single,
+            0,
+            0x1_0000_0000,
+            buffer,
+            s,
+        );
     }
     check_classes(image, count, buffer)
 }

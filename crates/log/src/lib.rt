@@ -142,7 +142,7 @@ pub fn short_put(img: &[u8], at: usize, end: usize) -> Short
             return Short::Other;
         }
         let words = (field as usize + 7) / 8;
-        if stop - at < 2 + words {
+        if stop < at + (2 + words) {
             return Short::Other;
         }
         if fill_right(img, at, 0, field, words) {

@@ -46,35 +46,35 @@ use Rattle.session.specs.Numbers.{closed, opened, lent}
 -- ## The log
 
 -- what the first pass says of the parsed log
-module _ (n : ℕ) (ws table table′ start buffer : List ℕ) (fits plain : Bool) (keys : ℕ) where
-  fill-wrong : Filling n ws table table′ start buffer false fits plain keys → n ≤ maxChunks → imageEntries 12 n ws ≡ Wrong
+module _ (n : ℕ) (ws table table′ start buffer : List ℕ) (fits single direct : Bool) (keys : ℕ) where
+  fill-wrong : Filling n ws table table′ start buffer false fits single direct keys → n ≤ maxChunks → imageEntries 12 n ws ≡ Wrong
   fill-wrong f most = go (imageEntries 12 n ws) refl
     where
       go : (q : Parsed) → imageEntries 12 n ws ≡ q → q ≡ Wrong
       go Wrong h = refl
       go (Entries es) h = absurd (not-both false (f .entries most es h .0) refl)
 
-  fill-right : Filling n ws table table′ start buffer true fits plain keys → n ≤ maxChunks → (es : List Entry) × (imageEntries 12 n ws ≡ Entries es) × FillInv (length table) es table′ keys fits
+  fill-right : Filling n ws table table′ start buffer true fits single direct keys → n ≤ maxChunks → (es : List Entry) × (imageEntries 12 n ws ≡ Entries es) × FillInv (length table) es table′ keys fits
   fill-right f most = go (imageEntries 12 n ws) refl
     where
       go : (q : Parsed) → imageEntries 12 n ws ≡ q → (es : List Entry) × (q ≡ Entries es) × FillInv (length table) es table′ keys fits
       go Wrong h = absurd (not-both true refl (f .wrong h))
       go (Entries es) h = (es, refl, f .entries most es h .1)
 
-module _ (n : ℕ) (ws table table′ start buffer : List ℕ) (right fits plain : Bool) (keys : ℕ) (filled : Filling n ws table table′ start buffer right fits plain keys) where
+module _ (n : ℕ) (ws table table′ start buffer : List ℕ) (right fits single direct : Bool) (keys : ℕ) (filled : Filling n ws table table′ start buffer right fits single direct keys) where
   -- 4
   pub log-wrong : right ≡ false → JudgingLog n ws table table′ start buffer (J.Refused N.EntryWrong)
   log-wrong e = record {
     sized = filled .sized;
     kept = filled .kept .long;
-    judged = λ most long. (rw (fill-wrong n ws table table′ start buffer fits plain keys (rw e at filled) most), inr (inr (inr (inl refl))));
+    judged = λ most long. (rw (fill-wrong n ws table table′ start buffer fits single direct keys (rw e at filled) most), inr (inr (inr (inl refl))));
   }
 
-  module _ (buffer′ : List ℕ) (r : Checked) (checked : Examined n ws table′ fits plain buffer buffer′ r) (so : right ≡ true) where
+  module _ (buffer′ : List ℕ) (r : Checked) (checked : Examined n ws table′ fits single direct buffer buffer′ r) (so : right ≡ true) where
     -- the entries, with what both passes say of them
     module _ (most : n ≤ maxChunks) (long : 512 * n ≤ length ws) where
       found : (es : List Entry) × (imageEntries 12 n ws ≡ Entries es) × FillInv (length table) es table′ keys fits
-      found = fill-right n ws table table′ start buffer fits plain keys (rw so at filled) most
+      found = fill-right n ws table table′ start buffer fits single direct keys (rw so at filled) most
 
       abbrev es : List Entry
       es = found .0
@@ -87,7 +87,7 @@ module _ (n : ℕ) (ws table table′ start buffer : List ℕ) (right fits plain
       listed = record { few = most; whole = long; entries = found .1; keys = keys; indexed = indexed fits (found .2) }
 
       tested : Tested n ws es buffer′ r
-      tested = checked .tested es listed (filled .plainly most es (found .1))
+      tested = checked .tested es listed (filled .singly most es (found .1)) (filled .directly most es (found .1))
 
       space : fits ≡ fitsTable (length table) es
       space = fill-fits (length table) es table′ keys fits (found .2)

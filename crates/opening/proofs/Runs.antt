@@ -39,8 +39,8 @@ alone-low : (extent place version : ℕ) → alone extent place version < 0x8000
 unfolding alone
 alone-low extent place version = omega arith
 
--- a low word leaves the entries as plain as they were
-both-low : (plain b : Bool) → b ≡ true → plain ≡ both plain b
+-- a low word leaves each key with a single top entry if it was so
+both-low : (single b : Bool) → b ≡ true → single ≡ both single b
 both-low true b h = sym h
 both-low false b h = refl
 
@@ -61,7 +61,7 @@ run-start ws end fits table keys at = record {
   sized = refl;
   nearer = λ n c. omega arith;
   farther = omega arith;
-  passes = λ n c words plain buffer inv. let z : at - at ≡ 0 = omega arith in rw z (pass-turned n ws words table keys fits plain buffer 0 at (cursorAt c at end) inv);
+  passes = λ n c words single direct buffer inv. let z : at - at ≡ 0 = omega arith in rw z (pass-turned n ws words table keys fits single direct buffer 0 at (cursorAt c at end) inv);
 }
 
 module _ (ws : List ℕ) (end : ℕ) (fits : Bool) (table₀ : List ℕ) (keys₀ at₀ : ℕ) (one : end / 512 + (end % 512 + 511) / 512 ≤ at₀ / 512 + 1) (table : List ℕ) (keys at : ℕ) (so-far : Hastened ws end fits table₀ keys₀ at₀ table keys at) where
@@ -72,10 +72,10 @@ module _ (ws : List ℕ) (end : ℕ) (fits : Bool) (table₀ : List ℕ) (keys�
     sized = entered true .sized ∙ so-far .sized;
     nearer = λ n c. let f = next-found n ws c at end 1 0 v x k m q .falls in let g = so-far .nearer n c in omega arith;
     farther = let f = so-far .farther in omega arith;
-    passes = λ n c words plain buffer inv.
-        let before = so-far .passes n c words plain buffer inv in
+    passes = λ n c words single direct buffer inv.
+        let before = so-far .passes n c words single direct buffer inv in
         let told = next-found n ws c at end 1 0 v x k m q in
-        pass-entry n ws words table keys fits plain buffer at₀ (at - at₀) (cursorAt c at end) before 1 0 v x k m at _ told plain refl own is-own table′ (keys + 1) fits plain (entered plain)
+        pass-entry n ws words table keys fits single direct buffer at₀ (at - at₀) (cursorAt c at end) before 1 0 v x k m at _ told direct refl own is-own table′ (keys + 1) fits single (entered single)
         buffer at₀ (at + (2 + m) - at₀) (λ es h inside small held owing t. summed (before .passed) (told .stands) (told .size) small (held .whole t .0 k) (owing t));
   }
     where
@@ -97,6 +97,6 @@ module _ (ws : List ℕ) (end : ℕ) (fits : Bool) (table₀ : List ℕ) (keys�
           let here : at / 512 ≡ at₀ / 512 = same-chunk at at₀ end (so-far .farther) (omega arith) one in
           rw sum (owing-more buffer at₀ (at - at₀) m xs e none-yet (own-small .version-low) (own-small .place-high) here refl size owing)
 
-      entered : (plain : Bool) → Entering table table′ keys fits plain k own (keys + 1) fits plain
-      entered plain =
-          rw so (enter-new table keys true plain k own slot old is-slot is-word refl table′ own (noted-new old own zero) is-put plain (both-low plain _ (lt-ltb own 0x8000_0000_0000_0000 low)) zero (rw (so-far .sized) room))
+      entered : (single : Bool) → Entering table table′ keys fits single k own (keys + 1) fits single
+      entered single =
+          rw so (enter-new table keys true single k own slot old is-slot is-word refl table′ own (noted-new old own zero) is-put single (both-low single _ (lt-ltb own 0x8000_0000_0000_0000 low)) zero (rw (so-far .sized) room))

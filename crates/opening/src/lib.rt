@@ -10,7 +10,7 @@ ghost use Rattle.spec.specs.Places.{lengthAllowed};
 ghost use Rattle.spec.specs.Header.{headerRight};
 ghost use Rattle.spec.specs.Machine.{Open};
 ghost use Rattle.index.specs.Index.{zeros};
-ghost use Rattle.opening.specs.Pass.{EnteredIs, Hastened, Filling};
+ghost use Rattle.opening.specs.Pass.{EnteredIs, Hastened, Skipped, Filling};
 ghost use Rattle.opening.specs.Judged.{firstRefusal, JudgingLog, Judging};
 ghost use Rattle.session.specs.Promise.{Does, memoryOf};
 use blocks::Buffer;
@@ -54,30 +54,31 @@ pub fn header_fits(image: &[u8], count: usize) -> bool
 }
 
 // THE FIRST PASS: every entry goes into the key table and the sums
-// Whether entries are still plain: a word of the table without the bit of several top entries, and no value in a block.
-fn single(plain: bool, info: u64) -> bool
-    ensures { λ r. ⌜ r ≡ both plain (ltb info 0x8000_0000_0000_0000) ⌝ }
+// Whether each key still has a single top entry: a word of the table without the bit of several.
+fn lone(single: bool, info: u64) -> bool
+    ensures { λ r. ⌜ r ≡ both single (ltb info 0x8000_0000_0000_0000) ⌝ }
 {
-    if plain {
+    if single {
         return info < 0x8000_0000_0000_0000;
     }
     false
 }
 
-fn unpointed(plain: bool, placement: u64) -> bool
-    ensures { λ r. ⌜ r ≡ pick (eqb placement 1) false plain ⌝ }
+// Whether no value lies in a block so far.
+fn unpointed(direct: bool, placement: u64) -> bool
+    ensures { λ r. ⌜ r ≡ pick (eqb placement 1) false direct ⌝ }
 {
     if placement == 1 {
         return false;
     }
-    plain
+    direct
 }
 
-// The table's keys, whether those of all entries so far fit, and whether the entries are plain.
+// The table's keys, whether those of all entries so far fit, and whether each then has a single top entry.
 struct Entered {
     keys: usize,
     fits: bool,
-    plain: bool,
+    single: bool,
 }
 
 // One more entry in the table and in the sums; `own` is what the table would hold of the key with this entry alone,
@@ -88,12 +89,12 @@ fn enter(
     table: &mut [u64],
     keys: usize,
     fits: bool,
-    plain: bool,
+    single: bool,
     key: u64,
     own: u64,
     weight: u64,
 ) -> Entered
-    ensures { λ r. ⌜ EnteredIs (wordsOf (now (image .entry))) (now (buffer .entry)) (now (buffer .exit)) (now (table .entry)) (now (table .exit)) keys fits plain key own weight (r .keys) (r .fits) (r .plain) ⌝ }
+    ensures { λ r. ⌜ EnteredIs (wordsOf (now (image .entry))) (now (buffer .entry)) (now (buffer .exit)) (now (table .entry)) (now (table .exit)) keys fits single key own weight (r .keys) (r .fits) (r .single) ⌝ }
 {
     blocks::buffer_length(buffer);
     if fits {
@@ -106,13 +107,13 @@ fn enter(
                 return Entered {
                     keys: keys + 1,
                     fits: true,
-                    plain: single(plain, own),
+                    single: lone(single, own),
                 };
             }
             return Entered {
                 keys,
                 fits: false,
-                plain: false,
+                single: false,
             };
         }
         let info = volatile::noted(old, own);
@@ -120,13 +121,13 @@ fn enter(
         return Entered {
             keys,
             fits: true,
-            plain: single(plain, info),
+            single: lone(single, info),
         };
     }
     Entered {
         keys,
         fits: false,
-        plain: false,
+        single: false,
     }
 }
 
@@ -189,29 +190,48 @@ fn run(image: &[u8], at: usize, end: usize, table: &mut [u64], keys: usize, fits
     }
 }
 
-// What the pass finds: whether every entry is right, whether the keys fit and the entries are plain, and how many keys
-// the table has.
+// The first word from word `at` on that is no padding, of the committed words before `end`; `at` past them.
+fn skip(image: &[u8], at: usize, end: usize) -> usize
+    ensures { λ r. ⌜ Skipped (wordsOf (now (image .entry))) end at r ⌝ }
+{
+    let stop = words::lesser(end, image.len() / 8);
+    let mut place = at;
+    while place < stop {
+        if words::load(image, place) == 0 {
+            place += 1;
+        } else {
+            return place;
+        }
+    }
+    place
+}
+
+// What the pass finds: whether every entry is right, whether the keys fit, whether each has a single top entry, whether
+// every value is direct, none of them in a block, and how many keys the table has.
 struct Filled {
     right: bool,
     fits: bool,
-    plain: bool,
+    single: bool,
+    direct: bool,
     keys: usize,
 }
 
 // The pass over the log of an image of `count` chunks, from an empty table and sums of 0. It walks as
 // `log::next_in_log` does, the common entries by a run first.
 fn fill(image: &[u8], count: usize, table: &mut [u64], buffer: &mut Buffer) -> Filled
-    ensures { λ r. ⌜ Filling count (wordsOf (now (image .entry))) (now (table .entry)) (now (table .exit)) (now (buffer .entry)) (now (buffer .exit)) (r .right) (r .fits) (r .plain) (r .keys) ⌝ }
+    ensures { λ r. ⌜ Filling count (wordsOf (now (image .entry))) (now (table .entry)) (now (table .exit)) (now (buffer .entry)) (now (buffer .exit)) (r .right) (r .fits) (r .single) (r .direct) (r .keys) ⌝ }
 {
     index::clear(table);
     sums::clear(buffer);
     let mut keys: usize = 0;
     let mut fits = true;
-    let mut plain = true;
+    let mut single = true;
+    let mut direct = true;
     let mut chunk: usize = 0;
     let mut at: usize = 0;
     let mut end: usize = 0;
     loop {
+        at = skip(image, at, end);
         let r = run(image, at, end, table, keys, fits);
         let passed = r.at - at;
         sums::add(buffer, at, passed as u64);
@@ -224,7 +244,8 @@ fn fill(image: &[u8], count: usize, table: &mut [u64], buffer: &mut Buffer) -> F
                     return Filled {
                         right: true,
                         fits,
-                        plain,
+                        single,
+                        direct,
                         keys,
                     };
                 }
@@ -232,11 +253,12 @@ fn fill(image: &[u8], count: usize, table: &mut [u64], buffer: &mut Buffer) -> F
                     return Filled {
                         right: true,
                         fits,
-                        plain,
+                        single,
+                        direct,
                         keys,
                     };
                 }
-                let next = log::chunk_cursor(image, chunk + 1);
+                let next = classes::onward(image, count, chunk + 1);
                 chunk = next.chunk;
                 at = next.at;
                 end = next.end;
@@ -245,7 +267,8 @@ fn fill(image: &[u8], count: usize, table: &mut [u64], buffer: &mut Buffer) -> F
                 return Filled {
                     right: false,
                     fits,
-                    plain,
+                    single,
+                    direct,
                     keys,
                 };
             }
@@ -260,13 +283,13 @@ fn fill(image: &[u8], count: usize, table: &mut [u64], buffer: &mut Buffer) -> F
                 key,
                 words,
             } => {
-                let so = unpointed(plain, placement);
+                direct = unpointed(direct, placement);
                 let own = volatile::alone(volatile::extent_of(placement, field), at, version);
                 let weight = sums::weigh(op, words);
-                let e = enter(image, buffer, table, keys, fits, so, key, own, weight);
+                let e = enter(image, buffer, table, keys, fits, single, key, own, weight);
                 keys = e.keys;
                 fits = e.fits;
-                plain = e.plain;
+                single = e.single;
                 at += 2 + words;
             }
         }
@@ -308,7 +331,15 @@ pub fn judge_log(image: &[u8], count: usize, table: &mut [u64], buffer: &mut Buf
 {
     let filled = fill(image, count, table, buffer);
     if filled.right {
-        let checked = consistency::examine(image, count, table, filled.fits, filled.plain, buffer);
+        let checked = consistency::examine(
+            image,
+            count,
+            table,
+            filled.fits,
+            filled.single,
+            filled.direct,
+            buffer,
+        );
         if checked.blocks {
             let agreed = both(checked.agreeing, checked.apart);
             let room = filled.fits;

@@ -24,7 +24,7 @@ use Rattle.theory_log.proofs.Agree.{same-agrees}
 use Rattle.index.specs.Packed.{packed}
 use Rattle.volatile.specs.Known.{several, infoOf, ownOf, noted, Bounded}
 use Rattle.volatile.specs.Check.{CheckInv}
-use Rattle.volatile.specs.Plain.{Plain, PlainInv}
+use Rattle.volatile.specs.Plain.{Single, Direct, PlainInv}
 use Rattle.volatile.proofs.Info.{several-most, info-chosen, info-none, chosen-first}
 use Rattle.volatile.proofs.Grow.{grows-last}
 
@@ -81,29 +81,33 @@ single-agrees es e single m t = go (chosen (e .key) es) refl
     go none h = refl
     go (some f) h = same-agrees e f (ap (moved 0) (own-top es e f single m t h))
 
-pub plain-check : (p n : ℕ) (ws : List ℕ) (es : List Entry) (has : ℕ → Bool) → ((u : ℕ) → has u ≡ false) → Plain es → CheckInv p n ws es es has true true true
-plain-check p n ws es has z plain = record {
-  right = sym (in-all _ es (λ e m. pick-i (isTop es e) (fine p n ws e) (λ t. rw (plain .unpointed e m))));
-  agreed = sym (in-all _ es (λ e m. pick-i (isTop es e) _ (single-agrees es e (plain .single (e .key)) m)));
+pub plain-check : (p n : ℕ) (ws : List ℕ) (es : List Entry) (has : ℕ → Bool) → ((u : ℕ) → has u ≡ false) → Single es → Direct es → CheckInv p n ws es es has true true true
+plain-check p n ws es has z single direct = record {
+  right = sym (in-all _ es (λ e m. pick-i (isTop es e) (fine p n ws e) (λ t. rw (direct .each e m))));
+  agreed = sym (in-all _ es (λ e m. pick-i (isTop es e) _ (single-agrees es e (single .each (e .key)) m)));
   marks = record {
-    marked = λ e l. absurd (not-both (pointed e) (l .points) (plain .unpointed e (l .member)));
+    marked = λ e l. absurd (not-both (pointed e) (l .points) (direct .each e (l .member)));
     only = λ u h. absurd (not-both (has u) h (z u));
-    alone = λ t e f l m q. absurd (not-both (pointed e) (l .points) (plain .unpointed e (l .member)));
+    alone = λ t e f l m q. absurd (not-both (pointed e) (l .points) (direct .each e (l .member)));
     clash = λ f. absurd (not-both true refl f);
   };
 }
 
 -- ## The pass that shows it
 
-pub plain-start : PlainInv [] true true
+pub plain-start : PlainInv [] true true true
 plain-start = record {
   held = λ t. refl;
   low = λ t k. let e : infoOf k [] ≡ 0 = info-none k [] (chosen-none k [] (λ f m q. m)) in omega arith;
   unpointed = λ t e m. absurd m;
 }
 
-pub plain-end : (es : List Entry) (plain fits : Bool) → PlainInv es plain fits → plain ≡ true → Plain es
-plain-end es plain fits inv t = record { single = λ k. low-single k es (inv .low t k); unpointed = inv .unpointed t }
+module _ (es : List Entry) (single direct fits : Bool) (inv : PlainInv es single direct fits) where
+  pub single-end : single ≡ true → Single es
+  single-end t = record { each = λ k. low-single k es (inv .low t k) }
+
+  pub direct-end : direct ≡ true → Direct es
+  direct-end t = record { each = inv .unpointed t }
 
 -- One more entry.
 low-next : (xs : List Entry) (e : Entry) → Bounded (xs ++ e ∷ []) → ((k : ℕ) → infoOf k xs < 0x8000_0000_0000_0000) → noted (infoOf (e .key) xs) (ownOf e) < 0x8000_0000_0000_0000
@@ -114,16 +118,16 @@ low-next xs e b low l k = rw (grows-last xs e b .info k) (go (eqb (e .key) k) (e
     go true y = rw (← y refl) l
     go false y = low k
 
-pub plain-next : (xs : List Entry) (e : Entry) (plain fits plain′ fits′ : Bool) → Bounded (xs ++ e ∷ []) → PlainInv xs plain fits
-    → (plain′ ≡ true → (plain ≡ true) × (fits′ ≡ true) × (noted (infoOf (e .key) xs) (ownOf e) < 0x8000_0000_0000_0000) × (pointed e ≡ false))
-    → PlainInv (xs ++ e ∷ []) plain′ fits′
-plain-next xs e plain fits plain′ fits′ b inv so = record {
+pub plain-next : (xs : List Entry) (e : Entry) (single direct fits single′ direct′ fits′ : Bool) → Bounded (xs ++ e ∷ []) → PlainInv xs single direct fits
+    → (single′ ≡ true → (single ≡ true) × (fits′ ≡ true) × (noted (infoOf (e .key) xs) (ownOf e) < 0x8000_0000_0000_0000)) → (direct′ ≡ true → (direct ≡ true) × (pointed e ≡ false))
+    → PlainInv (xs ++ e ∷ []) single′ direct′ fits′
+plain-next xs e single direct fits single′ direct′ fits′ b inv so in-log = record {
   held = λ t. so t .1;
   low = λ t. low-next xs e b (inv .low (so t .0)) (so t .2);
-  unpointed = λ t f m. go (so t .0) (so t .3) f (mem-cases f xs (e ∷ []) m);
+  unpointed = λ t f m. go (in-log t .0) (in-log t .1) f (mem-cases f xs (e ∷ []) m);
 }
   where
-    go : plain ≡ true → pointed e ≡ false → (f : Entry) → Mem f xs ⊎ Mem f (e ∷ []) → pointed f ≡ false
+    go : direct ≡ true → pointed e ≡ false → (f : Entry) → Mem f xs ⊎ Mem f (e ∷ []) → pointed f ≡ false
     go t n f (inl m) = inv .unpointed t f m
     go t n f (inr (inl q)) = ap pointed q ∙ n
     go t n f (inr (inr m)) = absurd m

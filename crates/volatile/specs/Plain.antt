@@ -9,13 +9,16 @@ use Rattle.spec.specs.Blocks.{pointed}
 use Rattle.theory_log.specs.Contents.{Mem}
 use Rattle.volatile.specs.Known.{several, infoOf}
 
--- no key has several top entries, and no value lies in a block
-pub record Plain (es : List Entry) : Type 0 where
-  pub single : (k : ℕ) → several k es ≡ 0
-  pub unpointed : (e : Entry) → Mem e es → pointed e ≡ false
+-- each key has a single top entry: none has several
+pub record Single (es : List Entry) : Type 0 where
+  pub each : (k : ℕ) → several k es ≡ 0
 
--- the entries xs are passed: where `plain`, the table holds them, and no word of it has the bit of several top entries
-pub record PlainInv (xs : List Entry) (plain fits : Bool) : Type 0 where
-  pub held : plain ≡ true → fits ≡ true
-  pub low : plain ≡ true → (k : ℕ) → infoOf k xs < 0x8000_0000_0000_0000
-  pub unpointed : plain ≡ true → (e : Entry) → Mem e xs → pointed e ≡ false
+-- each value is direct: none lies in a block
+pub record Direct (es : List Entry) : Type 0 where
+  pub each : (e : Entry) → Mem e es → pointed e ≡ false
+
+-- the entries xs are passed: where `single`, the table holds them, and no word of it has the bit of several top entries
+pub record PlainInv (xs : List Entry) (single direct fits : Bool) : Type 0 where
+  pub held : single ≡ true → fits ≡ true
+  pub low : single ≡ true → (k : ℕ) → infoOf k xs < 0x8000_0000_0000_0000
+  pub unpointed : direct ≡ true → (e : Entry) → Mem e xs → pointed e ≡ false

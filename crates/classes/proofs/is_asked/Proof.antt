@@ -3,9 +3,12 @@ use borrow.Author.Needs.{needs}
 use mathlib.Core.Path.{refl}
 use Prim.Native.Nat.{_/_}
 use native.Mathlib.Omega.{arith}
-use Rattle.classes.proofs.Asked.{asked-below, asked-above, asked-out, asked-mark}
+use Rattle.classes.proofs.Asked.{asked-none, asked-below, asked-above, asked-out, asked-mark}
 use Rattle.classes.proofs.is_asked.Statement.{statement}
 use Rattle.classes.proofs.is_asked.Tie as tie
+
+returns : tie.Need-returns
+returns c = asked-none _ (c .before .before .args .marks .now) _ _ _ (c .if1 .taken)
 
 class-of-requires : tie.Need-class-of-requires
 class-of-requires c κs = search needs
@@ -13,19 +16,26 @@ class-of-requires c κs = search needs
 shared-slice-read-result : tie.Need-shared-slice-read-result
 shared-slice-read-result c = search needs
 
-returns : tie.Need-returns
-returns c = asked-mark _ _ _ _ (c .before .before .before .before .class-of .ensures) (c .before .before .before .before .before .before .args .marks .now) (omega arith) (omega arith) (c .before .before .before .before .class-of .result / 0x4_0000) refl (omega arith)
-
 returns-2 : tie.Need-returns-2
-returns-2 c = asked-out _ _ _ _ (c .before .before .before .class-of .ensures) (c .before .before .before .before .before .args .marks .now) (omega arith) (omega arith) (c .before .before .before .class-of .result / 0x4_0000) refl (omega arith)
+returns-2 c = asked-mark _ _ _ _ (c .before .before .before .before .class-of .ensures) (c .before .before .before .before .before .before .before .args .single) (c .before .before .before .before .before .if1 .left) (c .before .before .before .before .before .before .before .args .marks .now) (omega arith) (omega arith) (c .before .before .before .before .class-of .result / 0x4_0000) refl (omega arith)
 
 returns-3 : tie.Need-returns-3
-returns-3 c = asked-above _ _ _ _ (c .before .before .class-of .ensures) (c .before .before .before .before .args .marks .now) (omega arith) (omega arith)
+returns-3 c = asked-out _ _ _ _ (c .before .before .before .class-of .ensures) (c .before .before .before .before .before .before .args .single) (c .before .before .before .before .if1 .left) (c .before .before .before .before .before .before .args .marks .now) (omega arith) (omega arith) (c .before .before .before .class-of .result / 0x4_0000) refl (omega arith)
 
 returns-4 : tie.Need-returns-4
-returns-4 c = asked-below _ _ _ _ (c .before .class-of .ensures) (c .before .before .before .args .marks .now) (omega arith)
+returns-4 c = asked-above _ _ _ _ (c .before .before .class-of .ensures) (c .before .before .before .before .before .args .single) (c .before .before .before .if1 .left) (c .before .before .before .before .before .args .marks .now) (omega arith) (omega arith)
+
+returns-5 : tie.Need-returns-5
+returns-5 c = asked-below _ _ _ _ (c .before .class-of .ensures) (c .before .before .before .before .args .single) (c .before .before .if1 .left) (c .before .before .before .before .args .marks .now) (omega arith)
 
 pub is-asked-spec : {M : Type 1} → statement M
 is-asked-spec =
     tie.close
-    (tie.spec class-of-requires shared-slice-read-result returns returns-2 returns-3 returns-4)
+    (tie.spec
+    returns
+    class-of-requires
+    shared-slice-read-result
+    returns-2
+    returns-3
+    returns-4
+    returns-5)

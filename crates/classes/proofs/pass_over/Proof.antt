@@ -6,27 +6,40 @@ use native.Mathlib.Omega.{arith}
 use Rattle.spec.specs.Words.{wordsOf}
 use Rattle.words.specs.Image.{length-wordsOf}
 use Rattle.classes.specs.Passing.{PassedOver}
-use Rattle.classes.proofs.Passed.{over-start, over-more}
+use Rattle.classes.proofs.Passed.{over-start, over-padding, over-put}
 use Rattle.classes.proofs.pass_over.Statement.{statement}
 use Rattle.classes.proofs.pass_over.Tie as tie
 
 abbrev Inv-loop : tie.InvT-loop
-Inv-loop image at end marks low high stop place₀ place = PassedOver (wordsOf image) end marks low high at place
+Inv-loop image at end single marks low high stop place₀ place = PassedOver (wordsOf image) end single marks low high at place
 
 abbrev μ-loop : tie.MeasureT-loop
-μ-loop image at end marks low high stop place₀ place = stop - place
+μ-loop image at end single marks low high stop place₀ place = stop - place
 
 lesser-requires : tie.Need-lesser-requires Inv-loop μ-loop
 lesser-requires c κs = search needs
 
 loop-holds : tie.Need-loop-holds Inv-loop μ-loop
-loop-holds c = over-start _ _ _ _ _ _
+loop-holds c = over-start _ _ _ _ _ _ _
 
 load-requires : tie.Need-load-requires Inv-loop μ-loop
 load-requires c κs = search needs
 
+add-place : tie.Need-add-place Inv-loop μ-loop
+add-place c = search needs
+
+loop-less : tie.Need-loop-less Inv-loop μ-loop
+loop-less c = search needs
+
+loop-again : tie.Need-loop-again Inv-loop μ-loop
+loop-again c =
+    let a = c .before .before .before .before .before .before .before .args in
+    let n = length-wordsOf (a .image .now) in
+    let s = c .before .before .before .before .lesser .ensures in
+    over-padding (wordsOf (a .image .now)) (a .end) (a .single) (a .marks .now) (a .low) (a .high) (a .at) (c .before .before .before .loop .place) (c .before .before .before .loop .inv) (omega arith) (omega arith) (sym (c .if1 .taken) ∙ c .before .load .ensures)
+
 returns : tie.Need-returns Inv-loop μ-loop
-returns c = c .before .before .before .loop .inv
+returns c = c .before .before .before .before .loop .inv
 
 add-load : tie.Need-add-load Inv-loop μ-loop
 add-load c = search needs
@@ -38,26 +51,23 @@ is-asked-requires : tie.Need-is-asked-requires Inv-loop μ-loop
 is-asked-requires c κs = search needs
 
 returns-2 : tie.Need-returns-2 Inv-loop μ-loop
-returns-2 c = c .before .before .before .before .before .before .loop .inv
-
-add-words : tie.Need-add-words Inv-loop μ-loop
-add-words c = search needs
-
-add-place : tie.Need-add-place Inv-loop μ-loop
-add-place c = search needs
+returns-2 c = c .before .before .before .before .before .before .before .loop .inv
 
 add-place-2 : tie.Need-add-place-2 Inv-loop μ-loop
 add-place-2 c = search needs
 
-loop-less : tie.Need-loop-less Inv-loop μ-loop
-loop-less c = search needs
+add-place-3 : tie.Need-add-place-3 Inv-loop μ-loop
+add-place-3 c = search needs
 
-loop-again : tie.Need-loop-again Inv-loop μ-loop
-loop-again c =
-    let a = c .before .before .before .before .before .before .before .before .before .before .args in
+loop-less-2 : tie.Need-loop-less-2 Inv-loop μ-loop
+loop-less-2 c = search needs
+
+loop-again-2 : tie.Need-loop-again-2 Inv-loop μ-loop
+loop-again-2 c =
+    let a = c .before .before .before .before .before .before .before .before .before .before .before .args in
     let n = length-wordsOf (a .image .now) in
-    let s = c .before .before .before .before .before .before .before .lesser .ensures in
-    over-more (wordsOf (a .image .now)) (a .end) (a .marks .now) (a .low) (a .high) (a .at) (c .before .before .before .before .before .before .loop .place) (c .before .before .before .before .before .before .loop .inv) (omega arith) (omega arith) (c .before .before .before .before .load .result) (c .before .before .before .before .load .ensures) (omega arith) (c .before .before .load2 .result) (c .before .before .load2 .ensures) (sym (c .before .is-asked .ensures) ∙ c .if2 .left) _ refl
+    let s = c .before .before .before .before .before .before .before .before .lesser .ensures in
+    over-put (wordsOf (a .image .now)) (a .end) (a .single) (a .marks .now) (a .low) (a .high) (a .at) (c .before .before .before .before .before .before .before .loop .place) (c .before .before .before .before .before .before .before .loop .inv) (omega arith) (omega arith) (c .before .before .before .before .before .load .result) (c .before .before .before .before .before .load .ensures) (omega arith) (c .before .before .load2 .result) (c .before .before .load2 .ensures) (sym (c .before .is-asked .ensures) ∙ c .if3 .left)
 
 returns-3 : tie.Need-returns-3 Inv-loop μ-loop
 returns-3 c = c .before .loop .inv
@@ -71,14 +81,16 @@ pass-over-spec =
     lesser-requires
     loop-holds
     load-requires
+    add-place
+    loop-less
+    loop-again
     returns
     add-load
     load-requires-2
     is-asked-requires
     returns-2
-    add-words
-    add-place
     add-place-2
-    loop-less
-    loop-again
+    add-place-3
+    loop-less-2
+    loop-again-2
     returns-3)

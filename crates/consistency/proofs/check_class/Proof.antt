@@ -2,9 +2,12 @@
 -- Assumes nothing.
 use borrow.Author.Needs.{needs}
 use mathlib.Core.Path.{refl}
-use Rattle.consistency.proofs.Sweeps.{class-marked, class-unmarked}
+use Rattle.consistency.proofs.Sweeps.{marks-fit, class-marked, class-unmarked}
 use Rattle.consistency.proofs.check_class.Statement.{statement}
 use Rattle.consistency.proofs.check_class.Tie as tie
+
+takes-marks-requires : tie.Need-takes-marks-requires
+takes-marks-requires c κs = search needs
 
 slice-aggregate-mark-twins : tie.Need-slice-aggregate-mark-twins
 slice-aggregate-mark-twins c = search needs
@@ -19,7 +22,7 @@ sweep-requires : tie.Need-sweep-requires
 sweep-requires c κs = search needs
 
 returns : tie.Need-returns
-returns c = class-marked _ _ _ _ _ _ _ _ _ _ (c .before .before .before .before .before .before .if1 .taken) _ (c .before .before .before .before .mark-twins .ensures) (c .sweep .ensures)
+returns c = class-marked _ _ _ _ _ _ _ _ _ _ _ (marks-fit (c .before .before .before .before .before .before .before .before .before .before .args .fits) (c .before .before .before .before .before .before .before .before .before .before .args .single) (c .before .before .before .before .before .before .before .takes-marks .result) (c .before .before .before .before .before .before .before .takes-marks .ensures) (c .before .before .before .before .before .before .if1 .taken)) _ (c .before .before .before .before .mark-twins .ensures) (c .sweep .ensures)
 
 sub-sweep : tie.Need-sub-sweep
 sub-sweep c = search needs
@@ -34,12 +37,13 @@ sweep-requires-2 : tie.Need-sweep-requires-2
 sweep-requires-2 c κs = search needs
 
 returns-2 : tie.Need-returns-2
-returns-2 c = class-unmarked _ _ _ _ _ _ _ _ _ _ _ refl (c .sweep2 .ensures)
+returns-2 c = class-unmarked _ _ _ _ _ _ _ _ _ _ _ _ refl (c .sweep2 .ensures)
 
 pub check-class-spec : {M : Type 1} → statement M
 check-class-spec =
     tie.close
     (tie.spec
+    takes-marks-requires
     slice-aggregate-mark-twins
     mark-twins-requires
     slice-aggregate-sweep

@@ -2,63 +2,125 @@
 -- which none has failed.
 -- Assumes nothing.
 use borrow.Author.Needs.{needs}
+use mathlib.Core.Path.{refl, sym, _∙_}
 use native.Mathlib.Omega.{arith}
 use Rattle.spec.specs.Words.{wordsOf}
-use Rattle.log.specs.Cursor.{left}
-use Rattle.log.proofs.Walk.{handed}
-use Rattle.consistency.proofs.Sweeps.{Going, going-start, going-over, going-done, going-wrong, going-next, going-stop}
+use Rattle.words.specs.Image.{length-wordsOf}
+use Rattle.theory_log.proofs.Walk.{room-padding, room-entry}
+use Rattle.log.specs.declared.Next.the-variants as N
+use Rattle.log.specs.Cursor.{cursorAt, left}
+use Rattle.log.proofs.Walk.{next-none, next-wrong, next-padding, next-found, left-padding}
+use Rattle.classes.proofs.Onwards.{onward-same, onward-nearer}
+use Rattle.consistency.proofs.Sweeps.{Going, going-start, going-over, going-on, going-done, going-wrong, going-next, going-stop}
 use Rattle.consistency.proofs.sweep.Statement.{statement}
 use Rattle.consistency.proofs.sweep.Tie as tie
 
 abbrev Inv-loop : tie.InvT-loop
-Inv-loop image count table fits marks low high buffer₀ s₀ cursor₀ buffer s cursor = Going count (wordsOf image) table fits marks low high s₀ buffer₀ buffer s cursor
+Inv-loop image count table fits single marks low high buffer₀ s₀ chunk₀ place₀ end₀ buffer s chunk place end = Going count (wordsOf image) table fits single marks low high s₀ buffer₀ buffer s (cursorAt chunk place end)
 
 abbrev μ-loop : tie.MeasureT-loop
-μ-loop image count table fits marks low high buffer₀ s₀ cursor₀ buffer s cursor = left count (wordsOf image) cursor
-
-first-cursor-requires : tie.Need-first-cursor-requires Inv-loop μ-loop
-first-cursor-requires c κs = search needs
+μ-loop image count table fits single marks low high buffer₀ s₀ chunk₀ place₀ end₀ buffer s chunk place end = left count (wordsOf image) (cursorAt chunk place end)
 
 loop-holds : tie.Need-loop-holds Inv-loop μ-loop
 loop-holds c =
-    let a = c .before .before .before .before .args in
-    going-start (a .count) (wordsOf (a .image .now)) (a .table .now) (a .fits) (a .marks .now) (a .low) (a .high) (a .so) (a .buffer .now) (c .first-cursor .result) (c .first-cursor .ensures)
+    let a = c .before .before .before .args in
+    going-start (a .count) (wordsOf (a .image .now)) (a .table .now) (a .fits) (a .single) (a .marks .now) (a .low) (a .high) (a .so) (a .buffer .now) (cursorAt 0 0 0) refl
 
 pass-over-requires : tie.Need-pass-over-requires Inv-loop μ-loop
 pass-over-requires c κs = search needs
 
-next-in-log-requires : tie.Need-next-in-log-requires Inv-loop μ-loop
-next-in-log-requires c κs = search needs
+next-entry-requires : tie.Need-next-entry-requires Inv-loop μ-loop
+next-entry-requires c κs = search needs
 
 enum-told : tie.Need-enum-told Inv-loop μ-loop
 enum-told c = search needs
 
 returns : tie.Need-returns Inv-loop μ-loop
-returns c = going-done _ _ _ _ _ _ _ _ _ _ _ _ (going-over _ _ _ _ _ _ _ _ _ _ _ _ _ _ (c .before .before .before .before .loop .inv) _ (c .before .before .before .pass-over .ensures)) (c .before .before .next-in-log .result) (c .before .before .next-in-log .ensures) (c .enum-told .given .1)
+returns c = going-done _ _ _ _ _ _ _ _ _ _ _ _ _ (going-over _ _ _ _ _ _ _ _ _ _ _ _ _ _ _ (c .before .before .before .before .before .loop .inv) _ (c .before .before .before .before .pass-over .ensures)) N.Done (next-none _ _ _ _ _ (sym (c .before .before .before .next-entry .ensures) ∙ c .before .enum-told .given .1) (omega arith)) refl
+
+sub-if2 : tie.Need-sub-if2 Inv-loop μ-loop
+sub-if2 c = search needs
+
+returns-2 : tie.Need-returns-2 Inv-loop μ-loop
+returns-2 c = going-done _ _ _ _ _ _ _ _ _ _ _ _ _ (going-over _ _ _ _ _ _ _ _ _ _ _ _ _ _ _ (c .before .before .before .before .before .before .loop .inv) _ (c .before .before .before .before .before .pass-over .ensures)) N.Done (next-none _ _ _ _ _ (sym (c .before .before .before .before .next-entry .ensures) ∙ c .before .before .enum-told .given .1) (omega arith)) refl
+
+add-onward : tie.Need-add-onward Inv-loop μ-loop
+add-onward c = search needs
+
+onward-requires : tie.Need-onward-requires Inv-loop μ-loop
+onward-requires c κs = search needs
+
+loop-less : tie.Need-loop-less Inv-loop μ-loop
+loop-less c =
+    let a = c .before .before .before .before .before .before .before .before .before .before .before .args in
+    let w = c .before .before .before .before .before .before .before .loop in
+    let f = onward-nearer (a .count) (wordsOf (a .image .now)) (w .chunk) (c .before .before .before .before .before .before .pass-over .result) (w .end) (omega arith) (c .onward .result) (c .onward .ensures) in
+    let g = c .before .before .before .before .before .before .pass-over .ensures .nearer (a .count) (w .chunk) in
+    omega arith
+
+loop-again : tie.Need-loop-again Inv-loop μ-loop
+loop-again c = going-on _ _ _ _ _ _ _ _ _ _ _ _ _ _ (going-over _ _ _ _ _ _ _ _ _ _ _ _ _ _ _ (c .before .before .before .before .before .before .before .loop .inv) _ (c .before .before .before .before .before .before .pass-over .ensures)) (onward-same _ _ _ _ _ (omega arith) _ (c .onward .ensures) (sym (c .before .before .before .before .before .next-entry .ensures) ∙ c .before .before .before .enum-told .given .1))
 
 enum-told-2 : tie.Need-enum-told-2 Inv-loop μ-loop
 enum-told-2 c = search needs
 
-returns-2 : tie.Need-returns-2 Inv-loop μ-loop
-returns-2 c = going-wrong _ _ _ _ _ _ _ _ _ _ _ _ (going-over _ _ _ _ _ _ _ _ _ _ _ _ _ _ (c .before .before .before .before .loop .inv) _ (c .before .before .before .pass-over .ensures)) (c .before .before .next-in-log .result) (c .before .before .next-in-log .ensures) (c .enum-told2 .given .1)
+returns-3 : tie.Need-returns-3 Inv-loop μ-loop
+returns-3 c = going-wrong _ _ _ _ _ _ _ _ _ _ _ _ _ (going-over _ _ _ _ _ _ _ _ _ _ _ _ _ _ _ (c .before .before .before .before .loop .inv) _ (c .before .before .before .pass-over .ensures)) N.Wrong (next-wrong _ _ _ _ _ (sym (c .before .before .next-entry .ensures) ∙ c .enum-told2 .given .1)) refl
 
-enum-known-n : tie.Need-enum-known-n Inv-loop μ-loop
-enum-known-n c = search needs
+enum-told-3 : tie.Need-enum-told-3 Inv-loop μ-loop
+enum-told-3 c = search needs
+
+add-place : tie.Need-add-place Inv-loop μ-loop
+add-place c =
+    let a = c .before .before .before .before .before .before .before .before .args in
+    let r = room-padding (wordsOf (a .image .now)) (c .before .before .before .pass-over .result) (c .before .before .before .before .loop .end) (sym (c .before .before .next-entry .ensures) ∙ c .enum-told3 .given .1) in
+    let n = length-wordsOf (a .image .now) in
+    omega arith
+
+loop-less-2 : tie.Need-loop-less-2 Inv-loop μ-loop
+loop-less-2 c =
+    let a = c .before .before .before .before .before .before .before .before .args in
+    let w = c .before .before .before .before .loop in
+    let f = left-padding (a .count) (wordsOf (a .image .now)) (w .chunk) (c .before .before .before .pass-over .result) (w .end) (sym (c .before .before .next-entry .ensures) ∙ c .enum-told3 .given .1) in
+    let g = c .before .before .before .pass-over .ensures .nearer (a .count) (w .chunk) in
+    omega arith
+
+loop-again-2 : tie.Need-loop-again-2 Inv-loop μ-loop
+loop-again-2 c = going-on _ _ _ _ _ _ _ _ _ _ _ _ _ _ (going-over _ _ _ _ _ _ _ _ _ _ _ _ _ _ _ (c .before .before .before .before .loop .inv) _ (c .before .before .before .pass-over .ensures)) (next-padding _ _ _ _ _ (sym (c .before .before .next-entry .ensures) ∙ c .enum-told3 .given .1))
+
+enum-known-step : tie.Need-enum-known-step Inv-loop μ-loop
+enum-known-step c = search needs
 
 visit-requires : tie.Need-visit-requires Inv-loop μ-loop
 visit-requires c κs = search needs
 
-loop-less : tie.Need-loop-less Inv-loop μ-loop
-loop-less c =
-    let f = handed _ _ _ _ (c .before .before .before .before .before .before .next-in-log .ensures) _ _ _ _ _ _ _ _ (c .before .before .before .before .n .given .1) .falls in
-    let g = c .before .before .before .before .before .before .before .pass-over .ensures .nearer (c .before .before .before .before .before .before .before .before .before .before .before .before .before .args .count) (c .before .before .before .before .before .before .before .before .loop .cursor .chunk) in
+add-place-2 : tie.Need-add-place-2 Inv-loop μ-loop
+add-place-2 c =
+    let a = c .before .before .before .before .before .before .before .before .before .before .before .before .args in
+    let r = room-entry (wordsOf (a .image .now)) (c .before .before .before .before .before .before .before .pass-over .result) (c .before .before .before .before .before .before .before .before .loop .end) _ _ _ _ _ (c .before .before .before .before .step .given .0 .1 .1 .1 .1 .1 .0) (sym (c .before .before .before .before .before .before .next-entry .ensures) ∙ c .before .before .before .before .step .given .1) in
+    let n = length-wordsOf (a .image .now) in
     omega arith
 
-loop-again : tie.Need-loop-again Inv-loop μ-loop
-loop-again c = going-next _ _ _ _ _ _ _ _ _ _ _ _ (going-over _ _ _ _ _ _ _ _ _ _ _ _ _ _ (c .before .before .before .before .before .before .before .before .loop .inv) _ (c .before .before .before .before .before .before .before .pass-over .ensures)) (c .before .before .before .before .before .before .next-in-log .result) (c .before .before .before .before .before .before .next-in-log .ensures) _ _ _ _ _ _ _ _ (c .before .before .before .before .n .given .1) _ (c .before .visit .result) (c .before .visit .ensures) (c .if1 .taken)
+add-place-3 : tie.Need-add-place-3 Inv-loop μ-loop
+add-place-3 c =
+    let a = c .before .before .before .before .before .before .before .before .before .before .before .before .args in
+    let r = room-entry (wordsOf (a .image .now)) (c .before .before .before .before .before .before .before .pass-over .result) (c .before .before .before .before .before .before .before .before .loop .end) _ _ _ _ _ (c .before .before .before .before .step .given .0 .1 .1 .1 .1 .1 .0) (sym (c .before .before .before .before .before .before .next-entry .ensures) ∙ c .before .before .before .before .step .given .1) in
+    let n = length-wordsOf (a .image .now) in
+    omega arith
 
-returns-3 : tie.Need-returns-3 Inv-loop μ-loop
-returns-3 c = going-stop _ _ _ _ _ _ _ _ _ _ _ _ (going-over _ _ _ _ _ _ _ _ _ _ _ _ _ _ (c .before .before .before .before .before .before .before .before .loop .inv) _ (c .before .before .before .before .before .before .before .pass-over .ensures)) (c .before .before .before .before .before .before .next-in-log .result) (c .before .before .before .before .before .before .next-in-log .ensures) _ _ _ _ _ _ _ _ (c .before .before .before .before .n .given .1) _ (c .before .visit .result) (c .before .visit .ensures) (c .if1 .left)
+loop-less-3 : tie.Need-loop-less-3 Inv-loop μ-loop
+loop-less-3 c =
+    let a = c .before .before .before .before .before .before .before .before .before .before .before .before .args in
+    let w = c .before .before .before .before .before .before .before .before .loop in
+    let f = next-found (a .count) (wordsOf (a .image .now)) (w .chunk) (c .before .before .before .before .before .before .before .pass-over .result) (w .end) _ _ _ _ _ _ (sym (c .before .before .before .before .before .before .next-entry .ensures) ∙ c .before .before .before .before .step .given .1) .falls in
+    let g = c .before .before .before .before .before .before .before .pass-over .ensures .nearer (a .count) (w .chunk) in
+    omega arith
+
+loop-again-3 : tie.Need-loop-again-3 Inv-loop μ-loop
+loop-again-3 c = going-next _ _ _ _ _ _ _ _ _ _ _ _ _ (going-over _ _ _ _ _ _ _ _ _ _ _ _ _ _ _ (c .before .before .before .before .before .before .before .before .loop .inv) _ (c .before .before .before .before .before .before .before .pass-over .ensures)) (N.Entry _ _ _ _ _ _ _ _) (next-found _ _ (c .before .before .before .before .before .before .before .before .loop .chunk) _ _ _ _ _ _ _ _ (sym (c .before .before .before .before .before .before .next-entry .ensures) ∙ c .before .before .before .before .step .given .1)) _ _ _ _ _ _ _ _ refl _ (c .before .visit .result) (c .before .visit .ensures) (c .if3 .taken)
+
+returns-4 : tie.Need-returns-4 Inv-loop μ-loop
+returns-4 c = going-stop _ _ _ _ _ _ _ _ _ _ _ _ _ (going-over _ _ _ _ _ _ _ _ _ _ _ _ _ _ _ (c .before .before .before .before .before .before .before .before .loop .inv) _ (c .before .before .before .before .before .before .before .pass-over .ensures)) (N.Entry _ _ _ _ _ _ _ _) (next-found _ _ (c .before .before .before .before .before .before .before .before .loop .chunk) _ _ _ _ _ _ _ _ (sym (c .before .before .before .before .before .before .next-entry .ensures) ∙ c .before .before .before .before .step .given .1)) _ _ _ _ _ _ _ _ refl _ (c .before .visit .result) (c .before .visit .ensures) (c .if3 .left)
 
 pub sweep-spec : {M : Type 1} → statement M
 sweep-spec =
@@ -66,16 +128,27 @@ sweep-spec =
     (tie.spec
     Inv-loop
     μ-loop
-    first-cursor-requires
     loop-holds
     pass-over-requires
-    next-in-log-requires
+    next-entry-requires
     enum-told
     returns
-    enum-told-2
+    sub-if2
     returns-2
-    enum-known-n
-    visit-requires
+    add-onward
+    onward-requires
     loop-less
     loop-again
-    returns-3)
+    enum-told-2
+    returns-3
+    enum-told-3
+    add-place
+    loop-less-2
+    loop-again-2
+    enum-known-step
+    visit-requires
+    add-place-2
+    add-place-3
+    loop-less-3
+    loop-again-3
+    returns-4)

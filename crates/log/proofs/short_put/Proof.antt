@@ -41,11 +41,11 @@ returns-3 c = search needs
 add-words : tie.Need-add-words
 add-words c = search needs
 
-sub-if5 : tie.Need-sub-if5
-sub-if5 c = search needs
-
 add-if5 : tie.Need-add-if5
 add-if5 c = search needs
+
+add-if5-2 : tie.Need-add-if5-2
+add-if5-2 c = search needs
 
 returns-4 : tie.Need-returns-4
 returns-4 c = search needs
@@ -86,8 +86,8 @@ short-put-spec =
     returns-2
     returns-3
     add-words
-    sub-if5
     add-if5
+    add-if5-2
     returns-4
     fill-right-requires
     add-load

@@ -1,4 +1,4 @@
--- `recovery::first_refusal` meets its contract.
+-- `opening::first_refusal` meets its contract.
 -- Assumes nothing.
 use Rattle.opening.proofs.first_refusal.Statement.{statement}
 use Rattle.opening.proofs.first_refusal.Tie as tie

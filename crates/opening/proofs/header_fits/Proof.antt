@@ -1,4 +1,4 @@
--- `recovery::header_fits` meets its contract.
+-- `opening::header_fits` meets its contract.
 -- Assumes nothing.
 use mathlib.Core.Path.{_∙_}
 use borrow.Author.Needs.{needs}

@@ -1,4 +1,4 @@
--- `recovery::judge` meets its contract.
+-- `opening::judge` meets its contract.
 -- Assumes nothing.
 use borrow.Author.Needs.{needs}
 use Rattle.opening.proofs.Opens.{judge-length, judge-header, judge-directory, judge-rest}

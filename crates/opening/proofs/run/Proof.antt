@@ -1,4 +1,4 @@
--- `recovery::run` meets its contract. The loop's invariant: the pass has come to `place`, with the table's numbers as
+-- `opening::run` meets its contract. The loop's invariant: the pass has come to `place`, with the table's numbers as
 -- they are.
 -- Assumes nothing.
 use Prim.Native.Nat.{_-_}

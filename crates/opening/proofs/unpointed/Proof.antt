@@ -1,4 +1,4 @@
--- `recovery::unpointed` meets its contract.
+-- `opening::unpointed` meets its contract.
 -- Assumes nothing.
 use borrow.Author.Tests.{eq-eqb, ne-eqb}
 use Rattle.opening.proofs.unpointed.Statement.{statement}
