@@ -5,19 +5,18 @@ use mathlib.Core.Logic.{_⊎_, inl, inr}
 use mathlib.Core.Bool.{Bool, true, false}
 use mathlib.Core.List.{List, [], _∷_, _++_}
 use Prim.Native.Nat.{ℕ, _+_, _-_, _/_, _≤_, _<_, min}
+use native.Mathlib.Nat.{add-zero}
 use native.Mathlib.Omega.{arith}
 use lib.Dec.{eqb}
 use lib.ListN.{length, getD}
 use lib.Seq.{append-snoc}
 use Rattle.spec.specs.Basics.{pick, larger}
-use Rattle.spec.specs.Places.{basePower, maxChunks, chunkWords, chunkUnits, base, unitChunk, unitWord}
+use Rattle.spec.specs.Places.{basePower, maxChunks, chunkUnits, unitChunk, unitWord}
 use Rattle.spec.specs.Directory.{sizeOf}
 use Rattle.spec.specs.Log.{Entry, Entries, imageEntries, encodeAll, moved, placed}
 use Rattle.spec.specs.Blocks.{pointed}
 use Rattle.spec.specs.Contents.{highest, keysOf, capacity}
 use Rattle.spec.specs.Opening.{fine}
-use Rattle.session.specs.declared.Control.{Control}
-use Rattle.session.specs.declared.Setup.{Setup}
 use Rattle.theory_log.specs.Batch.{AllRight}
 use Rattle.theory_log.specs.Contents.{Mem, Top, CountsOn}
 use Rattle.theory_log.proofs.Contents.{larger-r, below-highest, counts-same, highest-insert}
@@ -28,13 +27,13 @@ use Rattle.blocks.proofs.Laws.{front-kept, front-all, front-then}
 use Rattle.volatile.specs.Known.{extentOf, alone, ownOf}
 use Rattle.volatile.specs.Sums.{weight}
 use Rattle.sums.specs.Change.{Weighed}
-use Rattle.session.specs.State.{bufferPart, batchWords}
-use Rattle.session.specs.Fits.{ItemsFit, batchPlace}
-use Rattle.session.proofs.Part.{part-agree, chunk-in, lines-in}
+use Rattle.session.specs.State.{bufferPart}
+use Rattle.session.specs.Fits.{ItemsFit}
+use Rattle.session.proofs.Part.{part-agree}
 use Rattle.apply.specs.declared.Item.{Item}
 use Rattle.apply.specs.declared.Item.the-variants as I
 use Rattle.apply.specs.Blocks.{bitRoom, blockAt, Claimed}
-use Rattle.apply.specs.Joining.{Later, Shown, Awaited, OneJoined, Taken, StagedFrom, Staged, placeOf, Fenced, Joining}
+use Rattle.apply.specs.Joining.{Later, Shown, Awaited, OneJoined, Taken, StagedFrom, Staged, Fenced, Joining}
 use Rattle.apply.proofs.Joined.{which}
 use Rattle.apply.proofs.Claiming.{joined-shown}
 use Rattle.apply.proofs.Staging.{told-none, told-fits, told-entry}
@@ -97,29 +96,21 @@ pub record Left (n : ℕ) (ws buffer table : List ℕ) (keys place at end : ℕ)
 
 -- ## The beginning
 
-place-is : (k : Setup) → k .chunk ≤ 503 → k .lines ≤ 64 → placeOf k ≡ batchPlace k
-unfolding base chunkWords
-place-is k c l = rw (chunk-in k c, lines-in k l) (omega arith)
-
-left-start : (c : Control) (k : Setup) (buffer ws table : List ℕ) (front back items : List Entry) → Fenced c k buffer ws table front back items
-    → Left (k .image / 4096) ws buffer table (c .keys) (placeOf k) 0 (min (c .words) 512) (front ++ (placed (batchPlace k) items ++ back)) back
-unfolding batchWords
-left-start c k buffer ws table front back items f =
-    let p : placeOf k + 0 ≡ batchPlace k = omega (arith, place-is k (f .chunk) (f .lines)) in
-    let z : min (c .words) 512 - 0 ≡ min (c .words) 512 = omega arith in
-    record {
-      joined = front;
-      rest = items;
-      parts = rw p;
-      words = rw z (f .written);
-      right = f .right;
-      counts = f .counts;
-      fit = f .fit;
-      shown = record { indexed = f .built .indexed; blocks = f .built .blocks; sums = f .built .sums; agree = f .agree; apart = f .apart };
-      most = f .most;
-      image = f .shown;
-      room = f .room;
-    }
+left-start : (n place words known : ℕ) (buffer ws table : List ℕ) (front back items : List Entry) → Fenced n place words known buffer ws table front back items
+    → Left n ws buffer table known place 0 (min words 512) (front ++ (placed place items ++ back)) back
+left-start n place words known buffer ws table front back items f = record {
+  joined = front;
+  rest = items;
+  parts = rw (add-zero place);
+  words = let z : min words 512 - 0 ≡ min words 512 = omega arith in rw z (f .written);
+  right = f .right;
+  counts = f .counts;
+  fit = f .fit;
+  shown = f .shown;
+  most = f .most;
+  image = f .image;
+  room = f .room;
+}
 
 -- ## One more item
 
@@ -209,14 +200,11 @@ module _ (ws buffer₀ table₀ : List ℕ) (keys₀ place at₀ end : ℕ) (buf
       let z = told-none buffer at end r told e (m .rest) (m .right, m .words) in
       rw (m .parts, z) (m .shown)
 
-pub going-joins : (c : Control) (k : Setup) (ws buffer₀ table₀ : List ℕ) (keys₀ place at₀ end : ℕ) (buffer table : List ℕ) (keys at : ℕ) (inv : Going ws buffer₀ table₀ keys₀ place at₀ end buffer table keys at)
-    (r : Item) → Staged buffer at end r → r ≡ I.Nothing → keys₀ ≡ c .keys → place ≡ placeOf k → at₀ ≡ 0 → end ≡ min (c .words) 512
-    → Joining c k buffer₀ buffer ws table₀ table keys
-going-joins c k ws buffer₀ table₀ keys₀ place at₀ end buffer table keys at inv r told e q2 q3 q4 q5 = record {
+pub going-joins : (words : ℕ) (ws buffer₀ table₀ : List ℕ) (keys₀ place at₀ end : ℕ) (buffer table : List ℕ) (keys at : ℕ) (inv : Going ws buffer₀ table₀ keys₀ place at₀ end buffer table keys at)
+    (r : Item) → Staged buffer at end r → r ≡ I.Nothing → at₀ ≡ 0 → end ≡ min words 512 → Joining place words keys₀ buffer₀ buffer ws table₀ table keys
+going-joins words ws buffer₀ table₀ keys₀ place at₀ end buffer table keys at inv r told e q4 q5 = record {
   kept = inv .kept;
   sized = inv .sized;
-  joins = λ front back items f.
-      let whole = front ++ (placed (batchPlace k) items ++ back) in
-      let s = going-end ws buffer₀ table₀ keys₀ place at₀ end buffer table keys at inv r told e (k .image / 4096) whole back (rw (q2, q3, q4, q5) (left-start c k buffer₀ ws table₀ front back items f)) in
-      (record { indexed = s .indexed; blocks = s .blocks; sums = s .sums }, s .indexed .count);
+  joins = λ n front back items f.
+      going-end ws buffer₀ table₀ keys₀ place at₀ end buffer table keys at inv r told e n (front ++ (placed place items ++ back)) back (rw (q4, q5) (left-start n place words keys₀ buffer₀ ws table₀ front back items f));
 }

@@ -4,15 +4,13 @@ use mathlib.Core.Path.{_≡_}
 use mathlib.Core.Bool.{true}
 use mathlib.Core.Option.{some}
 use mathlib.Core.List.{List, [], _∷_, _++_}
-use Prim.Native.Nat.{ℕ, _+_, _-_, _*_, _/_, _≤_, _<_}
+use Prim.Native.Nat.{ℕ, _+_, _-_, _≤_, _<_, min}
 use lib.ListN.{length}
 use Rattle.spec.specs.Basics.{both, negate, isIn}
 use Rattle.spec.specs.Places.{basePower, maxChunks}
 use Rattle.spec.specs.Log.{Entry, Entries, imageEntries, encodeAll, placed}
 use Rattle.spec.specs.Blocks.{pointed}
 use Rattle.spec.specs.Contents.{highest, chosen, keysOf, capacity, liveBlocks}
-use Rattle.session.specs.declared.Control.{Control}
-use Rattle.session.specs.declared.Setup.{Setup}
 use Rattle.theory_log.specs.Batch.{AllRight}
 use Rattle.theory_log.specs.Contents.{Mem, Top, CountsOn, Agree}
 use Rattle.index.specs.declared.Info.{Info}
@@ -20,12 +18,11 @@ use Rattle.blocks.specs.Bits.{hasBit, WordsKept, FrontKept}
 use Rattle.volatile.specs.Known.{ownOf, Indexed}
 use Rattle.volatile.specs.Sums.{weight, Summed}
 use Rattle.volatile.proofs.Info.{said}
-use Rattle.session.specs.State.{bufferPart, batchWords, chunkIn, linesIn}
-use Rattle.session.specs.Fits.{ItemsFit, Built, BlocksApart, batchPlace}
+use Rattle.session.specs.State.{bufferPart, batchRoom}
+use Rattle.session.specs.Fits.{ItemsFit, BlocksApart}
 use Rattle.apply.specs.Blocks.{topBlock, Freed}
 use Rattle.apply.specs.declared.Item.{Item}
 use Rattle.apply.specs.declared.Item.the-variants as I
-use Rattle.session.specs.Numbers.{keyed}
 
 -- these entries are above all of es of their keys
 abbrev pub Later : (es more : List Entry) → Type 0
@@ -90,33 +87,20 @@ Staged buffer at end I.Nothing = (rest : List Entry) → StagedFrom buffer at en
 Staged buffer at end (I.Entry op placement version field key words) =
     (at + (2 + words) ≤ end) × ((rest : List Entry) → StagedFrom buffer at end rest → Taken buffer at end op placement version field key words rest)
 
--- where the batch begins, for any record
-abbrev pub placeOf : Setup → ℕ
-placeOf k = 512 * chunkIn k + 8 * linesIn k
-
--- THE BATCH: what holds at a commit's last fence. The image shows the batch between front and back; table and bits know
--- front and back alone.
-pub record Fenced (c : Control) (k : Setup) (buffer ws table : List ℕ) (front back items : List Entry) : Type 0 where
-  pub chunk : k .chunk ≤ 503
-  pub lines : k .lines ≤ 64
-  pub most : k .image / 4096 ≤ maxChunks
-  pub written : batchWords c buffer ≡ encodeAll items
+-- THE BATCH, so many words of the buffer: what holds at a commit's last fence. The image, of n chunks, shows it at
+-- `place`, between front and back; table, bits and sums know front and back alone.
+pub record Fenced (n place words known : ℕ) (buffer ws table : List ℕ) (front back items : List Entry) : Type 0 where
+  pub most : n ≤ maxChunks
+  pub written : bufferPart buffer 0 (min words batchRoom) ≡ encodeAll items
   pub right : AllRight items
   pub counts : CountsOn (front ++ back) items
-  pub fit : ItemsFit (k .image / 4096) ws (front ++ back) items
-  pub shown : imageEntries basePower (k .image / 4096) ws ≡ Entries (front ++ (placed (batchPlace k) items ++ back))
-  pub built : Built c buffer table (front ++ back)
-  pub agree : Agree (front ++ back)
-  pub apart : BlocksApart (front ++ back)
-  pub room : length (keysOf (front ++ (placed (batchPlace k) items ++ back))) ≤ capacity (length table)
-
--- the record's numbers with so many known keys
-abbrev pub withKeys : Control → ℕ → Control
-withKeys c keys = keyed (c .phase) (c .next) keys (c .fresh) c
+  pub fit : ItemsFit n ws (front ++ back) items
+  pub image : imageEntries basePower n ws ≡ Entries (front ++ (placed place items ++ back))
+  pub shown : Shown buffer table known (front ++ back)
+  pub room : length (keysOf (front ++ (placed place items ++ back))) ≤ capacity (length table)
 
 -- before and after the batch joined: of any memory, and at a commit's last fence
-pub record Joining (c : Control) (k : Setup) (buffer buffer′ ws table table′ : List ℕ) (keys : ℕ) : Type 0 where
+pub record Joining (place words known : ℕ) (buffer buffer′ ws table table′ : List ℕ) (keys : ℕ) : Type 0 where
   pub kept : FrontKept buffer buffer′
   pub sized : length table′ ≡ length table
-  pub joins : (front back items : List Entry) → Fenced c k buffer ws table front back items
-      → Built (withKeys c keys) buffer′ table′ (front ++ (placed (batchPlace k) items ++ back)) × (keys ≡ length (keysOf (front ++ (placed (batchPlace k) items ++ back))))
+  pub joins : (n : ℕ) (front back items : List Entry) → Fenced n place words known buffer ws table front back items → Shown buffer′ table′ keys (front ++ (placed place items ++ back))

@@ -1,6 +1,6 @@
 // A commit's items join the key table and the chunks' sums, their blocks the bits; and the entries that they supersede
 // leave the sums, their blocks the bits.
-ghost use Prim.Native.Nat.{_≤_};
+ghost use Prim.Native.Nat.{_^_, _≤_, _<_};
 ghost use Rattle.spec.specs.Words.{wordsOf};
 ghost use Rattle.spec.specs.Log.{firstOf};
 ghost use lib.ListN.{getD};
@@ -8,8 +8,6 @@ ghost use Rattle.apply.specs.Blocks.{blockAt, namedBy, Freed, Claimed};
 ghost use Rattle.apply.specs.Joining.{Superseded, OneJoined, Staged, Joining};
 use blocks::Buffer;
 use index::Info;
-use session::Control;
-use session::Setup;
 use spec::FirstWord;
 
 // THE BLOCKS OF SUPERSEDED ENTRIES
@@ -147,20 +145,22 @@ fn item_at(buffer: &Buffer, at: usize, end: usize) -> Item
     }
 }
 
-// At a commit's last fence the staged items join: how many keys the table has then.
+// At a commit's last fence the staged items, `words` words of the buffer that stand at word `place` of the image, join a
+// table of `known` keys: how many keys it has then.
 pub fn join(
-    control: Control,
-    setup: Setup,
+    place: usize,
+    words: usize,
+    known: usize,
     buffer: &mut Buffer,
     image: &[u8],
     table: &mut [u64],
 ) -> usize
-    ensures { λ r. ⌜ Joining control setup (now (buffer .entry)) (now (buffer .exit)) (wordsOf (now (image .entry))) (now (table .entry)) (now (table .exit)) r ⌝ }
+    requires { ⌜ place < 2 ^ 32 ⌝ }
+    ensures { λ r. ⌜ Joining place words known (now (buffer .entry)) (now (buffer .exit)) (wordsOf (now (image .entry))) (now (table .entry)) (now (table .exit)) r ⌝ }
 {
     blocks::buffer_length(buffer);
-    let place = actions::batch_start(setup);
-    let end = words::lesser(control.words, 512);
-    let mut keys = control.keys;
+    let end = words::lesser(words, 512);
+    let mut keys = known;
     let mut at: usize = 0;
     loop {
         let item = item_at(buffer, at, end);

@@ -169,7 +169,8 @@ pub fn late_step(
         if actions::commit_count(control.words) <= control.next {
             return ended(control);
         }
-        let keys = apply::join(control, setup, buffer, image, table);
+        let place = actions::batch_start(setup);
+        let keys = apply::join(place, control.words, control.keys, buffer, image, table);
         let joined = Control {
             phase: 3,
             next: control.next + 1,

@@ -3,11 +3,11 @@
 use mathlib.Core.Path.{_≡_, refl, _∙_, ap}
 use mathlib.Core.Logic.{_⊎_, inl, inr}
 use mathlib.Core.List.{List, [], _∷_, _++_, map-append}
-use Prim.Native.Nat.{ℕ, _+_, _/_}
+use Prim.Native.Nat.{ℕ, _+_, _*_, _/_}
 use native.Mathlib.Omega.{arith}
 use lib.ListN.{length}
 use Rattle.spec.specs.Basics.{distinct}
-use Rattle.spec.specs.Places.{basePower, chunkBytes, chunksIn}
+use Rattle.spec.specs.Places.{basePower, chunkWords, base, chunksIn}
 use Rattle.spec.specs.Medium.{Action, Mem as Among}
 use Rattle.spec.specs.Log.{Entry, placed}
 use Rattle.spec.specs.Contents.{keysOf}
@@ -18,11 +18,12 @@ use Rattle.session.specs.declared.Session.{Session}
 use Rattle.theory_base.proofs.Lists.{number-l, number-r, number-cases, distinct-equal}
 use Rattle.theory_crash.specs.Accepted.{Ok}
 use Rattle.theory_crash.proofs.Opening.{keys-fit, opens-ok}
-use Rattle.session.specs.State.{batchWords}
+use Rattle.session.specs.State.{batchWords, chunkIn, linesIn}
 use Rattle.session.specs.Filter.{filterPlace}
 use Rattle.session.specs.Fits.{keyList, batchPlace, CommitFits}
+use Rattle.session.proofs.Part.{chunk-in, lines-in}
 use Rattle.session.proofs.Kept.{words-kept, batch-kept, built-kept}
-use Rattle.apply.specs.Joining.{Fenced, Joining}
+use Rattle.apply.specs.Joining.{Shown, Fenced, Joining}
 use Rattle.ahead.proofs.Staged.{lo, hi, action-length}
 use Rattle.session.specs.Numbers.{keyed}
 
@@ -91,41 +92,43 @@ module _ (c : Control) (k : Setup) (b : List ℕ) where
       ok : Ok basePower (chunksIn basePower (k .image)) ws′ after
       ok = opens-ok basePower lo hi (k .image) (k .table) ws′ after long′ (f .accepted) .0
 
-      fenced : Fenced c k b ws′ table (f .front) (f .back) items
-      unfolding chunksIn chunkBytes
-      fenced = record {
-        chunk = f .chunk;
-        lines = f .lines;
-        most = ok .most;
-        written = f .batch .written;
-        right = f .batch .right;
-        counts = f .batch .counts;
-        fit = f .batch .fit;
-        shown = ok .parsed;
-        built = f .built;
-        agree = f .agree;
-        apart = f .apart;
-        room = rw (f .lent) (keys-fit (k .table) after (opens-ok basePower lo hi (k .image) (k .table) ws′ after long′ (f .accepted) .1));
-      }
+      -- the batch begins at this word, as the code counts it
+      module _ (place : ℕ) (is-place : place ≡ 512 * chunkIn k + 8 * linesIn k) where
+        at-place : place ≡ batchPlace k
+        unfolding base chunkWords
+        at-place = let a = chunk-in k (f .chunk) in let l = lines-in k (f .lines) in omega arith
 
-      pub last-kept : (b′ table′ : List ℕ) (keys : ℕ) → Joining c k b b′ ws′ table table′ keys
-          → CommitFits (record { control = acted c keys 0; setup = k; buffer = b′ }) ws′ table′ items []
-      last-kept b′ table′ keys j =
-          let q = j .joins (f .front) (f .back) items fenced in
-          let e : keys + 0 ≡ c .keys + c .fresh = let x = q .1 in let y = joined-keys (batchPlace k) (f .front) (f .back) items in let z = f .batch .keys in omega arith in
-          let r = f .table-room in
-          record {
-            front = f .front;
-            back = f .back;
-            chunk = f .chunk;
-            lines = f .lines;
-            accepted = f .accepted;
-            long = long′;
-            lent = j .sized ∙ f .lent;
-            batch = batch-kept c (acted c keys 0) b b′ (chunksIn basePower (k .image)) _ (f .front ++ f .back) items refl refl (words-kept c (acted c keys 0) b b′ (j .kept) refl) (j .kept .between filterPlace (omega arith) (omega arith)) e (f .batch);
-            agree = f .agree;
-            apart = f .apart;
-            built = record { indexed = q .0 .indexed; blocks = q .0 .blocks; sums = q .0 .sums };
-            table-room = omega arith;
-            hint = f .hint;
-          }
+        fenced : Fenced (chunksIn basePower (k .image)) place (c .words) (c .keys) b ws′ table (f .front) (f .back) items
+        unfolding batchWords
+        fenced = rw at-place (record {
+          most = ok .most;
+          written = f .batch .written;
+          right = f .batch .right;
+          counts = f .batch .counts;
+          fit = f .batch .fit;
+          image = ok .parsed;
+          shown = record { indexed = f .built .indexed; blocks = f .built .blocks; sums = f .built .sums; agree = f .agree; apart = f .apart };
+          room = rw (f .lent) (keys-fit (k .table) after (opens-ok basePower lo hi (k .image) (k .table) ws′ after long′ (f .accepted) .1));
+        })
+
+        pub last-kept : (b′ table′ : List ℕ) (keys : ℕ) → Joining place (c .words) (c .keys) b b′ ws′ table table′ keys
+            → CommitFits (record { control = acted c keys 0; setup = k; buffer = b′ }) ws′ table′ items []
+        last-kept b′ table′ keys j =
+            let q : Shown b′ table′ keys after = rw at-place at (j .joins (chunksIn basePower (k .image)) (f .front) (f .back) items fenced) in
+            let e : keys + 0 ≡ c .keys + c .fresh = let x = q .indexed .count in let y = joined-keys (batchPlace k) (f .front) (f .back) items in let z = f .batch .keys in omega arith in
+            let r = f .table-room in
+            record {
+              front = f .front;
+              back = f .back;
+              chunk = f .chunk;
+              lines = f .lines;
+              accepted = f .accepted;
+              long = long′;
+              lent = j .sized ∙ f .lent;
+              batch = batch-kept c (acted c keys 0) b b′ (chunksIn basePower (k .image)) _ (f .front ++ f .back) items refl refl (words-kept c (acted c keys 0) b b′ (j .kept) refl) (j .kept .between filterPlace (omega arith) (omega arith)) e (f .batch);
+              agree = f .agree;
+              apart = f .apart;
+              built = record { indexed = q .indexed; blocks = q .blocks; sums = q .sums };
+              table-room = omega arith;
+              hint = f .hint;
+            }

@@ -154,9 +154,9 @@ module _ (c : Control) (k : Setup) (b bytes table : List ℕ) (same-bytes : k .i
           fits f = (f .0, rw (after, more, words) (action-kept c k b (wordsOf bytes) table (batchItems c b) act (nth acts (c .next + 1)) (drop (c .next + 1 + 1) acts) (rw (here (omega arith), more) at (f .1))))
 
       -- the last, with its batch joined
-      pub commit-joins : (b′ table′ : List ℕ) (keys : ℕ) → c .next + 1 ≡ commitCount (c .words) → Joining c k b b′ (wordsOf bytes′) table table′ keys
-          → Does Step (memory s bytes table) (memory (with′ (acted c keys 0) b′) bytes′ table′) r
-      commit-joins b′ table′ keys h j =
+      pub commit-joins : (b′ table′ : List ℕ) (keys place : ℕ) → place ≡ 512 * chunkIn k + 8 * linesIn k → c .next + 1 ≡ commitCount (c .words)
+          → Joining place (c .words) (c .keys) b b′ (wordsOf bytes′) table table′ keys → Does Step (memory s bytes table) (memory (with′ (acted c keys 0) b′) bytes′ table′) r
+      commit-joins b′ table′ keys place is-place h j =
           rw er
           (step-acts s s′ bytes bytes′ table table′ (k .image) (k .table) 0 (Rest (k .image) (k .table) []) F (busy (k .image) (k .table) (batchItems c b) Committing) same-bytes same-words
           act (drop (c .next + 1) acts) (here (omega arith)) after done (j .sized) (rw (at-3 c k b e) tt) fits)
@@ -171,7 +171,7 @@ module _ (c : Control) (k : Setup) (b bytes table : List ℕ) (same-bytes : k .i
           none = commit-done c k b (c .next + 1) (omega arith)
 
           fits : Fits s (wordsOf bytes) table → Fits s′ (wordsOf bytes′) table′
-          fits f = (j .kept .long ∙ f .0, rw (after, none, words) (last-kept c k b (wordsOf bytes) table (batchItems c b) act (rw (here (omega arith), none) at (f .1)) b′ table′ keys (rw words at j)))
+          fits f = (j .kept .long ∙ f .0, rw (after, none, words) (last-kept c k b (wordsOf bytes) table (batchItems c b) act (rw (here (omega arith), none) at (f .1)) place is-place b′ table′ keys (rw words at j)))
 
     -- a store of one of the batch's words
     pub commit-stores : (bytes′ : List ℕ) (w v : ℕ) → c .next < 8 * linesFor (min (c .words) batchRoom) → w ≡ 512 * chunkIn k + 8 * linesIn k + c .next

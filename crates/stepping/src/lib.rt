@@ -43,7 +43,8 @@ fn commit_step(
             report: act,
         };
     }
-    let keys = apply::join(control, setup, buffer, image, table);
+    let place = actions::batch_start(setup);
+    let keys = apply::join(place, control.words, control.keys, buffer, image, table);
     let moved = session::keyed(control, session::COMMIT, next, keys, 0);
     Stepped {
         control: moved,

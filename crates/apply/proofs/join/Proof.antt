@@ -12,22 +12,19 @@ use Rattle.apply.proofs.join.Statement.{statement}
 use Rattle.apply.proofs.join.Tie as tie
 
 abbrev Inv-loop : tie.InvT-loop
-Inv-loop buffer₀ image table₀ place end keys₀ at₀ buffer table keys at = Going (wordsOf image) buffer₀ table₀ keys₀ place at₀ end buffer table keys at
+Inv-loop place words known buffer₀ image table₀ end keys₀ at₀ buffer table keys at = Going (wordsOf image) buffer₀ table₀ keys₀ place at₀ end buffer table keys at
 
 abbrev μ-loop : tie.MeasureT-loop
-μ-loop buffer₀ image table₀ place end keys₀ at₀ buffer table keys at = end - at
+μ-loop place words known buffer₀ image table₀ end keys₀ at₀ buffer table keys at = end - at
 
 buffer-length-requires : tie.Need-buffer-length-requires Inv-loop μ-loop
 buffer-length-requires c κs = search needs
-
-batch-start-requires : tie.Need-batch-start-requires Inv-loop μ-loop
-batch-start-requires c κs = search needs
 
 lesser-requires : tie.Need-lesser-requires Inv-loop μ-loop
 lesser-requires c κs = search needs
 
 loop-holds : tie.Need-loop-holds Inv-loop μ-loop
-loop-holds c = going-start _ _ _ _ _ _ _ (c .before .before .buffer-length .ensures .1)
+loop-holds c = going-start _ _ _ _ _ _ _ (c .before .buffer-length .ensures .1)
 
 item-at-requires : tie.Need-item-at-requires Inv-loop μ-loop
 item-at-requires c κs = omega arith
@@ -39,7 +36,7 @@ same-length : tie.Need-same-length Inv-loop μ-loop
 same-length c = c .before .before .before .before .loop .inv .sized
 
 returns : tie.Need-returns Inv-loop μ-loop
-returns c = going-joins _ _ _ _ _ _ _ _ _ _ _ _ _ (c .before .before .before .before .loop .inv) _ (c .before .before .item-at .ensures) (c .enum-told .given .1) refl (c .before .before .before .before .before .before .batch-start .ensures) refl (c .before .before .before .before .before .lesser .ensures)
+returns c = going-joins _ _ _ _ _ _ _ _ _ _ _ _ (c .before .before .before .before .loop .inv) _ (c .before .before .item-at .ensures) (c .enum-told .given .1) refl (c .before .before .before .before .before .lesser .ensures)
 
 enum-known-item : tie.Need-enum-known-item Inv-loop μ-loop
 enum-known-item c = search needs
@@ -81,7 +78,6 @@ join-spec =
     Inv-loop
     μ-loop
     buffer-length-requires
-    batch-start-requires
     lesser-requires
     loop-holds
     item-at-requires

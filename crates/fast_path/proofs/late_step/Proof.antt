@@ -24,11 +24,14 @@ returns c =
       without = λ no. absurd (no (late .before .is-late .ensures .0 (late .if1 .taken)));
     }
 
-join-requires : tie.Need-join-requires
-join-requires c κs = search needs
+batch-start-requires : tie.Need-batch-start-requires
+batch-start-requires c κs = search needs
 
-add-t11 : tie.Need-add-t11
-add-t11 c = omega arith
+join-requires : tie.Need-join-requires
+join-requires c κs = omega arith
+
+add-t12 : tie.Need-add-t12
+add-t12 c = omega arith
 
 same-length : tie.Need-same-length
 same-length c = search needs
@@ -38,9 +41,9 @@ same-length-2 c = search needs
 
 returns-2 : tie.Need-returns-2
 returns-2 c =
-    let late = c .before .before .before .before .before .before .before .before .before .before in
+    let late = c .before .before .before .before .before .before .before .before .before .before .before in
     record {
-      within = λ h. late-joins _ _ _ _ _ h _ _ _ (omega arith) (c .before .before .before .join .ensures);
+      within = λ h. late-joins _ _ _ _ _ h _ _ _ _ (c .before .before .before .before .before .before .before .batch-start .ensures) (omega arith) (c .before .before .before .join .ensures);
       without = λ no. absurd (no (late .before .is-late .ensures .0 (late .if1 .taken)));
     }
 
@@ -55,8 +58,9 @@ late-step-spec =
     commit-count-requires
     ended-requires
     returns
+    batch-start-requires
     join-requires
-    add-t11
+    add-t12
     same-length
     same-length-2
     returns-2

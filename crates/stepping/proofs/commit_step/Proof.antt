@@ -31,8 +31,11 @@ returns-2 c =
     rw (c .acting .ensures)
     (S.commit-acts _ _ _ _ _ (omega arith) (omega arith) (omega arith) _ _ (c .before .before .before .before .before .before .commit-action .ensures) (c .before .before .before .before .perform .ensures) (omega arith))
 
+batch-start-requires : tie.Need-batch-start-requires
+batch-start-requires c κs = search needs
+
 join-requires : tie.Need-join-requires
-join-requires c κs = search needs
+join-requires c κs = omega arith
 
 same-length-2 : tie.Need-same-length-2
 same-length-2 c = search needs
@@ -43,7 +46,7 @@ same-length-3 c = search needs
 returns-3 : tie.Need-returns-3
 returns-3 c =
     rw (c .keyed .ensures)
-    (S.commit-joins _ _ _ _ _ (omega arith) (omega arith) (omega arith) _ _ (c .before .before .before .before .before .before .before .before .before .before .before .before .commit-action .ensures) (c .before .before .before .before .before .before .before .before .before .before .perform .ensures) _ _ _ (omega arith) (c .before .before .before .join .ensures))
+    (S.commit-joins _ _ _ _ _ (omega arith) (omega arith) (omega arith) _ _ (c .before .before .before .before .before .before .before .before .before .before .before .before .before .commit-action .ensures) (c .before .before .before .before .before .before .before .before .before .before .before .perform .ensures) _ _ _ _ (c .before .before .before .before .before .before .before .batch-start .ensures) (omega arith) (c .before .before .before .join .ensures))
 
 emptied-requires : tie.Need-emptied-requires
 emptied-requires c κs = search needs
@@ -67,6 +70,7 @@ commit-step-spec =
     acting-requires
     same-length
     returns-2
+    batch-start-requires
     join-requires
     keyed-requires
     same-length-2
