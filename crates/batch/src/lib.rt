@@ -137,8 +137,9 @@ pub fn only_deletes(buffer: &Buffer, words: usize) -> bool
     let end = lesser(words, 512);
     let mut at = 0;
     while at < end {
-        let item = item_at(buffer, at);
-        if item.op == 2 {
+        let word = buffer[at];
+        if word % 4 == 2 {
+            let item = item_at(buffer, at);
             at += item.size;
         } else {
             return false;

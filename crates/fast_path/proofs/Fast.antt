@@ -4,12 +4,13 @@
 use mathlib.Core.Path.{_≡_, refl, sym, _∙_, ap, subst}
 use mathlib.Core.Bool.{false}
 use mathlib.Core.List.{List}
-use Prim.Native.Nat.{ℕ, zero, suc, _+_, _-_, _*_, _≤_, _<_, min}
+use Prim.Native.Nat.{ℕ, zero, suc, _+_, _-_, _*_, _/_, _≤_, _<_, min}
 use native.Mathlib.Omega.{arith}
 use native.Mathlib.Decide.{decLt, ℕ-discrete}
 use lib.ListN.{length, getD}
 use Rattle.spec.specs.Medium.{Action}
 use Rattle.spec.specs.Actions.{linesFor, padded}
+use Rattle.spec.specs.Directory.{logWord}
 use Rattle.spec.specs.Reports.{asReport}
 use Rattle.spec.specs.Machine.{Step}
 use Rattle.spec.specs.Contract.{Changed}
@@ -21,12 +22,12 @@ use Rattle.spec.specs.declared.Report.the-variants as R
 use Rattle.words.specs.Image.{Saved}
 use Rattle.session.specs.State.{bufferPart, batchRoom, batchWords, chunkIn, linesIn, commitActions}
 use Rattle.actions.specs.Nth.{nthReport, commitCount}
-use Rattle.actions.proofs.Committing.{commit-flush, commit-fence, commit-seal, commit-seal-flush}
-use Rattle.actions.proofs.Performed.{changed-length}
+use Rattle.actions.proofs.Committing.{batch-in, batch-behind, commit-flush, commit-fence, commit-seal, commit-seal-flush, shows-flush, shows-fence, shows-seal, shows-seal-flush}
+use Rattle.actions.proofs.Performed.{changed-store, changed-length}
 use Rattle.stepping.proofs.Keeping.{acted}
 use Rattle.stepping.proofs.Shows.{commit-acts, commit-stores}
 use Rattle.fast_path.specs.Run.{isStore, RunsOn}
-use Rattle.fast_path.specs.Fast.{FastStep, StoresTo}
+use Rattle.fast_path.specs.Fast.{FastStep, StoresTo, Stores}
 use Rattle.fast_path.proofs.Run.{stored-first}
 use Rattle.fast_path.proofs.Stores.{before-none}
 use Rattle.session.specs.Promise.{Does, memoryOf}
@@ -69,6 +70,9 @@ module _ (c : Control) (k : Setup) (b bytes : List ℕ) where
   pub no-stores : StoresTo c k b bytes bytes (c .next)
   no-stores = record { made = before-none FastStep c k b bytes; before-last = λ h. h }
 
+  pub none-yet : (n : ℕ) → c .next ≡ n → StoresTo c k b bytes bytes n
+  none-yet n e = subst (StoresTo c k b bytes bytes) e no-stores
+
   module _ (bytes₁ : List ℕ) (n : ℕ) (so-far : StoresTo c k b bytes bytes₁ n) where
     still : (table : List ℕ) → FastStep c k (length bytes) (length table) → FastStep (toNext n c) k (length bytes₁) (length table)
     still table h = (h .0, (h .1 .0 ∙ sym (so-far .made .sized), (h .1 .1 .0, so-far .before-last (h .1 .1 .1))))
@@ -84,6 +88,14 @@ module _ (c : Control) (k : Setup) (b bytes : List ℕ) where
       };
       before-last = λ h. omega arith;
     }
+
+    -- a staged word, or a zero behind them
+    module _ (bytes₂ : List ℕ) (start staged v : ℕ) (es : staged ≡ min (c .words) batchRoom) (eb : start ≡ 512 * chunkIn k + 8 * linesIn k) (saved : Saved bytes₁ bytes₂ (start + n) v) where
+      pub one-word : n < staged → v ≡ getD b n 0 → StoresTo c k b bytes bytes₂ (n + 1)
+      one-word l ev = one-more bytes₂ start v (omega arith) eb (ev ∙ batch-in b (min (c .words) batchRoom) n (omega arith)) saved
+
+      pub one-zero : staged ≤ n → n < 8 * linesFor staged → v ≡ 0 → StoresTo c k b bytes bytes₂ (n + 1)
+      one-zero l m ev = one-more bytes₂ start v (omega arith) eb (ev ∙ batch-behind b (min (c .words) batchRoom) n (omega arith)) saved
 
     -- then an action that is none, whose report is told
     pub run-acts : 8 * linesFor (min (c .words) batchRoom) ≤ n → (n + 3 ≡ commitCount (c .words) → ⊥) → (bytes₂ table : List ℕ) (r : Report) → r ≡ nthReport (commitActions c k b) n → Changed r bytes₁ bytes₂
@@ -106,3 +118,32 @@ module _ (c : Control) (k : Setup) (b bytes : List ℕ) where
       };
       before-last = λ h. omega arith;
     }
+
+-- A RUN, with its number of staged words: by what comes next
+module _ (c : Control) (k : Setup) (b bytes : List ℕ) (staged : ℕ) (es : staged ≡ min (c .words) batchRoom) (table : List ℕ) (h : FastStep c k (length bytes) (length table)) where
+  abbrev Running : (n : ℕ) (bytes′ : List ℕ) → Report → Type 0
+  Running n bytes′ r = RunsOn (memoryOf c k b bytes table) (memoryOf (toNext n c) k b bytes′ table) r
+
+  -- the first fence
+  pub run-fence : c .next ≡ 9 * linesFor staged → Running (c .next + 1) bytes R.Fence
+  run-fence e = run-acts c k b bytes bytes (c .next) (no-stores c k b bytes) (omega arith) (λ q. omega arith) bytes table R.Fence (shows-fence c k b (c .next) staged es e) refl h
+
+  -- the directory word, and its line
+  pub run-seal : (bytes′ : List ℕ) (w v lines line : ℕ) → c .next ≡ 9 * linesFor staged + 1 → w ≡ 8 + chunkIn k → lines ≡ linesIn k + linesFor staged → v ≡ logWord (k .old) lines
+      → Saved bytes bytes′ w v → line ≡ (8 + chunkIn k) / 8 → Running (c .next + 2) bytes′ (R.Flush line)
+  run-seal bytes′ w v lines line e ew el ev saved eq =
+      let two : c .next + 1 + 1 ≡ c .next + 2 = omega arith in
+      subst (λ (n : ℕ). Running n bytes′ (R.Flush line)) two
+      (run-acts c k b bytes bytes′ (c .next + 1)
+      (sealed c k b bytes bytes (c .next) (no-stores c k b bytes) bytes′ (R.Store w v) (omega arith) (shows-seal c k b (c .next) staged es w v lines e ew el ev) (changed-store (R.Store w v) bytes bytes′ w v refl saved))
+      (omega arith) (λ q. omega arith) bytes′ table (R.Flush line) (shows-seal-flush c k b (c .next + 1) staged es line (omega arith) eq) refl h)
+
+  -- its line
+  pub run-seal-flush : (line : ℕ) → c .next ≡ 9 * linesFor staged + 2 → line ≡ (8 + chunkIn k) / 8 → Running (c .next + 1) bytes (R.Flush line)
+  run-seal-flush line e eq = run-acts c k b bytes bytes (c .next) (no-stores c k b bytes) (omega arith) (λ q. omega arith) bytes table (R.Flush line) (shows-seal-flush c k b (c .next) staged es line e eq) refl h
+
+  -- the batch's words, and the line that is flushed next
+  pub run-batch : (bytes′ : List ℕ) (n line : ℕ) → Stores c k b bytes bytes′ n → c .next < 9 * linesFor staged → line ≡ 64 * chunkIn k + linesIn k + (n - 8 * linesFor staged) → Running (n + 1) bytes′ (R.Flush line)
+  run-batch bytes′ n line s l el =
+      let m = s .1 in
+      run-acts c k b bytes bytes′ n (s .0) (omega arith) (λ q. omega arith) bytes′ table (R.Flush line) (shows-flush c k b n staged es line (omega arith) (omega arith) el) refl h

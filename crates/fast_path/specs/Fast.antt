@@ -3,7 +3,7 @@
 use mathlib.Core.Path.{_≡_}
 use mathlib.Core.Bool.{false}
 use mathlib.Core.List.{List}
-use Prim.Native.Nat.{ℕ, _+_, _*_, _≤_, _<_, min}
+use Prim.Native.Nat.{ℕ, _+_, _*_, _≤_, _<_, min, max}
 use lib.Dec.{eqb}
 use lib.ListN.{length}
 use Rattle.spec.specs.Basics.{pick}
@@ -50,7 +50,7 @@ pub record StoresTo (c : Control) (k : Setup) (b bytes bytes′ : List ℕ) (n :
 
 -- all stores of the batch's words that were to come
 abbrev pub Stores : Control → Setup → (b bytes bytes′ : List ℕ) → ℕ → Type 0
-Stores c k b bytes bytes′ n = StoresTo c k b bytes bytes′ n × (8 * linesFor (min (c .words) batchRoom) ≤ n)
+Stores c k b bytes bytes′ n = StoresTo c k b bytes bytes′ n × (n ≡ max (c .next) (8 * linesFor (min (c .words) batchRoom)))
 
 -- how many actions of a staging take its chunk
 abbrev pub takeCount : Setup → ℕ

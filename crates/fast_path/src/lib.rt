@@ -65,16 +65,22 @@ pub fn fast_step(
     }
 }
 
-// The batch's stores from the next one on: the number of the action behind them.
+// The batch's stores from the next one on, the staged words and then the zeros that fill their last line: the number of
+// the action behind them.
 fn store_batch(control: Control, setup: Setup, buffer: &Buffer, image: &mut [u8]) -> usize
     ensures { λ r. ⌜ Stores control setup (now (buffer .entry)) (now (image .entry)) (now (image .exit)) r ⌝ }
 {
+    let words = actions::at_most(control.words, 512);
     let stores = actions::commit_stores(control.words);
     let start = actions::batch_start(setup);
     let mut at = control.next;
-    while at < stores {
-        let value = actions::batch_word(buffer, control.words, at);
+    while at < words {
+        let value = buffer[at];
         words::save(image, start + at, value);
+        at += 1;
+    }
+    while at < stores {
+        words::save(image, start + at, 0);
         at += 1;
     }
     at
@@ -91,31 +97,46 @@ pub fn fast_run(
 ) -> Advanced
     ensures { λ r. ⌜ OnFastPath FastStep RunsOn (memoryOf control setup (now (buffer .entry)) (now (image .entry)) (now (table .entry))) (memoryOf (toNext (r .next) control) setup (now (buffer .entry)) (now (image .exit)) (now (table .exit))) (r .report) ⌝ }
 {
+    let at = control.next;
     if is_fast_step(control, setup, image.len(), table.len()) {
-        let actions = actions::commit_count(control.words);
-        let at = store_batch(control, setup, buffer, image);
-        if at == actions - 3 {
-            let seal = actions::commit_action(control, setup, buffer, at);
-            actions::perform(image, seal);
-            let behind = at + 1;
-            let flush = actions::commit_action(control, setup, buffer, behind);
-            actions::perform(image, flush);
-            let next = behind + 1;
+        let lines = (actions::at_most(control.words, 512) + 7) / 8;
+        let chunk = setup.chunk % 512;
+        let committed = setup.lines % 128;
+        let fence = 9 * lines;
+        if at == fence {
+            let next = at + 1;
             return Advanced {
                 next,
-                report: flush,
+                report: Report::Fence,
             };
         }
-        let action = actions::commit_action(control, setup, buffer, at);
-        actions::perform(image, action);
-        let next = at + 1;
+        if fence < at {
+            let line = (8 + chunk) / 8;
+            if at == fence + 1 {
+                let value = codec::log_word(setup.old, (committed + lines) as u64);
+                words::save(image, 8 + chunk, value);
+                let next = at + 2;
+                return Advanced {
+                    next,
+                    report: Report::Flush(line),
+                };
+            }
+            let next = at + 1;
+            return Advanced {
+                next,
+                report: Report::Flush(line),
+            };
+        }
+        let behind = store_batch(control, setup, buffer, image);
+        let line = 64 * chunk + committed + (behind - 8 * lines);
+        let next = behind + 1;
         return Advanced {
             next,
-            report: action,
+            report: Report::Flush(line),
         };
     }
     Advanced {
-        next: control.next,
+        next: at,
         report: Report::Idle,
     }
 }

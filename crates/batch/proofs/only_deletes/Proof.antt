@@ -1,13 +1,16 @@
 -- `batch::only_deletes` meets its contract. The loop's invariant: all items are deletes exactly if those not yet
 -- reached are.
 -- Assumes nothing.
-use Prim.Native.Nat.{_-_}
-use mathlib.Core.Path.{sym, _∙_}
+use Prim.Native.Nat.{_+_, _-_}
+use mathlib.Core.Path.{refl, sym, _∙_, ap}
 use mathlib.Core.Bool.{false}
 use native.Mathlib.Omega.{arith}
+use lib.ListN.{getD}
 use borrow.Author.Tests.{eq-eqb, ne-eqb}
 use Rattle.spec.specs.Basics.{all}
 use Rattle.spec.specs.Plans.{isDelete}
+use Rattle.batch.specs.declared.Item.{Item}
+use Rattle.batch.specs.Items.{itemOf}
 use Rattle.batch.proofs.Pass.{Passing, pass-start, pass-next, pass-stop, pass-end}
 use borrow.Author.Needs.{needs}
 use Rattle.batch.proofs.only_deletes.Statement.{statement}
@@ -25,6 +28,12 @@ lesser-requires c κs = search needs
 loop-holds : tie.Need-loop-holds Inv-loop μ-loop
 loop-holds c = let a = c .before .args in pass-start (a .buffer .now) (a .words) (all isDelete)
 
+mul-word : tie.Need-mul-word Inv-loop μ-loop
+mul-word c = search needs
+
+element-copy-out-word : tie.Need-element-copy-out-word Inv-loop μ-loop
+element-copy-out-word c = search needs
+
 item-at-requires : tie.Need-item-at-requires Inv-loop μ-loop
 item-at-requires c κs = search needs
 
@@ -38,16 +47,16 @@ loop-again : tie.Need-loop-again Inv-loop μ-loop
 loop-again c =
     let a = c .before .before .before .before .before .before .before .args in
     let at = c .before .before .before .before .before .loop in
-    let item = c .before .before .before .item-at in
+    let item = c .before .item-at in
     pass-next (a .buffer .now) (a .words) (all isDelete) (at .at) (all isDelete) (item .result) (omega arith) (item .ensures .0) (at .inv)
-    (all isDelete) (λ e tail o v k. rw (eq-eqb (e .op) 2 (sym o ∙ c .before .if1 .taken)))
+    (all isDelete) (λ e tail o v k. rw (eq-eqb (e .op) 2 (sym o ∙ ap (λ (i : Item). i .op) (item .ensures .0) ∙ c .before .before .if1 .taken)))
 
 returns : tie.Need-returns Inv-loop μ-loop
 returns c items s =
-    let a = c .before .before .before .before .before .before .args in
-    let at = c .before .before .before .before .loop in
-    let item = c .before .before .item-at in
-    sym (pass-stop (a .buffer .now) (a .words) (all isDelete) (at .at) (all isDelete) (item .result) (omega arith) (item .ensures .0) (at .inv)
+    let a = c .before .before .before .before .before .args in
+    let at = c .before .before .before .loop in
+    let b = a .buffer .now in
+    sym (pass-stop b (a .words) (all isDelete) (at .at) (all isDelete) (itemOf (getD b (at .at) 0) (getD b (at .at + 1) 0)) (omega arith) refl (at .inv)
     false (λ e tail o. rw (ne-eqb (e .op) 2 (λ q. c .if1 .left (o ∙ q)))) items s)
 
 returns-2 : tie.Need-returns-2 Inv-loop μ-loop
@@ -64,6 +73,8 @@ only-deletes-spec =
     μ-loop
     lesser-requires
     loop-holds
+    mul-word
+    element-copy-out-word
     item-at-requires
     add-at
     loop-less

@@ -3,94 +3,131 @@
 use mathlib.Core.Path.{refl}
 use native.Mathlib.Omega.{arith}
 use borrow.Author.Needs.{needs}
-use Rattle.fast_path.proofs.Fast as I
+use Rattle.fast_path.proofs.Fast.{run-fence, run-seal, run-seal-flush, run-batch}
 use Rattle.fast_path.proofs.fast_run.Statement.{statement}
 use Rattle.fast_path.proofs.fast_run.Tie as tie
 
 is-fast-step-requires : tie.Need-is-fast-step-requires
 is-fast-step-requires c κs = search needs
 
-commit-count-requires : tie.Need-commit-count-requires
-commit-count-requires c κs = search needs
+at-most-requires : tie.Need-at-most-requires
+at-most-requires c κs = search needs
 
-store-batch-requires : tie.Need-store-batch-requires
-store-batch-requires c κs = search needs
+add-lines : tie.Need-add-lines
+add-lines c = search needs
 
-sub-if2 : tie.Need-sub-if2
-sub-if2 c = search needs
-
-commit-action-requires : tie.Need-commit-action-requires
-commit-action-requires c κs = search needs
-
-perform-requires : tie.Need-perform-requires
-perform-requires c κs = search needs
-
-add-behind : tie.Need-add-behind
-add-behind c = search needs
-
-commit-action-requires-2 : tie.Need-commit-action-requires-2
-commit-action-requires-2 c κs = search needs
-
-perform-requires-2 : tie.Need-perform-requires-2
-perform-requires-2 c κs = search needs
+mul-fence : tie.Need-mul-fence
+mul-fence c = search needs
 
 add-next : tie.Need-add-next
 add-next c = search needs
 
-same-length : tie.Need-same-length
-same-length c = search needs
-
 returns : tie.Need-returns
-returns c =
-    record {
-      within = λ h.
-          I.run-acts _ _ _ _ _ _ (I.sealed _ _ _ _ _ _ (c .before .before .before .before .before .before .before .before .before .before .before .before .before .store-batch .ensures .0) _ _ (omega arith) (c .before .before .before .before .before .before .before .before .before .commit-action .ensures) (c .before .before .before .before .before .before .before .perform .ensures))
-          (let l = c .before .before .before .before .before .before .before .before .before .before .before .before .before .store-batch .ensures .1 in omega arith) (λ e. omega arith) _ _ _ (c .before .before .before .before .commit-action2 .ensures) (c .before .before .perform2 .ensures) h;
-      without = λ no. absurd (no (c .before .before .before .before .before .before .before .before .before .before .before .before .before .before .before .before .before .is-fast-step .ensures .0 (c .before .before .before .before .before .before .before .before .before .before .before .before .before .before .before .before .if1 .taken)));
-    }
+returns c = record { within = λ h. run-fence _ _ _ _ _ (c .before .before .before .at-most .ensures) _ h (c .if2 .taken); without = λ no. absurd (no (c .before .before .before .before .before .is-fast-step .ensures .0 (c .before .before .before .before .if1 .taken))) }
 
-commit-action-requires-3 : tie.Need-commit-action-requires-3
-commit-action-requires-3 c κs = search needs
+add-line : tie.Need-add-line
+add-line c = search needs
 
-perform-requires-3 : tie.Need-perform-requires-3
-perform-requires-3 c κs = search needs
+add-if4 : tie.Need-add-if4
+add-if4 c = search needs
+
+add-log-word : tie.Need-add-log-word
+add-log-word c = search needs
+
+log-word-requires : tie.Need-log-word-requires
+log-word-requires c κs = search needs
+
+add-save : tie.Need-add-save
+add-save c = search needs
+
+save-requires : tie.Need-save-requires
+save-requires c κs = search needs
 
 add-next-2 : tie.Need-add-next-2
-add-next-2 c = let l = c .before .before .before .before .before .before .before .before .store-batch .ensures .0 .before-last ((c .before .before .before .before .before .before .before .before .before .before .before .before .is-fast-step .ensures .0 (c .before .before .before .before .before .before .before .before .before .before .before .if1 .taken)) .1 .1 .1) in omega arith
+add-next-2 c = search needs
 
-same-length-2 : tie.Need-same-length-2
-same-length-2 c = search needs
+same-length : tie.Need-same-length
+same-length c = search needs
 
 returns-2 : tie.Need-returns-2
 returns-2 c =
     record {
-      within = λ h.
-          I.run-acts _ _ _ _ _ _ (c .before .before .before .before .before .before .before .before .store-batch .ensures .0) (c .before .before .before .before .before .before .before .before .store-batch .ensures .1) (λ e. omega arith) _ _ _ (c .before .before .before .before .commit-action3 .ensures) (c .before .before .perform3 .ensures) h;
+      within = λ h. run-seal _ _ _ _ _ (c .before .before .before .before .before .before .before .before .before .before .at-most .ensures) _ h _ _ _ _ _ (c .before .before .before .before .before .if4 .taken) refl (omega arith) (c .before .before .before .before .log-word .ensures) (c .before .before .save .ensures) refl;
       without = λ no. absurd (no (c .before .before .before .before .before .before .before .before .before .before .before .before .is-fast-step .ensures .0 (c .before .before .before .before .before .before .before .before .before .before .before .if1 .taken)));
     }
 
+add-next-3 : tie.Need-add-next-3
+add-next-3 c = let l = (c .before .before .before .before .before .before .before .is-fast-step .ensures .0 (c .before .before .before .before .before .before .if1 .taken)) .1 .1 .1 in omega arith
+
 returns-3 : tie.Need-returns-3
-returns-3 c = record { within = λ h. absurd (c .before .is-fast-step .ensures .1 (c .if1 .left) h); without = λ no. (refl, refl) }
+returns-3 c =
+    record {
+      within = λ h. run-seal-flush _ _ _ _ _ (c .before .before .before .before .before .at-most .ensures) _ h _ (let w = c .before .before .before .before .before .at-most .ensures in let l = h .1 .1 .1 in let n = c .if4 .left in omega (arith, n)) refl;
+      without = λ no. absurd (no (c .before .before .before .before .before .before .before .is-fast-step .ensures .0 (c .before .before .before .before .before .before .if1 .taken)));
+    }
+
+store-batch-requires : tie.Need-store-batch-requires
+store-batch-requires c κs = search needs
+
+mul-line : tie.Need-mul-line
+mul-line c = search needs
+
+add-line-2 : tie.Need-add-line-2
+add-line-2 c = search needs
+
+mul-line-2 : tie.Need-mul-line-2
+mul-line-2 c = search needs
+
+sub-line : tie.Need-sub-line
+sub-line c = search needs
+
+add-line-3 : tie.Need-add-line-3
+add-line-3 c = search needs
+
+add-next-4 : tie.Need-add-next-4
+add-next-4 c = search needs
+
+same-length-2 : tie.Need-same-length-2
+same-length-2 c = search needs
+
+returns-4 : tie.Need-returns-4
+returns-4 c =
+    record {
+      within = λ h. run-batch _ _ _ _ _ (c .before .before .before .before .before .before .before .before .at-most .ensures) _ h _ _ _ (c .before .before .store-batch .ensures) (let n = c .before .before .before .before .before .if2 .left in omega (arith, n)) refl;
+      without = λ no. absurd (no (c .before .before .before .before .before .before .before .before .before .before .is-fast-step .ensures .0 (c .before .before .before .before .before .before .before .before .before .if1 .taken)));
+    }
+
+returns-5 : tie.Need-returns-5
+returns-5 c = record { within = λ h. absurd (c .before .is-fast-step .ensures .1 (c .if1 .left) h); without = λ no. (refl, refl) }
 
 pub fast-run-spec : {M : Type 1} → statement M
 fast-run-spec =
     tie.close
     (tie.spec
     is-fast-step-requires
-    commit-count-requires
-    store-batch-requires
-    sub-if2
-    commit-action-requires
-    perform-requires
-    add-behind
-    commit-action-requires-2
-    perform-requires-2
+    at-most-requires
+    add-lines
+    mul-fence
     add-next
-    same-length
     returns
-    commit-action-requires-3
-    perform-requires-3
+    add-line
+    add-if4
+    add-log-word
+    log-word-requires
+    add-save
+    save-requires
     add-next-2
-    same-length-2
+    same-length
     returns-2
-    returns-3)
+    add-next-3
+    returns-3
+    store-batch-requires
+    mul-line
+    add-line-2
+    mul-line-2
+    sub-line
+    add-line-3
+    add-next-4
+    same-length-2
+    returns-4
+    returns-5)

@@ -1,56 +1,112 @@
--- `fast_path::store_batch` meets its contract. The loop's invariant: the stores up to the next one are made, wherever a
--- setup says that the batch begins there.
+-- `fast_path::store_batch` meets its contract. The loops' invariants: the stores up to the next one are made, wherever
+-- control and setup say that so many words are staged and the batch begins there.
 -- Assumes nothing.
-use mathlib.Core.Path.{_≡_}
-use Prim.Native.Nat.{_+_, _-_, _*_}
+use mathlib.Core.Path.{_≡_, refl}
+use mathlib.Core.List.{List}
+use Prim.Native.Nat.{ℕ, _+_, _-_, _*_, _≤_, min, max}
 use native.Mathlib.Omega.{arith}
 use borrow.Author.Needs.{needs}
+use Rattle.session.specs.declared.Control.{Control}
 use Rattle.session.specs.declared.Setup.{Setup}
-use Rattle.session.specs.State.{chunkIn, linesIn}
+use Rattle.session.specs.State.{batchRoom, chunkIn, linesIn}
 use Rattle.fast_path.specs.Fast.{StoresTo}
-use Rattle.fast_path.proofs.Fast.{no-stores, one-more}
+use Rattle.fast_path.proofs.Fast.{none-yet, one-word, one-zero}
 use Rattle.fast_path.proofs.store_batch.Statement.{statement}
 use Rattle.fast_path.proofs.store_batch.Tie as tie
 
 abbrev Inv-loop : tie.InvT-loop
-Inv-loop control buffer image₀ stores start at₀ image at =
-    (k : Setup) → start ≡ 512 * chunkIn k + 8 * linesIn k → StoresTo control k buffer image₀ image at
+Inv-loop buffer image₀ words stores start at₀ image at =
+    (at₀ ≤ at) × ((at ≤ max at₀ words) × ((c : Control) (k : Setup) → words ≡ min (c .words) batchRoom → start ≡ 512 * chunkIn k + 8 * linesIn k → c .next ≡ at₀ → StoresTo c k buffer image₀ image at))
 
 abbrev μ-loop : tie.MeasureT-loop
-μ-loop control buffer image₀ stores start at₀ image at = stores - at
+μ-loop buffer image₀ words stores start at₀ image at = words - at
 
-commit-stores-requires : tie.Need-commit-stores-requires Inv-loop μ-loop
+abbrev Inv-loop2 : tie.InvT-loop2
+Inv-loop2 buffer image₀ words stores start at₀ image at =
+    (at₀ ≤ at) × ((at ≤ max at₀ stores)
+    × ((c : Control) (k : Setup) (bytes : List ℕ) → words ≡ min (c .words) batchRoom → start ≡ 512 * chunkIn k + 8 * linesIn k → StoresTo c k buffer bytes image₀ at₀ → StoresTo c k buffer bytes image at))
+
+abbrev μ-loop2 : tie.MeasureT-loop2
+μ-loop2 buffer image₀ words stores start at₀ image at = stores - at
+
+at-most-requires : tie.Need-at-most-requires Inv-loop μ-loop Inv-loop2 μ-loop2
+at-most-requires c κs = search needs
+
+commit-stores-requires : tie.Need-commit-stores-requires Inv-loop μ-loop Inv-loop2 μ-loop2
 commit-stores-requires c κs = search needs
 
-batch-start-requires : tie.Need-batch-start-requires Inv-loop μ-loop
+batch-start-requires : tie.Need-batch-start-requires Inv-loop μ-loop Inv-loop2 μ-loop2
 batch-start-requires c κs = search needs
 
-loop-holds : tie.Need-loop-holds Inv-loop μ-loop
-loop-holds c = λ k e. no-stores _ k _ _
+loop-holds : tie.Need-loop-holds Inv-loop μ-loop Inv-loop2 μ-loop2
+loop-holds c = (omega arith, (omega arith, λ x k ew es en. none-yet x k _ _ _ en))
 
-batch-word-requires : tie.Need-batch-word-requires Inv-loop μ-loop
-batch-word-requires c κs = search needs
+mul-value : tie.Need-mul-value Inv-loop μ-loop Inv-loop2 μ-loop2
+mul-value c = search needs
 
-add-save : tie.Need-add-save Inv-loop μ-loop
+element-copy-out-value : tie.Need-element-copy-out-value Inv-loop μ-loop Inv-loop2 μ-loop2
+element-copy-out-value c = search needs
+
+add-save : tie.Need-add-save Inv-loop μ-loop Inv-loop2 μ-loop2
 add-save c = search needs
 
-save-requires : tie.Need-save-requires Inv-loop μ-loop
+save-requires : tie.Need-save-requires Inv-loop μ-loop Inv-loop2 μ-loop2
 save-requires c κs = search needs
 
-add-at : tie.Need-add-at Inv-loop μ-loop
+add-at : tie.Need-add-at Inv-loop μ-loop Inv-loop2 μ-loop2
 add-at c = search needs
 
-loop-less : tie.Need-loop-less Inv-loop μ-loop
+loop-less : tie.Need-loop-less Inv-loop μ-loop Inv-loop2 μ-loop2
 loop-less c = search needs
 
-loop-again : tie.Need-loop-again Inv-loop μ-loop
-loop-again c = λ k e. one-more _ k _ _ _ _ (c .before .before .before .before .before .before .loop .inv k e) _ _ _ (omega arith) e (c .before .before .before .before .batch-word .ensures) (c .before .before .save .ensures)
+loop-again : tie.Need-loop-again Inv-loop μ-loop Inv-loop2 μ-loop2
+loop-again c =
+    let i = c .before .before .before .before .before .before .loop .inv in
+    let low = i .0 in
+    let high = i .1 .0 in
+    (omega arith, (omega arith, λ x k ew es en. one-word x k _ _ _ _ (i .1 .1 x k ew es en) _ _ _ _ ew es (c .before .before .save .ensures) (c .before .before .before .before .before .loop-test .taken) refl))
 
-same-length : tie.Need-same-length Inv-loop μ-loop
-same-length c = c .before .loop .inv (c .before .before .before .before .before .args .setup) (c .before .before .batch-start .ensures) .made .sized
+loop2-holds : tie.Need-loop2-holds Inv-loop μ-loop Inv-loop2 μ-loop2
+loop2-holds c = (omega arith, (omega arith, λ x k bytes ew es s. s))
 
-returns : tie.Need-returns Inv-loop μ-loop
-returns c = (c .before .loop .inv (c .before .before .before .before .before .args .setup) (c .before .before .batch-start .ensures), omega arith)
+add-save-2 : tie.Need-add-save-2 Inv-loop μ-loop Inv-loop2 μ-loop2
+add-save-2 c = search needs
+
+save-requires-2 : tie.Need-save-requires-2 Inv-loop μ-loop Inv-loop2 μ-loop2
+save-requires-2 c κs = search needs
+
+add-at-2 : tie.Need-add-at-2 Inv-loop μ-loop Inv-loop2 μ-loop2
+add-at-2 c = search needs
+
+loop2-less : tie.Need-loop2-less Inv-loop μ-loop Inv-loop2 μ-loop2
+loop2-less c = search needs
+
+loop2-again : tie.Need-loop2-again Inv-loop μ-loop Inv-loop2 μ-loop2
+loop2-again c =
+    let i = c .before .before .before .before .before .loop2 .inv in
+    let low = i .0 in
+    let high = i .1 .0 in
+    (omega arith, (omega arith, λ x k bytes ew es s. one-zero x k _ _ _ _ (i .1 .1 x k bytes ew es s) _ _ _ _ ew es (c .before .before .save2 .ensures) (omega arith) (omega arith) refl))
+
+same-length : tie.Need-same-length Inv-loop μ-loop Inv-loop2 μ-loop2
+same-length c =
+    let a = c .before .before .before .before .before .before .before .before .args in
+    let w = c .before .before .before .before .before .before .at-most .ensures in
+    let s = c .before .before .before .before .batch-start .ensures in
+    (c .before .loop2 .inv .1 .1 (a .control) (a .setup) _ w s (c .before .before .before .loop .inv .1 .1 (a .control) (a .setup) w s refl)) .made .sized
+
+returns : tie.Need-returns Inv-loop μ-loop Inv-loop2 μ-loop2
+returns c =
+    let a = c .before .before .before .before .before .before .before .before .args in
+    let w = c .before .before .before .before .before .before .at-most .ensures in
+    let s = c .before .before .before .before .batch-start .ensures in
+    let i = c .before .before .before .loop .inv in
+    let j = c .before .loop2 .inv in
+    let low = i .0 in
+    let high = i .1 .0 in
+    let low2 = j .0 in
+    let high2 = j .1 .0 in
+    (j .1 .1 (a .control) (a .setup) _ w s (i .1 .1 (a .control) (a .setup) w s refl), omega arith)
 
 pub store-batch-spec : {M : Type 1} → statement M
 store-batch-spec =
@@ -58,14 +114,24 @@ store-batch-spec =
     (tie.spec
     Inv-loop
     μ-loop
+    Inv-loop2
+    μ-loop2
+    at-most-requires
     commit-stores-requires
     batch-start-requires
     loop-holds
-    batch-word-requires
+    mul-value
+    element-copy-out-value
     add-save
     save-requires
     add-at
     loop-less
     loop-again
+    loop2-holds
+    add-save-2
+    save-requires-2
+    add-at-2
+    loop2-less
+    loop2-again
     same-length
     returns)
