@@ -70,7 +70,7 @@ pub fn fast_step(
 fn store_batch(control: Control, setup: Setup, buffer: &Buffer, image: &mut [u8]) -> usize
     ensures { λ r. ⌜ Stores control setup (now (buffer .entry)) (now (image .entry)) (now (image .exit)) r ⌝ }
 {
-    let words = actions::at_most(control.words, 512);
+    let words = words::lesser(control.words, 512);
     let stores = actions::commit_stores(control.words);
     let start = actions::batch_start(setup);
     let mut at = control.next;
@@ -99,7 +99,7 @@ pub fn fast_run(
 {
     let at = control.next;
     if is_fast_step(control, setup, image.len(), table.len()) {
-        let lines = (actions::at_most(control.words, 512) + 7) / 8;
+        let lines = (words::lesser(control.words, 512) + 7) / 8;
         let chunk = setup.chunk % 512;
         let committed = setup.lines % 128;
         let fence = 9 * lines;

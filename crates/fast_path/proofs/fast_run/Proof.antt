@@ -10,8 +10,8 @@ use Rattle.fast_path.proofs.fast_run.Tie as tie
 is-fast-step-requires : tie.Need-is-fast-step-requires
 is-fast-step-requires c κs = search needs
 
-at-most-requires : tie.Need-at-most-requires
-at-most-requires c κs = search needs
+lesser-requires : tie.Need-lesser-requires
+lesser-requires c κs = search needs
 
 add-lines : tie.Need-add-lines
 add-lines c = search needs
@@ -23,7 +23,7 @@ add-next : tie.Need-add-next
 add-next c = search needs
 
 returns : tie.Need-returns
-returns c = record { within = λ h. run-fence _ _ _ _ _ (c .before .before .before .at-most .ensures) _ h (c .if2 .taken); without = λ no. absurd (no (c .before .before .before .before .before .is-fast-step .ensures .0 (c .before .before .before .before .if1 .taken))) }
+returns c = record { within = λ h. run-fence _ _ _ _ _ (c .before .before .before .lesser .ensures) _ h (c .if2 .taken); without = λ no. absurd (no (c .before .before .before .before .before .is-fast-step .ensures .0 (c .before .before .before .before .if1 .taken))) }
 
 add-line : tie.Need-add-line
 add-line c = search needs
@@ -52,7 +52,7 @@ same-length c = search needs
 returns-2 : tie.Need-returns-2
 returns-2 c =
     record {
-      within = λ h. run-seal _ _ _ _ _ (c .before .before .before .before .before .before .before .before .before .before .at-most .ensures) _ h _ _ _ _ _ (c .before .before .before .before .before .if4 .taken) refl (omega arith) (c .before .before .before .before .log-word .ensures) (c .before .before .save .ensures) refl;
+      within = λ h. run-seal _ _ _ _ _ (c .before .before .before .before .before .before .before .before .before .before .lesser .ensures) _ h _ _ _ _ _ (c .before .before .before .before .before .if4 .taken) refl (omega arith) (c .before .before .before .before .log-word .ensures) (c .before .before .save .ensures) refl;
       without = λ no. absurd (no (c .before .before .before .before .before .before .before .before .before .before .before .before .is-fast-step .ensures .0 (c .before .before .before .before .before .before .before .before .before .before .before .if1 .taken)));
     }
 
@@ -62,7 +62,7 @@ add-next-3 c = let l = (c .before .before .before .before .before .before .befor
 returns-3 : tie.Need-returns-3
 returns-3 c =
     record {
-      within = λ h. run-seal-flush _ _ _ _ _ (c .before .before .before .before .before .at-most .ensures) _ h _ (let w = c .before .before .before .before .before .at-most .ensures in let l = h .1 .1 .1 in let n = c .if4 .left in omega (arith, n)) refl;
+      within = λ h. run-seal-flush _ _ _ _ _ (c .before .before .before .before .before .lesser .ensures) _ h _ (let w = c .before .before .before .before .before .lesser .ensures in let l = h .1 .1 .1 in let n = c .if4 .left in omega (arith, n)) refl;
       without = λ no. absurd (no (c .before .before .before .before .before .before .before .is-fast-step .ensures .0 (c .before .before .before .before .before .before .if1 .taken)));
     }
 
@@ -93,7 +93,7 @@ same-length-2 c = search needs
 returns-4 : tie.Need-returns-4
 returns-4 c =
     record {
-      within = λ h. run-batch _ _ _ _ _ (c .before .before .before .before .before .before .before .before .at-most .ensures) _ h _ _ _ (c .before .before .store-batch .ensures) (let n = c .before .before .before .before .before .if2 .left in omega (arith, n)) refl;
+      within = λ h. run-batch _ _ _ _ _ (c .before .before .before .before .before .before .before .before .lesser .ensures) _ h _ _ _ (c .before .before .store-batch .ensures) (let n = c .before .before .before .before .before .if2 .left in omega (arith, n)) refl;
       without = λ no. absurd (no (c .before .before .before .before .before .before .before .before .before .before .is-fast-step .ensures .0 (c .before .before .before .before .before .before .before .before .before .if1 .taken)));
     }
 
@@ -105,7 +105,7 @@ fast-run-spec =
     tie.close
     (tie.spec
     is-fast-step-requires
-    at-most-requires
+    lesser-requires
     add-lines
     mul-fence
     add-next

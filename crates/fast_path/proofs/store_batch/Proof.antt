@@ -29,8 +29,8 @@ Inv-loop2 buffer image₀ words stores start at₀ image at =
 abbrev μ-loop2 : tie.MeasureT-loop2
 μ-loop2 buffer image₀ words stores start at₀ image at = stores - at
 
-at-most-requires : tie.Need-at-most-requires Inv-loop μ-loop Inv-loop2 μ-loop2
-at-most-requires c κs = search needs
+lesser-requires : tie.Need-lesser-requires Inv-loop μ-loop Inv-loop2 μ-loop2
+lesser-requires c κs = search needs
 
 commit-stores-requires : tie.Need-commit-stores-requires Inv-loop μ-loop Inv-loop2 μ-loop2
 commit-stores-requires c κs = search needs
@@ -91,14 +91,14 @@ loop2-again c =
 same-length : tie.Need-same-length Inv-loop μ-loop Inv-loop2 μ-loop2
 same-length c =
     let a = c .before .before .before .before .before .before .before .before .args in
-    let w = c .before .before .before .before .before .before .at-most .ensures in
+    let w = c .before .before .before .before .before .before .lesser .ensures in
     let s = c .before .before .before .before .batch-start .ensures in
     (c .before .loop2 .inv .1 .1 (a .control) (a .setup) _ w s (c .before .before .before .loop .inv .1 .1 (a .control) (a .setup) w s refl)) .made .sized
 
 returns : tie.Need-returns Inv-loop μ-loop Inv-loop2 μ-loop2
 returns c =
     let a = c .before .before .before .before .before .before .before .before .args in
-    let w = c .before .before .before .before .before .before .at-most .ensures in
+    let w = c .before .before .before .before .before .before .lesser .ensures in
     let s = c .before .before .before .before .batch-start .ensures in
     let i = c .before .before .before .loop .inv in
     let j = c .before .loop2 .inv in
@@ -116,7 +116,7 @@ store-batch-spec =
     μ-loop
     Inv-loop2
     μ-loop2
-    at-most-requires
+    lesser-requires
     commit-stores-requires
     batch-start-requires
     loop-holds
