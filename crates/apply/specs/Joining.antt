@@ -67,8 +67,8 @@ pub record OneJoined (ws buffer buffer′ table table′ : List ℕ) (keys key o
   pub joins : (n : ℕ) (xs more ys : List Entry) (e : Entry) → e .key ≡ key → ownOf e ≡ own → w ≡ weight e
       → Awaited n ws table xs more ys e → Shown buffer table keys (xs ++ ys) → Superseding buffer buffer′ table′ keys′ xs ys e
 
--- the same of a put that is to join without the image: where it joined, it did so whatever the image shows; else nothing
--- changed
+-- the same of a put that is to join without the image: where it joined, it did so whatever the image shows; else
+-- nothing changed
 pub record PutJoined (buffer buffer′ table table′ : List ℕ) (keys key own w : ℕ) (joined : Bool) (keys′ : ℕ) : Type 0 where
   pub joins : joined ≡ true → (ws : List ℕ) → OneJoined ws buffer buffer′ table table′ keys key own w keys′
   pub left : joined ≡ false → (buffer′ ≡ buffer) × (table′ ≡ table)

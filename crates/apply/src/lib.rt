@@ -289,8 +289,8 @@ fn join_puts(
     }
 }
 
-// At a commit's last fence the staged items, `words` words of the buffer that stand at word `place` of the image, join a
-// table of `known` keys: how many keys it has then. The common items go first.
+// At a commit's last fence the staged items join a table of `known` keys: how many keys it has then. They are the
+// buffer's first `words` words, and stand at word `place` of the image. The common items go first.
 pub fn join(
     place: usize,
     words: usize,
