@@ -66,17 +66,17 @@ claim-requires : tie.Need-claim-requires Inv-loop μ-loop
 claim-requires c κs = search needs
 
 add-at : tie.Need-add-at Inv-loop μ-loop
-add-at c = let e = c .before .before .before .before .before .before .before .before .before .before .before .before .before .before .before .before .before .before .before .before .before .at-most .ensures in let f = told-fits _ _ _ _ (c .before .before .before .before .before .before .before .before .before .before .before .before .before .item-at .ensures) _ _ _ _ _ _ (c .before .before .before .before .before .before .before .before .before .before .before .item .given .1) in omega arith
+add-at c = let e = c .before .before .before .before .before .before .before .before .before .before .before .before .before .before .before .before .before .before .before .before .before .lesser .ensures in let f = told-fits _ _ _ _ (c .before .before .before .before .before .before .before .before .before .before .before .before .before .item-at .ensures) _ _ _ _ _ _ (c .before .before .before .before .before .before .before .before .before .before .before .item .given .1) in omega arith
 
 add-at-2 : tie.Need-add-at-2 Inv-loop μ-loop
-add-at-2 c = let e = c .before .before .before .before .before .before .before .before .before .before .before .before .before .before .before .before .before .before .before .before .before .at-most .ensures in let f = told-fits _ _ _ _ (c .before .before .before .before .before .before .before .before .before .before .before .before .before .item-at .ensures) _ _ _ _ _ _ (c .before .before .before .before .before .before .before .before .before .before .before .item .given .1) in omega arith
+add-at-2 c = let e = c .before .before .before .before .before .before .before .before .before .before .before .before .before .before .before .before .before .before .before .before .before .lesser .ensures in let f = told-fits _ _ _ _ (c .before .before .before .before .before .before .before .before .before .before .before .before .before .item-at .ensures) _ _ _ _ _ _ (c .before .before .before .before .before .before .before .before .before .before .before .item .given .1) in omega arith
 
 loop-less : tie.Need-loop-less Inv-loop μ-loop
 loop-less c = let g = c .before .before .before .before .before .before .before .before .before .before .before .before .before .before .before .before .before .join-puts .ensures .farther in let f = told-fits _ _ _ _ (c .before .before .before .before .before .before .before .before .before .before .before .before .before .item-at .ensures) _ _ _ _ _ _ (c .before .before .before .before .before .before .before .before .before .before .before .item .given .1) in omega arith
 
 loop-again : tie.Need-loop-again Inv-loop μ-loop
 loop-again c =
-    going-next _ _ _ _ _ _ _ _ _ _ _ (going-then _ _ _ _ _ _ _ _ _ _ _ _ _ _ _ (c .before .before .before .before .before .before .before .before .before .before .before .before .before .before .before .before .before .before .before .before .loop .inv) (c .before .before .before .before .before .before .before .before .before .before .before .before .before .before .before .before .before .join-puts .ensures .goes _)) _ (c .before .before .before .before .before .before .before .before .before .before .before .before .before .item-at .ensures) _ _ _ _ _ _ (c .before .before .before .before .before .before .before .before .before .before .before .item .given .1) (let e = c .before .before .before .before .before .before .before .before .before .before .before .before .before .before .before .before .before .before .before .before .before .at-most .ensures in omega arith) _ _ (c .before .before .before .before .before .before .before .before .before .extent-of .ensures) (c .before .before .before .before .before .before .before .before .alone .ensures) _ (c .before .before .before .before .before .before .before .weigh .ensures) _ _ _ (c .before .before .before .before .join-one .ensures) _ (c .claim .ensures)
+    going-next _ _ _ _ _ _ _ _ _ _ _ (going-then _ _ _ _ _ _ _ _ _ _ _ _ _ _ _ (c .before .before .before .before .before .before .before .before .before .before .before .before .before .before .before .before .before .before .before .before .loop .inv) (c .before .before .before .before .before .before .before .before .before .before .before .before .before .before .before .before .before .join-puts .ensures .goes _)) _ (c .before .before .before .before .before .before .before .before .before .before .before .before .before .item-at .ensures) _ _ _ _ _ _ (c .before .before .before .before .before .before .before .before .before .before .before .item .given .1) (let e = c .before .before .before .before .before .before .before .before .before .before .before .before .before .before .before .before .before .before .before .before .before .lesser .ensures in omega arith) _ _ (c .before .before .before .before .before .before .before .before .before .extent-of .ensures) (c .before .before .before .before .before .before .before .before .alone .ensures) _ (c .before .before .before .before .before .before .before .weigh .ensures) _ _ _ (c .before .before .before .before .join-one .ensures) _ (c .claim .ensures)
 
 pub join-spec : {M : Type 1} → statement M
 join-spec =
