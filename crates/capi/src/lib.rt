@@ -10,9 +10,9 @@ ghost use Rattle.spec.specs.Machine.{Format, Open, Put, Delete, Commit, Abandon
 ghost use Rattle.formatting.specs.Begun.{given};
 ghost use Rattle.staging.specs.Staging.{PutWhere, Short, Long};
 ghost use Rattle.fast_path.specs.Run.{RunsOn};
-ghost use Rattle.store.specs.Look.{Reported};
-ghost use Rattle.store.specs.Choice.{Chosen};
-ghost use Rattle.store.specs.List.{KeysListed, KeyListed};
+ghost use Rattle.store_read.specs.Look.{Reported};
+ghost use Rattle.store_read.specs.Choice.{Chosen};
+ghost use Rattle.store_read.specs.List.{KeysListed, KeyListed};
 ghost use Rattle.directory.specs.Counts.{linesUsed};
 ghost use Rattle.stat.specs.Counts.{Known};
 ghost use Rattle.inspect.specs.Numbers.{stationOf, centreOf, ToldAs};
@@ -148,16 +148,16 @@ fn same(a: Answer) -> Answer
     }
 }
 
-// A put of a longer value in numbers (`store::stage_long`); of a short one nothing is done.
+// A put of a longer value in numbers (`store_stage::stage_long`); of a short one nothing is done.
 fn put_long(s: &mut Session, image: &[u8], table: &[u64], key: u64, value: &[u8]) -> Answer
     ensures { λ r. ⌜ Told (PutWhere Long key (now (value .entry)) (memory (now (s .entry)) (now (image .entry)) (now (table .entry))) (memory (now (s .exit)) (now (image .entry)) (now (table .entry)))) r ⌝ }
 {
-    let report = store::stage_long(s, image, table, key, value);
+    let report = store_stage::stage_long(s, image, table, key, value);
     told(report)
 }
 
-// Begins staging a put, as `store::stage_put` does: of a short value by `store::stage_short`, which alters less of the
-// record, else by `store::stage_long`.
+// Begins staging a put, as `store_stage::stage_put` does: of a short value by `store_stage::stage_short`, which alters less of the
+// record, else by `store_stage::stage_long`.
 #[no_mangle]
 pub extern "C" fn zkv_put(
     s: &mut Session,
@@ -171,7 +171,7 @@ pub extern "C" fn zkv_put(
     let c = s.control;
     let short = staging::is_short(c, value.len());
     if short {
-        let report = store::stage_short(s, image, table, key, value);
+        let report = store_stage::stage_short(s, image, table, key, value);
         return told(report);
     } else {
         let answer = put_long(s, image, table, key, value);
@@ -179,12 +179,12 @@ pub extern "C" fn zkv_put(
     }
 }
 
-// Begins staging a delete (`store::stage_delete`).
+// Begins staging a delete (`store_stage::stage_delete`).
 #[no_mangle]
 pub extern "C" fn zkv_delete(s: &mut Session, image: &[u8], table: &[u64], key: u64) -> Answer
     ensures { λ r. ⌜ Told (Does (Delete key) (memory (now (s .entry)) (now (image .entry)) (now (table .entry))) (memory (now (s .exit)) (now (image .entry)) (now (table .entry)))) r ⌝ }
 {
-    let report = store::stage_delete(s, image, table, key);
+    let report = store_stage::stage_delete(s, image, table, key);
     told(report)
 }
 
@@ -197,21 +197,21 @@ pub extern "C" fn zkv_commit(s: &mut Session, image: &[u8], table: &[u64]) -> An
     told(report)
 }
 
-// Forgets the staged items (`store::abandon`).
+// Forgets the staged items (`store_stage::abandon`).
 #[no_mangle]
 pub extern "C" fn zkv_abandon(s: &mut Session, image: &[u8], table: &[u64]) -> Answer
     ensures { λ r. ⌜ Told (Does Abandon (memory (now (s .entry)) (now (image .entry)) (now (table .entry))) (memory (now (s .exit)) (now (image .entry)) (now (table .entry)))) r ⌝ }
 {
-    let report = store::abandon(s, image, table);
+    let report = store_stage::abandon(s, image, table);
     told(report)
 }
 
-// The chunk to clean (`store::choose`).
+// The chunk to clean (`store_read::choose`).
 #[no_mangle]
 pub extern "C" fn zkv_choose(s: &Session, image: &[u8], table: &[u64]) -> Answer
     ensures { λ r. ⌜ Told (Chosen (now (s .entry)) (now (image .entry)) (now (table .entry))) r ⌝ }
 {
-    let report = store::choose(s, image, table);
+    let report = store_read::choose(s, image, table);
     told(report)
 }
 
@@ -225,16 +225,16 @@ pub extern "C" fn zkv_clean(s: &mut Session, image: &[u8], table: &[u64], chunk:
 }
 
 // STEPS
-// The step in numbers, whatever is begun (`store::step`).
+// The step in numbers, whatever is begun (`store_step::step`).
 fn step_any(s: &mut Session, image: &mut [u8], table: &mut [u64]) -> Answer
     ensures { λ r. ⌜ Told (Does Step (memory (now (s .entry)) (now (image .entry)) (now (table .entry))) (memory (now (s .exit)) (now (image .exit)) (now (table .exit)))) r ⌝ }
 {
-    let report = store::step(s, image, table);
+    let report = store_step::step(s, image, table);
     told(report)
 }
 
-// The step in numbers, where no commit has more than its last action to come: then `store::step_late`, else
-// `store::step`.
+// The step in numbers, where no commit has more than its last action to come: then `store_step::step_late`, else
+// `store_step::step`.
 fn step_whole(s: &mut Session, image: &mut [u8], table: &mut [u64]) -> Answer
     ensures { λ r. ⌜ Told (Does Step (memory (now (s .entry)) (now (image .entry)) (now (table .entry))) (memory (now (s .exit)) (now (image .exit)) (now (table .exit)))) r ⌝ }
 {
@@ -242,7 +242,7 @@ fn step_whole(s: &mut Session, image: &mut [u8], table: &mut [u64]) -> Answer
     let k = s.setup;
     let late = fast_path::is_late(c, k, image.len(), table.len());
     if late {
-        let report = store::step_late(s, image, table);
+        let report = store_step::step_late(s, image, table);
         return told(report);
     } else {
         let answer = step_any(s, image, table);
@@ -250,7 +250,7 @@ fn step_whole(s: &mut Session, image: &mut [u8], table: &mut [u64]) -> Answer
     }
 }
 
-// One step of the call that is begun: on the fast path inside a commit (`store::step_fast`), else `store::step`.
+// One step of the call that is begun: on the fast path inside a commit (`store_step::step_fast`), else `store_step::step`.
 #[no_mangle]
 pub extern "C" fn zkv_step(s: &mut Session, image: &mut [u8], table: &mut [u64]) -> Answer
     ensures { λ r. ⌜ Told (Does Step (memory (now (s .entry)) (now (image .entry)) (now (table .entry))) (memory (now (s .exit)) (now (image .exit)) (now (table .exit)))) r ⌝ }
@@ -259,7 +259,7 @@ pub extern "C" fn zkv_step(s: &mut Session, image: &mut [u8], table: &mut [u64])
     let k = s.setup;
     let fast = fast_path::is_fast_step(c, k, image.len(), table.len());
     if fast {
-        let report = store::step_fast(s, image, table);
+        let report = store_step::step_fast(s, image, table);
         return told(report);
     } else {
         let answer = step_whole(s, image, table);
@@ -267,16 +267,16 @@ pub extern "C" fn zkv_step(s: &mut Session, image: &mut [u8], table: &mut [u64])
     }
 }
 
-// A run in numbers, whatever is begun (`store::run_rest`).
+// A run in numbers, whatever is begun (`store_run::run_rest`).
 fn run_any(s: &mut Session, image: &mut [u8], table: &mut [u64]) -> Answer
     ensures { λ r. ⌜ Told (RunsOn (memory (now (s .entry)) (now (image .entry)) (now (table .entry))) (memory (now (s .exit)) (now (image .exit)) (now (table .exit)))) r ⌝ }
 {
-    let report = store::run_rest(s, image, table);
+    let report = store_run::run_rest(s, image, table);
     told(report)
 }
 
-// A run in numbers, where nothing is to be stored: at a commit's last action and its end `store::step_late`, else
-// `store::run_rest`.
+// A run in numbers, where nothing is to be stored: at a commit's last action and its end `store_step::step_late`, else
+// `store_run::run_rest`.
 fn run_late(s: &mut Session, image: &mut [u8], table: &mut [u64]) -> Answer
     ensures { λ r. ⌜ Told (RunsOn (memory (now (s .entry)) (now (image .entry)) (now (table .entry))) (memory (now (s .exit)) (now (image .exit)) (now (table .exit)))) r ⌝ }
 {
@@ -284,7 +284,7 @@ fn run_late(s: &mut Session, image: &mut [u8], table: &mut [u64]) -> Answer
     let k = s.setup;
     let late = fast_path::is_late(c, k, image.len(), table.len());
     if late {
-        let report = store::step_late(s, image, table);
+        let report = store_step::step_late(s, image, table);
         return told(report);
     } else {
         let answer = run_any(s, image, table);
@@ -292,7 +292,7 @@ fn run_late(s: &mut Session, image: &mut [u8], table: &mut [u64]) -> Answer
     }
 }
 
-// A run in numbers, where no commit is on the fast path: in a staging `store::run_staging`, else as above.
+// A run in numbers, where no commit is on the fast path: in a staging `store_run::run_staging`, else as above.
 fn run_whole(s: &mut Session, image: &mut [u8], table: &mut [u64]) -> Answer
     ensures { λ r. ⌜ Told (RunsOn (memory (now (s .entry)) (now (image .entry)) (now (table .entry))) (memory (now (s .exit)) (now (image .exit)) (now (table .exit)))) r ⌝ }
 {
@@ -300,7 +300,7 @@ fn run_whole(s: &mut Session, image: &mut [u8], table: &mut [u64]) -> Answer
     let k = s.setup;
     let staging = fast_path::is_staging(c, k, image.len(), table.len());
     if staging {
-        let report = store::run_staging(s, image, table);
+        let report = store_run::run_staging(s, image, table);
         return told(report);
     } else {
         let answer = run_late(s, image, table);
@@ -309,7 +309,7 @@ fn run_whole(s: &mut Session, image: &mut [u8], table: &mut [u64]) -> Answer
 }
 
 // Several steps in one: those that store a word, as many as come next, and the step behind them; inside a commit and in
-// a staging on the fast path (`store::run_fast`, `store::run_staging`), else `store::run_rest`.
+// a staging on the fast path (`store_run::run_fast`, `store_run::run_staging`), else `store_run::run_rest`.
 #[no_mangle]
 pub extern "C" fn zkv_run(s: &mut Session, image: &mut [u8], table: &mut [u64]) -> Answer
     ensures { λ r. ⌜ Told (RunsOn (memory (now (s .entry)) (now (image .entry)) (now (table .entry))) (memory (now (s .exit)) (now (image .exit)) (now (table .exit)))) r ⌝ }
@@ -318,7 +318,7 @@ pub extern "C" fn zkv_run(s: &mut Session, image: &mut [u8], table: &mut [u64]) 
     let k = s.setup;
     let fast = fast_path::is_fast_step(c, k, image.len(), table.len());
     if fast {
-        let report = store::run_fast(s, image, table);
+        let report = store_run::run_fast(s, image, table);
         return told(report);
     } else {
         let answer = run_whole(s, image, table);
@@ -361,7 +361,7 @@ fn shown(report: Report, start: &mut u64, length: &mut u64) -> u64
     }
 }
 
-// Where in the image the value of a key lies (`store::find`): the answer is 0, or the refusal's number with `start` and
+// Where in the image the value of a key lies (`store_read::find`): the answer is 0, or the refusal's number with `start` and
 // `length` 0.
 #[no_mangle]
 pub extern "C" fn zkv_look_up(
@@ -374,7 +374,7 @@ pub extern "C" fn zkv_look_up(
 ) -> u64
     ensures { λ r. ⌜ Shown (Reported (now (s .entry)) key (now (image .entry)) (now (table .entry))) r (now (start .exit)) (now (length .exit)) ⌝ }
 {
-    let report = store::find(s, image, table, key);
+    let report = store_read::find(s, image, table, key);
     shown(report, start, length)
 }
 
@@ -395,7 +395,7 @@ fn counted(listed: Counted, count: &mut u64) -> u64
     }
 }
 
-// The present keys, rising, into the lent words as far as these reach (`store::list_keys`); `count` gets how many there
+// The present keys, rising, into the lent words as far as these reach (`store_read::list_keys`); `count` gets how many there
 // are.
 #[no_mangle]
 pub extern "C" fn zkv_list_keys(
@@ -407,7 +407,7 @@ pub extern "C" fn zkv_list_keys(
 ) -> u64
     ensures { λ r. ⌜ CountTold (KeysListed (now (s .entry)) (now (s .exit)) (now (image .entry)) (now (table .entry)) (now (keys .entry)) (now (keys .exit))) r (now (count .exit)) ⌝ }
 {
-    let listed = store::list_keys(s, image, table, keys);
+    let listed = store_read::list_keys(s, image, table, keys);
     counted(listed, count)
 }
 
@@ -442,7 +442,7 @@ fn spelt(listed: Listed, version: &mut u64, length: &mut u64, block: &mut u64) -
 }
 
 // Of a present key its version, its value's length, and 1 where a block has it, 0 where the log has
-// (`store::list_key`).
+// (`store_read::list_key`).
 #[no_mangle]
 pub extern "C" fn zkv_list_key(
     s: &Session,
@@ -455,7 +455,7 @@ pub extern "C" fn zkv_list_key(
 ) -> u64
     ensures { λ r. ⌜ ListTold (KeyListed (now (s .entry)) key (now (image .entry)) (now (table .entry))) r (now (version .exit)) (now (length .exit)) (now (block .exit)) ⌝ }
 {
-    let listed = store::list_key(s, image, table, key);
+    let listed = store_read::list_key(s, image, table, key);
     spelt(listed, version, length, block)
 }
 

@@ -54,10 +54,10 @@ use Rattle.spec.proofs.Report.Laws as T-Report′
 use Rattle.session.specs.declared.Session.{Session}
 use Rattle.session.proofs.Session as T-Session
 use Rattle.session.proofs.Session.Laws as T-Session′
-use Rattle.store.proofs.stage_long as stage-long′
-use Rattle.store.proofs.stage_long.Symbol as stage-long′-def
-use Rattle.store.proofs.stage_long.Symbol.{name as #stage-long′}
-use Rattle.store.proofs.stage_long.Met as stage-long′-thm
+use Rattle.store_stage.proofs.stage_long as stage-long′
+use Rattle.store_stage.proofs.stage_long.Symbol as stage-long′-def
+use Rattle.store_stage.proofs.stage_long.Symbol.{name as #stage-long′}
+use Rattle.store_stage.proofs.stage_long.Met as stage-long′-thm
 use Rattle.capi.proofs.told as told′
 use Rattle.capi.proofs.told.Symbol as told′-def
 use Rattle.capi.proofs.told.Symbol.{name as #told′}
@@ -181,5 +181,5 @@ put-long-spec 𝓤 H 𝓜 𝓖 𝓡 =
     entered 𝓤 H (tripleOf 𝓤 H (𝓖 .A) self.signature (self.spec 𝓤 H (𝓖 .A) (𝓜 .mem) (𝓡 .run)))
     (tables 𝓤 H 𝓜 𝓡 code.env .C) (tables 𝓤 H 𝓜 𝓡 code.env .Λ) #self code.function (code.unfolded 𝓤 H 𝓜 𝓡)
     (meets 𝓤 H (𝓖 .A) (givenOf 𝓤 H 𝓜 𝓖) (𝓜 .mem) (𝓡 .run) (tablesOf 𝓤 H 𝓜 (tables 𝓤 H 𝓜 𝓡 code.env))
-    (cited 𝓤 H (Of-stage-long′ 𝓤 H (𝓖 .A) (𝓜 .mem) (𝓡 .run)) 𝓜 𝓡 code.env #stage-long′ stage-long′-def.routine code.calls-store·stage-long (stage-long′-thm.met 𝓤 H 𝓜 𝓖 𝓡))
+    (cited 𝓤 H (Of-stage-long′ 𝓤 H (𝓖 .A) (𝓜 .mem) (𝓡 .run)) 𝓜 𝓡 code.env #stage-long′ stage-long′-def.routine code.calls-store-stage·stage-long (stage-long′-thm.met 𝓤 H 𝓜 𝓖 𝓡))
     (cited 𝓤 H (Of-told′ 𝓤 H (𝓖 .A) (𝓜 .mem) (𝓡 .run)) 𝓜 𝓡 code.env #told′ told′-def.routine code.calls-capi·told (told′-thm.met 𝓤 H 𝓜 𝓖 𝓡)))

@@ -52,7 +52,7 @@ use mir.Raw.{raw as rawTy}
 use mir.Syntax.{tyBool}
 use lib.Dec.{T}
 use denote.Struct.Steps.{spelt}
-use Rattle.store.proofs.Lent as Lent
+use Rattle.lent_record.proofs.Lent as Lent
 use Rattle.capi.specs.declared.Answer.{Answer}
 use Rattle.capi.proofs.Answer as T-Answer
 use Rattle.capi.proofs.Answer.Laws as T-Answer′
@@ -72,10 +72,10 @@ use Rattle.fast_path.proofs.is_late as is-late′
 use Rattle.fast_path.proofs.is_late.Symbol as is-late′-def
 use Rattle.fast_path.proofs.is_late.Symbol.{name as #is-late′}
 use Rattle.fast_path.proofs.is_late.Met as is-late′-thm
-use Rattle.store.proofs.step_late as step-late′
-use Rattle.store.proofs.step_late.Symbol as step-late′-def
-use Rattle.store.proofs.step_late.Symbol.{name as #step-late′}
-use Rattle.store.proofs.step_late.Met as step-late′-thm
+use Rattle.store_step.proofs.step_late as step-late′
+use Rattle.store_step.proofs.step_late.Symbol as step-late′-def
+use Rattle.store_step.proofs.step_late.Symbol.{name as #step-late′}
+use Rattle.store_step.proofs.step_late.Met as step-late′-thm
 use Rattle.capi.proofs.told as told′
 use Rattle.capi.proofs.told.Symbol as told′-def
 use Rattle.capi.proofs.told.Symbol.{name as #told′}
@@ -312,7 +312,7 @@ run-late-spec 𝓤 H 𝓜 𝓖 𝓡 =
     (tables 𝓤 H 𝓜 𝓡 code.env .C) (tables 𝓤 H 𝓜 𝓡 code.env .Λ) #self code.function (code.unfolded 𝓤 H 𝓜 𝓡)
     (meets 𝓤 H (𝓖 .A) (givenOf 𝓤 H 𝓜 𝓖) (𝓜 .mem) (𝓡 .run) (tablesOf 𝓤 H 𝓜 (tables 𝓤 H 𝓜 𝓡 code.env))
     (cited 𝓤 H (Of-is-late′ 𝓤 H (𝓖 .A) (𝓜 .mem) (𝓡 .run)) 𝓜 𝓡 code.env #is-late′ is-late′-def.routine code.calls-fast-path·is-late (is-late′-thm.met 𝓤 H 𝓜 𝓖 𝓡))
-    (cited 𝓤 H (Of-step-late′ 𝓤 H (𝓖 .A) (𝓜 .mem) (𝓡 .run)) 𝓜 𝓡 code.env #step-late′ step-late′-def.routine code.calls-store·step-late (step-late′-thm.met 𝓤 H 𝓜 𝓖 𝓡))
+    (cited 𝓤 H (Of-step-late′ 𝓤 H (𝓖 .A) (𝓜 .mem) (𝓡 .run)) 𝓜 𝓡 code.env #step-late′ step-late′-def.routine code.calls-store-step·step-late (step-late′-thm.met 𝓤 H 𝓜 𝓖 𝓡))
     (cited 𝓤 H (Of-told′ 𝓤 H (𝓖 .A) (𝓜 .mem) (𝓡 .run)) 𝓜 𝓡 code.env #told′ told′-def.routine code.calls-capi·told (told′-thm.met 𝓤 H 𝓜 𝓖 𝓡))
     (cited 𝓤 H (Of-run-any′ 𝓤 H (𝓖 .A) (𝓜 .mem) (𝓡 .run)) 𝓜 𝓡 code.env #run-any′ run-any′-def.routine code.calls-capi·run-any (run-any′-thm.met 𝓤 H 𝓜 𝓖 𝓡))
     (cited 𝓤 H (Of-same′ 𝓤 H (𝓖 .A) (𝓜 .mem) (𝓡 .run)) 𝓜 𝓡 code.env #same′ same′-def.routine code.calls-capi·same (same′-thm.met 𝓤 H 𝓜 𝓖 𝓡)))

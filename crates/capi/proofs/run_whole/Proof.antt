@@ -52,7 +52,7 @@ use mir.Raw.{raw as rawTy}
 use mir.Syntax.{tyBool}
 use lib.Dec.{T}
 use denote.Struct.Steps.{spelt}
-use Rattle.store.proofs.Lent as Lent
+use Rattle.lent_record.proofs.Lent as Lent
 use Rattle.capi.specs.declared.Answer.{Answer}
 use Rattle.capi.proofs.Answer as T-Answer
 use Rattle.capi.proofs.Answer.Laws as T-Answer′
@@ -72,10 +72,10 @@ use Rattle.fast_path.proofs.is_staging as is-staging′
 use Rattle.fast_path.proofs.is_staging.Symbol as is-staging′-def
 use Rattle.fast_path.proofs.is_staging.Symbol.{name as #is-staging′}
 use Rattle.fast_path.proofs.is_staging.Met as is-staging′-thm
-use Rattle.store.proofs.run_staging as run-staging′
-use Rattle.store.proofs.run_staging.Symbol as run-staging′-def
-use Rattle.store.proofs.run_staging.Symbol.{name as #run-staging′}
-use Rattle.store.proofs.run_staging.Met as run-staging′-thm
+use Rattle.store_run.proofs.run_staging as run-staging′
+use Rattle.store_run.proofs.run_staging.Symbol as run-staging′-def
+use Rattle.store_run.proofs.run_staging.Symbol.{name as #run-staging′}
+use Rattle.store_run.proofs.run_staging.Met as run-staging′-thm
 use Rattle.capi.proofs.told as told′
 use Rattle.capi.proofs.told.Symbol as told′-def
 use Rattle.capi.proofs.told.Symbol.{name as #told′}
@@ -312,7 +312,7 @@ run-whole-spec 𝓤 H 𝓜 𝓖 𝓡 =
     (tables 𝓤 H 𝓜 𝓡 code.env .C) (tables 𝓤 H 𝓜 𝓡 code.env .Λ) #self code.function (code.unfolded 𝓤 H 𝓜 𝓡)
     (meets 𝓤 H (𝓖 .A) (givenOf 𝓤 H 𝓜 𝓖) (𝓜 .mem) (𝓡 .run) (tablesOf 𝓤 H 𝓜 (tables 𝓤 H 𝓜 𝓡 code.env))
     (cited 𝓤 H (Of-is-staging′ 𝓤 H (𝓖 .A) (𝓜 .mem) (𝓡 .run)) 𝓜 𝓡 code.env #is-staging′ is-staging′-def.routine code.calls-fast-path·is-staging (is-staging′-thm.met 𝓤 H 𝓜 𝓖 𝓡))
-    (cited 𝓤 H (Of-run-staging′ 𝓤 H (𝓖 .A) (𝓜 .mem) (𝓡 .run)) 𝓜 𝓡 code.env #run-staging′ run-staging′-def.routine code.calls-store·run-staging (run-staging′-thm.met 𝓤 H 𝓜 𝓖 𝓡))
+    (cited 𝓤 H (Of-run-staging′ 𝓤 H (𝓖 .A) (𝓜 .mem) (𝓡 .run)) 𝓜 𝓡 code.env #run-staging′ run-staging′-def.routine code.calls-store-run·run-staging (run-staging′-thm.met 𝓤 H 𝓜 𝓖 𝓡))
     (cited 𝓤 H (Of-told′ 𝓤 H (𝓖 .A) (𝓜 .mem) (𝓡 .run)) 𝓜 𝓡 code.env #told′ told′-def.routine code.calls-capi·told (told′-thm.met 𝓤 H 𝓜 𝓖 𝓡))
     (cited 𝓤 H (Of-run-late′ 𝓤 H (𝓖 .A) (𝓜 .mem) (𝓡 .run)) 𝓜 𝓡 code.env #run-late′ run-late′-def.routine code.calls-capi·run-late (run-late′-thm.met 𝓤 H 𝓜 𝓖 𝓡))
     (cited 𝓤 H (Of-same′ 𝓤 H (𝓖 .A) (𝓜 .mem) (𝓡 .run)) 𝓜 𝓡 code.env #same′ same′-def.routine code.calls-capi·same (same′-thm.met 𝓤 H 𝓜 𝓖 𝓡)))

@@ -54,10 +54,10 @@ use Rattle.spec.proofs.Report.Laws as T-Report′
 use Rattle.session.specs.declared.Session.{Session}
 use Rattle.session.proofs.Session as T-Session
 use Rattle.session.proofs.Session.Laws as T-Session′
-use Rattle.store.proofs.step as step′
-use Rattle.store.proofs.step.Symbol as step′-def
-use Rattle.store.proofs.step.Symbol.{name as #step′}
-use Rattle.store.proofs.step.Met as step′-thm
+use Rattle.store_step.proofs.step as step′
+use Rattle.store_step.proofs.step.Symbol as step′-def
+use Rattle.store_step.proofs.step.Symbol.{name as #step′}
+use Rattle.store_step.proofs.step.Met as step′-thm
 use Rattle.capi.proofs.told as told′
 use Rattle.capi.proofs.told.Symbol as told′-def
 use Rattle.capi.proofs.told.Symbol.{name as #told′}
@@ -182,5 +182,5 @@ step-any-spec 𝓤 H 𝓜 𝓖 𝓡 =
     entered 𝓤 H (tripleOf 𝓤 H (𝓖 .A) self.signature (self.spec 𝓤 H (𝓖 .A) (𝓜 .mem) (𝓡 .run)))
     (tables 𝓤 H 𝓜 𝓡 code.env .C) (tables 𝓤 H 𝓜 𝓡 code.env .Λ) #self code.function (code.unfolded 𝓤 H 𝓜 𝓡)
     (meets 𝓤 H (𝓖 .A) (givenOf 𝓤 H 𝓜 𝓖) (𝓜 .mem) (𝓡 .run) (tablesOf 𝓤 H 𝓜 (tables 𝓤 H 𝓜 𝓡 code.env))
-    (cited 𝓤 H (Of-step′ 𝓤 H (𝓖 .A) (𝓜 .mem) (𝓡 .run)) 𝓜 𝓡 code.env #step′ step′-def.routine code.calls-store·step (step′-thm.met 𝓤 H 𝓜 𝓖 𝓡))
+    (cited 𝓤 H (Of-step′ 𝓤 H (𝓖 .A) (𝓜 .mem) (𝓡 .run)) 𝓜 𝓡 code.env #step′ step′-def.routine code.calls-store-step·step (step′-thm.met 𝓤 H 𝓜 𝓖 𝓡))
     (cited 𝓤 H (Of-told′ 𝓤 H (𝓖 .A) (𝓜 .mem) (𝓡 .run)) 𝓜 𝓡 code.env #told′ told′-def.routine code.calls-capi·told (told′-thm.met 𝓤 H 𝓜 𝓖 𝓡)))

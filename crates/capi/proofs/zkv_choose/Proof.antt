@@ -3,7 +3,7 @@
 -- calls (`choose`, `told`) is that it meets its contract.
 -- Assumes nothing.
 use mathlib.Core.Path.{_≡_}
-use Rattle.store.specs.Choice.{Chosen}
+use Rattle.store_read.specs.Choice.{Chosen}
 use Rattle.capi.specs.Answers.{answerOf}
 use mathlib.Core.Path.{refl}
 use mathlib.Core.Bool.{Bool}
@@ -53,10 +53,10 @@ use Rattle.spec.proofs.Report.Laws as T-Report′
 use Rattle.session.specs.declared.Session.{Session}
 use Rattle.session.proofs.Session as T-Session
 use Rattle.session.proofs.Session.Laws as T-Session′
-use Rattle.store.proofs.choose as choose′
-use Rattle.store.proofs.choose.Symbol as choose′-def
-use Rattle.store.proofs.choose.Symbol.{name as #choose′}
-use Rattle.store.proofs.choose.Met as choose′-thm
+use Rattle.store_read.proofs.choose as choose′
+use Rattle.store_read.proofs.choose.Symbol as choose′-def
+use Rattle.store_read.proofs.choose.Symbol.{name as #choose′}
+use Rattle.store_read.proofs.choose.Met as choose′-thm
 use Rattle.capi.proofs.told as told′
 use Rattle.capi.proofs.told.Symbol as told′-def
 use Rattle.capi.proofs.told.Symbol.{name as #told′}
@@ -176,5 +176,5 @@ zkv-choose-spec 𝓤 H 𝓜 𝓖 𝓡 =
     entered 𝓤 H (tripleOf 𝓤 H (𝓖 .A) self.signature (self.spec 𝓤 H (𝓖 .A) (𝓜 .mem) (𝓡 .run)))
     (tables 𝓤 H 𝓜 𝓡 code.env .C) (tables 𝓤 H 𝓜 𝓡 code.env .Λ) #self code.function (code.unfolded 𝓤 H 𝓜 𝓡)
     (meets 𝓤 H (𝓖 .A) (givenOf 𝓤 H 𝓜 𝓖) (𝓜 .mem) (𝓡 .run) (tablesOf 𝓤 H 𝓜 (tables 𝓤 H 𝓜 𝓡 code.env))
-    (cited 𝓤 H (Of-choose′ 𝓤 H (𝓖 .A) (𝓜 .mem) (𝓡 .run)) 𝓜 𝓡 code.env #choose′ choose′-def.routine code.calls-store·choose (choose′-thm.met 𝓤 H 𝓜 𝓖 𝓡))
+    (cited 𝓤 H (Of-choose′ 𝓤 H (𝓖 .A) (𝓜 .mem) (𝓡 .run)) 𝓜 𝓡 code.env #choose′ choose′-def.routine code.calls-store-read·choose (choose′-thm.met 𝓤 H 𝓜 𝓖 𝓡))
     (cited 𝓤 H (Of-told′ 𝓤 H (𝓖 .A) (𝓜 .mem) (𝓡 .run)) 𝓜 𝓡 code.env #told′ told′-def.routine code.calls-capi·told (told′-thm.met 𝓤 H 𝓜 𝓖 𝓡)))

@@ -3,7 +3,7 @@
 -- it calls (`list_key`, `spelt`) is that it meets its contract.
 -- Assumes nothing.
 use lib.ListN.{length}
-use Rattle.store.specs.List.{KeyListed}
+use Rattle.store_read.specs.List.{KeyListed}
 use Rattle.capi.specs.Answers.{ListedBy}
 use mathlib.Core.Path.{_≡_, refl}
 use mathlib.Core.Bool.{Bool}
@@ -49,10 +49,10 @@ use Rattle.listing.proofs.Listed.Laws as T-Listed′
 use Rattle.session.specs.declared.Session.{Session}
 use Rattle.session.proofs.Session as T-Session
 use Rattle.session.proofs.Session.Laws as T-Session′
-use Rattle.store.proofs.list_key as list-key′
-use Rattle.store.proofs.list_key.Symbol as list-key′-def
-use Rattle.store.proofs.list_key.Symbol.{name as #list-key′}
-use Rattle.store.proofs.list_key.Met as list-key′-thm
+use Rattle.store_read.proofs.list_key as list-key′
+use Rattle.store_read.proofs.list_key.Symbol as list-key′-def
+use Rattle.store_read.proofs.list_key.Symbol.{name as #list-key′}
+use Rattle.store_read.proofs.list_key.Met as list-key′-thm
 use Rattle.capi.proofs.spelt as spelt′
 use Rattle.capi.proofs.spelt.Symbol as spelt′-def
 use Rattle.capi.proofs.spelt.Symbol.{name as #spelt′}
@@ -184,5 +184,5 @@ zkv-list-key-spec 𝓤 H 𝓜 𝓖 𝓡 =
     entered 𝓤 H (tripleOf 𝓤 H (𝓖 .A) self.signature (self.spec 𝓤 H (𝓖 .A) (𝓜 .mem) (𝓡 .run)))
     (tables 𝓤 H 𝓜 𝓡 code.env .C) (tables 𝓤 H 𝓜 𝓡 code.env .Λ) #self code.function (code.unfolded 𝓤 H 𝓜 𝓡)
     (meets 𝓤 H (𝓖 .A) (givenOf 𝓤 H 𝓜 𝓖) (𝓜 .mem) (𝓡 .run) (tablesOf 𝓤 H 𝓜 (tables 𝓤 H 𝓜 𝓡 code.env))
-    (cited 𝓤 H (Of-list-key′ 𝓤 H (𝓖 .A) (𝓜 .mem) (𝓡 .run)) 𝓜 𝓡 code.env #list-key′ list-key′-def.routine code.calls-store·list-key (list-key′-thm.met 𝓤 H 𝓜 𝓖 𝓡))
+    (cited 𝓤 H (Of-list-key′ 𝓤 H (𝓖 .A) (𝓜 .mem) (𝓡 .run)) 𝓜 𝓡 code.env #list-key′ list-key′-def.routine code.calls-store-read·list-key (list-key′-thm.met 𝓤 H 𝓜 𝓖 𝓡))
     (cited 𝓤 H (Of-spelt′ 𝓤 H (𝓖 .A) (𝓜 .mem) (𝓡 .run)) 𝓜 𝓡 code.env #spelt′ spelt′-def.routine code.calls-capi·spelt (spelt′-thm.met 𝓤 H 𝓜 𝓖 𝓡)))

@@ -2,7 +2,7 @@
 -- to the functions that it calls, at their own lifetimes, shares and names. All that the proof knows of a function that
 -- it calls (`list_keys`, `counted`) is that it meets its contract.
 -- Assumes nothing.
-use Rattle.store.specs.List.{KeysListed}
+use Rattle.store_read.specs.List.{KeysListed}
 use Rattle.capi.specs.Answers.{CountedBy}
 use mathlib.Core.Path.{_≡_, refl}
 use mathlib.Core.Bool.{Bool}
@@ -49,10 +49,10 @@ use Rattle.listing.proofs.Counted.Laws as T-Counted′
 use Rattle.session.specs.declared.Session.{Session}
 use Rattle.session.proofs.Session as T-Session
 use Rattle.session.proofs.Session.Laws as T-Session′
-use Rattle.store.proofs.list_keys as list-keys′
-use Rattle.store.proofs.list_keys.Symbol as list-keys′-def
-use Rattle.store.proofs.list_keys.Symbol.{name as #list-keys′}
-use Rattle.store.proofs.list_keys.Met as list-keys′-thm
+use Rattle.store_read.proofs.list_keys as list-keys′
+use Rattle.store_read.proofs.list_keys.Symbol as list-keys′-def
+use Rattle.store_read.proofs.list_keys.Symbol.{name as #list-keys′}
+use Rattle.store_read.proofs.list_keys.Met as list-keys′-thm
 use Rattle.capi.proofs.counted as counted′
 use Rattle.capi.proofs.counted.Symbol as counted′-def
 use Rattle.capi.proofs.counted.Symbol.{name as #counted′}
@@ -182,5 +182,5 @@ zkv-list-keys-spec 𝓤 H 𝓜 𝓖 𝓡 =
     entered 𝓤 H (tripleOf 𝓤 H (𝓖 .A) self.signature (self.spec 𝓤 H (𝓖 .A) (𝓜 .mem) (𝓡 .run)))
     (tables 𝓤 H 𝓜 𝓡 code.env .C) (tables 𝓤 H 𝓜 𝓡 code.env .Λ) #self code.function (code.unfolded 𝓤 H 𝓜 𝓡)
     (meets 𝓤 H (𝓖 .A) (givenOf 𝓤 H 𝓜 𝓖) (𝓜 .mem) (𝓡 .run) (tablesOf 𝓤 H 𝓜 (tables 𝓤 H 𝓜 𝓡 code.env))
-    (cited 𝓤 H (Of-list-keys′ 𝓤 H (𝓖 .A) (𝓜 .mem) (𝓡 .run)) 𝓜 𝓡 code.env #list-keys′ list-keys′-def.routine code.calls-store·list-keys (list-keys′-thm.met 𝓤 H 𝓜 𝓖 𝓡))
+    (cited 𝓤 H (Of-list-keys′ 𝓤 H (𝓖 .A) (𝓜 .mem) (𝓡 .run)) 𝓜 𝓡 code.env #list-keys′ list-keys′-def.routine code.calls-store-read·list-keys (list-keys′-thm.met 𝓤 H 𝓜 𝓖 𝓡))
     (cited 𝓤 H (Of-counted′ 𝓤 H (𝓖 .A) (𝓜 .mem) (𝓡 .run)) 𝓜 𝓡 code.env #counted′ counted′-def.routine code.calls-capi·counted (counted′-thm.met 𝓤 H 𝓜 𝓖 𝓡)))

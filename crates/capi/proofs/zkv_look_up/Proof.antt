@@ -3,7 +3,7 @@
 -- it calls (`find`, `shown`) is that it meets its contract.
 -- Assumes nothing.
 use lib.ListN.{length}
-use Rattle.store.specs.Look.{Reported}
+use Rattle.store_read.specs.Look.{Reported}
 use Rattle.capi.specs.Answers.{ShownBy}
 use mathlib.Core.Path.{_≡_, refl}
 use mathlib.Core.Bool.{Bool}
@@ -49,10 +49,10 @@ use Rattle.spec.proofs.Report.Laws as T-Report′
 use Rattle.session.specs.declared.Session.{Session}
 use Rattle.session.proofs.Session as T-Session
 use Rattle.session.proofs.Session.Laws as T-Session′
-use Rattle.store.proofs.find as find′
-use Rattle.store.proofs.find.Symbol as find′-def
-use Rattle.store.proofs.find.Symbol.{name as #find′}
-use Rattle.store.proofs.find.Met as find′-thm
+use Rattle.store_read.proofs.find as find′
+use Rattle.store_read.proofs.find.Symbol as find′-def
+use Rattle.store_read.proofs.find.Symbol.{name as #find′}
+use Rattle.store_read.proofs.find.Met as find′-thm
 use Rattle.capi.proofs.shown as shown′
 use Rattle.capi.proofs.shown.Symbol as shown′-def
 use Rattle.capi.proofs.shown.Symbol.{name as #shown′}
@@ -180,5 +180,5 @@ zkv-look-up-spec 𝓤 H 𝓜 𝓖 𝓡 =
     entered 𝓤 H (tripleOf 𝓤 H (𝓖 .A) self.signature (self.spec 𝓤 H (𝓖 .A) (𝓜 .mem) (𝓡 .run)))
     (tables 𝓤 H 𝓜 𝓡 code.env .C) (tables 𝓤 H 𝓜 𝓡 code.env .Λ) #self code.function (code.unfolded 𝓤 H 𝓜 𝓡)
     (meets 𝓤 H (𝓖 .A) (givenOf 𝓤 H 𝓜 𝓖) (𝓜 .mem) (𝓡 .run) (tablesOf 𝓤 H 𝓜 (tables 𝓤 H 𝓜 𝓡 code.env))
-    (cited 𝓤 H (Of-find′ 𝓤 H (𝓖 .A) (𝓜 .mem) (𝓡 .run)) 𝓜 𝓡 code.env #find′ find′-def.routine code.calls-store·find (find′-thm.met 𝓤 H 𝓜 𝓖 𝓡))
+    (cited 𝓤 H (Of-find′ 𝓤 H (𝓖 .A) (𝓜 .mem) (𝓡 .run)) 𝓜 𝓡 code.env #find′ find′-def.routine code.calls-store-read·find (find′-thm.met 𝓤 H 𝓜 𝓖 𝓡))
     (cited 𝓤 H (Of-shown′ 𝓤 H (𝓖 .A) (𝓜 .mem) (𝓡 .run)) 𝓜 𝓡 code.env #shown′ shown′-def.routine code.calls-capi·shown (shown′-thm.met 𝓤 H 𝓜 𝓖 𝓡)))

@@ -52,7 +52,7 @@ use mir.Raw.{raw as rawTy}
 use mir.Syntax.{tyBool}
 use lib.Dec.{T}
 use denote.Struct.Steps.{spelt}
-use Rattle.store.proofs.Lent as Lent
+use Rattle.lent_record.proofs.Lent as Lent
 use Rattle.capi.specs.declared.Answer.{Answer}
 use Rattle.capi.proofs.Answer as T-Answer
 use Rattle.capi.proofs.Answer.Laws as T-Answer′
@@ -69,10 +69,10 @@ use Rattle.staging.proofs.is_short as is-short′
 use Rattle.staging.proofs.is_short.Symbol as is-short′-def
 use Rattle.staging.proofs.is_short.Symbol.{name as #is-short′}
 use Rattle.staging.proofs.is_short.Met as is-short′-thm
-use Rattle.store.proofs.stage_short as stage-short′
-use Rattle.store.proofs.stage_short.Symbol as stage-short′-def
-use Rattle.store.proofs.stage_short.Symbol.{name as #stage-short′}
-use Rattle.store.proofs.stage_short.Met as stage-short′-thm
+use Rattle.store_stage.proofs.stage_short as stage-short′
+use Rattle.store_stage.proofs.stage_short.Symbol as stage-short′-def
+use Rattle.store_stage.proofs.stage_short.Symbol.{name as #stage-short′}
+use Rattle.store_stage.proofs.stage_short.Met as stage-short′-thm
 use Rattle.capi.proofs.told as told′
 use Rattle.capi.proofs.told.Symbol as told′-def
 use Rattle.capi.proofs.told.Symbol.{name as #told′}
@@ -302,7 +302,7 @@ zkv-put-spec 𝓤 H 𝓜 𝓖 𝓡 =
     (tables 𝓤 H 𝓜 𝓡 code.env .C) (tables 𝓤 H 𝓜 𝓡 code.env .Λ) #self code.function (code.unfolded 𝓤 H 𝓜 𝓡)
     (meets 𝓤 H (𝓖 .A) (givenOf 𝓤 H 𝓜 𝓖) (𝓜 .mem) (𝓡 .run) (tablesOf 𝓤 H 𝓜 (tables 𝓤 H 𝓜 𝓡 code.env))
     (cited 𝓤 H (Of-is-short′ 𝓤 H (𝓖 .A) (𝓜 .mem) (𝓡 .run)) 𝓜 𝓡 code.env #is-short′ is-short′-def.routine code.calls-staging·is-short (is-short′-thm.met 𝓤 H 𝓜 𝓖 𝓡))
-    (cited 𝓤 H (Of-stage-short′ 𝓤 H (𝓖 .A) (𝓜 .mem) (𝓡 .run)) 𝓜 𝓡 code.env #stage-short′ stage-short′-def.routine code.calls-store·stage-short (stage-short′-thm.met 𝓤 H 𝓜 𝓖 𝓡))
+    (cited 𝓤 H (Of-stage-short′ 𝓤 H (𝓖 .A) (𝓜 .mem) (𝓡 .run)) 𝓜 𝓡 code.env #stage-short′ stage-short′-def.routine code.calls-store-stage·stage-short (stage-short′-thm.met 𝓤 H 𝓜 𝓖 𝓡))
     (cited 𝓤 H (Of-told′ 𝓤 H (𝓖 .A) (𝓜 .mem) (𝓡 .run)) 𝓜 𝓡 code.env #told′ told′-def.routine code.calls-capi·told (told′-thm.met 𝓤 H 𝓜 𝓖 𝓡))
     (cited 𝓤 H (Of-put-long′ 𝓤 H (𝓖 .A) (𝓜 .mem) (𝓡 .run)) 𝓜 𝓡 code.env #put-long′ put-long′-def.routine code.calls-capi·put-long (put-long′-thm.met 𝓤 H 𝓜 𝓖 𝓡))
     (cited 𝓤 H (Of-same′ 𝓤 H (𝓖 .A) (𝓜 .mem) (𝓡 .run)) 𝓜 𝓡 code.env #same′ same′-def.routine code.calls-capi·same (same′-thm.met 𝓤 H 𝓜 𝓖 𝓡)))

@@ -52,7 +52,7 @@ use mir.Raw.{raw as rawTy}
 use mir.Syntax.{tyBool}
 use lib.Dec.{T}
 use denote.Struct.Steps.{spelt}
-use Rattle.store.proofs.Lent as Lent
+use Rattle.lent_record.proofs.Lent as Lent
 use Rattle.capi.specs.declared.Answer.{Answer}
 use Rattle.capi.proofs.Answer as T-Answer
 use Rattle.capi.proofs.Answer.Laws as T-Answer′
@@ -72,10 +72,10 @@ use Rattle.fast_path.proofs.is_fast_step as is-fast-step′
 use Rattle.fast_path.proofs.is_fast_step.Symbol as is-fast-step′-def
 use Rattle.fast_path.proofs.is_fast_step.Symbol.{name as #is-fast-step′}
 use Rattle.fast_path.proofs.is_fast_step.Met as is-fast-step′-thm
-use Rattle.store.proofs.run_fast as run-fast′
-use Rattle.store.proofs.run_fast.Symbol as run-fast′-def
-use Rattle.store.proofs.run_fast.Symbol.{name as #run-fast′}
-use Rattle.store.proofs.run_fast.Met as run-fast′-thm
+use Rattle.store_run.proofs.run_fast as run-fast′
+use Rattle.store_run.proofs.run_fast.Symbol as run-fast′-def
+use Rattle.store_run.proofs.run_fast.Symbol.{name as #run-fast′}
+use Rattle.store_run.proofs.run_fast.Met as run-fast′-thm
 use Rattle.capi.proofs.told as told′
 use Rattle.capi.proofs.told.Symbol as told′-def
 use Rattle.capi.proofs.told.Symbol.{name as #told′}
@@ -312,7 +312,7 @@ zkv-run-spec 𝓤 H 𝓜 𝓖 𝓡 =
     (tables 𝓤 H 𝓜 𝓡 code.env .C) (tables 𝓤 H 𝓜 𝓡 code.env .Λ) #self code.function (code.unfolded 𝓤 H 𝓜 𝓡)
     (meets 𝓤 H (𝓖 .A) (givenOf 𝓤 H 𝓜 𝓖) (𝓜 .mem) (𝓡 .run) (tablesOf 𝓤 H 𝓜 (tables 𝓤 H 𝓜 𝓡 code.env))
     (cited 𝓤 H (Of-is-fast-step′ 𝓤 H (𝓖 .A) (𝓜 .mem) (𝓡 .run)) 𝓜 𝓡 code.env #is-fast-step′ is-fast-step′-def.routine code.calls-fast-path·is-fast-step (is-fast-step′-thm.met 𝓤 H 𝓜 𝓖 𝓡))
-    (cited 𝓤 H (Of-run-fast′ 𝓤 H (𝓖 .A) (𝓜 .mem) (𝓡 .run)) 𝓜 𝓡 code.env #run-fast′ run-fast′-def.routine code.calls-store·run-fast (run-fast′-thm.met 𝓤 H 𝓜 𝓖 𝓡))
+    (cited 𝓤 H (Of-run-fast′ 𝓤 H (𝓖 .A) (𝓜 .mem) (𝓡 .run)) 𝓜 𝓡 code.env #run-fast′ run-fast′-def.routine code.calls-store-run·run-fast (run-fast′-thm.met 𝓤 H 𝓜 𝓖 𝓡))
     (cited 𝓤 H (Of-told′ 𝓤 H (𝓖 .A) (𝓜 .mem) (𝓡 .run)) 𝓜 𝓡 code.env #told′ told′-def.routine code.calls-capi·told (told′-thm.met 𝓤 H 𝓜 𝓖 𝓡))
     (cited 𝓤 H (Of-run-whole′ 𝓤 H (𝓖 .A) (𝓜 .mem) (𝓡 .run)) 𝓜 𝓡 code.env #run-whole′ run-whole′-def.routine code.calls-capi·run-whole (run-whole′-thm.met 𝓤 H 𝓜 𝓖 𝓡))
     (cited 𝓤 H (Of-same′ 𝓤 H (𝓖 .A) (𝓜 .mem) (𝓡 .run)) 𝓜 𝓡 code.env #same′ same′-def.routine code.calls-capi·same (same′-thm.met 𝓤 H 𝓜 𝓖 𝓡)))

@@ -52,7 +52,7 @@ use mir.Raw.{raw as rawTy}
 use mir.Syntax.{tyBool}
 use lib.Dec.{T}
 use denote.Struct.Steps.{spelt}
-use Rattle.store.proofs.Lent as Lent
+use Rattle.lent_record.proofs.Lent as Lent
 use Rattle.capi.specs.declared.Answer.{Answer}
 use Rattle.capi.proofs.Answer as T-Answer
 use Rattle.capi.proofs.Answer.Laws as T-Answer′
@@ -72,10 +72,10 @@ use Rattle.fast_path.proofs.is_fast_step as is-fast-step′
 use Rattle.fast_path.proofs.is_fast_step.Symbol as is-fast-step′-def
 use Rattle.fast_path.proofs.is_fast_step.Symbol.{name as #is-fast-step′}
 use Rattle.fast_path.proofs.is_fast_step.Met as is-fast-step′-thm
-use Rattle.store.proofs.step_fast as step-fast′
-use Rattle.store.proofs.step_fast.Symbol as step-fast′-def
-use Rattle.store.proofs.step_fast.Symbol.{name as #step-fast′}
-use Rattle.store.proofs.step_fast.Met as step-fast′-thm
+use Rattle.store_step.proofs.step_fast as step-fast′
+use Rattle.store_step.proofs.step_fast.Symbol as step-fast′-def
+use Rattle.store_step.proofs.step_fast.Symbol.{name as #step-fast′}
+use Rattle.store_step.proofs.step_fast.Met as step-fast′-thm
 use Rattle.capi.proofs.told as told′
 use Rattle.capi.proofs.told.Symbol as told′-def
 use Rattle.capi.proofs.told.Symbol.{name as #told′}
@@ -312,7 +312,7 @@ zkv-step-spec 𝓤 H 𝓜 𝓖 𝓡 =
     (tables 𝓤 H 𝓜 𝓡 code.env .C) (tables 𝓤 H 𝓜 𝓡 code.env .Λ) #self code.function (code.unfolded 𝓤 H 𝓜 𝓡)
     (meets 𝓤 H (𝓖 .A) (givenOf 𝓤 H 𝓜 𝓖) (𝓜 .mem) (𝓡 .run) (tablesOf 𝓤 H 𝓜 (tables 𝓤 H 𝓜 𝓡 code.env))
     (cited 𝓤 H (Of-is-fast-step′ 𝓤 H (𝓖 .A) (𝓜 .mem) (𝓡 .run)) 𝓜 𝓡 code.env #is-fast-step′ is-fast-step′-def.routine code.calls-fast-path·is-fast-step (is-fast-step′-thm.met 𝓤 H 𝓜 𝓖 𝓡))
-    (cited 𝓤 H (Of-step-fast′ 𝓤 H (𝓖 .A) (𝓜 .mem) (𝓡 .run)) 𝓜 𝓡 code.env #step-fast′ step-fast′-def.routine code.calls-store·step-fast (step-fast′-thm.met 𝓤 H 𝓜 𝓖 𝓡))
+    (cited 𝓤 H (Of-step-fast′ 𝓤 H (𝓖 .A) (𝓜 .mem) (𝓡 .run)) 𝓜 𝓡 code.env #step-fast′ step-fast′-def.routine code.calls-store-step·step-fast (step-fast′-thm.met 𝓤 H 𝓜 𝓖 𝓡))
     (cited 𝓤 H (Of-told′ 𝓤 H (𝓖 .A) (𝓜 .mem) (𝓡 .run)) 𝓜 𝓡 code.env #told′ told′-def.routine code.calls-capi·told (told′-thm.met 𝓤 H 𝓜 𝓖 𝓡))
     (cited 𝓤 H (Of-step-whole′ 𝓤 H (𝓖 .A) (𝓜 .mem) (𝓡 .run)) 𝓜 𝓡 code.env #step-whole′ step-whole′-def.routine code.calls-capi·step-whole (step-whole′-thm.met 𝓤 H 𝓜 𝓖 𝓡))
     (cited 𝓤 H (Of-same′ 𝓤 H (𝓖 .A) (𝓜 .mem) (𝓡 .run)) 𝓜 𝓡 code.env #same′ same′-def.routine code.calls-capi·same (same′-thm.met 𝓤 H 𝓜 𝓖 𝓡)))

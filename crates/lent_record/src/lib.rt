@@ -1,0 +1,1 @@
+// The station record lent where it lies: the crate is its proofs.

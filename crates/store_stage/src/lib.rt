@@ -1,0 +1,66 @@
+// The public calls that stage: a put, a delete, and the end of what is staged. Thin functions over the station record,
+// as `store` says of all; none has a `requires`.
+ghost use Rattle.spec.specs.Machine.{Put, Delete, Abandon};
+ghost use Rattle.staging.specs.Staging.{PutWhere, Short, Long};
+ghost use Rattle.session.specs.Promise.{Does, memory};
+use session::Session;
+use spec::Report;
+
+// Begins staging a put of up to 4,088 bytes.
+pub fn stage_put(s: &mut Session, image: &[u8], table: &[u64], key: u64, value: &[u8]) -> Report
+    ensures { λ r. ⌜ Does (Put key (now (value .entry))) (memory (now (s .entry)) (now (image .entry)) (now (table .entry))) (memory (now (s .exit)) (now (image .entry)) (now (table .entry))) r ⌝ }
+{
+    let c = s.control;
+    let k = s.setup;
+    let m = staging::put_core(c, k, &mut s.buffer, image, table, key, value);
+    s.control = m.control;
+    s.setup = m.setup;
+    m.report
+}
+
+// The same for a value that goes into the log (`staging::is_short`); elsewhere nothing is done. Of the record's small
+// parts it alters the control alone.
+pub fn stage_short(s: &mut Session, image: &[u8], table: &[u64], key: u64, value: &[u8]) -> Report
+    ensures { λ r. ⌜ PutWhere Short key (now (value .entry)) (memory (now (s .entry)) (now (image .entry)) (now (table .entry))) (memory (now (s .exit)) (now (image .entry)) (now (table .entry))) r ⌝ }
+{
+    let c = s.control;
+    let k = s.setup;
+    let m = staging::put_short(c, k, &mut s.buffer, image, table, key, value);
+    s.control = m.control;
+    m.report
+}
+
+// The same for a longer value; elsewhere nothing is done.
+pub fn stage_long(s: &mut Session, image: &[u8], table: &[u64], key: u64, value: &[u8]) -> Report
+    ensures { λ r. ⌜ PutWhere Long key (now (value .entry)) (memory (now (s .entry)) (now (image .entry)) (now (table .entry))) (memory (now (s .exit)) (now (image .entry)) (now (table .entry))) r ⌝ }
+{
+    let c = s.control;
+    let k = s.setup;
+    let m = staging::put_long(c, k, &mut s.buffer, image, table, key, value);
+    s.control = m.control;
+    s.setup = m.setup;
+    m.report
+}
+
+// Begins staging a delete.
+pub fn stage_delete(s: &mut Session, image: &[u8], table: &[u64], key: u64) -> Report
+    ensures { λ r. ⌜ Does (Delete key) (memory (now (s .entry)) (now (image .entry)) (now (table .entry))) (memory (now (s .exit)) (now (image .entry)) (now (table .entry))) r ⌝ }
+{
+    let c = s.control;
+    let k = s.setup;
+    let m = staging::delete_core(c, k, &mut s.buffer, image, table, key);
+    s.control = m.control;
+    m.report
+}
+
+// Forgets the staged items.
+pub fn abandon(s: &mut Session, image: &[u8], table: &[u64]) -> Report
+    ensures { λ r. ⌜ Does Abandon (memory (now (s .entry)) (now (image .entry)) (now (table .entry))) (memory (now (s .exit)) (now (image .entry)) (now (table .entry))) r ⌝ }
+{
+    let c = s.control;
+    let k = s.setup;
+    let m = staging::abandon_core(c, k, &s.buffer, image, table);
+    s.control = m.control;
+    s.setup = m.setup;
+    m.report
+}
