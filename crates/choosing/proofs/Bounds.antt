@@ -30,7 +30,7 @@ use Rattle.volatile.proofs.Sums.{sum-same}
 use Rattle.apply.proofs.Live.{mem-between}
 use Rattle.leaving.proofs.Fence.{lines-few}
 use Rattle.leaving.proofs.Weights.{putWords, deleteWords, copiedDeletes, Weights, weights}
-use Rattle.gathering.proofs.Passes.{gathered-kept}
+use Rattle.measuring.proofs.Chunks.{gathered-kept}
 
 lo : 12 ≤ 12
 lo = omega arith

@@ -1,4 +1,4 @@
--- `gathering::count_keys` meets its contract. The loop's invariant: the counts so far, and those of the entries left,
+-- `measuring::count_keys` meets its contract. The loop's invariant: the counts so far, and those of the entries left,
 -- are those of all.
 -- Assumes nothing.
 use lib.ListN.{length}
@@ -6,9 +6,9 @@ use borrow.Author.Needs.{needs}
 use Rattle.spec.specs.Words.{wordsOf}
 use Rattle.log.specs.Cursor.{left}
 use Rattle.log.proofs.Walk.{handed}
-use Rattle.gathering.proofs.Kept.{CountsOn, counts-start, counts-done, counts-wrong, counts-next}
-use Rattle.gathering.proofs.count_keys.Statement.{statement}
-use Rattle.gathering.proofs.count_keys.Tie as tie
+use Rattle.measuring.proofs.Kept.{CountsOn, counts-start, counts-done, counts-wrong, counts-next}
+use Rattle.measuring.proofs.count_keys.Statement.{statement}
+use Rattle.measuring.proofs.count_keys.Tie as tie
 
 abbrev Inv-loop : tie.InvT-loop
 Inv-loop image counts₀ at end cursor₀ counts cursor = CountsOn (wordsOf image) at end counts₀ counts cursor

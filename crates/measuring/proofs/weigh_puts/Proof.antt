@@ -1,4 +1,4 @@
--- `gathering::weigh_puts` meets its contract. The loop's invariant: the run has come to `place`.
+-- `measuring::weigh_puts` meets its contract. The loop's invariant: the run has come to `place`.
 -- Assumes nothing.
 use Prim.Native.Nat.{_-_}
 use native.Mathlib.Omega.{arith}
@@ -8,10 +8,10 @@ use Rattle.spec.specs.Words.{wordsOf}
 use Rattle.words.specs.Image.{length-wordsOf}
 use Rattle.theory_log.proofs.Walk.{room-entry}
 use Rattle.opening.proofs.Runs.{put-told}
-use Rattle.gathering.specs.Gathering.{Hastened}
-use Rattle.gathering.proofs.Measures.{run-start, run-more}
-use Rattle.gathering.proofs.weigh_puts.Statement.{statement}
-use Rattle.gathering.proofs.weigh_puts.Tie as tie
+use Rattle.measuring.specs.Measuring.{Hastened}
+use Rattle.measuring.proofs.Measures.{run-start, run-more}
+use Rattle.measuring.proofs.weigh_puts.Statement.{statement}
+use Rattle.measuring.proofs.weigh_puts.Tie as tie
 
 abbrev Inv-loop : tie.InvT-loop
 Inv-loop image table counts from until tally₀ place₀ tally place = Hastened (wordsOf image) table until from tally₀ place tally

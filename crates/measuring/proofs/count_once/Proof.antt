@@ -1,9 +1,9 @@
--- `gathering::count_once` meets its contract.
+-- `measuring::count_once` meets its contract.
 -- Assumes nothing.
 use borrow.Author.Needs.{needs}
-use Rattle.gathering.proofs.Kept.{once-before, once-put, once-sole, once-now}
-use Rattle.gathering.proofs.count_once.Statement.{statement}
-use Rattle.gathering.proofs.count_once.Tie as tie
+use Rattle.measuring.proofs.Kept.{once-before, once-put, once-sole, once-now}
+use Rattle.measuring.proofs.count_once.Statement.{statement}
+use Rattle.measuring.proofs.count_once.Tie as tie
 
 returns : tie.Need-returns
 returns c = rw (c .if1 .taken) (once-before _ _ _ _ _ _ _)

@@ -34,8 +34,8 @@ use Rattle.volatile.proofs.Info.{said, info-says}
 use Rattle.session.specs.Cleaned.{before, Stand}
 use Rattle.leaving.proofs.Sole.{count-append, count-own, count-other, count-known, count-no}
 use Rattle.leaving.proofs.Walks.{Left, from-here, none-left, not-wrong, one-left}
-use Rattle.gathering.specs.Gathering.{Gatherable, Counting, Tells, Decided, CountedOnce, KeptTest}
-use Rattle.gathering.proofs.Words.{few-words}
+use Rattle.measuring.specs.Measuring.{Gatherable, Counting, Tells, Decided, CountedOnce, KeptTest}
+use Rattle.measuring.proofs.Words.{few-words}
 
 -- ## A key has entries exactly if it is known
 

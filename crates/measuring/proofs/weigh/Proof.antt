@@ -1,11 +1,11 @@
--- `gathering::weigh` meets its contract.
+-- `measuring::weigh` meets its contract.
 -- Assumes nothing.
 use mathlib.Core.Path.{refl}
 use native.Mathlib.Omega.{arith}
 use borrow.Author.Needs.{needs}
-use Rattle.gathering.proofs.Measures.{weigh-kept, weigh-full, weigh-not}
-use Rattle.gathering.proofs.weigh.Statement.{statement}
-use Rattle.gathering.proofs.weigh.Tie as tie
+use Rattle.measuring.proofs.Measures.{weigh-kept, weigh-full, weigh-not}
+use Rattle.measuring.proofs.weigh.Statement.{statement}
+use Rattle.measuring.proofs.weigh.Tie as tie
 
 has-room-requires : tie.Need-has-room-requires
 has-room-requires c κs = search needs

@@ -1,10 +1,10 @@
--- `gathering::is_kept` meets its contract.
+-- `measuring::is_kept` meets its contract.
 -- Assumes nothing.
 use mathlib.Core.Path.{refl}
 use borrow.Author.Needs.{needs}
-use Rattle.gathering.proofs.Kept.{test-put, test-sole, test-delete, test-other}
-use Rattle.gathering.proofs.is_kept.Statement.{statement}
-use Rattle.gathering.proofs.is_kept.Tie as tie
+use Rattle.measuring.proofs.Kept.{test-put, test-sole, test-delete, test-other}
+use Rattle.measuring.proofs.is_kept.Statement.{statement}
+use Rattle.measuring.proofs.is_kept.Tie as tie
 
 look-requires : tie.Need-look-requires
 look-requires c κs = search needs

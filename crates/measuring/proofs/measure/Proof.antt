@@ -1,4 +1,4 @@
--- `gathering::measure` meets its contract.
+-- `measuring::measure` meets its contract.
 -- Assumes nothing.
 use mathlib.Core.Path.{sym}
 use native.Mathlib.Omega.{arith}
@@ -6,11 +6,11 @@ use borrow.Author.Needs.{needs}
 use Rattle.spec.specs.Words.{wordsOf}
 use Rattle.log.specs.Cursor.{left}
 use Rattle.log.proofs.Walk.{handed}
-use Rattle.gathering.specs.Gathering.{Tells}
-use Rattle.gathering.proofs.Kept.{tells-start}
-use Rattle.gathering.proofs.Measures.{MeasuresOn, measures-start, run-measures, measures-done, measures-wrong, measures-next}
-use Rattle.gathering.proofs.measure.Statement.{statement}
-use Rattle.gathering.proofs.measure.Tie as tie
+use Rattle.measuring.specs.Measuring.{Tells}
+use Rattle.measuring.proofs.Kept.{tells-start}
+use Rattle.measuring.proofs.Measures.{MeasuresOn, measures-start, run-measures, measures-done, measures-wrong, measures-next}
+use Rattle.measuring.proofs.measure.Statement.{statement}
+use Rattle.measuring.proofs.measure.Tie as tie
 
 abbrev Inv-loop : tie.InvT-loop
 Inv-loop image table at end counts₀ counted₀ tally₀ cursor₀ counts counted tally cursor = MeasuresOn (wordsOf image) table at end tally cursor × Tells (wordsOf image) counts at end counted

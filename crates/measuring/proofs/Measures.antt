@@ -20,9 +20,9 @@ use Rattle.log.specs.Stands.{entryIn}
 use Rattle.log.specs.Cursor.{cursorAt, remaining, Advanced}
 use Rattle.log.proofs.Walk.{handed, next-found}
 use Rattle.leaving.proofs.Walks.{Left, from-here, none-left, not-wrong, one-left}
-use Rattle.gathering.specs.declared.Tally.{Tally}
-use Rattle.gathering.specs.Gathering.{Gatherable, Decided, KeptTest, keptTest, Room, Weighing, OneWeighed, Hastened, Measured}
-use Rattle.gathering.proofs.Words.{few-words, kept-words}
+use Rattle.measuring.specs.declared.Tally.{Tally}
+use Rattle.measuring.specs.Measuring.{Gatherable, Decided, KeptTest, keptTest, Room, Weighing, OneWeighed, Hastened, Measured}
+use Rattle.measuring.proofs.Words.{few-words, kept-words}
 
 -- ## One entry
 

@@ -7,7 +7,7 @@ use native.Mathlib.Omega.{arith}
 use lib.Dec.{ltb}
 use borrow.Author.Tests.{ltb-true, ltb-false}
 use Rattle.theory_base.proofs.Lists.{not-both}
-use Rattle.gathering.specs.Gathering.{Room}
+use Rattle.measuring.specs.Measuring.{Room}
 
 pub room-not : (words entries place size : ℕ) → (words + (2 + size) ≤ 512 → entries < 512 → ⊥) → Room words entries place size false
 room-not words entries place size h = record { fits = λ e. absurd (not-both false e refl); lacks = λ e a b c. h a b }
