@@ -31,7 +31,7 @@ use Rattle.log.proofs.Walk.{handed, next-found}
 use Rattle.volatile.specs.Known.{entryCount}
 use Rattle.session.specs.State.{bufferPart}
 use Rattle.session.specs.Cleaned.{keptOf, Stand}
-use Rattle.leaving.proofs.Walks.{Left, from-here, none-left, not-wrong, one-left}
+use Rattle.keeping.proofs.Walks.{Left, from-here, none-left, not-wrong, one-left}
 use Rattle.measuring.specs.declared.Tally.{Tally}
 use Rattle.measuring.specs.Measuring.{Gatherable, Counted, Decided, KeptTest, keptTest}
 use Rattle.measuring.proofs.Words.{kept-words}

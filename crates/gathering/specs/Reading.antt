@@ -13,7 +13,7 @@ use Rattle.spec.specs.Log.{Entry, encode, encodeAll, moved}
 use Rattle.theory_log.specs.Contents.{Mem}
 use Rattle.log.specs.declared.Cursor.{Cursor}
 use Rattle.log.specs.Cursor.{cursorAt, left}
-use Rattle.leaving.proofs.Walks.{Left}
+use Rattle.keeping.proofs.Walks.{Left}
 use Rattle.session.specs.State.{batchRoom, bufferPart}
 use Rattle.session.specs.Cleaned.{keptOf}
 use Rattle.measuring.specs.declared.Tally.{Tally}

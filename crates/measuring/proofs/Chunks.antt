@@ -14,7 +14,7 @@ use Rattle.theory_crash.specs.Accepted.{Ok}
 use Rattle.volatile.specs.Known.{Indexed}
 use Rattle.volatile.proofs.Image.{image-bounded}
 use Rattle.session.specs.Cleaned.{keptOf}
-use Rattle.leaving.proofs.Fence.{lines-few}
+use Rattle.keeping.proofs.Freed.{lines-few}
 use Rattle.measuring.specs.declared.Tally.{Tally}
 use Rattle.measuring.specs.Measuring.{Gatherable, Measured}
 

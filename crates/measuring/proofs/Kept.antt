@@ -32,8 +32,8 @@ use Rattle.index.specs.Packed.{unpackOf}
 use Rattle.volatile.specs.Known.{entryCount}
 use Rattle.volatile.proofs.Info.{said, info-says}
 use Rattle.session.specs.Cleaned.{before, Stand}
-use Rattle.leaving.proofs.Sole.{count-append, count-own, count-other, count-known, count-no}
-use Rattle.leaving.proofs.Walks.{Left, from-here, none-left, not-wrong, one-left}
+use Rattle.keeping.proofs.Sole.{count-append, count-own, count-other, count-known, count-no}
+use Rattle.keeping.proofs.Walks.{Left, from-here, none-left, not-wrong, one-left}
 use Rattle.measuring.specs.Measuring.{Gatherable, Counting, Tells, Decided, CountedOnce, KeptTest}
 use Rattle.measuring.proofs.Words.{few-words}
 

@@ -19,7 +19,7 @@ use Rattle.log.specs.declared.Next.the-variants as N
 use Rattle.log.specs.Stands.{entryIn}
 use Rattle.log.specs.Cursor.{cursorAt, remaining, Advanced}
 use Rattle.log.proofs.Walk.{handed, next-found}
-use Rattle.leaving.proofs.Walks.{Left, from-here, none-left, not-wrong, one-left}
+use Rattle.keeping.proofs.Walks.{Left, from-here, none-left, not-wrong, one-left}
 use Rattle.measuring.specs.declared.Tally.{Tally}
 use Rattle.measuring.specs.Measuring.{Gatherable, Decided, KeptTest, keptTest, Room, Weighing, OneWeighed, Hastened, Measured}
 use Rattle.measuring.proofs.Words.{few-words, kept-words}

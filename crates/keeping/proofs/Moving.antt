@@ -14,8 +14,8 @@ use Rattle.spec.specs.Contents.{inChunk}
 use Rattle.theory_log.specs.Contents.{Mem}
 use Rattle.theory_log.proofs.Walk.{slice-long}
 use Rattle.session.specs.Cleaned.{keptOf, copiesOf, after, Moves}
-use Rattle.leaving.specs.Fence.{Freed}
-use Rattle.leaving.proofs.Fence.{outside}
+use Rattle.keeping.specs.Freed.{Freed}
+use Rattle.keeping.proofs.Freed.{outside}
 
 -- entries one behind the other stand in their words
 placed-in : (c : Entry) (at : ℕ) (es : List Entry) → Mem c (placed at es) → (at ≤ c .at) × (c .at < at + length (encodeAll es))

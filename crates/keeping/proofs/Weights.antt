@@ -23,8 +23,8 @@ use Rattle.theory_log.proofs.Clean.{is-at}
 use Rattle.theory_log.proofs.Places.{Rising}
 use Rattle.volatile.specs.Sums.{highHalf, shareIn, sumOver, chosenSum}
 use Rattle.volatile.proofs.Sums.{sum-plus, sum-lists, Covers, keys-once, keys-cover}
-use Rattle.leaving.specs.Leaving.{OneEach}
-use Rattle.leaving.proofs.Sole.{once-filter}
+use Rattle.keeping.specs.Once.{OneEach}
+use Rattle.keeping.proofs.Sole.{once-filter}
 
 -- ## What a key adds: to the chosen puts, the chosen deletes, those of them that are kept, and all that is kept
 
