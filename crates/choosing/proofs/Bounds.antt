@@ -28,9 +28,9 @@ use Rattle.theory_plans.proofs.Cleaning.{parse-words, filter-words}
 use Rattle.volatile.specs.Sums.{highHalf, sumOver, chosenSum, Summed}
 use Rattle.volatile.proofs.Sums.{sum-same}
 use Rattle.apply.proofs.Live.{mem-between}
-use Rattle.leaving.proofs.Fence.{lines-few}
-use Rattle.leaving.proofs.Weights.{putWords, deleteWords, copiedDeletes, Weights, weights}
-use Rattle.gathering.proofs.Passes.{gathered-kept}
+use Rattle.keeping.proofs.Freed.{lines-few}
+use Rattle.keeping.proofs.Weights.{putWords, deleteWords, copiedDeletes, Weights, weights}
+use Rattle.measuring.proofs.Chunks.{gathered-kept}
 
 lo : 12 ≤ 12
 lo = omega arith

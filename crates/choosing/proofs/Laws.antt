@@ -21,9 +21,9 @@ use Rattle.volatile.specs.Known.{Indexed}
 use Rattle.volatile.specs.Sums.{highHalf, Summed}
 use Rattle.choosing.proofs.Bounds.{least-copied, all-copied}
 use Rattle.directory.proofs.Roles.{log-lines}
-use Rattle.gathering.specs.declared.Tally.{Tally}
-use Rattle.gathering.specs.Gathering.{Measured}
-use Rattle.gathering.proofs.Chunks.{chunk-measured}
+use Rattle.measuring.specs.declared.Tally.{Tally}
+use Rattle.measuring.specs.Measuring.{Measured}
+use Rattle.measuring.proofs.Chunks.{chunk-measured}
 use Rattle.choosing.specs.declared.Candidate.{Candidate}
 use Rattle.choosing.specs.Choices.{Describes, Weighed, Counted, Worth, Compared, bestSoFar, Known, Bettered, BetteredAt}
 

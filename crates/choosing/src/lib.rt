@@ -35,7 +35,7 @@ fn candidate_at(image: &[u8], table: &[u64], chunk: usize) -> Candidate
     let lines = lines_of(image, chunk);
     let at = 512 * (chunk % 512);
     let end = at + 8 * lines;
-    let tally = gathering::measure(image, table, at, end);
+    let tally = measuring::measure(image, table, at, end);
     Candidate {
         chunk,
         lines,

@@ -28,11 +28,11 @@ use Rattle.session.specs.Fits.{NoneBelow, soleMark, RestFits, batchPlace, Clean
 use Rattle.session.proofs.Kept.{plain-hint}
 use Rattle.session.proofs.Part.{chunk-in, lines-in}
 use Rattle.actions.specs.Nth.{nth}
-use Rattle.leaving.proofs.Fence.{lines-few, cleaned, stands-here, stands-copied}
+use Rattle.keeping.proofs.Freed.{lines-few, cleaned, stands-here, stands-copied}
 use Rattle.theory_plans.proofs.LogPlace.{log-place}
 use Rattle.volatile.proofs.Sums.{summed-same}
 use Rattle.session.specs.Cleaned.{before, keptOf}
-use Rattle.leaving.proofs.Moving.{nothing-kept, moving}
+use Rattle.keeping.proofs.Moving.{nothing-kept, moving}
 use Rattle.session.specs.declared.Source.{Source}
 use Rattle.cleaning.specs.Ahead.{Ahead}
 use Rattle.cleaning.specs.Record.{cleaning, copyingTo, sourceOf}

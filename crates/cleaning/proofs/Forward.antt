@@ -41,9 +41,9 @@ use Rattle.theory_plans.proofs.Cleaning.{parse-words, filter-words, no-live}
 use Rattle.session.specs.Fits.{NoneBelow}
 use Rattle.space.proofs.Hint.{same-space}
 use Rattle.session.specs.Cleaned.{before, keptOf, after}
-use Rattle.leaving.proofs.Fence.{chunk-few, lines-few, lines-in}
-use Rattle.leaving.proofs.Forward.{left-of, right-of, others-are, freed-entries}
-use Rattle.leaving.proofs.Actions.{run-append, done, done-length, done-same, done-written}
+use Rattle.keeping.proofs.Freed.{chunk-few, lines-few, lines-in}
+use Rattle.keeping.proofs.Forward.{left-of, right-of, others-are, freed-entries}
+use Rattle.keeping.proofs.Actions.{run-append, done, done-length, done-same, done-written}
 use Rattle.cleaning.specs.Ahead.{Ahead}
 
 -- WORDS are what the processor reads.

@@ -21,7 +21,7 @@ use Rattle.session.specs.Fits.{RestFits, batchPlace, CleanFits}
 use Rattle.session.proofs.Kept.{none-fit}
 use Rattle.session.specs.Cleaned.{after}
 use Rattle.leaving.specs.Passes.{Emptied, Emptying, Holds}
-use Rattle.leaving.proofs.Fence.{long-enough, opened-log}
+use Rattle.keeping.proofs.Freed.{long-enough, opened-log}
 use Rattle.session.specs.declared.Source.{Source}
 use Rattle.cleaning.specs.Ends.{Ends}
 use Rattle.cleaning.proofs.Forward.{lo, hi, action-length}

@@ -10,7 +10,7 @@ use Rattle.spec.specs.Log.{Entry}
 use Rattle.spec.specs.Contents.{keptIn}
 use Rattle.spec.specs.Opening.{Accepted, opening}
 use Rattle.session.specs.Cleaned.{keptOf, after}
-use Rattle.leaving.specs.Fence.{Freed}
+use Rattle.keeping.specs.Freed.{Freed}
 
 -- chunk s is cleaned; what it keeps stands from word `at` on in b lines, of which the last z words are padding; below
 -- chunk d, but for chunk s, the directory is as it was

@@ -17,10 +17,8 @@ use Rattle.spec.specs.Words.{wordAt, wordsOf}
 use Rattle.spec.specs.declared.LogStep.{LogStep}
 use Rattle.spec.specs.declared.LogStep.the-variants as S
 use Rattle.spec.specs.Log.{Entry, Parsed, Wrong, Entries, cons, after, stepOf, parse, moved, encode}
-use Rattle.spec.specs.Contents.{keptIn}
 use Rattle.theory_log.specs.Contents.{Mem}
 use Rattle.theory_log.proofs.Contents.{mem-l, mem-r}
-use Rattle.theory_log.proofs.Kept.{Parts, kept-is}
 use Rattle.theory_log.proofs.Parse.{cons-inv}
 use Rattle.theory_log.proofs.Walk.{slice-long, slice-at}
 use Rattle.words.specs.Image.{length-wordsOf, getD-wordsOf}
@@ -33,11 +31,11 @@ use Rattle.log.proofs.Walk.{handed, next-found}
 use Rattle.volatile.specs.Known.{entryCount}
 use Rattle.session.specs.State.{bufferPart}
 use Rattle.session.specs.Cleaned.{keptOf, Stand}
-use Rattle.leaving.proofs.Walks.{Left, from-here, none-left, not-wrong, one-left}
-use Rattle.gathering.specs.declared.Tally.{Tally}
-use Rattle.gathering.specs.Gathering.{Gatherable, Counted, Decided, KeptTest, keptTest}
+use Rattle.keeping.proofs.Walks.{Left, from-here, none-left, not-wrong, one-left}
+use Rattle.measuring.specs.declared.Tally.{Tally}
+use Rattle.measuring.specs.Measuring.{Gatherable, Counted, Decided, KeptTest, keptTest}
+use Rattle.measuring.proofs.Words.{kept-words}
 use Rattle.gathering.specs.Reading.{ChunkRead, lifted, Owing, OneTaken, Collecting, PutsTaken, Walked, RestTaken, Collected}
-use Rattle.gathering.proofs.Words.{kept-words}
 
 -- ## The reading
 
@@ -243,7 +241,3 @@ collected image copy table kept at end n t r w = record {
   bound = w .bound;
   gathers = λ keys xs mid ys g. w .gathers (wordsOf image) end keys xs mid ys (r .few) (length-wordsOf copy ∙ (let z = r .size in let q : length copy / 8 ≡ 512 = omega arith in q)) (r .words (g .short)) g;
 }
-
--- what is gathered of chunk c is what the definition keeps
-pub gathered-kept : (lo : 12 ≤ 12) (hi : 12 ≤ 16) (n c : ℕ) (ws : List ℕ) (es xs mid ys : List Entry) → Parts 12 lo hi n c ws es xs mid ys → keptOf xs mid ys ≡ keptIn 12 c es
-gathered-kept lo hi n c ws es xs mid ys p = sym (kept-is 12 lo hi n c ws es xs mid ys p ∙ rw (p .whole))

@@ -9,16 +9,15 @@ use native.Mathlib.Nat.{add-zero, zero-add}
 use native.Mathlib.Decide.{ℕ-discrete}
 use native.Mathlib.Omega.{arith}
 use lib.ListN.{length, getD, set, take, drop, length-append, length-set}
-use lib.Seq.{slice, drop-cons, getD-set-same, getD-set-other}
+use lib.Seq.{drop-cons, getD-set-same, getD-set-other}
 use Rattle.spec.specs.Basics.{filter}
 use Rattle.spec.specs.Log.{Entry, encode, encodeAll}
-use Rattle.theory_log.proofs.Walk.{slice-long}
-use Rattle.theory_plans.proofs.Cleaning.{parse-words, filter-words}
 use Rattle.session.specs.State.{bufferPart}
 use Rattle.session.proofs.Part.{length-part, part-agree}
-use Rattle.session.specs.Cleaned.{keptOf}
-use Rattle.gathering.specs.declared.Tally.{Tally}
-use Rattle.gathering.specs.Gathering.{Gatherable, Copied, keptTest, Room, Gathered, Measured}
+use Rattle.measuring.specs.declared.Tally.{Tally}
+use Rattle.measuring.specs.Measuring.{Room, Measured}
+use Rattle.measuring.proofs.Words.{few-words}
+use Rattle.gathering.specs.Gathering.{Copied, Gathered}
 use Rattle.gathering.specs.Reading.{Owing, OneTaken, Collected}
 
 -- ## Copying words
@@ -66,20 +65,6 @@ part-words b ws i j (suc n) h l =
     let q : j + suc k ≡ suc j + k = omega arith in
     rw (p, q) at x) (omega arith) in
     rw (drop-cons ws j 0 (omega arith), first, rest)
-
--- ## Room
-
-pub few-words : (es : List Entry) → length es ≤ length (encodeAll es)
-few-words [] = omega arith
-few-words (e ∷ es) = let r = few-words es in let a = length-append (e .value) (encodeAll es) in omega arith
-
-pub kept-words : (ws table : List ℕ) (keys at end : ℕ) (xs mid ys : List Entry) → Gatherable ws table keys at end xs mid ys → length (encodeAll (keptOf xs mid ys)) ≤ 512
-kept-words ws table keys at end xs mid ys g =
-    let a = filter-words (keptTest xs mid ys) mid in
-    let b = parse-words (slice at end ws) 0 at mid (g .here) in
-    let c = slice-long at end ws in
-    let d = g .short in
-    omega arith
 
 -- ## One entry
 

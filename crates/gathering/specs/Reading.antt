@@ -13,11 +13,11 @@ use Rattle.spec.specs.Log.{Entry, encode, encodeAll, moved}
 use Rattle.theory_log.specs.Contents.{Mem}
 use Rattle.log.specs.declared.Cursor.{Cursor}
 use Rattle.log.specs.Cursor.{cursorAt, left}
-use Rattle.leaving.proofs.Walks.{Left}
+use Rattle.keeping.proofs.Walks.{Left}
 use Rattle.session.specs.State.{batchRoom, bufferPart}
 use Rattle.session.specs.Cleaned.{keptOf}
-use Rattle.gathering.specs.declared.Tally.{Tally}
-use Rattle.gathering.specs.Gathering.{Gatherable, keptTest}
+use Rattle.measuring.specs.declared.Tally.{Tally}
+use Rattle.measuring.specs.Measuring.{Gatherable, keptTest}
 
 -- the first n words of the copy are those of the image from `at` to `end`
 pub record ChunkRead (image copy : List ℕ) (at end n : ℕ) : Type 0 where

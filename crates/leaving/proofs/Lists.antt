@@ -29,8 +29,9 @@ use Rattle.volatile.specs.Known.{entryCount, several, infoOf, Indexed}
 use Rattle.volatile.proofs.Info.{said, info-chosen, info-none, info-says, info-nonzero}
 use Rattle.apply.proofs.Live.{mem-between, mem-around, Holder, live-holder, holder-live}
 use Rattle.session.specs.Cleaned.{before, keptOf, copiesOf, after, Cleaned, Stand}
-use Rattle.leaving.specs.Leaving.{Singles, Single, NoneKept, owed, Told, Awaits, Leaving, OneEach}
-use Rattle.leaving.proofs.Sole.{single-sole, sole-chosen, sole-single, once-filter, once-placed, once-same, count-append, count-no, count-one, count-placed, info-without}
+use Rattle.keeping.specs.Once.{OneEach}
+use Rattle.leaving.specs.Leaving.{Singles, Single, NoneKept, owed, Told, Awaits, Leaving}
+use Rattle.keeping.proofs.Sole.{single-sole, sole-chosen, sole-single, once-filter, once-placed, once-same, count-append, count-no, count-one, count-placed, info-without}
 
 module _ (xs mid ys as′ bs : List Entry) (at : ℕ) (t : Cleaned xs mid ys as′ bs at) where
   abbrev es : List Entry

@@ -29,7 +29,7 @@ use Rattle.session.specs.Cleaned.{before, keptOf, copiesOf, after, Cleaned, Mov
 use Rattle.sums.specs.Change.{only, turnedWeight, Turning}
 use Rattle.leaving.specs.Leaving.{Singles}
 use Rattle.leaving.proofs.Lists.{mid-in, others-in, others-out, before-cases, after-cases, apart, rising-mid, is-kept, origin, elsewhere-chosen, copy-chosen, gone}
-use Rattle.leaving.proofs.Weights.{putWords, copiedDeletes, sum-times, Weights, weights}
+use Rattle.keeping.proofs.Weights.{putWords, copiedDeletes, sum-times, Weights, weights}
 
 -- a key of which some entries are taken out that are not its own
 chosen-without : (k : ℕ) (xs mid ys : List Entry) → ((e : Entry) → Mem e mid → e .key ≡ k → ⊥) → chosen k (xs ++ (mid ++ ys)) ≡ chosen k (xs ++ ys)

@@ -1,5 +1,4 @@
--- The pass over the words of a chunk: what is left from a cursor on, at the beginning, after one more entry, and at the
--- end.
+-- The pass over the words of a chunk: at the beginning, after one more entry, and at the end.
 -- Assumes nothing.
 use mathlib.Core.Path.{_≡_, refl, sym, _∙_, ap}
 use mathlib.Core.Logic.{_⊎_, inl, inr}
@@ -19,34 +18,12 @@ use Rattle.log.specs.declared.Next.the-variants as N
 use Rattle.log.specs.Stands.{entryIn}
 use Rattle.log.specs.Cursor.{cursorAt, remaining, left, Advanced}
 use Rattle.log.proofs.Walk.{handed, next-found}
+use Rattle.keeping.proofs.Walks.{Left, from-here, none-left, not-wrong, one-left}
 use Rattle.leaving.specs.Leaving.{Leaving, Marked}
 use Rattle.session.specs.Cleaned.{Stand}
 use Rattle.leaving.specs.declared.Went.{Went}
 use Rattle.leaving.specs.declared.Run.{Run}
 use Rattle.leaving.specs.Passes.{IsCopied, OneLeft, PutsLeft, AllLeft}
-
--- what remains, in a walk that goes to no other chunk
-join-none : (q : Parsed) → join q (Entries []) ≡ q
-join-none Wrong = refl
-join-none (Entries es) = prepend-entries es [] ∙ rw append-nil
-
-pub from-here : (ws : List ℕ) (at end : ℕ) → remaining 12 0 ws (cursorAt 0 at end) ≡ parse (slice at end ws) 0 at
-unfolding remaining
-from-here ws at end = join-none (parse (slice at end ws) 0 at)
-
-abbrev pub Left : List ℕ → Cursor → List Entry → Type 0
-Left ws c todo = remaining 12 0 ws c ≡ Entries todo
-
--- one step
-module _ (ws : List ℕ) (c : Cursor) (r : Next) (told : Advanced 0 ws c r) (todo : List Entry) (is : Left ws c todo) where
-  pub none-left : r ≡ N.Done → todo ≡ []
-  none-left e = let w : remaining 12 0 ws c ≡ Entries [] = rw e at told in let v = is in cc
-
-  pub not-wrong : r ≡ N.Wrong → ⊥
-  not-wrong e = let w : remaining 12 0 ws c ≡ Wrong = rw e at told in let v = is in let z : _≡_ {A = ℕ} 0 1 = cc in omega arith
-
-  pub one-left : (op pl v x k m a : ℕ) (behind : Cursor) → r ≡ N.Entry op pl v x k m a behind → (es : List Entry) × Left ws behind es × (todo ≡ entryIn ws op pl v x k m a ∷ es)
-  one-left op pl v x k m a behind e = cons-inv (entryIn ws op pl v x k m a) (remaining 12 0 ws behind) todo (sym (handed 0 ws c r told op pl v x k m a behind e .whole) ∙ is)
 
 -- ## A run of puts: at its beginning, after one more, and broken off
 

@@ -95,8 +95,3 @@ pub record Leaving (ws : List ℕ) (until : ℕ) (es mid out : List Entry) (test
 pub record Marked (test : Entry → Bool) (copied : Bool) (left : List Entry) (e : Entry) : Type 0 where
   pub by : copied ≡ true → (e .op ≡ 1) ⊎ ((f : Entry) × Mem f (e ∷ left) × (test f ≡ true) × (f .key ≡ e .key))
   pub not : copied ≡ false → test e ≡ true → ⊥
-
--- no two entries are of one key
-abbrev pub OneEach : List Entry → Type 0
-OneEach [] = Unit {0}
-OneEach (c ∷ cs) = ((d : Entry) → Mem d cs → d .key ≡ c .key → ⊥) × OneEach cs

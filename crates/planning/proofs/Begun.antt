@@ -21,8 +21,8 @@ use Rattle.session.specs.State.{bufferPart, batchRoom, sourceIn, sourceLines, k
 use Rattle.session.specs.Fits.{NoneBelow, soleMark, RestFits, CleanFits}
 use Rattle.session.proofs.Part.{length-part}
 use Rattle.actions.specs.Nth.{nth}
-use Rattle.leaving.proofs.Fence.{lines-few}
-use Rattle.gathering.specs.declared.Tally.{Tally}
+use Rattle.keeping.proofs.Freed.{lines-few}
+use Rattle.measuring.specs.declared.Tally.{Tally}
 use Rattle.gathering.specs.Gathering.{Gathered}
 use Rattle.gathering.proofs.Chunks.{chunk-gathered}
 use Rattle.session.specs.declared.Source.{Source}

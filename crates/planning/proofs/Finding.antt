@@ -23,27 +23,10 @@ use Rattle.directory.specs.declared.Found.{Found}
 use Rattle.directory.specs.declared.Found.the-variants as F
 use Rattle.space.specs.declared.Place.{Place}
 use Rattle.directory.specs.Found.{foundOf, Stops}
-use Rattle.directory.proofs.Roles.{log-lines}
 use Rattle.directory.proofs.Search.{taken-before, taken-end, first-here}
 use Rattle.directory.proofs.Answer.{found-at, found-nothing}
 use Rattle.space.specs.Found.{placeOf}
 use Rattle.planning.specs.Plans.{anyBit}
-
--- SPACE, in a chunk other than x
-module _ (ws : List ℕ) (b x c : ℕ) where
-  pub not-there : c ≡ x → hasSpace 12 ws b x c ≡ false
-  not-there e = rw (eq-eqb c x e) (go (isLog (roleAt 12 ws c)))
-    where
-      go : (t : Bool) → both t false ≡ false
-      go true = refl
-      go false = refl
-
-  pub no-lines : linesOf 12 ws c ≡ 0 → hasSpace 12 ws b x c ≡ false
-  no-lines h = rw (log-lines 12 ws c, h)
-
-  pub space-left : (n : ℕ) → n ≡ linesOf 12 ws c → 1 ≤ n → (c ≡ x → ⊥) → hasSpace 12 ws b x c ≡ leb (n + b) 64
-  unfolding chunkLines
-  space-left n h l ne = rw (log-lines 12 ws c, ← h, le-leb 1 n l, ne-eqb c x ne)
 
 -- THE PLACE
 module _ (ws : List ℕ) (count lines x next : ℕ) (s : Stops (hasSpace 12 ws lines x) 1 count next) where

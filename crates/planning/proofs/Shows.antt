@@ -32,11 +32,11 @@ use Rattle.space.specs.declared.Place.{Place}
 use Rattle.space.specs.Found.{placeOf}
 use Rattle.space.proofs.Answer.{placed-at, placed-nowhere}
 use Rattle.directory.proofs.Roles.{log-lines}
-use Rattle.gathering.specs.declared.Tally.{Tally}
-use Rattle.gathering.specs.Gathering.{Measured}
+use Rattle.measuring.specs.declared.Tally.{Tally}
+use Rattle.measuring.specs.Measuring.{Measured}
 use Rattle.gathering.specs.Reading.{Collected}
 use Rattle.gathering.proofs.Words.{collected-measured}
-use Rattle.gathering.proofs.Chunks.{chunk-measured}
+use Rattle.measuring.proofs.Chunks.{chunk-measured}
 use Rattle.session.specs.declared.Source.{Source}
 use Rattle.cleaning.specs.Record.{cleanCount, sourceOf}
 use Rattle.cleaning.proofs.Forward.{lo, hi}

@@ -24,7 +24,7 @@ use Rattle.blocks.specs.Bits.{hasBit}
 use Rattle.volatile.specs.Known.{Indexed}
 use Rattle.session.specs.State.{batchRoom, sourceIn, sourceLines}
 use Rattle.session.specs.Fits.{soleMark, RestFits, Built}
-use Rattle.gathering.specs.declared.Tally.{Tally}
+use Rattle.measuring.specs.declared.Tally.{Tally}
 use Rattle.gathering.specs.Reading.{Collected}
 use Rattle.session.specs.declared.Source.{Source}
 use Rattle.cleaning.specs.Record.{cleanCount, sourceOf}

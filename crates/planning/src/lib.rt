@@ -4,8 +4,7 @@
 ghost use mathlib.Core.Path.{_≡_};
 ghost use Prim.Native.Nat.{_*_, _%_};
 ghost use Rattle.spec.specs.Words.{wordsOf};
-ghost use Rattle.spec.specs.Plans.{hasSpace, logPlace};
-ghost use Rattle.directory.specs.Found.{Stops};
+ghost use Rattle.spec.specs.Plans.{logPlace};
 ghost use Rattle.space.specs.Found.{placeOf};
 ghost use Rattle.planning.specs.Plans.{anyBit, LogPlanned, DataPlanned, CleanPlanned};
 use blocks::Buffer;
@@ -33,42 +32,11 @@ pub enum CleanPlan {
 }
 
 // WHERE THE COPIES GO
-// Whether c is a log chunk other than x with space for so many lines behind its committed ones.
-fn has_space(image: &[u8], c: usize, lines: usize, x: usize) -> bool
-    ensures { λ r. ⌜ r ≡ hasSpace 12 (wordsOf (now (image .entry))) lines x c ⌝ }
-{
-    if c == x {
-        return false;
-    }
-    let committed = lines_of(image, c);
-    if committed == 0 {
-        return false;
-    }
-    if 64 < lines {
-        return false;
-    }
-    committed + lines <= 64
-}
-
-// The first log chunk with space other than x; where there is none, a number not below the count.
-fn next_chunk(image: &[u8], count: usize, lines: usize, x: usize) -> usize
-    ensures { λ r. ⌜ Stops (hasSpace 12 (wordsOf (now (image .entry))) lines x) 1 count r ⌝ }
-{
-    let mut c = 1;
-    while c < count {
-        if has_space(image, c, lines, x) {
-            return c;
-        }
-        c += 1;
-    }
-    c
-}
-
 // The place for so many lines of copies: the first log chunk other than x with space, else the first free chunk.
 fn copy_place(image: &[u8], count: usize, lines: usize, x: usize) -> Place
     ensures { λ r. ⌜ r ≡ placeOf (wordsOf (now (image .entry))) (logPlace 12 count (wordsOf (now (image .entry))) lines x 1) ⌝ }
 {
-    let next = next_chunk(image, count, lines, x);
+    let next = space::next_chunk(image, 1, count, lines, x);
     if next < count {
         return space::place_at(image, next);
     }

@@ -1,14 +1,15 @@
 -- When a chunk has space, by its committed lines: a log chunk has at least one.
 -- Assumes nothing.
-use mathlib.Core.Path.{_≡_}
-use mathlib.Core.Bool.{false}
+use mathlib.Core.Path.{_≡_, refl}
+use mathlib.Core.Bool.{Bool, true, false}
 use mathlib.Core.List.{List}
 use Prim.Native.Nat.{ℕ, _+_, _≤_}
 use native.Mathlib.Omega.{arith}
 use lib.Dec.{leb}
-use borrow.Author.Tests.{le-leb, ne-eqb}
+use borrow.Author.Tests.{le-leb, eq-eqb, ne-eqb}
+use Rattle.spec.specs.Basics.{both}
 use Rattle.spec.specs.Places.{chunkLines}
-use Rattle.spec.specs.Directory.{linesOf}
+use Rattle.spec.specs.Directory.{isLog, roleAt, linesOf}
 use Rattle.spec.specs.Plans.{hasSpace}
 use Rattle.directory.proofs.Roles.{log-lines}
 
@@ -20,3 +21,14 @@ module _ (ws : List ℕ) (b c : ℕ) where
   pub space-left : (n : ℕ) → n ≡ linesOf 12 ws c → 1 ≤ n → 1 ≤ c → hasSpace 12 ws b 0 c ≡ leb (n + b) 64
   unfolding chunkLines
   space-left n h l u = rw (log-lines 12 ws c, ← h, le-leb 1 n l, ne-eqb c 0 (λ e. omega arith))
+
+  -- of another chunk than x
+  pub not-there : (x : ℕ) → c ≡ x → hasSpace 12 ws b x c ≡ false
+  not-there x e = rw (eq-eqb c x e) (go (isLog (roleAt 12 ws c)))
+    where
+      go : (t : Bool) → both t false ≡ false
+      go true = refl
+      go false = refl
+
+  pub another : (x : ℕ) → (c ≡ x → ⊥) → 1 ≤ c → hasSpace 12 ws b x c ≡ hasSpace 12 ws b 0 c
+  another x ne l = rw (ne-eqb c x ne, ne-eqb c 0 (λ e. omega arith))

@@ -42,14 +42,25 @@ fn has_space(image: &[u8], c: usize, lines: usize) -> bool
     committed + lines <= 64
 }
 
-// The first log chunk with space, from chunk `from` on; where there is none, a number not below the count.
-fn next_chunk(image: &[u8], from: usize, count: usize, lines: usize) -> usize
+// The same of a chunk other than x.
+fn has_other_space(image: &[u8], c: usize, lines: usize, x: usize) -> bool
+    requires { ⌜ 1 ≤ c ⌝ }
+    ensures { λ r. ⌜ r ≡ hasSpace 12 (wordsOf (now (image .entry))) lines x c ⌝ }
+{
+    if c == x {
+        return false;
+    }
+    has_space(image, c, lines)
+}
+
+// The first log chunk other than x with space, from chunk `from` on; where there is none, a number not below the count.
+pub fn next_chunk(image: &[u8], from: usize, count: usize, lines: usize, x: usize) -> usize
     requires { ⌜ 1 ≤ from ⌝ }
-    ensures { λ r. ⌜ Stops (hasSpace 12 (wordsOf (now (image .entry))) lines 0) from count r ⌝ }
+    ensures { λ r. ⌜ Stops (hasSpace 12 (wordsOf (now (image .entry))) lines x) from count r ⌝ }
 {
     let mut c = from;
     while c < count {
-        if has_space(image, c, lines) {
+        if has_other_space(image, c, lines, x) {
             return c;
         }
         c += 1;
@@ -57,7 +68,8 @@ fn next_chunk(image: &[u8], from: usize, count: usize, lines: usize) -> usize
     c
 }
 
-// The same, where told whether no log chunk behind `from` has space: then it is the only one to be looked at.
+// The same with any chunk to be found, where told whether no log chunk behind `from` has space: then it is the only one
+// to be looked at.
 fn near_chunk(image: &[u8], from: usize, count: usize, lines: usize, sole: bool) -> usize
     requires { ⌜ 1 ≤ from ⌝ }
     ensures { λ r. ⌜ Near (wordsOf (now (image .entry))) from count lines sole r ⌝ }
@@ -71,7 +83,7 @@ fn near_chunk(image: &[u8], from: usize, count: usize, lines: usize, sole: bool)
         }
         return from;
     }
-    next_chunk(image, from, count, lines)
+    next_chunk(image, from, count, lines, 0)
 }
 
 // The same for more lines, behind a search for `least`.
@@ -80,7 +92,7 @@ fn wider_chunk(image: &[u8], from: usize, count: usize, least: usize, lines: usi
     ensures { λ r. ⌜ (Stops (hasSpace 12 (wordsOf (now (image .entry))) least 0) from count from → Stops (hasSpace 12 (wordsOf (now (image .entry))) lines 0) from count r) ⌝ }
 {
     if least < lines {
-        return next_chunk(image, from, count, lines);
+        return next_chunk(image, from, count, lines, 0);
     }
     from
 }

@@ -6,9 +6,9 @@ use Rattle.spec.specs.Words.{wordsOf}
 use Rattle.words.specs.Image.{length-wordsOf}
 use Rattle.log.specs.Cursor.{cursorAt, left}
 use Rattle.log.proofs.Walk.{handed}
-use Rattle.gathering.specs.Gathering.{Tells}
+use Rattle.measuring.specs.Measuring.{Tells}
 use Rattle.gathering.specs.Reading.{Collecting}
-use Rattle.gathering.proofs.Kept.{tells-start}
+use Rattle.measuring.proofs.Kept.{tells-start}
 use Rattle.gathering.proofs.Passes.{RestOn, rest-start, rest-done, rest-wrong, rest-next}
 use borrow.Author.Needs.{needs}
 use Rattle.gathering.proofs.take_rest.Statement.{statement}

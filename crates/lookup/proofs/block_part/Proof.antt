@@ -1,4 +1,4 @@
--- `recovery::block_part` meets its contract.
+-- `lookup::block_part` meets its contract.
 -- Assumes nothing.
 use native.Mathlib.Omega.{arith}
 use lib.ListN.{length}

@@ -1,4 +1,4 @@
--- `recovery::find` meets its contract.
+-- `lookup::find` meets its contract.
 -- Assumes nothing.
 use mathlib.Core.Path.{sym, ap}
 use borrow.Author.Needs.{needs}

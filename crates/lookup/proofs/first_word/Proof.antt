@@ -1,4 +1,4 @@
--- `recovery::first_word` meets its contract.
+-- `lookup::first_word` meets its contract.
 -- Assumes nothing.
 use borrow.Author.Needs.{needs}
 use Rattle.lookup.proofs.first_word.Statement.{statement}

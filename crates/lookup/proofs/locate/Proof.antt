@@ -1,4 +1,4 @@
--- `recovery::locate` meets its contract.
+-- `lookup::locate` meets its contract.
 -- Assumes nothing.
 use borrow.Author.Needs.{needs}
 use Rattle.lookup.proofs.Looks.{locate-refused, locate-open}

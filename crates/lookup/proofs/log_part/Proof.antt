@@ -1,4 +1,4 @@
--- `recovery::log_part` meets its contract.
+-- `lookup::log_part` meets its contract.
 -- Assumes nothing.
 use native.Mathlib.Omega.{arith}
 use Rattle.lookup.proofs.Looks.{within-all, within-no}

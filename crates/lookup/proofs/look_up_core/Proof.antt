@@ -1,4 +1,4 @@
--- `recovery::look_up_core` meets its contract.
+-- `lookup::look_up_core` meets its contract.
 -- Assumes nothing.
 use native.Mathlib.Omega.{arith}
 use borrow.Author.Needs.{needs}

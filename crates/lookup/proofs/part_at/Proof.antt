@@ -1,4 +1,4 @@
--- `recovery::part_at` meets its contract.
+-- `lookup::part_at` meets its contract.
 -- Assumes nothing.
 use lib.ListN.{length}
 use Rattle.spec.specs.Words.{wordsOf}

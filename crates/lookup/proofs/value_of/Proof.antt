@@ -1,4 +1,4 @@
--- `recovery::value_of` meets its contract.
+-- `lookup::value_of` meets its contract.
 -- Assumes nothing.
 use native.Mathlib.Omega.{arith}
 use borrow.Author.Needs.{needs}

@@ -1,4 +1,4 @@
--- `recovery::within` meets its contract.
+-- `lookup::within` meets its contract.
 -- Assumes nothing.
 use native.Mathlib.Omega.{arith}
 use Rattle.lookup.proofs.Looks.{within-yes, within-no}

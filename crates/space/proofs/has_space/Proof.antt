@@ -1,4 +1,4 @@
--- `placing::has_space` meets its contract: a chunk without committed lines is no log chunk.
+-- `space::has_space` meets its contract: a chunk without committed lines is no log chunk.
 -- Assumes nothing.
 use Prim.Native.Nat.{_+_}
 use mathlib.Core.Path.{sym, _∙_}

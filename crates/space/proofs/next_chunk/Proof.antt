@@ -1,10 +1,9 @@
--- `placing::next_chunk` meets its contract. The loop's invariant: no chunk from the start on and before c has space.
+-- `space::next_chunk` meets its contract. The loop's invariant: no chunk from the start on and before c has space.
 -- Assumes nothing.
 use Prim.Native.Nat.{ℕ, _≤_, _<_, _-_}
-use mathlib.Core.Path.{_≡_, sym, _∙_, ap}
+use mathlib.Core.Path.{_≡_, sym, _∙_}
 use mathlib.Core.Bool.{false}
 use native.Mathlib.Omega.{arith}
-use native.Mathlib.Decide.{ℕ-discrete}
 use Rattle.spec.specs.Words.{wordsOf}
 use Rattle.spec.specs.Plans.{hasSpace}
 use borrow.Author.Needs.{needs}
@@ -13,21 +12,21 @@ use Rattle.space.proofs.next_chunk.Statement.{statement}
 use Rattle.space.proofs.next_chunk.Tie as tie
 
 abbrev Inv-loop : tie.InvT-loop
-Inv-loop image from count lines c₀ c = (from ≤ c) × ((d : ℕ) → from ≤ d → d < c → hasSpace 12 (wordsOf image) lines 0 d ≡ false)
+Inv-loop image from count lines x c₀ c = (from ≤ c) × ((d : ℕ) → from ≤ d → d < c → hasSpace 12 (wordsOf image) lines x d ≡ false)
 
 abbrev μ-loop : tie.MeasureT-loop
-μ-loop image from count lines c₀ c = count - c
+μ-loop image from count lines x c₀ c = count - c
 
 loop-holds : tie.Need-loop-holds Inv-loop μ-loop
 loop-holds c = (omega arith, λ d l u. absurd (omega arith))
 
-has-space-requires : tie.Need-has-space-requires Inv-loop μ-loop
-has-space-requires c κs = search needs
+has-other-space-requires : tie.Need-has-other-space-requires Inv-loop μ-loop
+has-other-space-requires c κs = search needs
 
 returns : tie.Need-returns Inv-loop μ-loop
 returns c =
     let at = c .before .before .before .loop in
-    record { behind = at .inv .0; before = at .inv .1; here = λ h. sym (c .before .has-space .ensures) ∙ c .if1 .taken }
+    record { behind = at .inv .0; before = at .inv .1; here = λ h. sym (c .before .has-other-space .ensures) ∙ c .if1 .taken }
 
 add-c : tie.Need-add-c Inv-loop μ-loop
 add-c c = search needs
@@ -39,7 +38,7 @@ loop-again : tie.Need-loop-again Inv-loop μ-loop
 loop-again c =
     let a = c .before .before .before .before .before .args in
     let at = c .before .before .before .loop in
-    (omega arith, before-more (hasSpace 12 (wordsOf (a .image .now)) (a .lines) 0) (a .from) (at .c) (at .inv .1) (sym (c .before .has-space .ensures) ∙ c .if1 .left))
+    (omega arith, before-more (hasSpace 12 (wordsOf (a .image .now)) (a .lines) (a .x)) (a .from) (at .c) (at .inv .1) (sym (c .before .has-other-space .ensures) ∙ c .if1 .left))
 
 returns-2 : tie.Need-returns-2 Inv-loop μ-loop
 returns-2 c =
@@ -53,7 +52,7 @@ next-chunk-spec =
     Inv-loop
     μ-loop
     loop-holds
-    has-space-requires
+    has-other-space-requires
     returns
     add-c
     loop-less

@@ -1,4 +1,4 @@
--- `placing::place_at` meets its contract.
+-- `space::place_at` meets its contract.
 -- Assumes nothing.
 
 use borrow.Author.Needs.{needs}

@@ -1,4 +1,4 @@
--- `placing::wider_chunk` meets its contract.
+-- `space::wider_chunk` meets its contract.
 -- Assumes nothing.
 use native.Mathlib.Omega.{arith}
 use borrow.Author.Needs.{needs}

@@ -1,0 +1,5 @@
+pub mod Words
+pub mod Leaves
+pub mod Kept
+pub mod Measures
+pub mod Chunks
