@@ -13,27 +13,24 @@ use lib.Seq.{append-snoc}
 use Rattle.spec.specs.Basics.{pick, larger}
 use Rattle.spec.specs.Places.{basePower, maxChunks, chunkUnits, unitChunk, unitWord}
 use Rattle.spec.specs.Directory.{sizeOf}
-use Rattle.spec.specs.Log.{Entry, Entries, imageEntries, encodeAll, moved, placed}
+use Rattle.spec.specs.Log.{Entry, Entries, moved, placed}
 use Rattle.spec.specs.Blocks.{pointed}
-use Rattle.spec.specs.Contents.{highest, keysOf, capacity}
+use Rattle.spec.specs.Contents.{highest}
 use Rattle.spec.specs.Opening.{fine}
-use Rattle.theory_log.specs.Batch.{AllRight}
 use Rattle.theory_log.specs.Contents.{Mem, Top, CountsOn}
 use Rattle.theory_log.proofs.Contents.{larger-r, below-highest, counts-same, highest-insert}
 use Rattle.theory_log.proofs.Clean.{mem-placed}
 use Rattle.theory_crash.proofs.Blocks.{block-fits}
-use Rattle.blocks.specs.Bits.{FrontKept}
 use Rattle.blocks.proofs.Laws.{front-kept, front-all, front-then}
 use Rattle.volatile.specs.Known.{extentOf, alone, ownOf}
 use Rattle.volatile.specs.Sums.{weight}
 use Rattle.sums.specs.Change.{Weighed}
-use Rattle.session.specs.State.{bufferPart}
 use Rattle.session.specs.Fits.{ItemsFit}
 use Rattle.session.proofs.Part.{part-agree}
 use Rattle.apply.specs.declared.Item.{Item}
 use Rattle.apply.specs.declared.Item.the-variants as I
 use Rattle.apply.specs.Blocks.{bitRoom, blockAt, Claimed}
-use Rattle.apply.specs.Joining.{Later, Shown, Awaited, OneJoined, Taken, StagedFrom, Staged, Fenced, Joining}
+use Rattle.apply.specs.Joining.{Later, Shown, Awaited, OneJoined, Taken, StagedFrom, Staged, Left, Going, Fenced, Joining}
 use Rattle.apply.proofs.Joined.{which}
 use Rattle.apply.proofs.Claiming.{joined-shown}
 use Rattle.apply.proofs.Staging.{told-none, told-fits, told-entry}
@@ -78,21 +75,6 @@ small-block n ws e most f p =
     let x = block-fits basePower n (e .field) (sizeOf basePower ws (unitChunk basePower (e .field))) (getD ws (unitWord (e .field)) 0) _ (rw p at f) in
     let h : e .field / 16 < n = x .high in
     omega arith
-
--- Of the batch at `place`, whose words are the buffer's before `end`, the items before word `at` have joined. The image
--- shows `whole`.
-pub record Left (n : ℕ) (ws buffer table : List ℕ) (keys place at end : ℕ) (whole back : List Entry) : Type 0 where
-  pub joined : List Entry
-  pub rest : List Entry
-  pub parts : whole ≡ joined ++ (placed (place + at) rest ++ back)
-  pub words : bufferPart buffer at (end - at) ≡ encodeAll rest
-  pub right : AllRight rest
-  pub counts : CountsOn (joined ++ back) rest
-  pub fit : ItemsFit n ws (joined ++ back) rest
-  pub shown : Shown buffer table keys (joined ++ back)
-  pub most : n ≤ maxChunks
-  pub image : imageEntries basePower n ws ≡ Entries whole
-  pub room : length (keysOf whole) ≤ capacity (length table)
 
 -- ## The beginning
 
@@ -172,13 +154,16 @@ left-next n ws buffer buffer′ buffer″ table table′ keys keys′ place at e
 
 -- ## The loop: what was left at the beginning says what is left now
 
-pub record Going (ws buffer₀ table₀ : List ℕ) (keys₀ place at₀ end : ℕ) (buffer table : List ℕ) (keys at : ℕ) : Type 0 where
-  pub kept : FrontKept buffer₀ buffer
-  pub sized : length table ≡ length table₀
-  pub goes : (n : ℕ) (whole back : List Entry) → Left n ws buffer₀ table₀ keys₀ place at₀ end whole back → Left n ws buffer table keys place at end whole back
-
 pub going-start : (ws buffer table : List ℕ) (keys place at end : ℕ) → length buffer ≡ 1664 → Going ws buffer table keys place at end buffer table keys at
 going-start ws buffer table keys place at end long = record { kept = front-all buffer long; sized = refl; goes = λ n whole back l. l }
+
+pub going-then : (ws buffer₀ table₀ : List ℕ) (keys₀ place at₀ end : ℕ) (buffer table : List ℕ) (keys at : ℕ) (buffer′ table′ : List ℕ) (keys′ at′ : ℕ) → Going ws buffer₀ table₀ keys₀ place at₀ end buffer table keys at
+    → Going ws buffer table keys place at end buffer′ table′ keys′ at′ → Going ws buffer₀ table₀ keys₀ place at₀ end buffer′ table′ keys′ at′
+going-then ws buffer₀ table₀ keys₀ place at₀ end buffer table keys at buffer′ table′ keys′ at′ g h = record {
+  kept = front-then buffer₀ buffer buffer′ (g .kept) (h .kept);
+  sized = h .sized ∙ g .sized;
+  goes = λ n whole back l. h .goes n whole back (g .goes n whole back l);
+}
 
 module _ (ws buffer₀ table₀ : List ℕ) (keys₀ place at₀ end : ℕ) (buffer table : List ℕ) (keys at : ℕ) (inv : Going ws buffer₀ table₀ keys₀ place at₀ end buffer table keys at)
     (r : Item) (told : Staged buffer at end r) where

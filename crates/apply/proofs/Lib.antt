@@ -5,3 +5,4 @@ pub mod Claiming
 pub mod Growing
 pub mod Staging
 pub mod Batch
+pub mod Puts

@@ -2,7 +2,7 @@
 -- Assumes nothing.
 use mathlib.Core.Path.{_≡_, refl, sym, _∙_, ap}
 use mathlib.Core.List.{List, [], _∷_, _++_}
-use Prim.Native.Nat.{ℕ, zero, suc, _+_, _-_, _*_, _≤_, _<_}
+use Prim.Native.Nat.{ℕ, zero, suc, _+_, _-_, _*_, _/_, _%_, _≤_, _<_}
 use native.Mathlib.Nat.{zero-add, add-zero}
 use native.Mathlib.Omega.{arith}
 use lib.ListN.{length, getD, drop, length-append}
@@ -10,13 +10,15 @@ use lib.Seq.{drop-at}
 use Rattle.spec.specs.declared.FirstWord.{FirstWord}
 use Rattle.spec.specs.declared.FirstWord.the-variants as F
 use Rattle.spec.specs.Log.{Entry, firstOf, wordsFor, encode, encodeAll}
-use Rattle.theory_log.specs.Batch.{Right}
+use Rattle.theory_log.specs.Batch.{Kind, put, block, delete, Right}
 use Rattle.theory_log.proofs.Batch.{first-right}
 use Rattle.session.specs.State.{bufferPart}
 use Rattle.session.proofs.Part.{length-part}
+use Rattle.log.specs.declared.Short.{Short}
+use Rattle.log.specs.declared.Short.the-variants as S
 use Rattle.apply.specs.declared.Item.{Item}
 use Rattle.apply.specs.declared.Item.the-variants as I
-use Rattle.apply.specs.Joining.{Taken, StagedFrom, Staged}
+use Rattle.apply.specs.Joining.{Taken, StagedFrom, Staged, ShortStaged}
 
 -- A part of the buffer.
 part-drop : (b : List ℕ) (i m n : ℕ) → drop m (bufferPart b i (m + n)) ≡ bufferPart b (i + m) n
@@ -29,6 +31,7 @@ part-drop b i (suc m) n =
 -- an entry at its head
 record Headed (b : List ℕ) (at end : ℕ) (e : Entry) (es : List Entry) : Type 0 where
   fits : at + (2 + length (e .value)) ≤ end
+  word : getD b at 0 ≡ e .op + 4 * e .placement + 16 * e .version + 16777216 * e .field
   first : firstOf (getD b at 0) ≡ F.Entry (e .op) (e .placement) (e .version) (e .field)
   key : getD b (at + 1) 0 ≡ e .key
   behind : bufferPart b (at + (2 + length (e .value))) (end - (at + (2 + length (e .value)))) ≡ encodeAll es
@@ -48,6 +51,7 @@ headed b at end e es r h =
     let rest : end - at ≡ m + (end - (at + m)) = omega arith in
     record {
       fits = fits;
+      word = head;
       first = rw head (first-right (e .op) (e .placement) (e .version) (e .field) (r .kind) (r .low) (r .high));
       key = rw one next;
       behind = sym (part-drop b at m (end - (at + m))) ∙ ap (drop m) (sym (ap (bufferPart b at) rest) ∙ h) ∙ drop-at (encode e) (encodeAll es) m (omega arith);
@@ -104,7 +108,41 @@ module _ (b : List ℕ) (at end : ℕ) where
                 behind = rw (← m) (d .behind);
               }
 
+-- a word that says a put with its value in the log
+put-word : (op pl v x w : ℕ) → Kind op pl x → v < 1048576 → w ≡ op + 4 * pl + 16 * v + 16777216 * x → w % 16 ≡ 1 → (op ≡ 1) × (pl ≡ 0) × (v ≡ w / 16 % 1048576) × (x ≡ w / 16777216)
+put-word _ _ v x w (put l) h e q = let a : w / 16 ≡ v + 1048576 * x = omega arith in (refl, refl, rw a (omega arith), omega arith)
+put-word _ _ v x w block h e q = absurd (omega arith)
+put-word _ _ v _ w delete h e q = absurd (omega arith)
+
+module _ (b : List ℕ) (at end w field words : ℕ) (is-word : w ≡ getD b at 0) (is-field : field ≡ w / 16777216) (is-words : words ≡ (field + 7) / 8) where
+  pub short-staged : w % 16 ≡ 1 → at < end → 2 + words ≤ end - at → ShortStaged b at end (S.Put (w / 16 % 1048576) field (getD b (at + 1) 0) words)
+  short-staged low l m = (omega arith, entry)
+    where
+      entry : (rest : List Entry) → StagedFrom b at end rest → Taken b at end 1 0 (w / 16 % 1048576) field (getD b (at + 1) 0) words rest
+      entry [] s = let n = ap length (s .1) in let k = length-part b at (end - at) in absurd (omega arith)
+      entry (e ∷ es) s =
+          let r = s .0 .0 in
+          let d = headed b at end e es r (s .1) in
+          let p = put-word (e .op) (e .placement) (e .version) (e .field) w (r .kind) (r .high) (is-word ∙ d .word) low in
+          let x : e .field ≡ field = p .3 ∙ sym is-field in
+          let n : length (e .value) ≡ words = r .words ∙ rw (p .1, x) (sym is-words) in
+          record {
+            entry = e;
+            others = es;
+            all = refl;
+            of-op = p .0;
+            of-placement = p .1;
+            of-version = p .2;
+            of-field = x;
+            of-key = sym (d .key);
+            size = n;
+            behind = rw (← n) (d .behind);
+          }
+
 -- what the answer says, for a caller that goes by its case
+pub told-short : (b : List ℕ) (at end : ℕ) (r : Short) → ShortStaged b at end r → (version field key words : ℕ) → r ≡ S.Put version field key words → Staged b at end (I.Entry 1 0 version field key words)
+told-short b at end r told version field key words e = rw e at told
+
 module _ (b : List ℕ) (at end : ℕ) (r : Item) (told : Staged b at end r) where
   pub told-none : r ≡ I.Nothing → (rest : List Entry) → StagedFrom b at end rest → rest ≡ []
   told-none e = rw e at told

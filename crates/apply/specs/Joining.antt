@@ -1,7 +1,7 @@
 -- What the items of a batch do to the key table and to the bits, one by one and all together.
 -- Assumes nothing.
 use mathlib.Core.Path.{_≡_}
-use mathlib.Core.Bool.{true}
+use mathlib.Core.Bool.{Bool, true, false}
 use mathlib.Core.Option.{some}
 use mathlib.Core.List.{List, [], _∷_, _++_}
 use Prim.Native.Nat.{ℕ, _+_, _-_, _≤_, _<_, min}
@@ -21,6 +21,8 @@ use Rattle.volatile.proofs.Info.{said}
 use Rattle.session.specs.State.{bufferPart, batchRoom}
 use Rattle.session.specs.Fits.{ItemsFit, BlocksApart}
 use Rattle.apply.specs.Blocks.{topBlock, Freed}
+use Rattle.log.specs.declared.Short.{Short}
+use Rattle.log.specs.declared.Short.the-variants as S
 use Rattle.apply.specs.declared.Item.{Item}
 use Rattle.apply.specs.declared.Item.the-variants as I
 
@@ -65,6 +67,12 @@ pub record OneJoined (ws buffer buffer′ table table′ : List ℕ) (keys key o
   pub joins : (n : ℕ) (xs more ys : List Entry) (e : Entry) → e .key ≡ key → ownOf e ≡ own → w ≡ weight e
       → Awaited n ws table xs more ys e → Shown buffer table keys (xs ++ ys) → Superseding buffer buffer′ table′ keys′ xs ys e
 
+-- the same of a put that is to join without the image: where it joined, it did so whatever the image shows; else
+-- nothing changed
+pub record PutJoined (buffer buffer′ table table′ : List ℕ) (keys key own w : ℕ) (joined : Bool) (keys′ : ℕ) : Type 0 where
+  pub joins : joined ≡ true → (ws : List ℕ) → OneJoined ws buffer buffer′ table table′ keys key own w keys′
+  pub left : joined ≡ false → (buffer′ ≡ buffer) × (table′ ≡ table)
+
 -- what stands in the buffer's words from `at` to `end`, if they are those of entries: none, or one with so many words
 -- of value, and the others behind it
 pub record Taken (buffer : List ℕ) (at end op placement version field key words : ℕ) (rest : List Entry) : Type 0 where
@@ -87,6 +95,11 @@ Staged buffer at end I.Nothing = (rest : List Entry) → StagedFrom buffer at en
 Staged buffer at end (I.Entry op placement version field key words) =
     (at + (2 + words) ≤ end) × ((rest : List Entry) → StagedFrom buffer at end rest → Taken buffer at end op placement version field key words rest)
 
+-- the same of a put with its value in the log; of anything else nothing is said
+abbrev pub ShortStaged : List ℕ → (at end : ℕ) → Short → Type 0
+ShortStaged buffer at end S.Other = Unit {0}
+ShortStaged buffer at end (S.Put version field key words) = Staged buffer at end (I.Entry 1 0 version field key words)
+
 -- THE BATCH, so many words of the buffer: what holds at a commit's last fence. The image, of n chunks, shows it at
 -- `place`, between front and back; table, bits and sums know front and back alone.
 pub record Fenced (n place words known : ℕ) (buffer ws table : List ℕ) (front back items : List Entry) : Type 0 where
@@ -98,6 +111,32 @@ pub record Fenced (n place words known : ℕ) (buffer ws table : List ℕ) (fron
   pub image : imageEntries basePower n ws ≡ Entries (front ++ (placed place items ++ back))
   pub shown : Shown buffer table known (front ++ back)
   pub room : length (keysOf (front ++ (placed place items ++ back))) ≤ capacity (length table)
+
+-- Of the batch at `place`, whose words are the buffer's before `end`, the items before word `at` have joined. The image
+-- shows `whole`.
+pub record Left (n : ℕ) (ws buffer table : List ℕ) (keys place at end : ℕ) (whole back : List Entry) : Type 0 where
+  pub joined : List Entry
+  pub rest : List Entry
+  pub parts : whole ≡ joined ++ (placed (place + at) rest ++ back)
+  pub words : bufferPart buffer at (end - at) ≡ encodeAll rest
+  pub right : AllRight rest
+  pub counts : CountsOn (joined ++ back) rest
+  pub fit : ItemsFit n ws (joined ++ back) rest
+  pub shown : Shown buffer table keys (joined ++ back)
+  pub most : n ≤ maxChunks
+  pub image : imageEntries basePower n ws ≡ Entries whole
+  pub room : length (keysOf whole) ≤ capacity (length table)
+
+-- what was left of it at the beginning says what is left now: of any memory, and where something was left
+pub record Going (ws buffer₀ table₀ : List ℕ) (keys₀ place at₀ end : ℕ) (buffer table : List ℕ) (keys at : ℕ) : Type 0 where
+  pub kept : FrontKept buffer₀ buffer
+  pub sized : length table ≡ length table₀
+  pub goes : (n : ℕ) (whole back : List Entry) → Left n ws buffer₀ table₀ keys₀ place at₀ end whole back → Left n ws buffer table keys place at end whole back
+
+-- the same of a pass without the image: whatever that shows
+pub record PutsJoined (place end : ℕ) (buffer₀ table₀ : List ℕ) (keys₀ at₀ : ℕ) (buffer table : List ℕ) (keys at : ℕ) : Type 0 where
+  pub farther : at₀ ≤ at
+  pub goes : (ws : List ℕ) → Going ws buffer₀ table₀ keys₀ place at₀ end buffer table keys at
 
 -- before and after the batch joined: of any memory, and at a commit's last fence
 pub record Joining (place words known : ℕ) (buffer buffer′ ws table table′ : List ℕ) (keys : ℕ) : Type 0 where

@@ -5,9 +5,11 @@ ghost use Rattle.spec.specs.Words.{wordsOf};
 ghost use Rattle.spec.specs.Log.{firstOf};
 ghost use lib.ListN.{getD};
 ghost use Rattle.apply.specs.Blocks.{blockAt, namedBy, Freed, Claimed};
-ghost use Rattle.apply.specs.Joining.{Superseded, OneJoined, Staged, Joining};
+ghost use Rattle.volatile.specs.Known.{alone};
+ghost use Rattle.apply.specs.Joining.{Superseded, OneJoined, PutJoined, Staged, ShortStaged, PutsJoined, Joining};
 use blocks::Buffer;
 use index::Info;
+use log::Short;
 use spec::FirstWord;
 
 // THE BLOCKS OF SUPERSEDED ENTRIES
@@ -98,6 +100,63 @@ fn join_one(
     keys
 }
 
+// What became of a put that was to join without the image: whether it joined, and how many keys the table has then.
+struct Tried {
+    joined: bool,
+    keys: usize,
+}
+
+// A put with its value in the log joins the table, which has so many keys, without the image: it has a new key, for
+// which there is room, or the table says an extent of the key's chosen entry, which is lower. That one has its value in
+// the log too, so no block leaves the bits. Else nothing is done.
+fn join_put(
+    buffer: &mut Buffer,
+    table: &mut [u64],
+    keys: usize,
+    key: u64,
+    extent: u64,
+    place: usize,
+    version: u64,
+    weight: u64,
+) -> Tried
+    ensures { λ r. ⌜ PutJoined (now (buffer .entry)) (now (buffer .exit)) (now (table .entry)) (now (table .exit)) keys key (alone extent place version) weight (r .joined) (r .keys) ⌝ }
+{
+    blocks::buffer_length(buffer);
+    let own = volatile::alone(extent, place, version);
+    let new = index::unpack(own);
+    let slot = index::stop(table, key);
+    let old = index::word_at(table, slot);
+    let was = index::unpack(old);
+    if 0 < was.extent {
+        if was.version < new.version {
+            let gone = sums::weigh_extent(was.extent);
+            sums::take_off(buffer, was.place as usize, gone);
+            sums::add(buffer, place, weight);
+            let info = volatile::noted(old, own);
+            index::put_at(table, slot, key, info);
+            return Tried { joined: true, keys };
+        }
+        return Tried {
+            joined: false,
+            keys,
+        };
+    }
+    if old == 0 {
+        if keys < index::capacity(table.len()) {
+            sums::add(buffer, place, weight);
+            index::put_at(table, slot, key, own);
+            return Tried {
+                joined: true,
+                keys: keys + 1,
+            };
+        }
+    }
+    Tried {
+        joined: false,
+        keys,
+    }
+}
+
 // THE BATCH
 // What stands at a place of the staged words.
 enum Item {
@@ -145,8 +204,93 @@ fn item_at(buffer: &Buffer, at: usize, end: usize) -> Item
     }
 }
 
-// At a commit's last fence the staged items, `words` words of the buffer that stand at word `place` of the image, join a
-// table of `known` keys: how many keys it has then.
+// The put with its value in the log that stands at a place of the staged words, if one does.
+fn short_at(buffer: &Buffer, at: usize, end: usize) -> Short
+    requires { ⌜ end ≤ 512 ⌝ }
+    ensures { λ r. ⌜ ShortStaged (now (buffer .entry)) at end r ⌝ }
+{
+    if end <= at {
+        return Short::Other;
+    }
+    let word = buffer[at];
+    let field = word / 16777216;
+    if word % 16 == 1 {
+        if 256 < field {
+            return Short::Other;
+        }
+        let words = (field as usize + 7) / 8;
+        if end - at < 2 + words {
+            return Short::Other;
+        }
+        return Short::Put {
+            version: word / 16 % 1048576,
+            field,
+            key: buffer[at + 1],
+            words,
+        };
+    }
+    Short::Other
+}
+
+// How far a pass came, and how many keys the table has then.
+struct Reached {
+    at: usize,
+    keys: usize,
+}
+
+// A pass over the common items, from word `from` of the staged ones on: those that `join_put` takes. All else is left
+// to `join`.
+fn join_puts(
+    place: usize,
+    from: usize,
+    end: usize,
+    known: usize,
+    buffer: &mut Buffer,
+    table: &mut [u64],
+) -> Reached
+    requires { ⌜ (place < 2 ^ 32) × (end ≤ 512) ⌝ }
+    ensures { λ r. ⌜ PutsJoined place end (now (buffer .entry)) (now (table .entry)) known from (now (buffer .exit)) (now (table .exit)) (r .keys) (r .at) ⌝ }
+{
+    blocks::buffer_length(buffer);
+    let mut at = from;
+    let mut keys = known;
+    loop {
+        let s = short_at(buffer, at, end);
+        match s {
+            Short::Other => {
+                return Reached { at, keys };
+            }
+            Short::Put {
+                version,
+                field,
+                key,
+                words,
+            } => {
+                let extent = volatile::extent_of(0, field);
+                let weight = (2 + words) as u64;
+                let t = join_put(
+                    buffer,
+                    table,
+                    keys,
+                    key,
+                    extent,
+                    place + at,
+                    version,
+                    weight,
+                );
+                if t.joined {
+                    keys = t.keys;
+                    at += 2 + words;
+                } else {
+                    return Reached { at, keys };
+                }
+            }
+        }
+    }
+}
+
+// At a commit's last fence the staged items join a table of `known` keys: how many keys it has then. They are the
+// buffer's first `words` words, and stand at word `place` of the image. The common items go first.
 pub fn join(
     place: usize,
     words: usize,
@@ -163,6 +307,9 @@ pub fn join(
     let mut keys = known;
     let mut at: usize = 0;
     loop {
+        let r = join_puts(place, at, end, keys, buffer, table);
+        at = r.at;
+        keys = r.keys;
         let item = item_at(buffer, at, end);
         match item {
             Item::Nothing => {

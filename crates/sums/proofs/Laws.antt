@@ -1,7 +1,7 @@
 -- The laws of a change of sums: nothing, a store to one sum, one change after another; and what it makes of the sums of
 -- entries.
 -- Assumes nothing.
-use mathlib.Core.Path.{_≡_, refl, sym, _∙_, ap}
+use mathlib.Core.Path.{_≡_, refl, sym, _∙_, ap, subst}
 use mathlib.Core.Logic.{by-cases}
 use mathlib.Core.Bool.{Bool, true, false}
 use mathlib.Core.Option.{Option, none, some}
@@ -77,6 +77,10 @@ module _ (b : List ℕ) (place w v : ℕ) (n : length b ≡ 1664) where
     where
       sums : (c : ℕ) → c < sumsCount → (getD (set b slot v) (sumsStart + c) 0 + only place w c) % 2 ^ 64 ≡ (getD b (sumsStart + c) 0 + 0) % 2 ^ 64
       sums c l = by-cases (ℕ-discrete (place / 512 % 512) c) (λ q. rw (at-own c q, own-only c q, ← q) (omega arith)) (λ d. rw (at-other c d, other-only c d))
+
+-- of a place its chunk alone counts
+pub changed-place : (b d : List ℕ) (p q w : ℕ) → p / 512 % 512 ≡ q / 512 % 512 → Changed b d (only p w) nothing → Changed b d (only q w) nothing
+changed-place b d p q w e k = subst (λ (x : ℕ). Changed b d (λ c. pick (eqb x c) w 0) nothing) e k
 
 -- one change after another
 mod-then : (m a b d more less more′ less′ : ℕ) → (b + less) % m ≡ (a + more) % m → (d + less′) % m ≡ (b + more′) % m → (d + (less + less′)) % m ≡ (a + (more + more′)) % m

@@ -15,7 +15,7 @@ use Rattle.theory_log.specs.Batch.{Kind, put, block, delete, Right}
 use Rattle.log.specs.Stands.{StandsIn}
 use Rattle.volatile.specs.Known.{extentOf}
 use Rattle.volatile.specs.Sums.{highHalf, weightOf, weight}
-use Rattle.sums.specs.Change.{Weighed, WeighedAt}
+use Rattle.sums.specs.Change.{extentWeight, Weighed, WeighedAt}
 
 -- THE WEIGHT of so many words
 pub weighed-long : (op words : ℕ) → 512 < words → Weighed op words 0
@@ -44,14 +44,13 @@ kind-put _ _ _ delete h = absurd (omega arith)
 
 -- THE ENTRY AT A PLACE
 module _ (ws : List ℕ) (extent place : ℕ) where
-  pub at-extent : (field words r : ℕ) → 0 < extent → field ≡ extent % 0x100 + 1 → words ≡ wordsFor 0 field → Weighed 1 words r → WeighedAt ws extent place r
-  at-extent field words r l is-field is-words w = record {
+  pub at-extent : (r : ℕ) → 0 < extent → r ≡ extentWeight extent → WeighedAt ws extent place r
+  at-extent r l is-weight = record {
     is = λ f stands here tells narrow.
         let k = kind-put (f .op) (f .placement) (f .field) (stands .right .kind) (rw tells l) in
-        let x : f .field ≡ field = k .2 ∙ omega arith in
-        let n : length (f .value) ≡ words = stands .right .words ∙ rw (k .1, x) (sym is-words) in
-        let m = right-few f (stands .right) in
-        w .is (omega arith) ∙ sym (rw (k .0, n));
+        let x : f .field ≡ extent + 1 = k .2 ∙ ap (λ (i : ℕ). i + 1) tells in
+        let n : length (f .value) ≡ (extent + 1 + 7) / 8 = stands .right .words ∙ rw (k .1, x) in
+        is-weight ∙ sym (rw (k .0, n) (omega arith));
   }
 
   module _ (v : ℕ) (first : FirstWord) (is-word : v ≡ getD ws place 0) (is-first : first ≡ firstOf v) where

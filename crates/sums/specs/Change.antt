@@ -38,6 +38,10 @@ pub record Cleared (before after : List ℕ) : Type 0 where
   pub kept : SumsAlone before after
   pub zero : (c : ℕ) → c < sumsCount → getD after (sumsStart + c) 0 ≡ 0
 
+-- the weight of a put of which the table says an extent: first word, key, and the words of extent + 1 bytes
+abbrev pub extentWeight : ℕ → ℕ
+extentWeight extent = 2 + (extent % 0x100 + 8) / 8
+
 -- the weight of an entry with so many words of value, and of the one at a place of the image
 pub record Weighed (op words r : ℕ) : Type 0 where
   pub is : words ≤ 512 → r ≡ weightOf op words

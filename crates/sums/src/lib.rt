@@ -4,7 +4,7 @@ ghost use mathlib.Core.Path.{_≡_};
 ghost use Prim.Native.Nat.{_+_, _%_};
 ghost use lib.ListN.{getD};
 ghost use Rattle.spec.specs.Words.{wordsOf};
-ghost use Rattle.sums.specs.Change.{only, nothing, Changed, Cleared, Weighed, WeighedAt, Renewed, TurnedOver};
+ghost use Rattle.sums.specs.Change.{only, nothing, Changed, Cleared, extentWeight, Weighed, WeighedAt, Renewed, TurnedOver};
 use blocks::Buffer;
 use spec::FirstWord;
 
@@ -39,7 +39,7 @@ pub fn add(buffer: &mut Buffer, place: usize, weight: u64)
 }
 
 // And with so much less.
-fn take_off(buffer: &mut Buffer, place: usize, weight: u64)
+pub fn take_off(buffer: &mut Buffer, place: usize, weight: u64)
     ensures { λ _. ⌜ Changed (now (buffer .entry)) (now (buffer .exit)) nothing (only place weight) ⌝ }
 {
     blocks::buffer_length(buffer);
@@ -62,13 +62,19 @@ pub fn weigh(op: u64, words: usize) -> u64
     (2 + words) as u64 * 0x1_0000_0000
 }
 
+// What a put adds of which the table says an extent: one less than the bytes of its value, which is in the log.
+pub fn weigh_extent(extent: u64) -> u64
+    ensures { λ r. ⌜ r ≡ extentWeight extent ⌝ }
+{
+    2 + (extent % 0x100 + 8) / 8
+}
+
 // What the entry that stands at word `place` adds, of which the table says this extent.
 fn weigh_at(image: &[u8], extent: u64, place: usize) -> u64
     ensures { λ r. ⌜ WeighedAt (wordsOf (now (image .entry))) extent place r ⌝ }
 {
     if 0 < extent {
-        let field = extent % 0x100 + 1;
-        return weigh(1, log::words_for(0, field));
+        return weigh_extent(extent);
     }
     let first = codec::first_of(words::load(image, place));
     match first {

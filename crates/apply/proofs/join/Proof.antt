@@ -1,13 +1,15 @@
--- `joining::join` meets its contract. The loop's invariant: what was left of the batch at the beginning says what is
+-- `apply::join` meets its contract. The loop's invariant: what was left of the batch at the beginning says what is
 -- left of it now.
 -- Assumes nothing.
 use Prim.Native.Nat.{_-_}
-use mathlib.Core.Path.{refl}
+use mathlib.Core.Path.{refl, _∙_}
+use mathlib.Core.List.{[]}
 use native.Mathlib.Omega.{arith}
 use borrow.Author.Needs.{needs}
 use Rattle.spec.specs.Words.{wordsOf}
 use Rattle.apply.proofs.Staging.{told-fits}
-use Rattle.apply.proofs.Batch.{Going, going-start, going-next, going-joins}
+use Rattle.apply.specs.Joining.{Going}
+use Rattle.apply.proofs.Batch.{going-start, going-then, going-next, going-joins}
 use Rattle.apply.proofs.join.Statement.{statement}
 use Rattle.apply.proofs.join.Tie as tie
 
@@ -26,6 +28,9 @@ at-most-requires c κs = search needs
 loop-holds : tie.Need-loop-holds Inv-loop μ-loop
 loop-holds c = going-start _ _ _ _ _ _ _ (c .before .buffer-length .ensures .1)
 
+join-puts-requires : tie.Need-join-puts-requires Inv-loop μ-loop
+join-puts-requires c κs = omega arith
+
 item-at-requires : tie.Need-item-at-requires Inv-loop μ-loop
 item-at-requires c κs = omega arith
 
@@ -33,10 +38,11 @@ enum-told : tie.Need-enum-told Inv-loop μ-loop
 enum-told c = search needs
 
 same-length : tie.Need-same-length Inv-loop μ-loop
-same-length c = c .before .before .before .before .loop .inv .sized
+same-length c = c .before .before .before .before .before .before .join-puts .ensures .goes [] .sized ∙ c .before .before .before .before .before .before .before .before .before .loop .inv .sized
 
 returns : tie.Need-returns Inv-loop μ-loop
-returns c = going-joins _ _ _ _ _ _ _ _ _ _ _ _ (c .before .before .before .before .loop .inv) _ (c .before .before .item-at .ensures) (c .enum-told .given .1) refl (c .before .before .before .before .before .at-most .ensures)
+returns c =
+    going-joins _ _ _ _ _ _ _ _ _ _ _ _ (going-then _ _ _ _ _ _ _ _ _ _ _ _ _ _ _ (c .before .before .before .before .before .before .before .before .before .loop .inv) (c .before .before .before .before .before .before .join-puts .ensures .goes _)) _ (c .before .before .item-at .ensures) (c .enum-told .given .1) refl (c .before .before .before .before .before .before .before .before .before .before .at-most .ensures)
 
 enum-known-item : tie.Need-enum-known-item Inv-loop μ-loop
 enum-known-item c = search needs
@@ -60,16 +66,17 @@ claim-requires : tie.Need-claim-requires Inv-loop μ-loop
 claim-requires c κs = search needs
 
 add-at : tie.Need-add-at Inv-loop μ-loop
-add-at c = let f = told-fits _ _ _ _ (c .before .before .before .before .before .before .before .before .before .before .before .before .before .item-at .ensures) _ _ _ _ _ _ (c .before .before .before .before .before .before .before .before .before .before .before .item .given .1) in omega arith
+add-at c = let e = c .before .before .before .before .before .before .before .before .before .before .before .before .before .before .before .before .before .before .before .before .before .at-most .ensures in let f = told-fits _ _ _ _ (c .before .before .before .before .before .before .before .before .before .before .before .before .before .item-at .ensures) _ _ _ _ _ _ (c .before .before .before .before .before .before .before .before .before .before .before .item .given .1) in omega arith
 
 add-at-2 : tie.Need-add-at-2 Inv-loop μ-loop
-add-at-2 c = let f = told-fits _ _ _ _ (c .before .before .before .before .before .before .before .before .before .before .before .before .before .item-at .ensures) _ _ _ _ _ _ (c .before .before .before .before .before .before .before .before .before .before .before .item .given .1) in omega arith
+add-at-2 c = let e = c .before .before .before .before .before .before .before .before .before .before .before .before .before .before .before .before .before .before .before .before .before .at-most .ensures in let f = told-fits _ _ _ _ (c .before .before .before .before .before .before .before .before .before .before .before .before .before .item-at .ensures) _ _ _ _ _ _ (c .before .before .before .before .before .before .before .before .before .before .before .item .given .1) in omega arith
 
 loop-less : tie.Need-loop-less Inv-loop μ-loop
-loop-less c = let f = told-fits _ _ _ _ (c .before .before .before .before .before .before .before .before .before .before .before .before .before .item-at .ensures) _ _ _ _ _ _ (c .before .before .before .before .before .before .before .before .before .before .before .item .given .1) in omega arith
+loop-less c = let g = c .before .before .before .before .before .before .before .before .before .before .before .before .before .before .before .before .before .join-puts .ensures .farther in let f = told-fits _ _ _ _ (c .before .before .before .before .before .before .before .before .before .before .before .before .before .item-at .ensures) _ _ _ _ _ _ (c .before .before .before .before .before .before .before .before .before .before .before .item .given .1) in omega arith
 
 loop-again : tie.Need-loop-again Inv-loop μ-loop
-loop-again c = going-next _ _ _ _ _ _ _ _ _ _ _ (c .before .before .before .before .before .before .before .before .before .before .before .before .before .before .before .loop .inv) _ (c .before .before .before .before .before .before .before .before .before .before .before .before .before .item-at .ensures) _ _ _ _ _ _ (c .before .before .before .before .before .before .before .before .before .before .before .item .given .1) (omega arith) _ _ (c .before .before .before .before .before .before .before .before .before .extent-of .ensures) (c .before .before .before .before .before .before .before .before .alone .ensures) _ (c .before .before .before .before .before .before .before .weigh .ensures) _ _ _ (c .before .before .before .before .join-one .ensures) _ (c .claim .ensures)
+loop-again c =
+    going-next _ _ _ _ _ _ _ _ _ _ _ (going-then _ _ _ _ _ _ _ _ _ _ _ _ _ _ _ (c .before .before .before .before .before .before .before .before .before .before .before .before .before .before .before .before .before .before .before .before .loop .inv) (c .before .before .before .before .before .before .before .before .before .before .before .before .before .before .before .before .before .join-puts .ensures .goes _)) _ (c .before .before .before .before .before .before .before .before .before .before .before .before .before .item-at .ensures) _ _ _ _ _ _ (c .before .before .before .before .before .before .before .before .before .before .before .item .given .1) (let e = c .before .before .before .before .before .before .before .before .before .before .before .before .before .before .before .before .before .before .before .before .before .at-most .ensures in omega arith) _ _ (c .before .before .before .before .before .before .before .before .before .extent-of .ensures) (c .before .before .before .before .before .before .before .before .alone .ensures) _ (c .before .before .before .before .before .before .before .weigh .ensures) _ _ _ (c .before .before .before .before .join-one .ensures) _ (c .claim .ensures)
 
 pub join-spec : {M : Type 1} → statement M
 join-spec =
@@ -80,6 +87,7 @@ join-spec =
     buffer-length-requires
     at-most-requires
     loop-holds
+    join-puts-requires
     item-at-requires
     enum-told
     same-length

@@ -1,23 +1,16 @@
 -- `weigh_at` meets its contract.
 -- Assumes nothing.
-use mathlib.Core.Path.{refl}
 use Rattle.spec.specs.Words.{wordsOf}
 use Rattle.sums.proofs.Weights.{at-extent, at-padding, at-wrong, at-entry}
 use borrow.Author.Needs.{needs}
 use Rattle.sums.proofs.weigh_at.Statement.{statement}
 use Rattle.sums.proofs.weigh_at.Tie as tie
 
-add-field : tie.Need-add-field
-add-field c = search needs
-
-words-for-requires : tie.Need-words-for-requires
-words-for-requires c κs = search needs
-
-weigh-requires : tie.Need-weigh-requires
-weigh-requires c κs = search needs
+weigh-extent-requires : tie.Need-weigh-extent-requires
+weigh-extent-requires c κs = search needs
 
 returns : tie.Need-returns
-returns c = at-extent (wordsOf (c .before .before .before .before .args .image .now)) _ _ _ _ _ (c .before .before .if1 .taken) refl (c .before .words-for .ensures .0) (c .weigh .ensures)
+returns c = at-extent (wordsOf (c .before .before .before .args .image .now)) _ _ _ (c .before .if1 .taken) (c .weigh-extent .ensures)
 
 load-requires : tie.Need-load-requires
 load-requires c κs = search needs
@@ -34,11 +27,11 @@ enum-told-2 c = search needs
 enum-known-first : tie.Need-enum-known-first
 enum-known-first c = search needs
 
-words-for-requires-2 : tie.Need-words-for-requires-2
-words-for-requires-2 c κs = search needs
+words-for-requires : tie.Need-words-for-requires
+words-for-requires c κs = search needs
 
-weigh-requires-2 : tie.Need-weigh-requires-2
-weigh-requires-2 c κs = search needs
+weigh-requires : tie.Need-weigh-requires
+weigh-requires c κs = search needs
 
 returns-2 : tie.Need-returns-2
 returns-2 c = at-padding (wordsOf (c .before .before .before .before .before .before .args .image .now)) _ _ _ _ (c .before .before .before .load .ensures) (c .before .before .first-of .ensures) (c .enum-told .given .1)
@@ -47,23 +40,21 @@ returns-3 : tie.Need-returns-3
 returns-3 c = at-wrong (wordsOf (c .before .before .before .before .before .before .args .image .now)) _ _ _ _ (c .before .before .before .load .ensures) (c .before .before .first-of .ensures) (c .enum-told2 .given .1)
 
 returns-4 : tie.Need-returns-4
-returns-4 c = at-entry (wordsOf (c .before .before .before .before .before .before .before .before .before .args .image .now)) _ _ _ _ (c .before .before .before .before .before .before .load .ensures) (c .before .before .before .before .before .first-of .ensures) _ _ _ _ _ _ (c .before .before .before .first .given .1) (c .before .words-for2 .ensures .0) (c .weigh2 .ensures)
+returns-4 c = at-entry (wordsOf (c .before .before .before .before .before .before .before .before .before .args .image .now)) _ _ _ _ (c .before .before .before .before .before .before .load .ensures) (c .before .before .before .before .before .first-of .ensures) _ _ _ _ _ _ (c .before .before .before .first .given .1) (c .before .words-for .ensures .0) (c .weigh .ensures)
 
 pub weigh-at-spec : {M : Type 1} → statement M
 weigh-at-spec =
     tie.close
     (tie.spec
-    add-field
-    words-for-requires
-    weigh-requires
+    weigh-extent-requires
     returns
     load-requires
     first-of-requires
     enum-told
     enum-told-2
     enum-known-first
-    words-for-requires-2
-    weigh-requires-2
+    words-for-requires
+    weigh-requires
     returns-2
     returns-3
     returns-4)
