@@ -36,7 +36,7 @@ use Rattle.sums.proofs.Laws.{cleared-summed}
 use Rattle.sums.proofs.Weights.{right-few}
 use Rattle.sums.proofs.Joins.{joins-behind}
 use Rattle.log.proofs.Stands.{image-stands}
-use Rattle.opening.specs.Pass.{Entering, EnteredIs, Owing, Passing, Filling}
+use Rattle.opening.specs.Pass.{Entering, AgainIs, EnteredIs, Owing, Passing, Filling}
 use Rattle.opening.proofs.Sums.{owing-none, owing-summed, owing-turned, owing-paid}
 
 -- One more entry, of a key whose probing stops at `slot`, where the table holds `old`.
@@ -81,6 +81,12 @@ module _ (table : List ℕ) (keys : ℕ) (fits single : Bool) (key own slot old 
 pub enter-over : (table : List ℕ) (keys : ℕ) (fits single : Bool) (key own : ℕ) → fits ≡ false → Entering table table keys fits single key own keys false false
 enter-over table keys fits single key own so =
     record { sized = refl; enters = rw so (λ xs e k o b inv. fill-over (length table) xs e table keys inv); singly = λ f. absurd (not-both true refl (sym f)) }
+
+-- one more entry of a key that the table has
+pub again-is : (ws buffer buffer′ table table′ : List ℕ) (single : Bool) (slot old key own w : ℕ) (single′ : Bool) (info : ℕ) → info ≡ noted old own → table′ ≡ putAt table slot key info
+    → single′ ≡ both single (ltb info 0x8000_0000_0000_0000) → Renewed ws buffer buffer′ old own w → AgainIs ws buffer buffer′ table table′ single slot old key own w single′
+again-is ws buffer buffer′ table table′ single slot old key own w single′ info is-info is-put is-single r =
+    record { put = is-put ∙ ap (putAt table slot key) is-info; low = is-single ∙ ap (λ (i : ℕ). both single (ltb i 0x8000_0000_0000_0000)) is-info; renewed = r }
 
 -- with the sums
 module _ (ws buffer buffer′ table table′ : List ℕ) (keys : ℕ) (fits single : Bool) (key own w keys′ : ℕ) (single′ : Bool) where

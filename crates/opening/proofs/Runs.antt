@@ -14,12 +14,12 @@ use Rattle.spec.specs.declared.LogStep.the-variants as S
 use Rattle.spec.specs.Basics.{both}
 use Rattle.spec.specs.Log.{stepOf}
 use Rattle.index.specs.Index.{infoAt, stopOf, putAt, capacity as tableRoom}
-use Rattle.volatile.specs.Known.{extentOf, alone}
+use Rattle.volatile.specs.Known.{extentOf, alone, noted}
 use Rattle.volatile.proofs.Info.{noted-new}
 use Rattle.log.specs.declared.Short.{Short}
 use Rattle.log.specs.declared.Short.the-variants as P
 use Rattle.log.specs.Short.{ShortAt}
-use Rattle.log.specs.Cursor.{cursorAt}
+use Rattle.log.specs.Cursor.{cursorAt, left}
 use Rattle.log.proofs.Walk.{next-found}
 use Rattle.spec.specs.Log.{Entry, wordsFor}
 use Rattle.spec.specs.Contents.{chosen}
@@ -30,9 +30,11 @@ use Rattle.index.proofs.Answers.{look-in}
 use Rattle.log.specs.Stands.{entryIn, StandsIn}
 use Rattle.volatile.specs.Known.{infoOf, Bounded}
 use Rattle.volatile.proofs.Info.{bounded-front, zero-chosen}
-use Rattle.opening.specs.Pass.{Entering, Owing, Hastened}
+use Rattle.sums.specs.Change.{only, nothing, Changed, Weighed}
+use Rattle.sums.proofs.Laws.{alone-self, alone-then}
+use Rattle.opening.specs.Pass.{Entering, AgainIs, EnteredIs, Owing, Hastened}
 use Rattle.opening.proofs.Sums.{owing-more}
-use Rattle.opening.proofs.Pass.{enter-new, pass-entry, pass-turned}
+use Rattle.opening.proofs.Pass.{enter-new, enter-old, entered-renewed, pass-entry, pass-entered, pass-paid, pass-turned}
 
 -- the word of a key with one entry has no bit of several top entries
 alone-low : (extent place version : ℕ) → alone extent place version < 0x8000_0000_0000_0000
@@ -44,8 +46,8 @@ both-low : (single b : Bool) → b ≡ true → single ≡ both single b
 both-low true b h = sym h
 both-low false b h = refl
 
-same-chunk : (at at₀ end : ℕ) → at₀ ≤ at → at < end → end / 512 + (end % 512 + 511) / 512 ≤ at₀ / 512 + 1 → at / 512 ≡ at₀ / 512
-same-chunk at at₀ end l h one =
+same-chunk : (at from at₀ end : ℕ) → from ≤ at → at₀ ≤ from → at < end → end / 512 + (end % 512 + 511) / 512 ≤ at₀ / 512 + 1 → at / 512 ≡ from / 512
+same-chunk at from at₀ end l g h one =
     let q : end ≤ 512 * (end / 512 + (end % 512 + 511) / 512) = omega arith in
     let r : at < 512 * (at₀ / 512 + 1) = omega arith in
     omega arith
@@ -54,49 +56,81 @@ same-chunk at at₀ end l h one =
 pub put-told : (ws : List ℕ) (at end : ℕ) (r : Short) → ShortAt ws at end r → (v x k m : ℕ) → r ≡ P.Put v x k m → stepOf (slice at end ws) ≡ S.Entry 1 0 v x k m
 put-told ws at end r told v x k m e = rw e at told
 
--- one step more, from where the run came to: a put of a key that the table does not have, while it has room
--- the run's words lie in one chunk
-pub run-start : (ws : List ℕ) (end : ℕ) (fits : Bool) (table : List ℕ) (keys at : ℕ) → Hastened ws end fits table keys at table keys at
-run-start ws end fits table keys at = record {
+pub run-start : (ws : List ℕ) (end : ℕ) (fits : Bool) (table : List ℕ) (keys : ℕ) (single : Bool) (buffer : List ℕ) (at : ℕ) → length buffer ≡ 1664 → Hastened ws end fits table keys single buffer at table keys single buffer at at
+run-start ws end fits table keys single buffer at size = record {
   sized = refl;
+  kept = alone-self buffer size;
   nearer = λ n c. omega arith;
+  start = omega arith;
   farther = omega arith;
-  passes = λ n c words single direct buffer inv. let z : at - at ≡ 0 = omega arith in rw z (pass-turned n ws words table keys fits single direct buffer 0 at (cursorAt c at end) inv);
+  passes = λ n c words direct inv. let z : at - at ≡ 0 = omega arith in rw z (pass-turned n ws words table keys fits single direct buffer 0 at (cursorAt c at end) inv);
 }
 
-module _ (ws : List ℕ) (end : ℕ) (fits : Bool) (table₀ : List ℕ) (keys₀ at₀ : ℕ) (one : end / 512 + (end % 512 + 511) / 512 ≤ at₀ / 512 + 1) (table : List ℕ) (keys at : ℕ) (so-far : Hastened ws end fits table₀ keys₀ at₀ table keys at) where
-  pub run-more : (v x k m : ℕ) → stepOf (slice at end ws) ≡ S.Entry 1 0 v x k m → (slot old : ℕ) → slot ≡ stopOf table k → old ≡ infoAt table slot → old ≡ 0
-      → keys < tableRoom (length table₀) → (own : ℕ) → own ≡ alone (extentOf 0 x) at v → (table′ : List ℕ) → table′ ≡ putAt table slot k own → fits ≡ true
-      → Hastened ws end fits table₀ keys₀ at₀ table′ (keys + 1) (at + (2 + m))
-  run-more v x k m q slot old is-slot is-word zero room own is-own table′ is-put so = record {
-    sized = entered true .sized ∙ so-far .sized;
-    nearer = λ n c. let f = next-found n ws c at end 1 0 v x k m q .falls in let g = so-far .nearer n c in omega arith;
+-- one step more, from where the run came to: the run's words lie in one chunk
+module _ (ws : List ℕ) (end : ℕ) (fits : Bool) (table₀ : List ℕ) (keys₀ : ℕ) (single₀ : Bool) (buffer₀ : List ℕ) (at₀ : ℕ) (one : end / 512 + (end % 512 + 511) / 512 ≤ at₀ / 512 + 1)
+    (table : List ℕ) (keys : ℕ) (single : Bool) (buffer : List ℕ) (from at : ℕ) (so-far : Hastened ws end fits table₀ keys₀ single₀ buffer₀ at₀ table keys single buffer from at)
+    (v x k m : ℕ) (q : stepOf (slice at end ws) ≡ S.Entry 1 0 v x k m) (slot old : ℕ) (is-slot : slot ≡ stopOf table k) (is-word : old ≡ infoAt table slot) (own : ℕ) (is-own : own ≡ alone (extentOf 0 x) at v) (so : fits ≡ true) where
+  abbrev e : Entry
+  e = entryIn ws 1 0 v x k m at
+
+  falls : (n c : ℕ) → left n ws (cursorAt c (at + (2 + m)) end) ≤ left n ws (cursorAt c at₀ end)
+  falls n c = let f = next-found n ws c at end 1 0 v x k m q .falls in let g = so-far .nearer n c in omega arith
+
+  -- a put of a key that the table does not have, while it has room
+  pub run-more : old ≡ 0 → keys < tableRoom (length table₀) → (table′ : List ℕ) → table′ ≡ putAt table slot k own
+      → Hastened ws end fits table₀ keys₀ single₀ buffer₀ at₀ table′ (keys + 1) single buffer from (at + (2 + m))
+  run-more zero room table′ is-put = record {
+    sized = entered .sized ∙ so-far .sized;
+    kept = so-far .kept;
+    nearer = falls;
+    start = so-far .start;
     farther = let f = so-far .farther in omega arith;
-    passes = λ n c words single direct buffer inv.
-        let before = so-far .passes n c words single direct buffer inv in
+    passes = λ n c words direct inv.
+        let before = so-far .passes n c words direct inv in
         let told = next-found n ws c at end 1 0 v x k m q in
-        pass-entry n ws words table keys fits single direct buffer at₀ (at - at₀) (cursorAt c at end) before 1 0 v x k m at _ told direct refl own is-own table′ (keys + 1) fits single (entered single)
-        buffer at₀ (at + (2 + m) - at₀) (λ es h inside small held owing t. summed (before .passed) (told .stands) (told .size) small (held .whole t .0 k) (owing t));
+        pass-entry n ws words table keys fits single direct buffer from (at - from) (cursorAt c at end) before 1 0 v x k m at _ told direct refl own is-own table′ (keys + 1) fits single entered
+        buffer from (at + (2 + m) - from) (λ es h inside small held owing t. summed (before .passed) (told .stands) (told .size) small (held .whole t .0 k) (owing t));
   }
     where
-      e : Entry
-      e = entryIn ws 1 0 v x k m at
-
       low : own < 0x8000_0000_0000_0000
       low = rw is-own (alone-low (extentOf 0 x) at v)
 
-      summed : (xs : List Entry) {buffer : List ℕ} → StandsIn ws e → m ≡ wordsFor 0 x → Bounded (xs ++ e ∷ []) → get table k ≡ infoOf k xs → Owing buffer at₀ (at - at₀) xs → Owing buffer at₀ (at + (2 + m) - at₀) (xs ++ e ∷ [])
-      summed xs {buffer} stands is-size small holds owing =
+      summed : (xs : List Entry) → StandsIn ws e → m ≡ wordsFor 0 x → Bounded (xs ++ e ∷ []) → get table k ≡ infoOf k xs → Owing buffer from (at - from) xs → Owing buffer from (at + (2 + m) - from) (xs ++ e ∷ [])
+      summed xs stands is-size small holds owing =
           let f = so-far .farther in
+          let g = so-far .start in
           let room = room-entry ws at end 1 0 v x k m q in
           let front = bounded-front xs (e ∷ []) small in
           let own-small = small .each e (mem-r e xs (e ∷ []) (inl refl)) in
           let none-yet : chosen k xs ≡ none = zero-chosen k xs front (sym holds ∙ sym (is-word ∙ look-in table k slot is-slot) ∙ zero) in
           let size : length (e .value) ≡ m = stands .right .words ∙ sym is-size in
-          let sum : at + (2 + m) - at₀ ≡ (at - at₀) + (2 + m) = omega arith in
-          let here : at / 512 ≡ at₀ / 512 = same-chunk at at₀ end (so-far .farther) (omega arith) one in
-          rw sum (owing-more buffer at₀ (at - at₀) m xs e none-yet (own-small .version-low) (own-small .place-high) here refl size owing)
+          let sum : at + (2 + m) - from ≡ (at - from) + (2 + m) = omega arith in
+          let here : at / 512 ≡ from / 512 = same-chunk at from at₀ end (so-far .farther) (so-far .start) (omega arith) one in
+          rw sum (owing-more buffer from (at - from) m xs e none-yet (own-small .version-low) (own-small .place-high) here refl size owing)
 
-      entered : (single : Bool) → Entering table table′ keys fits single k own (keys + 1) fits single
-      entered single =
+      entered : Entering table table′ keys fits single k own (keys + 1) fits single
+      entered =
           rw so (enter-new table keys true single k own slot old is-slot is-word refl table′ own (noted-new old own zero) is-put single (both-low single _ (lt-ltb own 0x8000_0000_0000_0000 low)) zero (rw (so-far .sized) room))
+
+  -- a put of a key that it has: what is owed is paid first
+  pub run-again : (old ≡ 0 → ⊥) → (paid : List ℕ) → Changed buffer paid (only from (at - from)) nothing → (w : ℕ) → Weighed 1 m w → (table′ buffer′ : List ℕ) (single′ : Bool)
+      → AgainIs ws paid buffer′ table table′ single slot old k own w single′ → Hastened ws end fits table₀ keys₀ single₀ buffer₀ at₀ table′ keys single′ buffer′ (at + (2 + m)) (at + (2 + m))
+  run-again known-key paid change w weighed table′ buffer′ single′ told-again = record {
+    sized = entered .entered .sized ∙ so-far .sized;
+    kept = alone-then buffer₀ paid buffer′ (alone-then buffer₀ buffer paid (so-far .kept) (change .kept)) (told-again .renewed .kept);
+    nearer = falls;
+    start = let f = so-far .farther in let g = so-far .start in omega arith;
+    farther = omega arith;
+    passes = λ n c words direct inv.
+        let before = so-far .passes n c words direct inv in
+        let told = next-found n ws c at end 1 0 v x k m q in
+        let settled = pass-paid n ws words table keys fits single direct buffer paid from (at - from) (cursorAt c at end) before change in
+        let done = pass-entered n ws words table keys fits single direct paid (cursorAt c at end) settled 1 0 v x k m at (cursorAt c (at + (2 + m)) end) told direct refl own is-own w weighed table′ buffer′ keys fits single′ entered in
+        let z : at + (2 + m) - (at + (2 + m)) ≡ 0 = omega arith in
+        rw z (pass-turned n ws words table′ keys fits single′ direct buffer′ 0 (at + (2 + m)) (cursorAt c (at + (2 + m)) end) done);
+  }
+    where
+      entered : EnteredIs ws paid buffer′ table table′ keys fits single k own w keys fits single′
+      entered =
+          rw so (entered-renewed ws paid buffer′ table table′ keys true single k own w keys single′ slot old is-slot is-word refl (told-again .renewed)
+          (enter-old table keys true single k own slot old is-slot is-word refl table′ (noted old own) refl (told-again .put) single′ (told-again .low) known-key))

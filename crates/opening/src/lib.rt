@@ -10,7 +10,7 @@ ghost use Rattle.spec.specs.Places.{lengthAllowed};
 ghost use Rattle.spec.specs.Header.{headerRight};
 ghost use Rattle.spec.specs.Machine.{Open};
 ghost use Rattle.index.specs.Index.{zeros};
-ghost use Rattle.opening.specs.Pass.{EnteredIs, Hastened, Skipped, Filling};
+ghost use Rattle.opening.specs.Pass.{AgainIs, EnteredIs, Hastened, Skipped, Filling};
 ghost use Rattle.opening.specs.Judged.{firstRefusal, JudgingLog, Judging};
 ghost use Rattle.session.specs.Promise.{Does, memoryOf};
 use blocks::Buffer;
@@ -74,6 +74,28 @@ fn unpointed(direct: bool, placement: u64) -> bool
     direct
 }
 
+// One more entry of a key that the table has: `old` is its word, in slot `slot`, `own` what it would be with this entry
+// alone, `weight` what the entry adds to the sum of its chunk. The answer is whether each key still has a single top
+// entry.
+fn again(
+    image: &[u8],
+    buffer: &mut Buffer,
+    table: &mut [u64],
+    single: bool,
+    slot: usize,
+    old: u64,
+    key: u64,
+    own: u64,
+    weight: u64,
+) -> bool
+    ensures { λ r. ⌜ AgainIs (wordsOf (now (image .entry))) (now (buffer .entry)) (now (buffer .exit)) (now (table .entry)) (now (table .exit)) single slot old key own weight r ⌝ }
+{
+    sums::renew(image, buffer, old, own, weight);
+    let info = volatile::noted(old, own);
+    index::put_at(table, slot, key, info);
+    lone(single, info)
+}
+
 // The table's keys, whether those of all entries so far fit, and whether each then has a single top entry.
 struct Entered {
     keys: usize,
@@ -100,8 +122,8 @@ fn enter(
     if fits {
         let slot = index::stop(table, key);
         let old = index::word_at(table, slot);
-        sums::renew(image, buffer, old, own, weight);
         if old == 0 {
+            sums::renew(image, buffer, old, own, weight);
             if keys < index::capacity(table.len()) {
                 index::put_at(table, slot, key, own);
                 return Entered {
@@ -116,12 +138,11 @@ fn enter(
                 single: false,
             };
         }
-        let info = volatile::noted(old, own);
-        index::put_at(table, slot, key, info);
+        let lonely = again(image, buffer, table, single, slot, old, key, own, weight);
         return Entered {
             keys,
             fits: true,
-            single: lone(single, info),
+            single: lonely,
         };
     }
     Entered {
@@ -131,29 +152,51 @@ fn enter(
     }
 }
 
-// A run of the pass: how many keys the table has then, and how far it came.
+// A run of the pass: how many keys the table has then, whether each has a single top entry, and how far it came. What it
+// passed from word `from` on is new and not yet in the sum of the chunk.
 struct Ran {
     keys: usize,
+    single: bool,
+    from: usize,
     at: usize,
 }
 
-// The pass over puts with new keys and values in the log, from word `at` on, as long as the table has room: all else is
-// left to `fill`. They are chosen, and in one chunk: what they add to its sum is the words passed.
-fn run(image: &[u8], at: usize, end: usize, table: &mut [u64], keys: usize, fits: bool) -> Ran
-    ensures { λ r. ⌜ Hastened (wordsOf (now (image .entry))) end fits (now (table .entry)) keys at (now (table .exit)) (r .keys) (r .at) ⌝ }
+// The pass over puts with their values in the log, from word `at` on, as long as the table has room for new keys: all
+// else is left to `fill`. Puts with new keys are chosen, and in one chunk: what they add to its sum is the words passed.
+fn run(
+    image: &[u8],
+    at: usize,
+    end: usize,
+    table: &mut [u64],
+    buffer: &mut Buffer,
+    keys: usize,
+    fits: bool,
+    single: bool,
+) -> Ran
+    ensures { λ r. ⌜ Hastened (wordsOf (now (image .entry))) end fits (now (table .entry)) keys single (now (buffer .entry)) at (now (table .exit)) (r .keys) (r .single) (now (buffer .exit)) (r .from) (r .at) ⌝ }
 {
+    blocks::buffer_length(buffer);
     if at / 512 + 1 < end / 512 + (end % 512 + 511) / 512 {
-        return Ran { keys, at };
+        return Ran {
+            keys,
+            single,
+            from: at,
+            at,
+        };
     }
     let room = index::capacity(table.len());
-    let mut place = at;
     let mut count = keys;
+    let mut lonely = single;
+    let mut from = at;
+    let mut place = at;
     while fits {
         let s = log::short_put(image, place, end);
         match s {
             Short::Other => {
                 return Ran {
                     keys: count,
+                    single: lonely,
+                    from,
                     at: place,
                 };
             }
@@ -166,26 +209,34 @@ fn run(image: &[u8], at: usize, end: usize, table: &mut [u64], keys: usize, fits
                 let slot = index::stop(table, key);
                 let old = index::word_at(table, slot);
                 if old != 0 {
-                    return Ran {
-                        keys: count,
-                        at: place,
-                    };
+                    let passed = place - from;
+                    sums::add(buffer, from, passed as u64);
+                    let this = volatile::alone(volatile::extent_of(0, field), place, version);
+                    let weight = sums::weigh(1, words);
+                    lonely = again(image, buffer, table, lonely, slot, old, key, this, weight);
+                    from = place + (2 + words);
+                    place = from;
+                } else {
+                    if room <= count {
+                        return Ran {
+                            keys: count,
+                            single: lonely,
+                            from,
+                            at: place,
+                        };
+                    }
+                    let own = volatile::alone(volatile::extent_of(0, field), place, version);
+                    index::put_at(table, slot, key, own);
+                    count += 1;
+                    place += 2 + words;
                 }
-                if room <= count {
-                    return Ran {
-                        keys: count,
-                        at: place,
-                    };
-                }
-                let own = volatile::alone(volatile::extent_of(0, field), place, version);
-                index::put_at(table, slot, key, own);
-                count += 1;
-                place += 2 + words;
             }
         }
     }
     Ran {
         keys: count,
+        single: lonely,
+        from,
         at: place,
     }
 }
@@ -232,10 +283,11 @@ fn fill(image: &[u8], count: usize, table: &mut [u64], buffer: &mut Buffer) -> F
     let mut end: usize = 0;
     loop {
         at = skip(image, at, end);
-        let r = run(image, at, end, table, keys, fits);
-        let passed = r.at - at;
-        sums::add(buffer, at, passed as u64);
+        let r = run(image, at, end, table, buffer, keys, fits, single);
+        let passed = r.at - r.from;
+        sums::add(buffer, r.from, passed as u64);
         keys = r.keys;
+        single = r.single;
         at = r.at;
         let s = log::next_entry(image, at, end);
         match s {

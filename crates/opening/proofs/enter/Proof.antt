@@ -1,5 +1,6 @@
 -- `opening::enter` meets its contract.
 -- Assumes nothing.
+use mathlib.Core.Path.{refl}
 use Rattle.volatile.proofs.Info.{noted-new}
 use Rattle.spec.specs.Words.{wordsOf}
 use Rattle.sums.proofs.Laws.{alone-self}
@@ -36,28 +37,25 @@ same-length : tie.Need-same-length
 same-length c = search needs
 
 returns : tie.Need-returns
-returns c = let zero = c .before .before .before .before .before .before .before .if2 .taken in entered-renewed (wordsOf (c .before .before .before .before .before .before .before .before .before .before .before .before .before .before .before .before .before .before .before .args .image .now)) _ _ _ _ _ _ _ _ _ _ _ _ _ _ (c .before .before .before .before .before .before .before .before .before .before .before .before .stop .ensures) (c .before .before .before .before .before .before .before .before .before .before .word-at .ensures) (c .before .before .before .before .before .before .before .before .before .before .before .before .before .before .if1 .taken) (c .before .before .before .before .before .before .before .before .renew .ensures) (enter-new _ _ _ _ _ _ _ _ (c .before .before .before .before .before .before .before .before .before .before .before .before .stop .ensures) (c .before .before .before .before .before .before .before .before .before .before .word-at .ensures) (c .before .before .before .before .before .before .before .before .before .before .before .before .before .before .if1 .taken) _ _ (noted-new _ _ zero) (c .before .before .before .put-at .ensures) _ (c .lone .ensures) zero (rw (← c .before .before .before .before .before .before .capacity .ensures) (c .before .before .before .before .before .if3 .taken)))
+returns c = let zero = c .before .before .before .before .before .before .before .before .before .if2 .taken in entered-renewed (wordsOf (c .before .before .before .before .before .before .before .before .before .before .before .before .before .before .before .before .before .before .before .args .image .now)) _ _ _ _ _ _ _ _ _ _ _ _ _ _ (c .before .before .before .before .before .before .before .before .before .before .before .before .stop .ensures) (c .before .before .before .before .before .before .before .before .before .before .word-at .ensures) (c .before .before .before .before .before .before .before .before .before .before .before .before .before .before .if1 .taken) (c .before .before .before .before .before .before .before .renew .ensures) (enter-new _ _ _ _ _ _ _ _ (c .before .before .before .before .before .before .before .before .before .before .before .before .stop .ensures) (c .before .before .before .before .before .before .before .before .before .before .word-at .ensures) (c .before .before .before .before .before .before .before .before .before .before .before .before .before .before .if1 .taken) _ _ (noted-new _ _ zero) (c .before .before .before .put-at .ensures) _ (c .lone .ensures) zero (rw (← c .before .before .before .before .before .before .capacity .ensures) (c .before .before .before .before .before .if3 .taken)))
 
 same-length-2 : tie.Need-same-length-2
 same-length-2 c = search needs
 
 returns-2 : tie.Need-returns-2
-returns-2 c = entered-over (wordsOf (c .before .before .before .before .before .before .before .before .before .before .before .before .before .before .args .image .now)) _ _ _ _ _ _ _ _ _ _ _ _ (c .before .before .before .renew .ensures .kept) (enter-full _ _ _ _ _ _ _ _ (c .before .before .before .before .before .before .before .stop .ensures) (c .before .before .before .before .before .word-at .ensures) (c .before .before .before .before .before .before .before .before .before .if1 .taken) (c .before .before .if2 .taken) (rw (← c .before .capacity .ensures) (c .if3 .left)))
+returns-2 c = entered-over (wordsOf (c .before .before .before .before .before .before .before .before .before .before .before .before .before .before .args .image .now)) _ _ _ _ _ _ _ _ _ _ _ _ (c .before .before .renew .ensures .kept) (enter-full _ _ _ _ _ _ _ _ (c .before .before .before .before .before .before .before .stop .ensures) (c .before .before .before .before .before .word-at .ensures) (c .before .before .before .before .before .before .before .before .before .if1 .taken) (c .before .before .before .before .if2 .taken) (rw (← c .before .capacity .ensures) (c .if3 .left)))
 
-noted-requires : tie.Need-noted-requires
-noted-requires c κs = search needs
-
-put-at-requires-2 : tie.Need-put-at-requires-2
-put-at-requires-2 c κs = search needs
-
-lone-requires-2 : tie.Need-lone-requires-2
-lone-requires-2 c κs = search needs
+again-requires : tie.Need-again-requires
+again-requires c κs = search needs
 
 same-length-3 : tie.Need-same-length-3
 same-length-3 c = search needs
 
 returns-3 : tie.Need-returns-3
-returns-3 c = entered-renewed (wordsOf (c .before .before .before .before .before .before .before .before .before .before .before .before .before .before .before .before .before .before .args .image .now)) _ _ _ _ _ _ _ _ _ _ _ _ _ _ (c .before .before .before .before .before .before .before .before .before .before .before .stop .ensures) (c .before .before .before .before .before .before .before .before .before .word-at .ensures) (c .before .before .before .before .before .before .before .before .before .before .before .before .before .if1 .taken) (c .before .before .before .before .before .before .before .renew .ensures) (enter-old _ _ _ _ _ _ _ _ (c .before .before .before .before .before .before .before .before .before .before .before .stop .ensures) (c .before .before .before .before .before .before .before .before .before .word-at .ensures) (c .before .before .before .before .before .before .before .before .before .before .before .before .before .if1 .taken) _ _ (c .before .before .before .before .before .noted .ensures) (c .before .before .before .put-at2 .ensures) _ (c .lone2 .ensures) (c .before .before .before .before .before .before .if2 .left))
+returns-3 c =
+    let t = c .before .before .again .ensures in
+    entered-renewed (wordsOf (c .before .before .before .before .before .before .before .before .before .before .before .before .before .before .before .args .image .now)) _ _ _ _ _ _ _ _ _ _ _ _ _ _ (c .before .before .before .before .before .before .before .before .stop .ensures) (c .before .before .before .before .before .before .word-at .ensures) (c .before .before .before .before .before .before .before .before .before .before .if1 .taken) (t .renewed)
+    (enter-old _ _ _ _ _ _ _ _ (c .before .before .before .before .before .before .before .before .stop .ensures) (c .before .before .before .before .before .before .word-at .ensures) (c .before .before .before .before .before .before .before .before .before .before .if1 .taken) _ _ refl (t .put) _ (t .low) (c .before .before .before .before .before .if2 .left))
 
 returns-4 : tie.Need-returns-4
 returns-4 c = entered-over (wordsOf (c .before .before .before .before .before .args .image .now)) _ _ _ _ _ _ _ _ _ _ _ _ (alone-self _ (c .before .buffer-length .ensures .1)) (enter-over _ _ _ _ _ _ (c .if1 .left))
@@ -78,9 +76,7 @@ enter-spec =
     returns
     same-length-2
     returns-2
-    noted-requires
-    put-at-requires-2
-    lone-requires-2
+    again-requires
     same-length-3
     returns-3
     returns-4)
