@@ -8,7 +8,7 @@ use mathlib.Core.List.{List}
 use Prim.Native.Nat.{ℕ, zero, suc, _+_, _-_, _*_, _/_, _%_, _^_, _≤_, _<_}
 use native.Mathlib.Nat.{mul-assoc, mul-zero, pow-suc, div-add-mod', mul-add-div-right, mul-add-mod-self-right, div-div-eq-div-mul, zero-mul, zero-div, mod-lt}
 use native.Mathlib.Omega.{arith}
-use native.Mathlib.Decide.{decLt, ℕ-discrete}
+use native.Mathlib.Decide.{ℕ-discrete}
 use borrow.Author.Tests.{eq-eqb, eqb-true}
 use lib.Dec.{eqb}
 use lib.ListN.{getD}
@@ -17,12 +17,11 @@ use Rattle.spec.specs.Basics.{pick, both, isIn}
 use Rattle.spec.specs.Words.{wordsOf}
 use Rattle.spec.specs.Places.{directoryWord}
 use Rattle.spec.specs.Directory.{roleOf, sizeIn, sizeOf}
-use Rattle.spec.specs.Log.{Entry}
 use Rattle.spec.specs.Contents.{pointers}
 use Rattle.blocks.specs.Bits.{hasBit}
 use Rattle.blocks.proofs.Laws.{bit-in, bit-beyond}
 use Rattle.theory_base.proofs.Lists.{both-l, both-r}
-use Rattle.slots.specs.Blocks.{Says, Spare, EachUsed, ChunkBits, ToLookAt}
+use Rattle.slots.specs.Blocks.{Spare, EachUsed, ChunkBits, ToLookAt}
 use Rattle.slots.proofs.Staged.{spare-by}
 use Rattle.slots.proofs.Search.{blockCount, all-fit, counted, block-ends, Left, fromChunk, fromBlock, left-open, left-next, left-close}
 

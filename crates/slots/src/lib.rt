@@ -3,10 +3,9 @@
 ghost use mathlib.Core.Path.{_≡_};
 ghost use Prim.Native.Nat.{_+_, _*_, _/_, _^_, _<_, _≤_, min};
 ghost use lib.Dec.{eqb};
-ghost use lib.ListN.{length, getD};
+ghost use lib.ListN.{getD};
 ghost use Rattle.spec.specs.Basics.{pick, both};
 ghost use Rattle.spec.specs.Words.{wordsOf};
-ghost use Rattle.spec.specs.Places.{directoryWord};
 ghost use Rattle.spec.specs.Directory.{roleOf, sizeIn};
 ghost use Rattle.spec.specs.Log.{firstOf};
 ghost use Rattle.slots.specs.Blocks.{metBy, StagedBlock, Spare, EachUsed, ChunkBits, ToLookAt, BlockFound, SlotFound};
