@@ -1,5 +1,4 @@
 pub mod Run
 pub mod Stores
 pub mod Fast
-pub mod Staging
 pub mod Late

@@ -1,22 +1,18 @@
 -- The fast path of a step and of a run: where it is taken, and that elsewhere nothing is done.
 -- Assumes nothing.
 use mathlib.Core.Path.{_≡_}
-use mathlib.Core.Bool.{false}
 use mathlib.Core.List.{List}
 use Prim.Native.Nat.{ℕ, _+_, _*_, _≤_, _<_, min, max}
-use lib.Dec.{eqb}
 use lib.ListN.{length}
-use Rattle.spec.specs.Basics.{pick}
 use Rattle.spec.specs.Actions.{linesFor}
 use Rattle.session.specs.declared.Control.{Control}
 use Rattle.session.specs.declared.Setup.{Setup}
 use Rattle.spec.specs.declared.Report.{Report}
 use Rattle.spec.specs.declared.Report.the-variants as R
-use Rattle.session.specs.State.{batchRoom, blockActions}
-use Rattle.actions.specs.Nth.{nthReport, commitCount}
-use Rattle.fast_path.specs.Run.{isStore, RunsOn}
+use Rattle.session.specs.State.{batchRoom}
+use Rattle.actions.specs.Nth.{commitCount}
 use Rattle.fast_path.specs.Stores.{Before}
-use Rattle.session.specs.Promise.{Memory, memoryOf}
+use Rattle.session.specs.Promise.{Memory}
 
 -- The next action is one of a commit's but not its last, and the lent lengths are those at its begin.
 abbrev pub FastStep : Control → Setup → (bytes words : ℕ) → Type 0
@@ -51,18 +47,3 @@ pub record StoresTo (c : Control) (k : Setup) (b bytes bytes′ : List ℕ) (n :
 -- all stores of the batch's words that were to come
 abbrev pub Stores : Control → Setup → (b bytes bytes′ : List ℕ) → ℕ → Type 0
 Stores c k b bytes bytes′ n = StoresTo c k b bytes bytes′ n × (n ≡ max (c .next) (8 * linesFor (min (c .words) batchRoom)))
-
--- how many actions of a staging take its chunk
-abbrev pub takeCount : Setup → ℕ
-takeCount k = pick (eqb (k .fields) 0) 0 2
-
--- all stores of a staging that come next: the action behind them, if there is one, is none
-pub record BlockStores (c : Control) (k : Setup) (b bytes bytes′ : List ℕ) (n : ℕ) : Type 0 where
-  pub made : Before InStaging c k b bytes bytes′ n
-  pub behind : isStore (nthReport (blockActions k b) n) ≡ false
-
--- what a run of a staging comes to, whatever the table holds
-pub record StagingRun (c : Control) (k : Setup) (b bytes bytes′ : List ℕ) (c′ : Control) (r : Report) : Type 0 where
-  pub sized : length bytes′ ≡ length bytes
-  pub runs : (table : List ℕ) → InStaging c k (length bytes) (length table)
-      → RunsOn (memoryOf c k b bytes table) (memoryOf c′ k b bytes′ table) r

@@ -1,13 +1,13 @@
-// The fast path: a step inside a commit, and runs inside a commit and a staging. A run makes the stores that come next
-// in a short loop, and then tells of the action behind them.
+// The fast path inside a commit: a step, and a run, which makes the stores that come next in short loops, and then tells
+// of the action behind them. What runs of other calls share with it.
 ghost use mathlib.Core.Path.{_≡_};
 ghost use mathlib.Core.Bool.{true, false};
 ghost use Prim.Native.Nat.{_-_, _^_, _≤_, _<_};
 ghost use Rattle.spec.specs.Machine.{Step};
 ghost use Rattle.fast_path.specs.Run.{StepsOn, RunsOn};
 ghost use Rattle.fast_path.specs.Stores.{areaWord, Filled};
-ghost use Rattle.fast_path.specs.Fast.{FastStep, Late, InStaging, OnFastPath, Stores, takeCount, BlockStores, StagingRun};
-ghost use Rattle.session.specs.Numbers.{toNext, emptied, staged};
+ghost use Rattle.fast_path.specs.Fast.{FastStep, Late, InStaging, OnFastPath, Stores};
+ghost use Rattle.session.specs.Numbers.{toNext, emptied};
 ghost use Rattle.spec.specs.declared.Report.the-variants.{End};
 ghost use Rattle.session.specs.Promise.{Does, memoryOf};
 use blocks::Buffer;
@@ -246,107 +246,4 @@ pub fn is_staging(control: Control, setup: Setup, bytes: usize, words: usize) ->
         }
     }
     false
-}
-
-// How many actions take the chunk: none where it is a data chunk already.
-fn take_count(setup: Setup) -> usize
-    ensures { λ r. ⌜ (r ≡ takeCount setup) × (r ≤ 2) ⌝ }
-{
-    if setup.fields == 0 {
-        return 0;
-    }
-    2
-}
-
-// The stores of a large value's staging that come next: the directory word of a chunk that is taken, or the words held.
-// The number of the action behind them.
-fn store_block(control: Control, setup: Setup, buffer: &Buffer, image: &mut [u8]) -> usize
-    ensures { λ r. ⌜ BlockStores control setup (now (buffer .entry)) (now (image .entry)) (now (image .exit)) r ⌝ }
-{
-    let at = control.next;
-    let first = take_count(setup);
-    let held = block_acts::held_words(buffer);
-    let behind = first + held;
-    if behind <= at {
-        return at;
-    }
-    if first <= at {
-        let unit = block_acts::unit_of(setup);
-        let start = unit.word_offset();
-        let from = at - first;
-        store_area(buffer, image, start, from, held);
-        return behind;
-    }
-    if at == 0 {
-        let action = block_acts::block_action(setup, buffer, 0);
-        actions::perform(image, action);
-        return 1;
-    }
-    at
-}
-
-// The stores that come next, and then the flush behind them.
-fn store_run(control: Control, setup: Setup, buffer: &Buffer, image: &mut [u8]) -> Stepped
-    ensures { λ r. ⌜ StagingRun control setup (now (buffer .entry)) (now (image .entry)) (now (image .exit)) (r .control) (r .report) ⌝ }
-{
-    let at = store_block(control, setup, buffer, image);
-    if stepping::is_stored(setup, buffer, at) {
-        return staged(control);
-    }
-    let action = block_acts::block_action(setup, buffer, at);
-    let next = at + 1;
-    let moved = session::moved(control, next);
-    Stepped {
-        control: moved,
-        report: action,
-    }
-}
-
-// The end of a staging.
-fn staged(control: Control) -> Stepped
-    ensures { λ r. ⌜ (r .control ≡ staged control) × (r .report ≡ End 0) ⌝ }
-{
-    let staged = session::at_rest(control);
-    Stepped {
-        control: staged,
-        report: Report::End(0),
-    }
-}
-
-// The stores that come next, and then the flush behind them, or the end. Elsewhere nothing is done. The end of a
-// staging without actions comes first, and a flush by few comparisons.
-pub fn staging_run(
-    control: Control,
-    setup: Setup,
-    buffer: &Buffer,
-    image: &mut [u8],
-    table: &mut [u64],
-) -> Stepped
-    ensures { λ r. ⌜ OnFastPath InStaging RunsOn (memoryOf control setup (now (buffer .entry)) (now (image .entry)) (now (table .entry))) (memoryOf (r .control) setup (now (buffer .entry)) (now (image .exit)) (now (table .exit))) (r .report) ⌝ }
-{
-    if is_staging(control, setup, image.len(), table.len()) {
-        let at = control.next;
-        if 1024 <= at {
-            return staged(control);
-        }
-        let held = block_acts::held_words(buffer);
-        let behind = take_count(setup) + held;
-        if at < behind {
-            return store_run(control, setup, buffer, image);
-        }
-        if behind + (held + 7) / 8 <= at {
-            return staged(control);
-        }
-        let unit = block_acts::unit_of(setup);
-        let line = unit.word_offset() / 8 + (at - behind);
-        let moved = session::moved(control, at + 1);
-        return Stepped {
-            control: moved,
-            report: Report::Flush(line),
-        };
-    }
-    Stepped {
-        control,
-        report: Report::Idle,
-    }
 }

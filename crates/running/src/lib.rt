@@ -34,7 +34,7 @@ fn is_store(report: Report) -> bool
 }
 
 // Whether the next action is one of a cleaning's but not its last. Then a step needs neither key table nor bits.
-fn is_copying(control: Control, setup: Setup, bytes: usize, words: usize) -> bool
+pub fn is_copying(control: Control, setup: Setup, bytes: usize, words: usize) -> bool
     ensures { λ r. ⌜ (r ≡ true → Copying control setup bytes words) × (r ≡ false → Copying control setup bytes words → ⊥) ⌝ }
 {
     let source = setup.source;

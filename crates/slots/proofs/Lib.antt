@@ -1,4 +1,5 @@
 pub mod Staged
 pub mod Search
 pub mod Answer
+pub mod Full
 mod Worked

@@ -2,15 +2,16 @@
 -- are those of entries and items, and what holds of the answer anyway.
 -- Assumes nothing.
 use mathlib.Core.Path.{_≡_}
+use mathlib.Core.Logic.{_⊎_}
 use mathlib.Core.Bool.{Bool, true, false}
 use mathlib.Core.Option.{Option, none, some}
 use mathlib.Core.List.{List, [], _∷_, _++_}
-use Prim.Native.Nat.{ℕ, _+_, _-_, _*_, _/_, _≤_, _<_}
+use Prim.Native.Nat.{ℕ, _+_, _-_, _*_, _/_, _%_, _^_, _≤_, _<_}
 use lib.Dec.{eqb}
-use lib.ListN.{length}
-use Rattle.spec.specs.Basics.{both, negate, filter, first, isIn, upFrom}
+use lib.ListN.{length, getD}
+use Rattle.spec.specs.Basics.{pick, both, negate, filter, first, isIn, upFrom}
 use Rattle.spec.specs.Words.{wordsOf}
-use Rattle.spec.specs.Places.{unitChunk}
+use Rattle.spec.specs.Places.{unitChunk, directoryWord}
 use Rattle.spec.specs.Directory.{sizeOf, roleAt, isFree}
 use Rattle.spec.specs.Log.{Entry, wordsFor}
 use Rattle.spec.specs.Contents.{pointers, liveBlocks}
@@ -52,6 +53,20 @@ Spare buffer words u r = (es items : List Entry) → Says buffer words es items 
 -- the first block of size s in n chunks that is neither live nor staged
 abbrev pub firstSpare : ℕ → List ℕ → List Entry → List Entry → ℕ → Option ℕ
 firstSpare n ws es items s = first (filter (λ u. negate (isIn u (liveBlocks es ++ pointers items))) (blocksFrom 12 ws s (upFrom 1 (n - 1))))
+
+-- in these bits of a chunk each block of s units is in use, unless they are more than a chunk has
+pub record EachUsed (s full : ℕ) : Type 0 where
+  pub used : full < 2 ^ 16 → (j : ℕ) → j < 16 / s → full / 2 ^ (s * j) % 2 ≡ 1
+
+-- the bits of chunk c
+pub record ChunkBits (buffer : List ℕ) (c bits : ℕ) : Type 0 where
+  pub few : bits < 2 ^ 16
+  pub each : (i : ℕ) → i < 16 → hasBit buffer (16 * c + i) ≡ eqb (bits / 2 ^ i % 2) 1
+
+-- so many blocks of chunk c are to be looked at: those of a chunk with that directory word, or none where its bits are
+-- these
+abbrev pub ToLookAt : (ws buffer : List ℕ) → (c word blocks full : ℕ) → ℕ → Type 0
+ToLookAt ws buffer c word blocks full r = (r ≡ pick (eqb (getD ws (directoryWord c) 0) word) blocks 0) ⊎ ((r ≡ 0) × ChunkBits buffer c full)
 
 abbrev pub unit : ℕ → UnitNumber
 unit u = record { 0 = u }

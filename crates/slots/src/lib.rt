@@ -3,13 +3,12 @@
 ghost use mathlib.Core.Path.{_≡_};
 ghost use Prim.Native.Nat.{_+_, _*_, _/_, _^_, _<_, _≤_};
 ghost use lib.Dec.{eqb};
-ghost use lib.ListN.{length, getD};
+ghost use lib.ListN.{getD};
 ghost use Rattle.spec.specs.Basics.{pick, both};
 ghost use Rattle.spec.specs.Words.{wordsOf};
-ghost use Rattle.spec.specs.Places.{directoryWord};
 ghost use Rattle.spec.specs.Directory.{roleOf, sizeIn};
 ghost use Rattle.spec.specs.Log.{firstOf};
-ghost use Rattle.slots.specs.Blocks.{metBy, StagedBlock, Spare, BlockFound, SlotFound};
+ghost use Rattle.slots.specs.Blocks.{metBy, StagedBlock, Spare, EachUsed, ChunkBits, ToLookAt, BlockFound, SlotFound};
 use blocks::Buffer;
 use blocks::has_bit;
 use codec::Unit;
@@ -127,11 +126,41 @@ fn blocks_of(word: u64, size: usize) -> usize
     0
 }
 
-// How many of them chunk c has: all where its directory word is that one.
-fn blocks_in(image: &[u8], c: usize, word: u64, blocks: usize) -> usize
-    ensures { λ r. ⌜ r ≡ pick (eqb (getD (wordsOf (now (image .entry))) (directoryWord c) 0) word) blocks 0 ⌝ }
+// The bits of a chunk in which each block of that size is in use; for no block size, more than a chunk has.
+fn full_bits(size: usize) -> u64
+    ensures { λ r. ⌜ EachUsed size r ⌝ }
+{
+    match size {
+        2 => 0x5555,
+        3 => 0x1249,
+        4 => 0x1111,
+        5 => 0x0421,
+        8 => 0x0101,
+        16 => 0x0001,
+        _ => 0x1_0000,
+    }
+}
+
+// The bits of chunk c: bit i says whether a block in use starts at its unit i.
+fn chunk_bits(buffer: &Buffer, c: usize) -> u64
+    ensures { λ r. ⌜ ChunkBits (now (buffer .entry)) c r ⌝ }
+{
+    if c < 504 {
+        let word = buffer[1024 + c / 4];
+        return (word >> (16 * (c % 4))) % 0x1_0000;
+    }
+    0
+}
+
+// How many blocks of chunk c are to be looked at: all where its directory word is that one, but none where its bits say
+// that each is in use.
+fn blocks_in(image: &[u8], buffer: &Buffer, c: usize, word: u64, blocks: usize, full: u64) -> usize
+    ensures { λ r. ⌜ ToLookAt (wordsOf (now (image .entry))) (now (buffer .entry)) c word blocks full r ⌝ }
 {
     if directory_word(image, c) == word {
+        if chunk_bits(buffer, c) == full {
+            return 0;
+        }
         return blocks;
     }
     0
@@ -145,9 +174,10 @@ pub fn find_block(image: &[u8], count: usize, size: usize, buffer: &Buffer, word
     let chunks = lesser(count, image.len() / 4096);
     let word = data_word(0, size as u64);
     let most = blocks_of(word, size);
+    let full = full_bits(size);
     let mut found = Block::Nothing;
     'chunks: for c in 1..chunks {
-        let blocks = blocks_in(image, c, word, most);
+        let blocks = blocks_in(image, buffer, c, word, most, full);
         for j in 0..blocks {
             let u = 16 * c + size * j;
             if is_spare(buffer, words, u) {

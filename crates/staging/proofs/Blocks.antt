@@ -46,11 +46,16 @@ use Rattle.session.specs.Asks.{Asking}
 use Rattle.session.proofs.Gates.{refused, gate-passed, AtRest}
 use Rattle.staging.specs.declared.Admission.{Admission}
 use Rattle.staging.specs.declared.Admission.the-variants as A
-use Rattle.staging.specs.Staging.{VersionOf, admitOf}
+use Rattle.staging.specs.declared.Newest.{Newest}
+use Rattle.staging.specs.Staging.{NewestOf, VersionOf, admitOf}
 use Rattle.staging.proofs.Staging as S
 use Rattle.staging.proofs.Admits.{planBy, Admitting, admitted, turned, fresh-then, plan-admits}
 use Rattle.session.specs.Promise.{Does, memory, memoryOf}
 use Rattle.session.specs.Numbers.{stagedMore}
+
+-- of what is known of a key, the version
+pub known-version : (b : List ℕ) (words : ℕ) (table : List ℕ) (key : ℕ) (known : Newest) → NewestOf b words table key known → VersionOf b words table key (known .version)
+known-version b words table key known h items s = ap (λ (x : Newest). x .version) (h items s)
 
 -- the limit as the code asks for it
 pub within : {n : ℕ} → n ≤ 4088 → n ≤ limit

@@ -278,7 +278,8 @@ fn put_in_block(
                 };
             }
             let words = control.words;
-            let version = version_of(buffer, words, table, key);
+            let known = known_of(buffer, words, table, key);
+            let version = known.version;
             let a = admit(control, LAST_PUT, version, 2, index::capacity(table.len()));
             match a {
                 Admission::Refused(n) => Outcome {

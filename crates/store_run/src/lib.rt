@@ -24,7 +24,7 @@ pub fn run_staging(s: &mut Session, image: &mut [u8], table: &mut [u64]) -> Repo
 {
     let c = s.control;
     let k = s.setup;
-    let m = fast_path::staging_run(c, k, &s.buffer, image, table);
+    let m = staging_path::staging_run(c, k, &s.buffer, image, table);
     s.control = m.control;
     m.report
 }

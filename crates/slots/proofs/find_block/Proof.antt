@@ -2,27 +2,27 @@
 -- from chunk c on, and within a chunk the first of those from its block j on.
 -- Assumes nothing.
 use mathlib.Core.Path.{_≡_, refl, sym, _∙_}
-use Prim.Native.Nat.{_+_, _-_, _*_, _/_, _≤_, _<_}
+use Prim.Native.Nat.{_-_, _≤_}
 use native.Mathlib.Omega.{arith}
 use borrow.Author.Needs.{needs}
 use Rattle.slots.specs.declared.Block.the-variants.{Nothing}
-use Rattle.spec.specs.Words.{wordsOf}
-use Rattle.slots.proofs.Search.{Left, counted, fromChunk, fromBlock, left-start, left-open, left-next, left-here, left-close, left-end, block-ends, in-image}
+use Rattle.slots.proofs.Search.{Left, fromChunk, fromBlock, left-start, left-next, left-here, left-close, left-end, block-ends, in-image}
+use Rattle.slots.proofs.Full.{looked}
 use Rattle.slots.proofs.Answer.{found-nothing, found-here}
 use Rattle.slots.proofs.find_block.Statement.{statement}
 use Rattle.slots.proofs.find_block.Tie as tie
 
 abbrev Inv-loop : tie.InvT-loop
-Inv-loop image count size buffer words chunks word most found₀ c blocks j₀ found j = (j ≤ blocks) × (found ≡ Nothing) × Left image chunks size buffer words (fromBlock image chunks size buffer words c blocks j)
+Inv-loop image count size buffer words chunks word most full found₀ c blocks j₀ found j = (j ≤ blocks) × (found ≡ Nothing) × Left image chunks size buffer words (fromBlock image chunks size buffer words c blocks j)
 
 abbrev μ-loop : tie.MeasureT-loop
-μ-loop image count size buffer words chunks word most found₀ c blocks j₀ found j = blocks - j
+μ-loop image count size buffer words chunks word most full found₀ c blocks j₀ found j = blocks - j
 
 abbrev Inv-chunks : tie.InvT-chunks
-Inv-chunks image count size buffer words chunks word most found₀ c₀ found c = (1 ≤ c) × (found ≡ Nothing) × Left image chunks size buffer words (fromChunk image chunks size buffer words c)
+Inv-chunks image count size buffer words chunks word most full found₀ c₀ found c = (1 ≤ c) × (found ≡ Nothing) × Left image chunks size buffer words (fromChunk image chunks size buffer words c)
 
 abbrev μ-chunks : tie.MeasureT-chunks
-μ-chunks image count size buffer words chunks word most found₀ c₀ found c = chunks - c
+μ-chunks image count size buffer words chunks word most full found₀ c₀ found c = chunks - c
 
 lesser-requires : tie.Need-lesser-requires Inv-loop μ-loop Inv-chunks μ-chunks
 lesser-requires c κs = search needs
@@ -33,40 +33,41 @@ data-word-requires c κs = search needs
 blocks-of-requires : tie.Need-blocks-of-requires Inv-loop μ-loop Inv-chunks μ-chunks
 blocks-of-requires c κs = search needs
 
+full-bits-requires : tie.Need-full-bits-requires Inv-loop μ-loop Inv-chunks μ-chunks
+full-bits-requires c κs = search needs
+
 chunks-holds : tie.Need-chunks-holds Inv-loop μ-loop Inv-chunks μ-chunks
 chunks-holds c =
-    let a = c .before .before .before .before .args in
-    (omega arith, refl, left-start (a .image .now) (c .before .before .lesser .result) (a .size) (a .buffer .now) (a .words))
+    let a = c .before .before .before .before .before .args in
+    (omega arith, refl, left-start (a .image .now) (c .before .before .before .lesser .result) (a .size) (a .buffer .now) (a .words))
 
 blocks-in-requires : tie.Need-blocks-in-requires Inv-loop μ-loop Inv-chunks μ-chunks
 blocks-in-requires c κs = search needs
 
 loop-holds : tie.Need-loop-holds Inv-loop μ-loop Inv-chunks μ-chunks
 loop-holds c =
-    let a = c .before .before .before .before .before .before .before .args in
-    let n = c .before .before .before .before .before .lesser .result in
+    let a = c .before .before .before .before .before .before .before .before .args in
     let at = c .before .before .chunks in
-    let k = c .blocks-in in
-    let q = counted (wordsOf (c .before .before .before .before .before .before .before .args .image .now)) (c .before .before .before .before .before .before .before .args .size) (c .before .before .chunks .c) _ _ (c .blocks-in .result) (c .before .before .before .before .data-word .ensures) (c .before .before .before .blocks-of .ensures) (c .blocks-in .ensures) in
-    (omega arith, at .inv .1, left-open (a .image .now) n (a .size) (a .buffer .now) (a .words) (at .c) (k .result) (omega arith) (q .is) (at .inv .2))
+    let q = looked (a .image .now) (c .before .before .before .before .before .before .lesser .result) (a .size) (a .buffer .now) (a .words) (c .before .before .chunks .c) _ _ _ (c .blocks-in .result) (omega arith) (c .before .before .before .before .before .data-word .ensures) (c .before .before .before .before .blocks-of .ensures) (c .before .before .before .full-bits .ensures) (c .blocks-in .ensures) in
+    (omega arith, at .inv .1, q .begin (at .inv .2))
 
 mul-u : tie.Need-mul-u Inv-loop μ-loop Inv-chunks μ-chunks
 mul-u c = omega arith
 
 mul-u-2 : tie.Need-mul-u-2 Inv-loop μ-loop Inv-chunks μ-chunks
 mul-u-2 c =
-    let k = c .before .before .blocks-in in
-    let q = counted (wordsOf (c .before .before .before .before .before .before .before .before .before .args .image .now)) (c .before .before .before .before .before .before .before .before .before .args .size) (c .before .before .before .before .chunks .c) _ _ (c .before .before .blocks-in .result) (c .before .before .before .before .before .before .data-word .ensures) (c .before .before .before .before .before .blocks-of .ensures) (c .before .before .blocks-in .ensures) in
+    let a = c .before .before .before .before .before .before .before .before .before .before .args in
+    let q = looked (a .image .now) (c .before .before .before .before .before .before .before .before .lesser .result) (a .size) (a .buffer .now) (a .words) (c .before .before .before .before .chunks .c) _ _ _ (c .before .before .blocks-in .result) (omega arith) (c .before .before .before .before .before .before .before .data-word .ensures) (c .before .before .before .before .before .before .blocks-of .ensures) (c .before .before .before .before .before .full-bits .ensures) (c .before .before .blocks-in .ensures) in
     let j = c .before .loop .j in
-    let e = block-ends (c .before .before .before .before .before .before .before .before .before .args .size) j (k .result) (c .loop-test .taken) (q .fits) in
+    let e = block-ends (a .size) j (c .before .before .blocks-in .result) (c .loop-test .taken) (q .fits) in
     omega arith
 
 add-u : tie.Need-add-u Inv-loop μ-loop Inv-chunks μ-chunks
 add-u c =
-    let k = c .before .before .blocks-in in
-    let q = counted (wordsOf (c .before .before .before .before .before .before .before .before .before .args .image .now)) (c .before .before .before .before .before .before .before .before .before .args .size) (c .before .before .before .before .chunks .c) _ _ (c .before .before .blocks-in .result) (c .before .before .before .before .before .before .data-word .ensures) (c .before .before .before .before .before .blocks-of .ensures) (c .before .before .blocks-in .ensures) in
+    let a = c .before .before .before .before .before .before .before .before .before .before .args in
+    let q = looked (a .image .now) (c .before .before .before .before .before .before .before .before .lesser .result) (a .size) (a .buffer .now) (a .words) (c .before .before .before .before .chunks .c) _ _ _ (c .before .before .blocks-in .result) (omega arith) (c .before .before .before .before .before .before .before .data-word .ensures) (c .before .before .before .before .before .before .blocks-of .ensures) (c .before .before .before .before .before .full-bits .ensures) (c .before .before .blocks-in .ensures) in
     let j = c .before .loop .j in
-    let e = block-ends (c .before .before .before .before .before .before .before .before .before .args .size) j (k .result) (c .loop-test .taken) (q .fits) in
+    let e = block-ends (a .size) j (c .before .before .blocks-in .result) (c .loop-test .taken) (q .fits) in
     omega arith
 
 is-spare-requires : tie.Need-is-spare-requires Inv-loop μ-loop Inv-chunks μ-chunks
@@ -80,8 +81,8 @@ loop-less c = omega arith
 
 loop-again : tie.Need-loop-again Inv-loop μ-loop Inv-chunks μ-chunks
 loop-again c =
-    let a = c .before .before .before .before .before .before .before .before .before .before .before .args in
-    let n = c .before .before .before .before .before .before .before .before .before .lesser .result in
+    let a = c .before .before .before .before .before .before .before .before .before .before .before .before .args in
+    let n = c .before .before .before .before .before .before .before .before .before .before .lesser .result in
     let ch = c .before .before .before .before .before .before .chunks in
     let k = c .before .before .before .before .blocks-in in
     let at = c .before .before .before .loop in (
@@ -99,8 +100,8 @@ chunks-less c = omega arith
 
 chunks-again : tie.Need-chunks-again Inv-loop μ-loop Inv-chunks μ-chunks
 chunks-again c =
-    let a = c .before .before .before .before .before .before .before .before .before .args in
-    let n = c .before .before .before .before .before .before .before .lesser .result in
+    let a = c .before .before .before .before .before .before .before .before .before .before .args in
+    let n = c .before .before .before .before .before .before .before .before .lesser .result in
     let ch = c .before .before .before .before .chunks in
     let k = c .before .before .blocks-in in
     let at = c .before .loop in
@@ -108,19 +109,19 @@ chunks-again c =
 
 returns : tie.Need-returns Inv-loop μ-loop Inv-chunks μ-chunks
 returns c =
-    let a = c .before .before .before .before .before .before .args in
-    let n = c .before .before .before .before .lesser in
+    let a = c .before .before .before .before .before .before .before .args in
+    let n = c .before .before .before .before .before .lesser in
     let ch = c .before .chunks in
     found-nothing (a .image .now) (n .result) (a .count) (a .size) (a .buffer .now) (a .words) (ch .found) (n .ensures) (ch .inv .1)
     (left-end (a .image .now) (n .result) (a .size) (a .buffer .now) (a .words) (ch .c) (omega arith) (ch .inv .2))
 
 returns-2 : tie.Need-returns-2 Inv-loop μ-loop Inv-chunks μ-chunks
 returns-2 c =
-    let a = c .before .before .before .before .before .before .before .before .before .before .before .args in
-    let n = c .before .before .before .before .before .before .before .before .before .lesser in
+    let a = c .before .before .before .before .before .before .before .before .before .before .before .before .args in
+    let n = c .before .before .before .before .before .before .before .before .before .before .lesser in
     let ch = c .before .before .before .before .before .before .chunks in
     let k = c .before .before .before .before .blocks-in in
-    let q = counted (wordsOf (c .before .before .before .before .before .before .before .before .before .before .before .args .image .now)) (c .before .before .before .before .before .before .before .before .before .before .before .args .size) (c .before .before .before .before .before .before .chunks .c) _ _ (c .before .before .before .before .blocks-in .result) (c .before .before .before .before .before .before .before .before .data-word .ensures) (c .before .before .before .before .before .before .before .blocks-of .ensures) (c .before .before .before .before .blocks-in .ensures) in
+    let q = looked (a .image .now) (c .before .before .before .before .before .before .before .before .before .before .lesser .result) (a .size) (a .buffer .now) (a .words) (c .before .before .before .before .before .before .chunks .c) _ _ _ (c .before .before .before .before .blocks-in .result) (omega arith) (c .before .before .before .before .before .before .before .before .before .data-word .ensures) (c .before .before .before .before .before .before .before .before .blocks-of .ensures) (c .before .before .before .before .before .before .before .full-bits .ensures) (c .before .before .before .before .blocks-in .ensures) in
     let at = c .before .before .before .loop in
     let some = q .some′ (omega arith) in
     found-here (a .image .now) (n .result) (a .count) (a .size) (a .buffer .now) (a .words) _ (n .ensures)
@@ -139,6 +140,7 @@ find-block-spec =
     lesser-requires
     data-word-requires
     blocks-of-requires
+    full-bits-requires
     chunks-holds
     blocks-in-requires
     loop-holds

@@ -1,10 +1,10 @@
--- `fast_path::take_count` meets its contract.
+-- `staging_path::take_count` meets its contract.
 -- Assumes nothing.
 use mathlib.Core.Path.{sym}
 use native.Mathlib.Omega.{arith}
-use Rattle.fast_path.proofs.Staging.{take-none, take-two}
-use Rattle.fast_path.proofs.take_count.Statement.{statement}
-use Rattle.fast_path.proofs.take_count.Tie as tie
+use Rattle.staging_path.proofs.Staging.{take-none, take-two}
+use Rattle.staging_path.proofs.take_count.Statement.{statement}
+use Rattle.staging_path.proofs.take_count.Tie as tie
 
 returns : tie.Need-returns
 returns c = (sym (take-none (c .before .before .args .setup) (c .if1 .taken)), omega arith)

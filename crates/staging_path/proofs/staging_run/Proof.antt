@@ -1,11 +1,11 @@
--- `fast_path::staging_run` meets its contract.
+-- `staging_path::staging_run` meets its contract.
 -- Assumes nothing.
 use mathlib.Core.Path.{refl, sym, _∙_}
 use native.Mathlib.Omega.{arith}
 use borrow.Author.Needs.{needs}
-use Rattle.fast_path.proofs.Staging.{past-ends, flush-acts, flush-ends}
-use Rattle.fast_path.proofs.staging_run.Statement.{statement}
-use Rattle.fast_path.proofs.staging_run.Tie as tie
+use Rattle.staging_path.proofs.Staging.{past-ends, flush-acts, flush-ends}
+use Rattle.staging_path.proofs.staging_run.Statement.{statement}
+use Rattle.staging_path.proofs.staging_run.Tie as tie
 
 is-staging-requires : tie.Need-is-staging-requires
 is-staging-requires c κs = search needs

@@ -1,4 +1,4 @@
--- `fast_path::store_run` meets its contract.
+-- `staging_path::store_run` meets its contract.
 -- Assumes nothing.
 use mathlib.Core.Path.{sym, _∙_}
 use native.Mathlib.Omega.{arith}
@@ -7,9 +7,9 @@ use borrow.Author.Tests.{leb-true, leb-false}
 use lib.ListN.{length}
 use Rattle.session.specs.State.{blockActions, behindAll}
 use Rattle.block_acts.proofs.Filling.{none-left}
-use Rattle.fast_path.proofs.Staging.{store-acts, store-ends}
-use Rattle.fast_path.proofs.store_run.Statement.{statement}
-use Rattle.fast_path.proofs.store_run.Tie as tie
+use Rattle.staging_path.proofs.Staging.{store-acts, store-ends}
+use Rattle.staging_path.proofs.store_run.Statement.{statement}
+use Rattle.staging_path.proofs.store_run.Tie as tie
 
 store-block-requires : tie.Need-store-block-requires
 store-block-requires c κs = search needs

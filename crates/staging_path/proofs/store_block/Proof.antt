@@ -1,11 +1,11 @@
--- `fast_path::store_block` meets its contract.
+-- `staging_path::store_block` meets its contract.
 -- Assumes nothing.
 use mathlib.Core.Path.{refl}
 use native.Mathlib.Omega.{arith}
-use Rattle.fast_path.proofs.Staging.{behind-all, at-the-flush, one-taken, all-stored}
+use Rattle.staging_path.proofs.Staging.{behind-all, at-the-flush, one-taken, all-stored}
 use borrow.Author.Needs.{needs}
-use Rattle.fast_path.proofs.store_block.Statement.{statement}
-use Rattle.fast_path.proofs.store_block.Tie as tie
+use Rattle.staging_path.proofs.store_block.Statement.{statement}
+use Rattle.staging_path.proofs.store_block.Tie as tie
 
 take-count-requires : tie.Need-take-count-requires
 take-count-requires c κs = search needs

@@ -3,7 +3,7 @@
 -- Assumes nothing.
 use mathlib.Core.Path.{_≡_, refl, sym, _∙_, ap, subst}
 use mathlib.Core.Logic.{by-cases}
-use mathlib.Core.Bool.{true, false}
+use mathlib.Core.Bool.{false}
 use mathlib.Core.List.{List}
 use Prim.Native.Nat.{ℕ, zero, suc, _+_, _-_, _*_, _/_, _%_, _^_, _≤_, _<_, min}
 use native.Mathlib.Omega.{arith}
@@ -25,11 +25,12 @@ use Rattle.actions.specs.Nth.{nthReport}
 use Rattle.actions.proofs.Performed.{changed-store, changed-length}
 use Rattle.block_acts.proofs.Filling as B
 use Rattle.stepping.proofs.Shows.{staging-acts, staging-ends, stored}
 use Rattle.fast_path.specs.Run.{Runs, isStore, RunsOn}
 use Rattle.fast_path.specs.Stores.{areaWord, Filled, Before}
-use Rattle.fast_path.specs.Fast.{InStaging, takeCount, BlockStores, StagingRun}
+use Rattle.fast_path.specs.Fast.{InStaging}
+use Rattle.staging_path.specs.Staging.{takeCount, BlockStores, StagingRun}
 use Rattle.fast_path.proofs.Run.{stored-first, store-is, unchanged}
 use Rattle.fast_path.proofs.Stores.{before-none, filled-length, filled-runs}
 use Rattle.session.specs.Promise.{Does, memory, memoryOf}
 use Rattle.session.specs.Numbers.{toNext, acting, staged}
 
