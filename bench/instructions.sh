@@ -7,9 +7,9 @@
 set -euo pipefail
 cd "$(dirname "${BASH_SOURCE[0]}")/.."
 [ -f /usr/include/valgrind/callgrind.h ] || { apt-get update && apt-get install -y valgrind; } >&2
-[ -f target/staticlib/libcapi.a ] || rt staticlib capi
+[ -f target/staticlib/libregister.a ] || make -s -C host archive
 mkdir -p target/bench
-gcc -std=c11 -O2 -Wall -Wextra -Iinclude -o target/bench/instructions bench/instructions.c target/staticlib/libcapi.a
+gcc -std=c11 -O2 -Wall -Wextra -Iinclude -o target/bench/instructions bench/instructions.c target/staticlib/libregister.a
 kept=bench/instructions.txt
 now=$(mktemp)
 trap 'rm -f "$now" "$now.out" "$now.ops"' EXIT

@@ -3,11 +3,11 @@
 # nothing elsewhere; host/hello.c builds against it by pkg-config alone, static and shared, and runs; uninstall leaves
 # nothing.
 #
-# tests/install.sh [ARCHIVE]        target/staticlib/libcapi.a; needs gcc, make, pkg-config
+# tests/install.sh [ARCHIVE]        target/staticlib/libregister.a; needs gcc, make, pkg-config
 set -euo pipefail
 cd "$(dirname "$0")/.."
 fail() { echo "install: $*" >&2; exit 1; }
-archive=$(realpath "${1:-target/staticlib/libcapi.a}")
+archive=$(realpath "${1:-target/staticlib/libregister.a}")
 work=$(mktemp -d)
 trap 'rm -rf "$work"' EXIT
 root=$work/root prefix=/opt/register

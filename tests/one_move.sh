@@ -3,11 +3,11 @@
 # word: looks at the compiled archive (objdump, tests/stores.py), and watches the image instruction by instruction
 # (tests/one_move.c). Both are first shown to find a store in parts.
 #
-# tests/one_move.sh [ARCHIVE]       target/staticlib/libcapi.a if none is named; needs gcc, objdump, Python 3
+# tests/one_move.sh [ARCHIVE]       target/staticlib/libregister.a if none is named; needs gcc, objdump, Python 3
 set -eu
 cd "$(dirname "$0")/.."
-archive=${1:-target/staticlib/libcapi.a}
-[ -f "$archive" ] || { echo "$archive is missing: run rt staticlib capi" >&2; exit 2; }
+archive=${1:-target/staticlib/libregister.a}
+[ -f "$archive" ] || { echo "$archive is missing: run make -C host archive" >&2; exit 2; }
 work=$(mktemp -d)
 trap 'rm -rf "$work"' EXIT
 

@@ -6,7 +6,7 @@ Reads the disassembly of an archive or object file (objdump). Looked at are the 
 has no `&mut [u8]` in its head cannot store into the image, so it is passed over. Every store outside the stack must be one move of 8 bytes
 or of a vector register. The one exception are parts of the answer that a function returns: they go, at a constant offset, through the
 pointer that it was given first (kept in a register or on the stack since), and that pointer is nowhere indexed by words, as an image is.
-Nothing outside the archive may be called. Prints what it found; the exit status is 1 if a store is of another kind.
+Nothing outside its object of the archive may be called. Prints what it found; the exit status is 1 if a store is of another kind.
 """
 import os
 import re
@@ -14,6 +14,7 @@ import subprocess
 import sys
 
 CRATES = os.path.join(os.path.dirname(os.path.dirname(os.path.abspath(__file__))), 'crates')
+OBJECT = re.compile(r'^\S+:\s+file format ')
 FUNCTION = re.compile(r'^[0-9a-f]+ <(.+)>:$')
 RELOCATION = re.compile(r'^\s+[0-9a-f]+: R_X86_64_(\S+)\s+(\S+?)([-+]0x[0-9a-f]+)?$')
 INSTRUCTION = re.compile(r'^\s+([0-9a-f]+):\s+(.+?)\s*(?:#.*)?$')
@@ -24,12 +25,16 @@ READERS = ('cmp', 'test', 'bt', 'ucomi', 'comi', 'nop', 'call', 'jmp', 'push', '
 CALLED_MAY_CHANGE = ('rax', 'rcx', 'rdx', 'rsi', 'rdi', 'r8', 'r9', 'r10', 'r11')
 
 
-def functions(archive):
-    """Each function's instructions with their addresses, and the names that it calls."""
+def functions(archive, start):
+    """Each function of the object that has `start`: its instructions with their addresses, and the names that it calls."""
     text = subprocess.run(['objdump', '-dr', '--no-show-raw-insn', archive], check=True, capture_output=True, text=True).stdout
     code, name, last = {}, None, ''
     for line in text.splitlines():
-        if m := FUNCTION.match(line):
+        if OBJECT.match(line):
+            if start in code:
+                break
+            code, name = {}, None
+        elif m := FUNCTION.match(line):
             name = m[1]
             code[name] = ([], set())
         elif name and (m := RELOCATION.match(line)):
@@ -164,7 +169,7 @@ def wrong_stores(instructions):
 
 def main():
     archive, start = sys.argv[1], sys.argv[2] if len(sys.argv) > 2 else 'zkv_step'
-    code = functions(archive)
+    code = functions(archive, start)
     if start not in code:
         sys.exit(f'stores: {archive} has no function {start}')
     reached, todo, passed, wrong, words = set(), [start], set(), [], 0
@@ -177,7 +182,7 @@ def main():
             continue
         reached.add(name)
         if name not in code:
-            wrong.append(f'{name}: called, and not in the archive')
+            wrong.append(f'{name}: called, and not in its object')
             continue
         instructions, calls = code[name]
         todo += calls

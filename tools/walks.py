@@ -45,28 +45,31 @@ WALKS = [
     ('read', 'store_read', 'find', ['record { called = e .called (h .buffer); located = e .located; is-report = e .is-report; inside = e .inside }'], []),
     ('read', 'store_read', 'list_key', ['record { listed = e }'], []),
     ('read', 'store_read', 'look_up', ['record { located = e .located; called = e .called (h .buffer); inside = e .inside; is-part = e .is-part; is-number = e .is-number }'], []),
-    ('calls', 'capi', 'run_any', [TOLD], []),
-    ('calls', 'capi', 'run_late', [LATE_RUN, RUNS], []),
-    ('calls', 'capi', 'run_whole', [STAGING, RUNS], []),
-    ('calls', 'capi', 'step_any', [TOLD], []),
-    ('calls', 'capi', 'step_whole', [LATE_STEP, STEPS], []),
+    ('calls', 'run_answers', 'run_any', [TOLD], []),
+    ('calls', 'run_answers', 'run_late', [LATE_RUN, RUNS], []),
+    ('calls', 'run_answers', 'run_whole', [STAGING, RUNS], []),
+    ('calls', 'step_answers', 'step_any', [TOLD], []),
+    ('calls', 'step_answers', 'step_whole', [LATE_STEP, STEPS], []),
     ('calls', 'capi', 'zkv_abandon', [TOLD], []),
-    ('calls', 'capi', 'zkv_choose', [TOLD], []),
-    ('calls', 'capi', 'zkv_chunk', ['e'], []),
+    ('calls', 'capi_read', 'zkv_choose', [TOLD], []),
+    ('calls', 'capi_read', 'zkv_chunk', ['e'], []),
     ('calls', 'capi', 'zkv_clean', [TOLD], []),
     ('calls', 'capi', 'zkv_commit', [TOLD], []),
     ('calls', 'capi', 'zkv_delete', [TOLD], []),
-    ('calls', 'capi', 'zkv_empty_chunk', [TOLD], []),
+    ('calls', 'capi_read', 'zkv_empty_chunk', [TOLD], []),
     ('calls', 'capi', 'zkv_format', ['(r-report, ((rw (e-a, e-b) at e-report), e))'], []),
-    ('calls', 'capi', 'zkv_keys', ['e'], []),
-    ('calls', 'capi', 'zkv_list_key', [LISTED], []),
-    ('calls', 'capi', 'zkv_list_keys', [LISTED], []),
-    ('calls', 'capi', 'zkv_look_up', [TOLD], []),
+    ('calls', 'capi_read', 'zkv_keys', ['e'], []),
+    ('calls', 'capi_read', 'zkv_list_key', [LISTED], []),
+    ('calls', 'capi_read', 'zkv_list_keys', [LISTED], []),
+    ('calls', 'capi_read', 'zkv_look_up', [TOLD], []),
     ('calls', 'capi', 'zkv_open', [TOLD], []),
-    ('calls', 'capi', 'put_long', [TOLD], []),
-    ('calls', 'capi', 'zkv_put', [SHORT, LONG], []),
-    ('calls', 'capi', 'zkv_run', [FAST, RUNS], []),
-    ('calls', 'capi', 'zkv_step', [FAST, STEPS], []),
+    ('calls', 'put_answers', 'put_long', [TOLD], []),
+    ('calls', 'put_answers', 'answer_put', [SHORT, LONG], []),
+    ('calls', 'capi', 'zkv_put', ['e'], []),
+    ('calls', 'run_answers', 'answer_run', [FAST, RUNS], []),
+    ('calls', 'capi', 'zkv_run', ['e'], []),
+    ('calls', 'step_answers', 'answer_step', [FAST, STEPS], []),
+    ('calls', 'capi', 'zkv_step', ['e'], []),
 ]
 
 # the record's buffer, as the tools read it
@@ -131,6 +134,7 @@ def main():
         if not os.path.exists(f'{root}/{name}') or open(f'{root}/{name}', encoding='utf8').read() != new:
             changed.append(name)
             if not check:
+                os.makedirs(os.path.dirname(f'{root}/{name}'), exist_ok=True)
                 open(f'{root}/{name}', 'w', encoding='utf8').write(new)
     shutil.rmtree(into)
     for name in changed:

@@ -2,11 +2,11 @@
 -- the functions that it calls, at their own lifetimes, shares and names. All that the proof knows of a function that it
 -- calls (`is_given`, `format`, `told`) is that it meets its contract.
 -- Assumes nothing.
-use mathlib.Core.Path.{_≡_}
 use Rattle.spec.specs.Machine.{Format}
 use Rattle.formatting.specs.Begun.{given}
-use Rattle.capi.specs.Answers.{answerOf, isGiven}
+use Rattle.answers.specs.Answers.{isGiven, answerOf}
 use Rattle.session.specs.Promise.{Does, memory}
+use mathlib.Core.Path.{_≡_}
 use mathlib.Core.Path.{refl}
 use mathlib.Core.Bool.{Bool}
 use Prim.Native.Nat.{ℕ, _<_, _^_}
@@ -46,27 +46,27 @@ use denote.Triple.Call.{calls-at}
 use denote.Triple.Clauses.{ensured, lasts}
 use denote.Triple.Table.{entered, cited}
 use denote.Triple.Walked.{says, Stays, stay-dropped, gave-ref, gave-slice, walkOf, goes-dropped, goes-gave-ref, goes-gave-slice, Walks, ends-at, walked, walk-meets}
-use Rattle.capi.specs.declared.Answer.{Answer}
-use Rattle.capi.proofs.Answer as T-Answer
-use Rattle.capi.proofs.Answer.Laws as T-Answer′
+use Rattle.answers.specs.declared.Answer.{Answer}
+use Rattle.answers.proofs.Answer as T-Answer
+use Rattle.answers.proofs.Answer.Laws as T-Answer′
 use Rattle.spec.specs.declared.Report.{Report}
 use Rattle.spec.proofs.Report as T-Report
 use Rattle.spec.proofs.Report.Laws as T-Report′
 use Rattle.session.specs.declared.Session.{Session}
 use Rattle.session.proofs.Session as T-Session
 use Rattle.session.proofs.Session.Laws as T-Session′
-use Rattle.capi.proofs.is_given as is-given′
-use Rattle.capi.proofs.is_given.Symbol as is-given′-def
-use Rattle.capi.proofs.is_given.Symbol.{name as #is-given′}
-use Rattle.capi.proofs.is_given.Met as is-given′-thm
+use Rattle.answers.proofs.is_given as is-given′
+use Rattle.answers.proofs.is_given.Symbol as is-given′-def
+use Rattle.answers.proofs.is_given.Symbol.{name as #is-given′}
+use Rattle.answers.proofs.is_given.Met as is-given′-thm
 use Rattle.store.proofs.format as format′
 use Rattle.store.proofs.format.Symbol as format′-def
 use Rattle.store.proofs.format.Symbol.{name as #format′}
 use Rattle.store.proofs.format.Met as format′-thm
-use Rattle.capi.proofs.told as told′
-use Rattle.capi.proofs.told.Symbol as told′-def
-use Rattle.capi.proofs.told.Symbol.{name as #told′}
-use Rattle.capi.proofs.told.Met as told′-thm
+use Rattle.answers.proofs.told as told′
+use Rattle.answers.proofs.told.Symbol as told′-def
+use Rattle.answers.proofs.told.Symbol.{name as #told′}
+use Rattle.answers.proofs.told.Met as told′-thm
 use Rattle.capi.proofs.zkv_format.Key.{name as #self}
 use Rattle.capi.proofs.zkv_format as self
 use Rattle.capi.proofs.zkv_format.Statement as stated
@@ -222,6 +222,6 @@ zkv-format-spec 𝓤 H 𝓜 𝓖 𝓡 =
     entered 𝓤 H (tripleOf 𝓤 H (𝓖 .A) self.signature (self.spec 𝓤 H (𝓖 .A) (𝓜 .mem) (𝓡 .run)))
     (tables 𝓤 H 𝓜 𝓡 code.env .C) (tables 𝓤 H 𝓜 𝓡 code.env .Λ) #self code.function (code.unfolded 𝓤 H 𝓜 𝓡)
     (meets 𝓤 H (𝓖 .A) (givenOf 𝓤 H 𝓜 𝓖) (𝓜 .mem) (𝓡 .run) (tablesOf 𝓤 H 𝓜 (tables 𝓤 H 𝓜 𝓡 code.env))
-    (cited 𝓤 H (Of-is-given′ 𝓤 H (𝓖 .A) (𝓜 .mem) (𝓡 .run)) 𝓜 𝓡 code.env #is-given′ is-given′-def.routine code.calls-capi·is-given (is-given′-thm.met 𝓤 H 𝓜 𝓖 𝓡))
+    (cited 𝓤 H (Of-is-given′ 𝓤 H (𝓖 .A) (𝓜 .mem) (𝓡 .run)) 𝓜 𝓡 code.env #is-given′ is-given′-def.routine code.calls-answers·is-given (is-given′-thm.met 𝓤 H 𝓜 𝓖 𝓡))
     (cited 𝓤 H (Of-format′ 𝓤 H (𝓖 .A) (𝓜 .mem) (𝓡 .run)) 𝓜 𝓡 code.env #format′ format′-def.routine code.calls-store·format (format′-thm.met 𝓤 H 𝓜 𝓖 𝓡))
-    (cited 𝓤 H (Of-told′ 𝓤 H (𝓖 .A) (𝓜 .mem) (𝓡 .run)) 𝓜 𝓡 code.env #told′ told′-def.routine code.calls-capi·told (told′-thm.met 𝓤 H 𝓜 𝓖 𝓡)))
+    (cited 𝓤 H (Of-told′ 𝓤 H (𝓖 .A) (𝓜 .mem) (𝓡 .run)) 𝓜 𝓡 code.env #told′ told′-def.routine code.calls-answers·told (told′-thm.met 𝓤 H 𝓜 𝓖 𝓡)))
