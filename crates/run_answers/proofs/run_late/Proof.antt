@@ -1,6 +1,6 @@
 -- `run_answers::run_late` meets its contract: a walk of its MIR, made by walk_calls.py. Its references are given for
 -- good to the functions that it calls, at their own lifetimes, shares and names. All that the proof knows of a function
--- that it calls (`is_late`, `step_late`, `told`, `run_any`, `same`) is that it meets its contract.
+-- that it calls (`is_late`, `step_late`, `told`, `run_cleaning`, `same`) is that it meets its contract.
 -- Assumes nothing.
 use Rattle.fast_path.specs.Run.{RunsOn, StepsOn}
 use Rattle.answers.specs.Answers.{Told, answerOf}
@@ -80,10 +80,10 @@ use Rattle.answers.proofs.told as told′
 use Rattle.answers.proofs.told.Symbol as told′-def
 use Rattle.answers.proofs.told.Symbol.{name as #told′}
 use Rattle.answers.proofs.told.Met as told′-thm
-use Rattle.run_answers.proofs.run_any as run-any′
-use Rattle.run_answers.proofs.run_any.Symbol as run-any′-def
-use Rattle.run_answers.proofs.run_any.Symbol.{name as #run-any′}
-use Rattle.run_answers.proofs.run_any.Met as run-any′-thm
+use Rattle.run_answers.proofs.run_cleaning as run-cleaning′
+use Rattle.run_answers.proofs.run_cleaning.Symbol as run-cleaning′-def
+use Rattle.run_answers.proofs.run_cleaning.Symbol.{name as #run-cleaning′}
+use Rattle.run_answers.proofs.run_cleaning.Met as run-cleaning′-thm
 use Rattle.answers.proofs.same as same′
 use Rattle.answers.proofs.same.Symbol as same′-def
 use Rattle.answers.proofs.same.Symbol.{name as #same′}
@@ -125,12 +125,12 @@ Of-told′ 𝓤 H A mem run = tripleOf 𝓤 H A told′.signature (told′.spec 
 abbrev Said-told′ : Answer → Report → Type 0
 Said-told′ r report = r ≡ answerOf report
 
--- the contract of `run_any`, and what it ensures
-abbrev Of-run-any′ : {M : Type 1} (𝓤 : URA M) (H : Heap 𝓤) (A : Atoms 𝓤) (mem : Memory → SProp 𝓤) (run : Routine → Fun 𝓤) → Contract 𝓤
-Of-run-any′ 𝓤 H A mem run = tripleOf 𝓤 H A run-any′.signature (run-any′.spec 𝓤 H A mem run)
+-- the contract of `run_cleaning`, and what it ensures
+abbrev Of-run-cleaning′ : {M : Type 1} (𝓤 : URA M) (H : Heap 𝓤) (A : Atoms 𝓤) (mem : Memory → SProp 𝓤) (run : Routine → Fun 𝓤) → Contract 𝓤
+Of-run-cleaning′ 𝓤 H A mem run = tripleOf 𝓤 H A run-cleaning′.signature (run-cleaning′.spec 𝓤 H A mem run)
 
-abbrev Said-run-any′ : Answer → Session → Session → List ℕ → List ℕ → List ℕ → List ℕ → Type 0
-Said-run-any′ r x-s z-s x-image z-image x-table z-table = Told (RunsOn (memory (x-s) (x-image) (x-table)) (memory (z-s) (z-image) (z-table))) r
+abbrev Said-run-cleaning′ : Answer → Session → Session → List ℕ → List ℕ → List ℕ → List ℕ → Type 0
+Said-run-cleaning′ r x-s z-s x-image z-image x-table z-table = Told (RunsOn (memory (x-s) (x-image) (x-table)) (memory (z-s) (z-image) (z-table))) r
 
 -- the contract of `same`, and what it ensures
 abbrev Of-same′ : {M : Type 1} (𝓤 : URA M) (H : Heap 𝓤) (A : Atoms 𝓤) (mem : Memory → SProp 𝓤) (run : Routine → Fun 𝓤) → Contract 𝓤
@@ -182,11 +182,11 @@ module _ {M : Type 1} (𝓤 : URA M) (H : Heap 𝓤) (A : Atoms 𝓤) (W : Given
   goes-2 : (r-report : Report) (w-report : Val) → ent 𝓤 (sep 𝓤 (sem 𝓤 H A ftrue) (sem 𝓤 H A (owns (T-Report.the-row ∷ []) (r-report, tt) (w-report ∷ [], tt)))) (Of-told′ 𝓤 H A at-mem run .pre (to-2 r-report w-report))
   goes-2 r-report w-report = qed W ((‵ ftrue) ∷ ‵ (owns (T-Report.the-row ∷ []) (r-report, tt) (w-report ∷ [], tt)) ∷ []) ∵ join ! $ frame ! $ done !
 
-  -- what the triple of `run_any` binds outside, and what it asks
-  abbrev to-3 : Of-run-any′ 𝓤 H A at-mem run .Ghost
+  -- what the triple of `run_cleaning` binds outside, and what it asks
+  abbrev to-3 : Of-run-cleaning′ 𝓤 H A at-mem run .Ghost
   to-3 = (((κ-s, (κ-image, (κ-table, tt))), (q-s, (q-image, (q-table, tt))), tt, (ref-s, (ref-image, (ref-table, tt))), (vptr b-s o-s ∷ [], (sliceVal (b-image, o-image) (length x-image) ∷ [], (sliceVal (b-table, o-table) (length x-table) ∷ [], tt)))), tt)
 
-  goes-3 : ent 𝓤 (sep 𝓤 (sep 𝓤 (A .lft κ-s q-s) (sep 𝓤 (A .lft κ-image q-image) (sep 𝓤 (A .lft κ-table q-table) (sem 𝓤 H A ftrue)))) (sem 𝓤 H A (owns (MutRef (named 0) κ-s T-Session.the-row ∷ MutSlice (named 1) κ-image u8 ∷ MutSlice (named 2) κ-table u64 ∷ []) (ref-s, (ref-image, (ref-table, tt))) (vptr b-s o-s ∷ [], (sliceVal (b-image, o-image) (length x-image) ∷ [], (sliceVal (b-table, o-table) (length x-table) ∷ [], tt)))))) (Of-run-any′ 𝓤 H A at-mem run .pre to-3)
+  goes-3 : ent 𝓤 (sep 𝓤 (sep 𝓤 (A .lft κ-s q-s) (sep 𝓤 (A .lft κ-image q-image) (sep 𝓤 (A .lft κ-table q-table) (sem 𝓤 H A ftrue)))) (sem 𝓤 H A (owns (MutRef (named 0) κ-s T-Session.the-row ∷ MutSlice (named 1) κ-image u8 ∷ MutSlice (named 2) κ-table u64 ∷ []) (ref-s, (ref-image, (ref-table, tt))) (vptr b-s o-s ∷ [], (sliceVal (b-image, o-image) (length x-image) ∷ [], (sliceVal (b-table, o-table) (length x-table) ∷ [], tt)))))) (Of-run-cleaning′ 𝓤 H A at-mem run .pre to-3)
   goes-3 = qed W ((‵ (flft κ-s q-s) ⊛ ‵ (flft κ-image q-image) ⊛ ‵ (flft κ-table q-table) ⊛ ‵ ftrue) ∷ ‵ (owns (MutRef (named 0) κ-s T-Session.the-row ∷ MutSlice (named 1) κ-image u8 ∷ MutSlice (named 2) κ-table u64 ∷ []) (ref-s, (ref-image, (ref-table, tt))) (vptr b-s o-s ∷ [], (sliceVal (b-image, o-image) (length x-image) ∷ [], (sliceVal (b-table, o-table) (length x-table) ∷ [], tt)))) ∷ []) ∵ join ! $ frame ! $ done !
 
   -- what the triple of `same` binds outside, and what it asks
@@ -204,7 +204,7 @@ module _ {M : Type 1} (𝓤 : URA M) (H : Heap 𝓤) (A : Atoms 𝓤) (W : Given
       nothing ! $ move ! (3 ∷ 0 ∷ []) $ join ! $ move ! (2 ∷ 0 ∷ []) $ join ! $ move ! (1 ∷ 0 ∷ []) $ join ! $ frame ! $
       nothing ! $ move ! (3 ∷ 0 ∷ []) $ fjoin ! $ move ! (2 ∷ 0 ∷ []) $ fjoin ! $ move ! (1 ∷ 0 ∷ []) $ fjoin ! $ done !
 
-  exits-2 : (r-late : Bool) (r-answer : Answer) (r : Answer) (w : Val) (z-s : Session) (z-image : List ℕ) (z-table : List ℕ) → Said-is-late′ r-late (x-s .control) (x-s .setup) (length x-image) (length x-table) → T (not r-late) → Said-run-any′ r-answer x-s z-s x-image z-image x-table z-table → Said-same′ r r-answer → length z-image ≡ length x-image → length z-table ≡ length x-table
+  exits-2 : (r-late : Bool) (r-answer : Answer) (r : Answer) (w : Val) (z-s : Session) (z-image : List ℕ) (z-table : List ℕ) → Said-is-late′ r-late (x-s .control) (x-s .setup) (length x-image) (length x-table) → T (not r-late) → Said-run-cleaning′ r-answer x-s z-s x-image z-image x-table z-table → Said-same′ r r-answer → length z-image ≡ length x-image → length z-table ≡ length x-table
       → ent 𝓤 (⋆ 𝓤 H A (‵ (flft κ-s q-s) ∷ ‵ (flft κ-image q-image) ∷ ‵ (flft κ-table q-table) ∷ ‵ (fres γ-s (T-Session.the-row .coded .code z-s)) ∷ ‵ (finally u8 γ-image z-image) ∷ ‵ (finally u64 γ-table z-table) ∷ ‵ (T-Answer.the-row .own r (w ∷ [])) ∷ [])) (Post w)
   exits-2 r-late r-answer r w z-s z-image z-table e-late failed e-answer e l-image l-table =
       qed W (‵ (flft κ-s q-s) ∷ ‵ (flft κ-image q-image) ∷ ‵ (flft κ-table q-table) ∷ ‵ (fres γ-s (T-Session.the-row .coded .code z-s)) ∷ ‵ (finally u8 γ-image z-image) ∷ ‵ (finally u64 γ-table z-table) ∷ ‵ (T-Answer.the-row .own r (w ∷ [])) ∷ []) ∵
@@ -212,7 +212,7 @@ module _ {M : Type 1} (𝓤 : URA M) (H : Heap 𝓤) (A : Atoms 𝓤) (W : Given
       nothing ! $ move ! (3 ∷ 0 ∷ []) $ join ! $ move ! (2 ∷ 0 ∷ []) $ join ! $ move ! (1 ∷ 0 ∷ []) $ join ! $ frame ! $
       nothing ! $ move ! (3 ∷ 0 ∷ []) $ fjoin ! $ move ! (2 ∷ 0 ∷ []) $ fjoin ! $ move ! (1 ∷ 0 ∷ []) $ fjoin ! $ done !
 
-  module _ (C : Calls 𝓤 H) (Λ : Loops 𝓤 H) (fm : FmC 𝓤 H (W .laws) C) (known-is-late′ : Triple 𝓤 (C #is-late′) (Of-is-late′ 𝓤 H A at-mem run)) (known-step-late′ : Triple 𝓤 (C #step-late′) (Of-step-late′ 𝓤 H A at-mem run)) (known-told′ : Triple 𝓤 (C #told′) (Of-told′ 𝓤 H A at-mem run)) (known-run-any′ : Triple 𝓤 (C #run-any′) (Of-run-any′ 𝓤 H A at-mem run)) (known-same′ : Triple 𝓤 (C #same′) (Of-same′ 𝓤 H A at-mem run)) where
+  module _ (C : Calls 𝓤 H) (Λ : Loops 𝓤 H) (fm : FmC 𝓤 H (W .laws) C) (known-is-late′ : Triple 𝓤 (C #is-late′) (Of-is-late′ 𝓤 H A at-mem run)) (known-step-late′ : Triple 𝓤 (C #step-late′) (Of-step-late′ 𝓤 H A at-mem run)) (known-told′ : Triple 𝓤 (C #told′) (Of-told′ 𝓤 H A at-mem run)) (known-run-cleaning′ : Triple 𝓤 (C #run-cleaning′) (Of-run-cleaning′ 𝓤 H A at-mem run)) (known-same′ : Triple 𝓤 (C #same′) (Of-same′ 𝓤 H A at-mem run)) where
     walk : ent 𝓤 (onEntry 𝓤 H A self.signature (κ-s, (κ-image, (κ-table, tt))) (q-s, (q-image, (q-table, tt))) a vals) (WpFn 𝓤 H C Λ code.function (vptr b-s o-s ∷ sliceVal (b-image, o-image) (length x-image) ∷ sliceVal (b-table, o-table) (length x-table) ∷ []) Post)
     walk =
         qed W ((‵ (flft κ-s q-s) ⊛ ‵ (flft κ-image q-image) ⊛ ‵ (flft κ-table q-table) ⊛ ‵ ftrue) ∷ ‵ (owns (MutRef (named 0) κ-s T-Session.the-row ∷ MutSlice (named 1) κ-image u8 ∷ MutSlice (named 2) κ-table u64 ∷ []) a vals) ∷ []) ∵ enter ! C Λ code.function (vptr b-s o-s ∷ sliceVal (b-image, o-image) (length x-image) ∷ sliceVal (b-table, o-table) (length x-table) ∷ []) _ $
@@ -264,19 +264,19 @@ module _ {M : Type 1} (𝓤 : URA M) (H : Heap 𝓤) (A : Atoms 𝓤) (W : Given
         move ! (59 ∷ 60 ∷ []) $ free1 ! $ move ! (57 ∷ 58 ∷ []) $ free1 ! $ move ! (55 ∷ 56 ∷ []) $ free1 ! $ move ! (53 ∷ 54 ∷ []) $ free1 ! $ move ! (51 ∷ 52 ∷ []) $ free1 ! $ move ! (49 ∷ 50 ∷ []) $ free1 ! $ move ! (47 ∷ 48 ∷ []) $ free1 ! $ move ! (45 ∷ 46 ∷ []) $ free1 ! $ move ! (43 ∷ 44 ∷ []) $ free1 ! $ move ! (41 ∷ 42 ∷ []) $ free1 ! $ move ! (39 ∷ 40 ∷ []) $ free1 ! $ move ! (37 ∷ 38 ∷ []) $ free1 ! $ move ! (35 ∷ 36 ∷ []) $ free1 ! $ move ! (33 ∷ 34 ∷ []) $ free1 ! $ move ! (31 ∷ 32 ∷ []) $ free1 ! $ move ! (29 ∷ 30 ∷ []) $ free1 ! $ move ! (27 ∷ 28 ∷ []) $ free1 ! $ move ! (25 ∷ 26 ∷ []) $ free1 ! $ move ! (23 ∷ 24 ∷ []) $ free1 ! $ move ! (21 ∷ 22 ∷ []) $ free1 ! $ move ! (19 ∷ 20 ∷ []) $ free1 ! $ move ! (17 ∷ 18 ∷ []) $ free1 ! $ free0 ! $
         keep ! (7 ∷ 6 ∷ 4 ∷ 11 ∷ 10 ∷ 8 ∷ 0 ∷ []) $ by ! (exits-1 r-late r-report r w (zs-report .0) (zs-report .1 .0) (zs-report .1 .1 .0) e-late held e-report e l-image l-table))))))))))))))
         (λ failed.
-        -- `run_any`
+        -- `run_cleaning`
         assigns ! (addr ! (from ! (hop ! (look ! 51 refl) (stop !)))) (from ! (stop !)) (init ! 19 refl (tt, tt)) $
         assigns ! (addr ! (from ! (fld ! refl (hop ! (look-in ! 49 (sub ! 0 refl (whole !))) (stop !))))) (from ! (stop !)) (init ! 17 refl (tt, tt)) $
         assigns ! (agg ! (and-then ! (load ! (from ! (stop !)) (look ! 17 refl)) (and-then ! (load ! (from ! (fld ! refl (stop !))) (look-in ! 49 (sub ! 1 refl (whole !)))) (no-more !)))) (from ! (stop !)) (init ! 15 refl (tt, (tt, (record { fits = room-image .0 }, tt)))) $
         assigns ! (addr ! (from ! (fld ! refl (hop ! (look-in ! 47 (sub ! 0 refl (whole !))) (stop !))))) (from ! (stop !)) (init ! 13 refl (tt, tt)) $
         assigns ! (agg ! (and-then ! (load ! (from ! (stop !)) (look ! 13 refl)) (and-then ! (load ! (from ! (fld ! refl (stop !))) (look-in ! 47 (sub ! 1 refl (whole !)))) (no-more !)))) (from ! (stop !)) (init ! 11 refl (tt, (tt, (record { fits = room-table .0 }, tt)))) $
         nothing ! $ move ! (9 ∷ 0 ∷ []) $ fjoin ! $ move ! (10 ∷ 0 ∷ []) $ fjoin ! $ move ! (4 ∷ 0 ∷ []) $ fjoin ! $ nothing ! $ move ! (6 ∷ 0 ∷ []) $ join ! $ move ! (7 ∷ 0 ∷ []) $ join ! $ move ! (5 ∷ 0 ∷ []) $ join ! $
-        use2 W (raw (Of-run-any′ 𝓤 H A at-mem run .pre to-3)) goes-3 $
-        calls-at ! fm (Of-run-any′ 𝓤 H A at-mem run) known-run-any′ to-3 (and-then ! (load ! (from ! (stop !)) (look ! 14 refl)) (and-then ! (load ! (from ! (stop !)) (look ! 10 refl)) (and-then ! (load ! (from ! (stop !)) (look ! 6 refl)) (no-more !)))) (λ w-answer.
-        use1 W (later (some (λ (r-answer : Answer). ((‵ (flft κ-s q-s) ⊛ ‵ (flft κ-image q-image) ⊛ ‵ (flft κ-table q-table) ⊛ ‵ ftrue) ⊛ ‵ (T-Answer.the-row .own r-answer (w-answer ∷ []))) ⊛ raw (ensured 𝓤 H A run-any′.ended (run-any′.clauses 𝓤 H A at-mem run) (κ-s, (κ-image, (κ-table, tt))) (ref-s, (ref-image, (ref-table, tt))) tt r-answer)))) (id⊢ 𝓤 _) $ await ! tt $ pick ! (λ r-answer. split ! $
-        -- what `run_any` ensures, at some last values
-        move ! (1 ∷ []) $ use1 W (some (λ (zs-answer : (Session × (List ℕ × (List ℕ × Unit {0})))). ‵ (lasts run-any′.ended (κ-s, (κ-image, (κ-table, tt))) (ref-s, (ref-image, (ref-table, tt))) zs-answer) ⊛ raw (fact 𝓤 (Said-run-any′ r-answer x-s (zs-answer .0) x-image (zs-answer .1 .0) x-table (zs-answer .1 .1 .0))))) (id⊢ 𝓤 _) $ pick ! (λ zs-answer. split ! $
-        move ! (1 ∷ []) $ heard ! (Said-run-any′ r-answer x-s (zs-answer .0) x-image (zs-answer .1 .0) x-table (zs-answer .1 .1 .0)) (λ e-answer. fsplit ! $ move ! (1 ∷ []) $ fsplit ! $ fsplit ! $ move ! (1 ∷ []) $ feqL ! (λ l-image. move ! (1 ∷ []) $ fsplit ! $ fsplit ! $ move ! (1 ∷ []) $ feqL ! (λ l-table.
+        use2 W (raw (Of-run-cleaning′ 𝓤 H A at-mem run .pre to-3)) goes-3 $
+        calls-at ! fm (Of-run-cleaning′ 𝓤 H A at-mem run) known-run-cleaning′ to-3 (and-then ! (load ! (from ! (stop !)) (look ! 14 refl)) (and-then ! (load ! (from ! (stop !)) (look ! 10 refl)) (and-then ! (load ! (from ! (stop !)) (look ! 6 refl)) (no-more !)))) (λ w-answer.
+        use1 W (later (some (λ (r-answer : Answer). ((‵ (flft κ-s q-s) ⊛ ‵ (flft κ-image q-image) ⊛ ‵ (flft κ-table q-table) ⊛ ‵ ftrue) ⊛ ‵ (T-Answer.the-row .own r-answer (w-answer ∷ []))) ⊛ raw (ensured 𝓤 H A run-cleaning′.ended (run-cleaning′.clauses 𝓤 H A at-mem run) (κ-s, (κ-image, (κ-table, tt))) (ref-s, (ref-image, (ref-table, tt))) tt r-answer)))) (id⊢ 𝓤 _) $ await ! tt $ pick ! (λ r-answer. split ! $
+        -- what `run_cleaning` ensures, at some last values
+        move ! (1 ∷ []) $ use1 W (some (λ (zs-answer : (Session × (List ℕ × (List ℕ × Unit {0})))). ‵ (lasts run-cleaning′.ended (κ-s, (κ-image, (κ-table, tt))) (ref-s, (ref-image, (ref-table, tt))) zs-answer) ⊛ raw (fact 𝓤 (Said-run-cleaning′ r-answer x-s (zs-answer .0) x-image (zs-answer .1 .0) x-table (zs-answer .1 .1 .0))))) (id⊢ 𝓤 _) $ pick ! (λ zs-answer. split ! $
+        move ! (1 ∷ []) $ heard ! (Said-run-cleaning′ r-answer x-s (zs-answer .0) x-image (zs-answer .1 .0) x-table (zs-answer .1 .1 .0)) (λ e-answer. fsplit ! $ move ! (1 ∷ []) $ fsplit ! $ fsplit ! $ move ! (1 ∷ []) $ feqL ! (λ l-image. move ! (1 ∷ []) $ fsplit ! $ fsplit ! $ move ! (1 ∷ []) $ feqL ! (λ l-table.
         move ! (4 ∷ []) $ split ! $ move ! (1 ∷ []) $ peeks ! T-Answer.the-row (Is T-Answer.the-row) (shows 𝓤 H A T-Answer.the-row) r-answer (w-answer ∷ []) (λ is-answer. move ! (1 ∷ []) $ split ! $ move ! (1 ∷ []) $ split ! $ move ! (1 ∷ []) $ split ! $ land ! (from ! (stop !)) (init ! 40 refl (LL.lawful T-Answer.the-type T-Answer′.the-laws 𝓤 H A W .typed r-answer _ is-answer .0)) $
         -- `same`
         nothing ! $ move ! (5 ∷ 0 ∷ []) $ fjoin ! $ nothing ! $
@@ -293,17 +293,17 @@ module _ {M : Type 1} (𝓤 : URA M) (H : Heap 𝓤) (A : Atoms 𝓤) (W : Given
         keep ! (7 ∷ 6 ∷ 4 ∷ 11 ∷ 10 ∷ 8 ∷ 0 ∷ []) $ by ! (exits-2 r-late r-answer r w (zs-answer .0) (zs-answer .1 .0) (zs-answer .1 .1 .0) e-late failed e-answer e l-image l-table)))))))))))))))))))))))))))))))))))))))))))
 
 module _ {M : Type 1} (𝓤 : URA M) (H : Heap 𝓤) (A : Atoms 𝓤) (W : Given 𝓤 H A) (mem : Memory → SProp 𝓤) (run : Routine → Fun 𝓤) where
-  walks : (C : Calls 𝓤 H) (Λ : Loops 𝓤 H) → FmC 𝓤 H (W .laws) C → Triple 𝓤 (C #is-late′) (Of-is-late′ 𝓤 H A mem run) → Triple 𝓤 (C #step-late′) (Of-step-late′ 𝓤 H A mem run) → Triple 𝓤 (C #told′) (Of-told′ 𝓤 H A mem run) → Triple 𝓤 (C #run-any′) (Of-run-any′ 𝓤 H A mem run) → Triple 𝓤 (C #same′) (Of-same′ 𝓤 H A mem run) → Walks 𝓤 H A self.ended stayed (WpFn 𝓤 H C Λ code.function) (self.clauses 𝓤 H A mem run)
-  walks C Λ fm known-is-late′ known-step-late′ known-told′ known-run-any′ known-same′ = walked 𝓤 H A self.ended stayed (self.clauses 𝓤 H A mem run) (WpFn 𝓤 H C Λ code.function)
+  walks : (C : Calls 𝓤 H) (Λ : Loops 𝓤 H) → FmC 𝓤 H (W .laws) C → Triple 𝓤 (C #is-late′) (Of-is-late′ 𝓤 H A mem run) → Triple 𝓤 (C #step-late′) (Of-step-late′ 𝓤 H A mem run) → Triple 𝓤 (C #told′) (Of-told′ 𝓤 H A mem run) → Triple 𝓤 (C #run-cleaning′) (Of-run-cleaning′ 𝓤 H A mem run) → Triple 𝓤 (C #same′) (Of-same′ 𝓤 H A mem run) → Walks 𝓤 H A self.ended stayed (WpFn 𝓤 H C Λ code.function) (self.clauses 𝓤 H A mem run)
+  walks C Λ fm known-is-late′ known-step-late′ known-told′ known-run-cleaning′ known-same′ = walked 𝓤 H A self.ended stayed (self.clauses 𝓤 H A mem run) (WpFn 𝓤 H C Λ code.function)
       (λ κs. (ptr-vals, (slice-vals, (slice-vals, tt)))) (λ κs. (mut-tells (named 0) (κs .0) T-Session.the-row, (mut-slice-tells (named 1) (κs .1 .0) u8, (mut-slice-tells (named 2) (κs .1 .1 .0) u64, tt))))
       (λ κs qs bounds a g are. via 𝓤 _ (fst∗ 𝓤 _ (emp 𝓤))
-      (walk 𝓤 H A W mem run (κs .0) (κs .1 .0) (κs .1 .1 .0) bounds (qs .0) (qs .1 .0) (qs .1 .1 .0) (a .0 .ptr .0) (a .0 .ptr .1) (a .0 .name) (a .0 .now) (a .1 .0 .ptr .0) (a .1 .0 .ptr .1) (a .1 .0 .name) (a .1 .0 .now) (are .1 .0 .0 .1) (a .1 .1 .0 .ptr .0) (a .1 .1 .0 .ptr .1) (a .1 .1 .0 .name) (a .1 .1 .0 .now) (are .1 .1 .0 .0 .1) C Λ fm known-is-late′ known-step-late′ known-told′ known-run-any′ known-same′))
+      (walk 𝓤 H A W mem run (κs .0) (κs .1 .0) (κs .1 .1 .0) bounds (qs .0) (qs .1 .0) (qs .1 .1 .0) (a .0 .ptr .0) (a .0 .ptr .1) (a .0 .name) (a .0 .now) (a .1 .0 .ptr .0) (a .1 .0 .ptr .1) (a .1 .0 .name) (a .1 .0 .now) (are .1 .0 .0 .1) (a .1 .1 .0 .ptr .0) (a .1 .1 .0 .ptr .1) (a .1 .1 .0 .name) (a .1 .1 .0 .now) (are .1 .1 .0 .0 .1) C Λ fm known-is-late′ known-step-late′ known-told′ known-run-cleaning′ known-same′))
 
-meets : {M : Type 1} (𝓤 : URA M) (H : Heap 𝓤) (A : Atoms 𝓤) → Given 𝓤 H A → (mem : Memory → SProp 𝓤) (run : Routine → Fun 𝓤) (𝓣 : Tables 𝓤 H) → Triple 𝓤 (𝓣 .C #is-late′) (Of-is-late′ 𝓤 H A mem run) → Triple 𝓤 (𝓣 .C #step-late′) (Of-step-late′ 𝓤 H A mem run) → Triple 𝓤 (𝓣 .C #told′) (Of-told′ 𝓤 H A mem run) → Triple 𝓤 (𝓣 .C #run-any′) (Of-run-any′ 𝓤 H A mem run) → Triple 𝓤 (𝓣 .C #same′) (Of-same′ 𝓤 H A mem run)
+meets : {M : Type 1} (𝓤 : URA M) (H : Heap 𝓤) (A : Atoms 𝓤) → Given 𝓤 H A → (mem : Memory → SProp 𝓤) (run : Routine → Fun 𝓤) (𝓣 : Tables 𝓤 H) → Triple 𝓤 (𝓣 .C #is-late′) (Of-is-late′ 𝓤 H A mem run) → Triple 𝓤 (𝓣 .C #step-late′) (Of-step-late′ 𝓤 H A mem run) → Triple 𝓤 (𝓣 .C #told′) (Of-told′ 𝓤 H A mem run) → Triple 𝓤 (𝓣 .C #run-cleaning′) (Of-run-cleaning′ 𝓤 H A mem run) → Triple 𝓤 (𝓣 .C #same′) (Of-same′ 𝓤 H A mem run)
     → Meets 𝓤 H A self.signature (WpFn 𝓤 H (𝓣 .C) (𝓣 .Λ) code.function) (self.spec 𝓤 H A mem run)
-meets 𝓤 H A W mem run 𝓣 known-is-late′ known-step-late′ known-told′ known-run-any′ known-same′ =
+meets 𝓤 H A W mem run 𝓣 known-is-late′ known-step-late′ known-told′ known-run-cleaning′ known-same′ =
     walk-meets 𝓤 H A self.ended stayed W (goes-gave-ref 𝓤 H A W 3 0 tt (plain (λ _. T-Session.the-row)), (goes-gave-slice 𝓤 H A W 3 1 tt (plain (λ _. u8)), (goes-gave-slice 𝓤 H A W 3 2 tt (plain (λ _. u64)), tt))) (self.clauses 𝓤 H A mem run)
-    (WpFn 𝓤 H (𝓣 .C) (𝓣 .Λ) code.function) (WpFn-mono 𝓤 H (W .laws) 𝓣 code.function) (walks 𝓤 H A W mem run (𝓣 .C) (𝓣 .Λ) (fmOf 𝓤 H (W .laws) 𝓣) known-is-late′ known-step-late′ known-told′ known-run-any′ known-same′)
+    (WpFn 𝓤 H (𝓣 .C) (𝓣 .Λ) code.function) (WpFn-mono 𝓤 H (W .laws) 𝓣 code.function) (walks 𝓤 H A W mem run (𝓣 .C) (𝓣 .Λ) (fmOf 𝓤 H (W .laws) 𝓣) known-is-late′ known-step-late′ known-told′ known-run-cleaning′ known-same′)
 
 pub run-late-spec : {M : Type 1} → stated.statement M
 unfolding code.routine tablesOf
@@ -314,5 +314,5 @@ run-late-spec 𝓤 H 𝓜 𝓖 𝓡 =
     (cited 𝓤 H (Of-is-late′ 𝓤 H (𝓖 .A) (𝓜 .mem) (𝓡 .run)) 𝓜 𝓡 code.env #is-late′ is-late′-def.routine code.calls-fast-path·is-late (is-late′-thm.met 𝓤 H 𝓜 𝓖 𝓡))
     (cited 𝓤 H (Of-step-late′ 𝓤 H (𝓖 .A) (𝓜 .mem) (𝓡 .run)) 𝓜 𝓡 code.env #step-late′ step-late′-def.routine code.calls-store-step·step-late (step-late′-thm.met 𝓤 H 𝓜 𝓖 𝓡))
     (cited 𝓤 H (Of-told′ 𝓤 H (𝓖 .A) (𝓜 .mem) (𝓡 .run)) 𝓜 𝓡 code.env #told′ told′-def.routine code.calls-answers·told (told′-thm.met 𝓤 H 𝓜 𝓖 𝓡))
-    (cited 𝓤 H (Of-run-any′ 𝓤 H (𝓖 .A) (𝓜 .mem) (𝓡 .run)) 𝓜 𝓡 code.env #run-any′ run-any′-def.routine code.calls-run-answers·run-any (run-any′-thm.met 𝓤 H 𝓜 𝓖 𝓡))
+    (cited 𝓤 H (Of-run-cleaning′ 𝓤 H (𝓖 .A) (𝓜 .mem) (𝓡 .run)) 𝓜 𝓡 code.env #run-cleaning′ run-cleaning′-def.routine code.calls-run-answers·run-cleaning (run-cleaning′-thm.met 𝓤 H 𝓜 𝓖 𝓡))
     (cited 𝓤 H (Of-same′ 𝓤 H (𝓖 .A) (𝓜 .mem) (𝓡 .run)) 𝓜 𝓡 code.env #same′ same′-def.routine code.calls-answers·same (same′-thm.met 𝓤 H 𝓜 𝓖 𝓡)))

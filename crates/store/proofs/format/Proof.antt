@@ -7,7 +7,6 @@ use Rattle.spec.specs.Machine.{Format}
 use Rattle.formatting.specs.Begun.{given}
 use Rattle.session.specs.Promise.{Does, memoryOf}
 use mathlib.Core.Path.{_≡_}
-use Prim.Native.Nat.{_≤_}
 use mathlib.Core.Path.{refl, ap}
 use mathlib.Core.Bool.{Bool}
 use Prim.Native.Nat.{ℕ, _+_, _<_, _^_}

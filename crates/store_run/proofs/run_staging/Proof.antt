@@ -7,8 +7,7 @@ use Rattle.fast_path.specs.Run.{RunsOn}
 use Rattle.fast_path.specs.Fast.{InStaging, OnFastPath}
 use Rattle.session.specs.Promise.{memoryOf}
 use mathlib.Core.Path.{_≡_}
-use mathlib.Core.Bool.{true, false}
-use Prim.Native.Nat.{_-_, _^_, _≤_, _<_}
+use Prim.Native.Nat.{_≤_}
 use mathlib.Core.Path.{refl, ap}
 use mathlib.Core.Bool.{Bool}
 use Prim.Native.Nat.{ℕ, _+_, _<_, _^_}
@@ -72,10 +71,10 @@ use Rattle.lent_record.proofs.Lent as Lent
 use Rattle.session.specs.declared.Setup.{Setup}
 use Rattle.session.proofs.Setup as K-Setup
 use Rattle.session.proofs.Setup.Laws as K-Setup′
-use Rattle.fast_path.proofs.staging_run as core
-use Rattle.fast_path.proofs.staging_run.Symbol as core-def
-use Rattle.fast_path.proofs.staging_run.Symbol.{name as #core}
-use Rattle.fast_path.proofs.staging_run.Met as core-thm
+use Rattle.staging_path.proofs.staging_run as core
+use Rattle.staging_path.proofs.staging_run.Symbol as core-def
+use Rattle.staging_path.proofs.staging_run.Symbol.{name as #core}
+use Rattle.staging_path.proofs.staging_run.Met as core-thm
 use Rattle.store_run.proofs.run_staging.Key.{name as #step}
 use Rattle.store_run.proofs.run_staging as step
 use Rattle.store_run.proofs.run_staging.Statement as stated
