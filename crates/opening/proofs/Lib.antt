@@ -1,6 +1,2 @@
 pub mod Tests
-pub mod Pass
-pub mod Runs
 pub mod Opens
-pub mod Sums
-pub mod Skips
