@@ -1,5 +1,1 @@
-pub mod Pass
-pub mod Runs
 pub mod Opens
-pub mod Sums
-pub mod Skips

@@ -38,7 +38,7 @@ use Rattle.session.specs.Fits.{RestFits}
 use Rattle.session.proofs.Kept.{none-fit}
 use Rattle.opening.specs.declared.Verdict.{Verdict}
 use Rattle.opening.specs.declared.Verdict.the-variants as J
-use Rattle.opening.specs.Pass.{Filling}
+use Rattle.filling.specs.Pass.{Filling}
 use Rattle.opening.specs.Judged.{firstRefusal, Judged, JudgingLog, Judging}
 use Rattle.session.specs.Promise.{Does, memory}
 use Rattle.session.specs.Numbers.{closed, opened, lent}

@@ -7,7 +7,7 @@ use lib.ListN.{length}
 use Rattle.spec.specs.Words.{wordsOf}
 use Rattle.words.specs.Image.{length-wordsOf}
 use Rattle.theory_log.proofs.Walk.{room-entry}
-use Rattle.opening.proofs.Runs.{put-told}
+use Rattle.filling.proofs.Runs.{put-told}
 use Rattle.gathering.specs.Reading.{PutsTaken}
 use Rattle.gathering.proofs.Passes.{puts-start, puts-more}
 use borrow.Author.Needs.{needs}

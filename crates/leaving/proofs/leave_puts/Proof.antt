@@ -8,7 +8,7 @@ use lib.ListN.{length}
 use Rattle.spec.specs.Words.{wordsOf}
 use Rattle.words.specs.Image.{length-wordsOf}
 use Rattle.theory_log.proofs.Walk.{room-entry}
-use Rattle.opening.proofs.Runs.{put-told}
+use Rattle.filling.proofs.Runs.{put-told}
 use Rattle.leaving.specs.Passes.{PutsLeft}
 use Rattle.leaving.proofs.Walks.{puts-not, puts-start, puts-more}
 use borrow.Author.Needs.{needs}

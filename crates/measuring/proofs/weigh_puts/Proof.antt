@@ -7,7 +7,7 @@ use borrow.Author.Needs.{needs}
 use Rattle.spec.specs.Words.{wordsOf}
 use Rattle.words.specs.Image.{length-wordsOf}
 use Rattle.theory_log.proofs.Walk.{room-entry}
-use Rattle.opening.proofs.Runs.{put-told}
+use Rattle.filling.proofs.Runs.{put-told}
 use Rattle.measuring.specs.Measuring.{Hastened}
 use Rattle.measuring.proofs.Measures.{run-start, run-more}
 use Rattle.measuring.proofs.weigh_puts.Statement.{statement}

@@ -1,14 +1,14 @@
--- `opening::skip` meets its contract. The loop's invariant: only padding stands before `place`. Assumes nothing.
+-- `filling::skip` meets its contract. The loop's invariant: only padding stands before `place`. Assumes nothing.
 use borrow.Author.Needs.{needs}
 use mathlib.Core.Path.{sym, _∙_}
 use Prim.Native.Nat.{_-_}
 use native.Mathlib.Omega.{arith}
 use Rattle.spec.specs.Words.{wordsOf}
 use Rattle.words.specs.Image.{length-wordsOf}
-use Rattle.opening.specs.Pass.{Skipped}
-use Rattle.opening.proofs.Skips.{skip-start, skip-more}
-use Rattle.opening.proofs.skip.Statement.{statement}
-use Rattle.opening.proofs.skip.Tie as tie
+use Rattle.filling.specs.Pass.{Skipped}
+use Rattle.filling.proofs.Skips.{skip-start, skip-more}
+use Rattle.filling.proofs.skip.Statement.{statement}
+use Rattle.filling.proofs.skip.Tie as tie
 
 abbrev Inv-loop : tie.InvT-loop
 Inv-loop image at end stop place₀ place = Skipped (wordsOf image) end at place

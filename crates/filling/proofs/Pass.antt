@@ -36,8 +36,8 @@ use Rattle.sums.proofs.Laws.{cleared-summed}
 use Rattle.sums.proofs.Weights.{right-few}
 use Rattle.sums.proofs.Joins.{joins-behind}
 use Rattle.log.proofs.Stands.{image-stands}
-use Rattle.opening.specs.Pass.{Entering, AgainIs, EnteredIs, Owing, Passing, Filling}
-use Rattle.opening.proofs.Sums.{owing-none, owing-summed, owing-turned, owing-paid}
+use Rattle.filling.specs.Pass.{Entering, AgainIs, EnteredIs, Owing, Passing, Filling}
+use Rattle.filling.proofs.Sums.{owing-none, owing-summed, owing-turned, owing-paid}
 
 -- One more entry, of a key whose probing stops at `slot`, where the table holds `old`.
 module _ (table : List ℕ) (keys : ℕ) (fits single : Bool) (key own slot old : ℕ) (is-slot : slot ≡ stopOf table key) (is-word : old ≡ infoAt table slot) (so : fits ≡ true) where

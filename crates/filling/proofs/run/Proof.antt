@@ -1,4 +1,4 @@
--- `opening::run` meets its contract. The loop's invariant: the pass has come to `place`, with the table's numbers as
+-- `filling::run` meets its contract. The loop's invariant: the pass has come to `place`, with the table's numbers as
 -- they are.
 -- Assumes nothing.
 use Prim.Native.Nat.{_-_}
@@ -8,11 +8,11 @@ use borrow.Author.Needs.{needs}
 use Rattle.spec.specs.Words.{wordsOf}
 use Rattle.words.specs.Image.{length-wordsOf}
 use Rattle.theory_log.proofs.Walk.{room-entry}
-use Rattle.opening.specs.Pass.{Hastened}
+use Rattle.filling.specs.Pass.{Hastened}
 use Rattle.volatile.proofs.Shows.{own-alone}
-use Rattle.opening.proofs.Runs.{put-told, run-start, run-more, run-again}
-use Rattle.opening.proofs.run.Statement.{statement}
-use Rattle.opening.proofs.run.Tie as tie
+use Rattle.filling.proofs.Runs.{put-told, run-start, run-more, run-again}
+use Rattle.filling.proofs.run.Statement.{statement}
+use Rattle.filling.proofs.run.Tie as tie
 
 abbrev Inv-loop : tie.InvT-loop
 Inv-loop image at end table₀ buffer₀ keys fits single room count₀ lonely₀ from₀ place₀ table buffer count lonely from place = Hastened (wordsOf image) end fits table₀ keys single buffer₀ at table count lonely buffer from place

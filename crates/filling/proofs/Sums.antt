@@ -18,7 +18,7 @@ use Rattle.volatile.specs.Sums.{weight, shareIn, chosenSum, sumsStart, sumsCoun
 use Rattle.sums.specs.Change.{only, nothing, Changed}
 use Rattle.sums.proofs.Laws.{share-only}
 use Rattle.sums.proofs.Joins.{sum-new}
-use Rattle.opening.specs.Pass.{Owing}
+use Rattle.filling.specs.Pass.{Owing}
 
 only-none : (place c : ℕ) → only place 0 c ≡ 0
 only-none place c = go (eqb (place / 512 % 512) c)

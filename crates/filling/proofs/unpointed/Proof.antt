@@ -1,8 +1,8 @@
--- `opening::unpointed` meets its contract.
+-- `filling::unpointed` meets its contract.
 -- Assumes nothing.
 use borrow.Author.Tests.{eq-eqb, ne-eqb}
-use Rattle.opening.proofs.unpointed.Statement.{statement}
-use Rattle.opening.proofs.unpointed.Tie as tie
+use Rattle.filling.proofs.unpointed.Statement.{statement}
+use Rattle.filling.proofs.unpointed.Tie as tie
 
 returns : tie.Need-returns
 returns c = rw (eq-eqb _ 1 (c .if1 .taken))

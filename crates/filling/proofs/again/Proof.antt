@@ -1,9 +1,9 @@
--- `opening::again` meets its contract.
+-- `filling::again` meets its contract.
 -- Assumes nothing.
 use borrow.Author.Needs.{needs}
-use Rattle.opening.proofs.Pass.{again-is}
-use Rattle.opening.proofs.again.Statement.{statement}
-use Rattle.opening.proofs.again.Tie as tie
+use Rattle.filling.proofs.Pass.{again-is}
+use Rattle.filling.proofs.again.Statement.{statement}
+use Rattle.filling.proofs.again.Tie as tie
 
 renew-requires : tie.Need-renew-requires
 renew-requires c κs = search needs

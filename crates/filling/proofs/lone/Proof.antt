@@ -1,10 +1,10 @@
--- `opening::lone` meets its contract.
+-- `filling::lone` meets its contract.
 -- Assumes nothing.
 use mathlib.Core.Path.{_≡_}
 use mathlib.Core.Bool.{true, false}
 use borrow.Author.Needs.{needs}
-use Rattle.opening.proofs.lone.Statement.{statement}
-use Rattle.opening.proofs.lone.Tie as tie
+use Rattle.filling.proofs.lone.Statement.{statement}
+use Rattle.filling.proofs.lone.Tie as tie
 
 returns : tie.Need-returns
 returns c = let t : c .before .args .single ≡ true = c .if1 .taken in rw t

@@ -1,13 +1,13 @@
--- `opening::enter` meets its contract.
+-- `filling::enter` meets its contract.
 -- Assumes nothing.
 use mathlib.Core.Path.{refl}
 use Rattle.volatile.proofs.Info.{noted-new}
 use Rattle.spec.specs.Words.{wordsOf}
 use Rattle.sums.proofs.Laws.{alone-self}
-use Rattle.opening.proofs.Pass.{enter-new, enter-old, enter-full, enter-over, entered-renewed, entered-over}
+use Rattle.filling.proofs.Pass.{enter-new, enter-old, enter-full, enter-over, entered-renewed, entered-over}
 use borrow.Author.Needs.{needs}
-use Rattle.opening.proofs.enter.Statement.{statement}
-use Rattle.opening.proofs.enter.Tie as tie
+use Rattle.filling.proofs.enter.Statement.{statement}
+use Rattle.filling.proofs.enter.Tie as tie
 
 buffer-length-requires : tie.Need-buffer-length-requires
 buffer-length-requires c κs = search needs

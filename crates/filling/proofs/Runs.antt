@@ -32,9 +32,9 @@ use Rattle.volatile.specs.Known.{infoOf, Bounded}
 use Rattle.volatile.proofs.Info.{bounded-front, zero-chosen}
 use Rattle.sums.specs.Change.{only, nothing, Changed, Weighed}
 use Rattle.sums.proofs.Laws.{alone-self, alone-then}
-use Rattle.opening.specs.Pass.{Entering, AgainIs, EnteredIs, Owing, Hastened}
-use Rattle.opening.proofs.Sums.{owing-more}
-use Rattle.opening.proofs.Pass.{enter-new, enter-old, entered-renewed, pass-entry, pass-entered, pass-paid, pass-turned}
+use Rattle.filling.specs.Pass.{Entering, AgainIs, EnteredIs, Owing, Hastened}
+use Rattle.filling.proofs.Sums.{owing-more}
+use Rattle.filling.proofs.Pass.{enter-new, enter-old, entered-renewed, pass-entry, pass-entered, pass-paid, pass-turned}
 
 -- the word of a key with one entry has no bit of several top entries
 alone-low : (extent place version : ℕ) → alone extent place version < 0x8000_0000_0000_0000

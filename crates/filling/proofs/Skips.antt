@@ -7,7 +7,7 @@ use mathlib.Core.List.{List}
 use lib.ListN.{length, getD}
 use Rattle.log.proofs.Walk.{next-padding, left-padding}
 use Rattle.classes.proofs.Passed.{padding-stands}
-use Rattle.opening.specs.Pass.{Skipped}
+use Rattle.filling.specs.Pass.{Skipped}
 
 module _ (ws : List ℕ) (end at : ℕ) where
   pub skip-start : Skipped ws end at at

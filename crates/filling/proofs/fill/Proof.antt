@@ -1,4 +1,4 @@
--- `opening::fill` meets its contract. The loop's invariant: table and sums are those of the entries passed so far, or
+-- `filling::fill` meets its contract. The loop's invariant: table and sums are those of the entries passed so far, or
 -- their keys do not fit.
 -- Assumes nothing.
 use mathlib.Core.Path.{sym, _∙_, ap}
@@ -12,12 +12,12 @@ use Rattle.log.specs.Cursor.{cursorAt, left}
 use Rattle.log.proofs.Walk.{next-none, next-wrong, next-padding, next-found, left-padding}
 use Rattle.sums.specs.Change.{SumsAlone}
 use Rattle.sums.proofs.Laws.{alone-self, alone-then}
-use Rattle.opening.specs.Pass.{Passing}
+use Rattle.filling.specs.Pass.{Passing}
 use Rattle.volatile.proofs.Shows.{own-alone}
-use Rattle.opening.proofs.Pass.{pass-start, pass-on, pass-paid, pass-entered, pass-done, pass-wrong}
+use Rattle.filling.proofs.Pass.{pass-start, pass-on, pass-paid, pass-entered, pass-done, pass-wrong}
 use Rattle.classes.proofs.Onwards.{onward-same, onward-nearer}
-use Rattle.opening.proofs.fill.Statement.{statement}
-use Rattle.opening.proofs.fill.Tie as tie
+use Rattle.filling.proofs.fill.Statement.{statement}
+use Rattle.filling.proofs.fill.Tie as tie
 
 abbrev Inv-loop : tie.InvT-loop
 Inv-loop image count table₀ buffer₀ keys₀ fits₀ single₀ direct₀ chunk₀ at₀ end₀ table buffer keys fits single direct chunk at end = Passing count (wordsOf image) (length table₀) table keys fits single direct buffer 0 0 (cursorAt chunk at end) × SumsAlone buffer₀ buffer

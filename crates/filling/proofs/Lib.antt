@@ -1,0 +1,4 @@
+pub mod Pass
+pub mod Runs
+pub mod Sums
+pub mod Skips
