@@ -42,7 +42,8 @@ use Rattle.session.proofs.Gates.{at-rest}
 use Rattle.theory_crash.proofs.Opening.{opens-ok}
 use Rattle.chunk_stat.specs.declared.ChunkRow.{ChunkRow}
 use Rattle.chunk_stat.specs.Rows.{usedIn, plainRow, logRow, dataRow, rowFor, rowOf, isEmptyData, emptyChunk}
-use Rattle.chunk_stat.specs.ByTable.{blocksBy, rowBy, rowAt, emptyBy, foundBy}
+use Rattle.chunk_counts.specs.Counts.{blocksBy}
+use Rattle.chunk_stat.specs.ByTable.{rowBy, rowAt, emptyBy, foundBy}
 use Rattle.chunk_stat.specs.Contract.{countIn, DescribedBy, reportOf, StoppedAt, EmptiedBy}
 use Rattle.chunk_stat.proofs.Tallies.{tally-exact, blocks-exact, live-counted}
 

@@ -29,9 +29,9 @@ use Rattle.index.specs.Index.{get}
 use Rattle.index.specs.Packed.{unpackOf}
 use Rattle.volatile.specs.Known.{Bounded, Indexed}
 use Rattle.volatile.proofs.Info.{info-says}
-use Rattle.chunk_stat.specs.declared.Tally.{Tally}
+use Rattle.chunk_counts.specs.declared.Tally.{Tally}
 use Rattle.chunk_stat.specs.Rows.{countOf, isChosen, isLivePut, isLiveDelete, isPassed, isLiveBlock, tallyOf, usedIn}
-use Rattle.chunk_stat.specs.ByTable.{chosenBy, more, nothing, countNext, pointsInto, tallyBy, blockNext, blocksBy}
+use Rattle.chunk_counts.specs.Counts.{chosenBy, more, nothing, countNext, pointsInto, tallyBy, blockNext, blocksBy}
 
 -- ## Counting by one pass
 

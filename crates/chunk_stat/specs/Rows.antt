@@ -16,7 +16,7 @@ use Rattle.spec.specs.Contents.{chosen, isAt, inChunk}
 use Rattle.spec.specs.Plans.{hasLive}
 use Rattle.spec.specs.declared.Role.{Role}
 use Rattle.spec.specs.declared.Role.the-variants as R
-use Rattle.chunk_stat.specs.declared.Tally.{Tally}
+use Rattle.chunk_counts.specs.declared.Tally.{Tally}
 use Rattle.chunk_stat.specs.declared.ChunkRow.{ChunkRow}
 
 -- how many blocks of s units a chunk has

@@ -1,6 +1,5 @@
 pub mod Stated
 pub mod Counts
 pub mod FromFormatToCleaning
-pub mod Refusals
 pub mod CallRefusals
 pub mod Cuts

@@ -2,7 +2,6 @@
 // by a short loop.
 ghost use mathlib.Core.Path.{_≡_};
 ghost use mathlib.Core.Bool.{false};
-ghost use Prim.Native.Nat.{min};
 ghost use lib.Dec.{eqb, ltb};
 ghost use Rattle.spec.specs.Basics.{pick, both};
 ghost use Rattle.spec.specs.Words.{wordsOf};

@@ -1,4 +1,4 @@
--- `chunk_stat::count_entries` meets its contract. The loop's invariant: the pass over the chunk is the pass over
+-- `chunk_counts::count_entries` meets its contract. The loop's invariant: the pass over the chunk is the pass over
 -- what remains of it, from what is counted so far.
 -- Assumes nothing.
 use mathlib.Core.Path.{_≡_, sym, _∙_, ap}
@@ -8,10 +8,10 @@ use Rattle.spec.specs.Log.{chunkEntries}
 use Rattle.theory_log.specs.Fold.{foldP}
 use Rattle.log.specs.Cursor.{remaining, left}
 use Rattle.log.proofs.Walk.{remaining-chunk, handed, fold-done, fold-wrong, fold-entry}
-use Rattle.chunk_stat.specs.ByTable.{nothing, countNext, orNothing, tallyBy}
+use Rattle.chunk_counts.specs.Counts.{nothing, countNext, orNothing, tallyBy}
 use borrow.Author.Needs.{needs}
-use Rattle.chunk_stat.proofs.count_entries.Statement.{statement}
-use Rattle.chunk_stat.proofs.count_entries.Tie as tie
+use Rattle.chunk_counts.proofs.count_entries.Statement.{statement}
+use Rattle.chunk_counts.proofs.count_entries.Tie as tie
 
 abbrev Inv-loop : tie.InvT-loop
 Inv-loop image table chunk t₀ cursor₀ t cursor = foldP (countNext table) nothing (chunkEntries 12 (wordsOf image) chunk) ≡ foldP (countNext table) t (remaining 12 0 (wordsOf image) cursor)

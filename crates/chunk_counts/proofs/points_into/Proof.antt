@@ -1,9 +1,9 @@
--- `chunk_stat::points_into` meets its contract.
+-- `chunk_counts::points_into` meets its contract.
 -- Assumes nothing.
 use borrow.Author.Tests.{eq-eqb, ne-eqb}
 use Rattle.spec.specs.Places.{unitChunk, chunkUnits}
-use Rattle.chunk_stat.proofs.points_into.Statement.{statement}
-use Rattle.chunk_stat.proofs.points_into.Tie as tie
+use Rattle.chunk_counts.proofs.points_into.Statement.{statement}
+use Rattle.chunk_counts.proofs.points_into.Tie as tie
 
 returns : tie.Need-returns
 unfolding unitChunk chunkUnits

@@ -1,4 +1,4 @@
--- `chunk_stat::count_blocks` meets its contract. The loop's invariant: the pass over the whole log is the pass over
+-- `chunk_counts::count_blocks` meets its contract. The loop's invariant: the pass over the whole log is the pass over
 -- what remains, from what is counted so far.
 -- Assumes nothing.
 use mathlib.Core.Path.{_≡_, sym, _∙_, ap}
@@ -7,10 +7,10 @@ use Rattle.spec.specs.Log.{imageEntries}
 use Rattle.theory_log.specs.Fold.{foldP}
 use Rattle.log.specs.Cursor.{remaining, left}
 use Rattle.log.proofs.Walk.{remaining-start, handed, fold-done, fold-wrong, fold-entry}
-use Rattle.chunk_stat.specs.ByTable.{blockNext, orZero, blocksBy}
+use Rattle.chunk_counts.specs.Counts.{blockNext, orZero, blocksBy}
 use borrow.Author.Needs.{needs}
-use Rattle.chunk_stat.proofs.count_blocks.Statement.{statement}
-use Rattle.chunk_stat.proofs.count_blocks.Tie as tie
+use Rattle.chunk_counts.proofs.count_blocks.Statement.{statement}
+use Rattle.chunk_counts.proofs.count_blocks.Tie as tie
 
 abbrev Inv-loop : tie.InvT-loop
 Inv-loop image table count chunk used₀ cursor₀ used cursor = foldP (blockNext table chunk) 0 (imageEntries 12 count (wordsOf image)) ≡ foldP (blockNext table chunk) used (remaining 12 count (wordsOf image) cursor)

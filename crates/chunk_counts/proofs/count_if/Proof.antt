@@ -1,8 +1,8 @@
--- `chunk_stat::count_if` meets its contract.
+-- `chunk_counts::count_if` meets its contract.
 -- Assumes nothing.
 use borrow.Author.Needs.{needs}
-use Rattle.chunk_stat.proofs.count_if.Statement.{statement}
-use Rattle.chunk_stat.proofs.count_if.Tie as tie
+use Rattle.chunk_counts.proofs.count_if.Statement.{statement}
+use Rattle.chunk_counts.proofs.count_if.Tie as tie
 
 wrapping-add-u64-requires : tie.Need-wrapping-add-u64-requires
 wrapping-add-u64-requires c κs = search needs

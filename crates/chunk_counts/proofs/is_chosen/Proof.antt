@@ -1,8 +1,8 @@
--- `chunk_stat::is_chosen` meets its contract.
+-- `chunk_counts::is_chosen` meets its contract.
 -- Assumes nothing.
 use borrow.Author.Needs.{needs}
-use Rattle.chunk_stat.proofs.is_chosen.Statement.{statement}
-use Rattle.chunk_stat.proofs.is_chosen.Tie as tie
+use Rattle.chunk_counts.proofs.is_chosen.Statement.{statement}
+use Rattle.chunk_counts.proofs.is_chosen.Tie as tie
 
 look-requires : tie.Need-look-requires
 look-requires c κs = search needs
