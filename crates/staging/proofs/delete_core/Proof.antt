@@ -4,7 +4,7 @@ use mathlib.Core.Path.{sym, _∙_}
 use native.Mathlib.Omega.{arith}
 use borrow.Author.Needs.{needs}
 use Rattle.staging.proofs.Shows.{at-gate}
-use Rattle.staging.proofs.Admits.{admitted, told-room}
+use Rattle.admitting.proofs.Admits.{admitted, told-room}
 use Rattle.staging.proofs.Staging.{left, delete-absent, delete-refused, delete-done}
 use Rattle.staging.proofs.delete_core.Statement.{statement}
 use Rattle.staging.proofs.delete_core.Tie as tie

@@ -8,7 +8,7 @@ use Rattle.session.specs.Promise.{memoryOf}
 use mathlib.Core.Path.{_≡_}
 use mathlib.Core.Bool.{true, false}
 use Prim.Native.Nat.{_≤_, _<_}
-use lib.ListN.{length, getD}
+use lib.ListN.{length}
 use mathlib.Core.Path.{refl, ap}
 use mathlib.Core.Bool.{Bool}
 use Prim.Native.Nat.{ℕ, _+_, _^_}

@@ -1,9 +1,9 @@
--- `calls::is_present` meets its contract.
+-- `admitting::is_present` meets its contract.
 -- Assumes nothing.
 use borrow.Author.Needs.{needs}
-use Rattle.staging.proofs.Known.{absent-unknown, present-staged, present-committed}
-use Rattle.staging.proofs.is_present.Statement.{statement}
-use Rattle.staging.proofs.is_present.Tie as tie
+use Rattle.admitting.proofs.Known.{absent-unknown, present-staged, present-committed}
+use Rattle.admitting.proofs.is_present.Statement.{statement}
+use Rattle.admitting.proofs.is_present.Tie as tie
 
 returns : tie.Need-returns
 returns c = absent-unknown _ _ (c .if1 .taken)

@@ -22,9 +22,9 @@ use Rattle.session.specs.State.{batchRoom}
 use Rattle.session.specs.Fits.{BatchFits}
 use Rattle.batch.proofs.Count.{isOld, freshWith, fits-keys}
 use Rattle.batch.proofs.Fits.{fits-batch}
-use Rattle.staging.specs.declared.Admission.{Admission}
-use Rattle.staging.specs.declared.Admission.the-variants as A
-use Rattle.staging.specs.Staging.{newKeys, admitOf}
+use Rattle.admitting.specs.declared.Admission.{Admission}
+use Rattle.admitting.specs.declared.Admission.the-variants as A
+use Rattle.admitting.specs.Admitting.{newKeys, admitOf}
 
 -- an admission as a plan
 abbrev pub planBy : Admission → Plan → Plan

@@ -1,9 +1,9 @@
--- `calls::version_of` meets its contract.
+-- `admitting::version_of` meets its contract.
 -- Assumes nothing.
 use borrow.Author.Needs.{needs}
-use Rattle.staging.proofs.Known.{version-committed, version-staged}
-use Rattle.staging.proofs.version_of.Statement.{statement}
-use Rattle.staging.proofs.version_of.Tie as tie
+use Rattle.admitting.proofs.Known.{version-committed, version-staged}
+use Rattle.admitting.proofs.version_of.Statement.{statement}
+use Rattle.admitting.proofs.version_of.Tie as tie
 
 last-staged-requires : tie.Need-last-staged-requires
 last-staged-requires c κs = search needs

@@ -1,8 +1,8 @@
--- `calls::new_keys` meets its contract.
+-- `admitting::new_keys` meets its contract.
 -- Assumes nothing.
 use borrow.Author.Tests.{eq-eqb, ne-eqb}
-use Rattle.staging.proofs.new_keys.Statement.{statement}
-use Rattle.staging.proofs.new_keys.Tie as tie
+use Rattle.admitting.proofs.new_keys.Statement.{statement}
+use Rattle.admitting.proofs.new_keys.Tie as tie
 
 returns : tie.Need-returns
 returns c = simp (eq-eqb _ 0 (c .if1 .taken))

@@ -28,8 +28,8 @@ use Rattle.batch.specs.declared.Latest.{Latest}
 use Rattle.batch.specs.Items.{latestOf, LastStaged}
 use Rattle.batch.proofs.Last.{KeyStaged, KeyUnstaged, key-staged, key-unstaged}
 use Rattle.batch.proofs.Count.{isOld}
-use Rattle.staging.specs.declared.Newest.{Newest}
-use Rattle.staging.specs.Staging.{newestBy, NewestOf, VersionOf, putIn, presentBy}
+use Rattle.admitting.specs.declared.Newest.{Newest}
+use Rattle.admitting.specs.Admitting.{newestBy, NewestOf, VersionOf, putIn, presentBy}
 
 -- what is said of a key: its highest version and whether it is staged or known; and whether it is present
 pub record Numbered (k : ℕ) (es items : List Entry) (v : ℕ) : Type 0 where

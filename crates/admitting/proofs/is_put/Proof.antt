@@ -1,10 +1,10 @@
--- `calls::is_put` meets its contract.
+-- `admitting::is_put` meets its contract.
 -- Assumes nothing.
 use borrow.Author.Needs.{needs}
 use Rattle.spec.specs.declared.FirstWord.the-variants as F
-use Rattle.staging.proofs.Known.{put-read}
-use Rattle.staging.proofs.is_put.Statement.{statement}
-use Rattle.staging.proofs.is_put.Tie as tie
+use Rattle.admitting.proofs.Known.{put-read}
+use Rattle.admitting.proofs.is_put.Statement.{statement}
+use Rattle.admitting.proofs.is_put.Tie as tie
 
 load-requires : tie.Need-load-requires
 load-requires c κs = search needs

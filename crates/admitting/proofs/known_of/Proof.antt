@@ -1,9 +1,9 @@
--- `calls::known_of` meets its contract.
+-- `admitting::known_of` meets its contract.
 -- Assumes nothing.
 use borrow.Author.Needs.{needs}
-use Rattle.staging.proofs.Known.{known-unknown, known-committed, known-staged}
-use Rattle.staging.proofs.known_of.Statement.{statement}
-use Rattle.staging.proofs.known_of.Tie as tie
+use Rattle.admitting.proofs.Known.{known-unknown, known-committed, known-staged}
+use Rattle.admitting.proofs.known_of.Statement.{statement}
+use Rattle.admitting.proofs.known_of.Tie as tie
 
 last-staged-requires : tie.Need-last-staged-requires
 last-staged-requires c κs = search needs

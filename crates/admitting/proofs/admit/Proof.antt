@@ -1,11 +1,11 @@
--- `calls::admit` meets its contract.
+-- `admitting::admit` meets its contract.
 -- Assumes nothing.
 use native.Mathlib.Omega.{arith}
 use mathlib.Core.Path.{refl}
 use borrow.Author.Needs.{needs}
-use Rattle.staging.proofs.Admits.{admit-spent, admit-many, admit-full, admit-keys, admit-all}
-use Rattle.staging.proofs.admit.Statement.{statement}
-use Rattle.staging.proofs.admit.Tie as tie
+use Rattle.admitting.proofs.Admits.{admit-spent, admit-many, admit-full, admit-keys, admit-all}
+use Rattle.admitting.proofs.admit.Statement.{statement}
+use Rattle.admitting.proofs.admit.Tie as tie
 
 returns : tie.Need-returns
 returns c = admit-spent _ _ _ _ _ (c .if1 .taken)
