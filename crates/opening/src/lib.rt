@@ -48,8 +48,6 @@ pub fn header_fits(image: &[u8], count: usize) -> bool
     codec::header_right(words, count as u64)
 }
 
-}
-
 // OPENING
 // Why an image is refused, or how many keys it has.
 pub enum Verdict {
