@@ -6,8 +6,6 @@
 use Rattle.spec.specs.Machine.{Open}
 use Rattle.session.specs.Promise.{Does, memoryOf}
 use mathlib.Core.Path.{_≡_}
-use mathlib.Core.Bool.{false}
-use lib.Dec.{eqb, ltb}
 use lib.ListN.{length}
 use mathlib.Core.Path.{refl, ap}
 use mathlib.Core.Bool.{Bool}
