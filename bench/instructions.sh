@@ -1,7 +1,8 @@
 #!/usr/bin/env bash
 # Counts the instructions of the public calls (callgrind) and compares them with the kept figures, bench/instructions.txt:
 # more than 3 % above one of them is an error. They do not depend on the machine's speed. No part of the gate.
-# A row has the instructions inside the calls, and those with the loop of the driver around them.
+# A row has the instructions inside the calls, and those with the loop of the driver around them. Clearing the key table is
+# one instruction of the processor, which callgrind counts once for each byte: an opening's figure is without it.
 #   bench/instructions.sh            compare
 #   bench/instructions.sh --keep     write the figures anew
 set -euo pipefail
@@ -18,7 +19,7 @@ while read -r row what; do
         > "$now.ops" 2> /dev/null
     total=$(awk '/^totals:/ {print $2; exit}' "$now.out")
     inside=$(callgrind_annotate --inclusive=yes --threshold=100 "$now.out" 2> /dev/null \
-        | awk '/:zkv_[a-z_]+ / {gsub(",", "", $1); sum += $1} END {print sum}')
+        | awk '/:zkv_[a-z_]+ / {gsub(",", "", $1); sum += $1} /:__memset/ {gsub(",", "", $1); sum -= $1} END {print sum}')
     ops=$(cat "$now.ops")
     echo "$row $((inside / ops)) $((total / ops)) $what"
 done > "$now" <<'END'
