@@ -6,9 +6,7 @@
 use mathlib.Core.Path.{_≡_}
 use Rattle.spec.specs.Machine.{Open}
 use Rattle.session.specs.Promise.{Does, memoryOf}
-use mathlib.Core.Bool.{false}
 use Prim.Native.Nat.{_+_, _<_}
-use lib.Dec.{eqb, ltb}
 use lib.ListN.{length, getD}
 use mathlib.Core.Path.{refl, ap}
 use mathlib.Core.Bool.{Bool}
