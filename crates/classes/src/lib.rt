@@ -36,8 +36,8 @@ pub fn is_within(low: u64, high: u64, key: u64) -> bool
     false
 }
 
-// Whether a key is asked for: none is where each key has a single top entry, else its class is within the range, and its
-// mark is set or there is none for it.
+// Whether a key is asked for: none is where each key has a single top entry, else its class is within the range, and
+// its mark is set or there is none for it.
 fn is_asked(single: bool, marks: &[u8], low: u64, high: u64, key: u64) -> bool
     ensures { λ r. ⌜ r ≡ asked single (now (marks .entry)) low high key ⌝ }
 {

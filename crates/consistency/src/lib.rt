@@ -318,8 +318,8 @@ fn takes_marks(fits: bool, single: bool) -> bool
     fits
 }
 
-// A range of classes, of which the table holds the keys where `fits`; else each top entry is found by a scan. Where each
-// key has a `single` top entry, no marks are needed.
+// A range of classes, of which the table holds the keys where `fits`; else each top entry is found by a scan. Where
+// each key has a `single` top entry, no marks are needed.
 fn check_class(
     image: &[u8],
     count: usize,
@@ -437,8 +437,8 @@ fn check_classes(image: &[u8], count: usize, buffer: &mut Buffer) -> Checked
     s
 }
 
-// What is found. Where each key has a `single` top entry and each value is `direct`, none of them in a block, nothing is
-// left to find and no pass is made.
+// What is found. Where each key has a `single` top entry and each value is `direct`, none of them in a block, nothing
+// is left to find and no pass is made.
 pub fn examine(
     image: &[u8],
     count: usize,

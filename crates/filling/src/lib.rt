@@ -110,8 +110,8 @@ fn enter(
 }
 
 // RUNS
-// A run of the pass: how many keys the table has then, whether each has a single top entry, and how far it came. What it
-// passed from word `from` on is new and not yet in the sum of the chunk.
+// A run of the pass: how many keys the table has then, whether each has a single top entry, and how far it came. What
+// it passed from word `from` on is new and not yet in the sum of the chunk.
 struct Ran {
     keys: usize,
     single: bool,
@@ -120,7 +120,8 @@ struct Ran {
 }
 
 // The pass over puts with their values in the log, from word `at` on, as long as the table has room for new keys: all
-// else is left to `fill`. Puts with new keys are chosen, and in one chunk: what they add to its sum is the words passed.
+// else is left to `fill`. Puts with new keys are chosen, and in one chunk: what they add to its sum is the words
+// passed.
 fn run(
     image: &[u8],
     at: usize,
