@@ -2,10 +2,8 @@
 // of the action behind them. What runs of other calls share with it.
 ghost use mathlib.Core.Path.{_≡_};
 ghost use mathlib.Core.Bool.{true, false};
-ghost use Prim.Native.Nat.{_-_, _^_, _≤_, _<_};
 ghost use Rattle.spec.specs.Machine.{Step};
 ghost use Rattle.fast_path.specs.Run.{StepsOn, RunsOn};
-ghost use Rattle.fast_path.specs.Stores.{areaWord, Filled};
 ghost use Rattle.fast_path.specs.Fast.{FastStep, Late, InStaging, OnFastPath, Stores};
 ghost use Rattle.session.specs.Numbers.{toNext, emptied};
 ghost use Rattle.spec.specs.declared.Report.the-variants.{End};
@@ -209,28 +207,6 @@ pub fn late_step(
         control,
         report: Report::Idle,
     }
-}
-
-// WORDS OF THE SECOND AREA
-// Those numbered `from` up to `end` into the image, counted from its word `start`; two in a turn of the loop, each by a
-// store of its own.
-pub fn store_area(buffer: &Buffer, image: &mut [u8], start: usize, from: usize, end: usize)
-    requires { ⌜ (start < 2 ^ 32) × (from ≤ end) × (end ≤ 512) ⌝ }
-    ensures { λ _. ⌜ Filled (areaWord (now (buffer .entry))) start from (end - from) (now (image .entry)) (now (image .exit)) ⌝ }
-{
-    let mut i = from;
-    while i + 1 < end {
-        let value = buffer[512 + i];
-        words::save(image, start + i, value);
-        let second = buffer[513 + i];
-        words::save(image, start + (i + 1), second);
-        i += 2;
-    }
-    if end <= i {
-        return;
-    }
-    let last = buffer[512 + i];
-    words::save(image, start + i, last);
 }
 
 // A STAGING

@@ -86,7 +86,7 @@ fn store_kept(control: Control, setup: Setup, buffer: &Buffer, image: &mut [u8])
         return at;
     }
     let start = actions::batch_start(setup);
-    fast_path::store_area(buffer, image, start, at, kept);
+    staging_path::store_area(buffer, image, start, at, kept);
     kept
 }
 

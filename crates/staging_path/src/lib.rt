@@ -1,8 +1,9 @@
 // The fast path inside a staging: a run, which makes the stores that come next in a short loop, and then tells of the
-// action behind them, or of the end.
+// action behind them, or of the end. That loop serves a cleaning too.
 ghost use mathlib.Core.Path.{_≡_};
-ghost use Prim.Native.Nat.{_≤_};
+ghost use Prim.Native.Nat.{_-_, _^_, _≤_, _<_};
 ghost use Rattle.fast_path.specs.Run.{RunsOn};
+ghost use Rattle.fast_path.specs.Stores.{areaWord, Filled};
 ghost use Rattle.fast_path.specs.Fast.{InStaging, OnFastPath};
 ghost use Rattle.staging_path.specs.Staging.{takeCount, BlockStores, StagingRun};
 ghost use Rattle.session.specs.Numbers.{staged};
@@ -10,12 +11,34 @@ ghost use Rattle.spec.specs.declared.Report.the-variants.{End};
 ghost use Rattle.session.specs.Promise.{memoryOf};
 use blocks::Buffer;
 use fast_path::is_staging;
-use fast_path::store_area;
 use session::Control;
 use session::Setup;
 use session::Stepped;
 use spec::Report;
 
+// WORDS OF THE SECOND AREA
+// Those numbered `from` up to `end` into the image, counted from its word `start`; two in a turn of the loop, each by a
+// store of its own.
+pub fn store_area(buffer: &Buffer, image: &mut [u8], start: usize, from: usize, end: usize)
+    requires { ⌜ (start < 2 ^ 32) × (from ≤ end) × (end ≤ 512) ⌝ }
+    ensures { λ _. ⌜ Filled (areaWord (now (buffer .entry))) start from (end - from) (now (image .entry)) (now (image .exit)) ⌝ }
+{
+    let mut i = from;
+    while i + 1 < end {
+        let value = buffer[512 + i];
+        words::save(image, start + i, value);
+        let second = buffer[513 + i];
+        words::save(image, start + (i + 1), second);
+        i += 2;
+    }
+    if end <= i {
+        return;
+    }
+    let last = buffer[512 + i];
+    words::save(image, start + i, last);
+}
+
+// A STAGING
 // How many actions take the chunk: none where it is a data chunk already.
 fn take_count(setup: Setup) -> usize
     ensures { λ r. ⌜ (r ≡ takeCount setup) × (r ≤ 2) ⌝ }

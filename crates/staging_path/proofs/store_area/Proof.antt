@@ -1,14 +1,14 @@
--- `fast_path::store_area` meets its contract. The loop's invariant: what is saved so far, with whatever is saved behind
+-- `staging_path::store_area` meets its contract. The loop's invariant: what is saved so far, with whatever is saved behind
 -- it, is one row.
 -- Assumes nothing.
 use mathlib.Core.Path.{refl}
 use Prim.Native.Nat.{_-_, _≤_}
 use native.Mathlib.Omega.{arith}
 use borrow.Author.Needs.{needs}
 use Rattle.fast_path.specs.Stores.{areaWord}
 use Rattle.fast_path.proofs.Stores.{SoFar, none-saved, one-saved, two-saved, all-saved, so-far-length, next-word}
-use Rattle.fast_path.proofs.store_area.Statement.{statement}
-use Rattle.fast_path.proofs.store_area.Tie as tie
+use Rattle.staging_path.proofs.store_area.Statement.{statement}
+use Rattle.staging_path.proofs.store_area.Tie as tie
 
 abbrev Inv-loop : tie.InvT-loop
 Inv-loop buffer image₀ start from end i₀ image i = SoFar (areaWord buffer) start i₀ i image₀ image × (i ≤ end)
