@@ -1,11 +1,13 @@
 -- When a chunk has space, by its committed lines: a log chunk has at least one.
 -- Assumes nothing.
-use mathlib.Core.Path.{_≡_, refl}
-use mathlib.Core.Bool.{Bool, true, false}
+use mathlib.Core.Path.{_≡_, refl, sym, _∙_, ap}
+use mathlib.Core.Logic.{by-cases}
+use mathlib.Core.Bool.{Bool, true, false, not}
 use mathlib.Core.List.{List}
 use Prim.Native.Nat.{ℕ, _+_, _≤_}
+use native.Mathlib.Decide.{ℕ-discrete}
 use native.Mathlib.Omega.{arith}
-use lib.Dec.{leb}
+use lib.Dec.{eqb, leb}
 use borrow.Author.Tests.{le-leb, eq-eqb, ne-eqb}
 use Rattle.spec.specs.Basics.{both}
 use Rattle.spec.specs.Places.{chunkLines}
@@ -23,12 +25,18 @@ module _ (ws : List ℕ) (b c : ℕ) where
   space-left n h l u = rw (log-lines 12 ws c, ← h, le-leb 1 n l, ne-eqb c 0 (λ e. omega arith))
 
   -- of another chunk than x
-  pub not-there : (x : ℕ) → c ≡ x → hasSpace 12 ws b x c ≡ false
+  not-there : (x : ℕ) → c ≡ x → hasSpace 12 ws b x c ≡ false
   not-there x e = rw (eq-eqb c x e) (go (isLog (roleAt 12 ws c)))
     where
       go : (t : Bool) → both t false ≡ false
       go true = refl
       go false = refl
 
-  pub another : (x : ℕ) → (c ≡ x → ⊥) → 1 ≤ c → hasSpace 12 ws b x c ≡ hasSpace 12 ws b 0 c
+  another : (x : ℕ) → (c ≡ x → ⊥) → 1 ≤ c → hasSpace 12 ws b x c ≡ hasSpace 12 ws b 0 c
   another x ne l = rw (ne-eqb c x ne, ne-eqb c 0 (λ e. omega arith))
+
+  pub there : (x : ℕ) → 1 ≤ c → hasSpace 12 ws b 0 c ≡ true → not (eqb c x) ≡ hasSpace 12 ws b x c
+  there x l h = by-cases (ℕ-discrete c x) (λ e. ap not (eq-eqb c x e) ∙ sym (not-there x e)) (λ ne. ap not (ne-eqb c x ne) ∙ sym (another x ne l ∙ h))
+
+  pub nowhere-else : (x : ℕ) → 1 ≤ c → hasSpace 12 ws b 0 c ≡ false → hasSpace 12 ws b x c ≡ false
+  nowhere-else x l h = by-cases (ℕ-discrete c x) (not-there x) (λ ne. another x ne l ∙ h)

@@ -47,10 +47,10 @@ fn has_other_space(image: &[u8], c: usize, lines: usize, x: usize) -> bool
     requires { ⌜ 1 ≤ c ⌝ }
     ensures { λ r. ⌜ r ≡ hasSpace 12 (wordsOf (now (image .entry))) lines x c ⌝ }
 {
-    if c == x {
-        return false;
+    if has_space(image, c, lines) {
+        return c != x;
     }
-    has_space(image, c, lines)
+    false
 }
 
 // The first log chunk other than x with space, from chunk `from` on; where there is none, a number not below the count.

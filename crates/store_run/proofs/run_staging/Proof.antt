@@ -7,7 +7,7 @@ use Rattle.fast_path.specs.Run.{RunsOn}
 use Rattle.fast_path.specs.Fast.{InStaging, OnFastPath}
 use Rattle.session.specs.Promise.{memoryOf}
 use mathlib.Core.Path.{_≡_}
-use Prim.Native.Nat.{_≤_}
+use Prim.Native.Nat.{_-_, _^_, _≤_, _<_}
 use mathlib.Core.Path.{refl, ap}
 use mathlib.Core.Bool.{Bool}
 use Prim.Native.Nat.{ℕ, _+_}
