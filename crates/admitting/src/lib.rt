@@ -9,8 +9,8 @@ use session::Control;
 use spec::FirstWord;
 use spec::Refusal;
 
-// What is known of a key: the highest version, staged items counted, 0 where it has none; whether it is staged, and then
-// the operation of its last staged item; else the place of its chosen entry.
+// What is known of a key: the highest version, staged items counted, 0 where it has none; whether it is staged, and
+// then the operation of its last staged item; else the place of its chosen entry.
 pub struct Newest {
     pub version: u64,
     pub staged: bool,

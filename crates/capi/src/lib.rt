@@ -1,6 +1,6 @@
-// The public calls that change a register, for a host in C: each stands for the call whose contract it cites, with plain
-// numbers in and out. A slice is a pointer and a count, the record a pointer, an `Answer` a struct of three 64-bit
-// numbers. None has a `requires`. The calls that only read are in `capi_read`.
+// The public calls that change a register, for a host in C: each stands for the call whose contract it cites, with
+// plain numbers in and out. A slice is a pointer and a count, the record a pointer, an `Answer` a struct of three
+// 64-bit numbers. None has a `requires`. The calls that only read are in `capi_read`.
 ghost use Rattle.spec.specs.Machine.{Format, Open, Put, Delete, Commit, Abandon, Clean, Step};
 ghost use Rattle.formatting.specs.Begun.{given};
 ghost use Rattle.fast_path.specs.Run.{RunsOn};

@@ -1,5 +1,5 @@
-// The public calls that only read, for a host in C: each stands for the call whose contract it cites, with plain numbers
-// in and out, as `capi` says of all. None has a `requires`.
+// The public calls that only read, for a host in C: each stands for the call whose contract it cites, with plain
+// numbers in and out, as `capi` says of all. None has a `requires`.
 ghost use mathlib.Core.Path.{_≡_};
 ghost use lib.ListN.{length};
 ghost use Rattle.spec.specs.Words.{wordsOf};
@@ -30,8 +30,8 @@ pub extern "C" fn zkv_choose(s: &Session, image: &[u8], table: &[u64]) -> Answer
     answers::told(report)
 }
 
-// Where in the image the value of a key lies (`store_read::find`): the answer is 0, or the refusal's number with `start` and
-// `length` 0.
+// Where in the image the value of a key lies (`store_read::find`): the answer is 0, or the refusal's number with
+// `start` and `length` 0.
 #[no_mangle]
 pub extern "C" fn zkv_look_up(
     s: &Session,
@@ -47,8 +47,8 @@ pub extern "C" fn zkv_look_up(
     answers::shown(report, start, length)
 }
 
-// The present keys, rising, into the lent words as far as these reach (`store_read::list_keys`); `count` gets how many there
-// are.
+// The present keys, rising, into the lent words as far as these reach (`store_read::list_keys`); `count` gets how many
+// there are.
 #[no_mangle]
 pub extern "C" fn zkv_list_keys(
     s: &mut Session,

@@ -1,5 +1,5 @@
-// The fast path inside a commit: a step, and a run, which makes the stores that come next in short loops, and then tells
-// of the action behind them. What runs of other calls share with it.
+// The fast path inside a commit: a step, and a run, which makes the stores that come next in short loops, and then
+// tells of the action behind them. What runs of other calls share with it.
 ghost use mathlib.Core.Path.{_≡_};
 ghost use mathlib.Core.Bool.{true, false};
 ghost use Rattle.spec.specs.Machine.{Step};

@@ -13,8 +13,8 @@ pub fn run_any(s: &mut Session, image: &mut [u8], table: &mut [u64]) -> Answer
     answers::told(report)
 }
 
-// The same, with a cleaning told apart: so `store_run::run_rest` is called in two places, and the compiler keeps it out of
-// the runs of commits and stagings, which then save few registers.
+// The same, with a cleaning told apart: so `store_run::run_rest` is called in two places, and the compiler keeps it out
+// of the runs of commits and stagings, which then save few registers.
 pub fn run_cleaning(s: &mut Session, image: &mut [u8], table: &mut [u64]) -> Answer
     ensures { λ r. ⌜ Told (RunsOn (memory (now (s .entry)) (now (image .entry)) (now (table .entry))) (memory (now (s .exit)) (now (image .exit)) (now (table .exit)))) r ⌝ }
 {

@@ -1,7 +1,7 @@
 // The public calls that open and format a register, and that begin a commit and a cleaning. As all public calls
-// (`store_stage`, `store_step`, `store_run`, `store_read`) they are thin functions over the station record, which is lent
-// as one `&mut` and altered in place. Each copies the record's small parts, lends its buffer where it lies to the core
-// that does the work, and stores the small parts back. Every call is lent record, image and key table. None has a
+// (`store_stage`, `store_step`, `store_run`, `store_read`) they are thin functions over the station record, which is
+// lent as one `&mut` and altered in place. Each copies the record's small parts, lends its buffer where it lies to the
+// core that does the work, and stores the small parts back. Every call is lent record, image and key table. None has a
 // `requires`: what each answers and leaves is said by `Called`.
 ghost use Rattle.spec.specs.Machine.{Open, Commit, Clean, Format};
 ghost use Rattle.spec.specs.Contract.{Called};

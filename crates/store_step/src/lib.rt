@@ -1,5 +1,5 @@
-// The public calls that take one step of the call that is begun. Thin functions over the station record, as `store` says
-// of all; none has a `requires`.
+// The public calls that take one step of the call that is begun. Thin functions over the station record, as `store`
+// says of all; none has a `requires`.
 ghost use Rattle.spec.specs.Machine.{Step};
 ghost use Rattle.fast_path.specs.Run.{StepsOn};
 ghost use Rattle.fast_path.specs.Fast.{FastStep, Late, OnFastPath};

@@ -1,4 +1,4 @@
--- `joining::claim` meets its contract.
+-- `apply::claim` meets its contract.
 -- Assumes nothing.
 use Rattle.apply.proofs.Claiming.{claimed-one, no-put, no-block}
 use borrow.Author.Needs.{needs}

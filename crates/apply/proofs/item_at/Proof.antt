@@ -1,4 +1,4 @@
--- `joining::item_at` meets its contract.
+-- `apply::item_at` meets its contract.
 -- Assumes nothing.
 use Rattle.apply.proofs.Staging.{staged-end, staged-padding, staged-wrong, staged-long, staged-entry}
 use borrow.Author.Needs.{needs}

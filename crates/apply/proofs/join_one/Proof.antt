@@ -1,4 +1,4 @@
--- `joining::join_one` meets its contract.
+-- `apply::join_one` meets its contract.
 -- Assumes nothing.
 use mathlib.Core.Path.{refl}
 use Rattle.volatile.proofs.Info.{noted-new}

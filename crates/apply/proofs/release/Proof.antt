@@ -1,4 +1,4 @@
--- `joining::release` meets its contract.
+-- `apply::release` meets its contract.
 -- Assumes nothing.
 use lib.Dec.{eqb}
 use Rattle.apply.proofs.Freeing.{freed-one, freed-both, unlike-first, unlike-second}

@@ -1,4 +1,4 @@
--- `joining::release_at` meets its contract.
+-- `apply::release_at` meets its contract.
 -- Assumes nothing.
 use Rattle.spec.specs.Words.{wordsOf}
 use Rattle.apply.proofs.Freeing.{at-padding, at-wrong, at-entry}

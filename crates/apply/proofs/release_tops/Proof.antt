@@ -1,4 +1,4 @@
--- `joining::release_tops` meets its contract.
+-- `apply::release_tops` meets its contract.
 -- Assumes nothing.
 use Rattle.apply.proofs.Freeing.{tops-in-log, tops-at}
 use borrow.Author.Needs.{needs}

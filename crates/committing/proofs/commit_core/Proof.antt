@@ -1,4 +1,4 @@
--- `stepping::commit_core` meets its contract.
+-- `committing::commit_core` meets its contract.
 -- Assumes nothing.
 use borrow.Author.Needs.{needs}
 use Rattle.committing.proofs.Begins as B

@@ -1,4 +1,4 @@
--- `stepping::commit_place` meets its contract.
+-- `committing::commit_place` meets its contract.
 -- Assumes nothing.
 use native.Mathlib.Omega.{arith}
 use borrow.Author.Needs.{needs}

@@ -1,4 +1,4 @@
--- `stepping::plan_commit` meets its contract.
+-- `committing::plan_commit` meets its contract.
 -- Assumes nothing.
 use borrow.Author.Needs.{needs}
 use Rattle.committing.proofs.Begins as B

@@ -1,4 +1,4 @@
--- `tops::agreed` meets its contract, case by case.
+-- `consistency::agreed` meets its contract, case by case.
 -- Assumes nothing.
 use Rattle.spec.specs.Words.{wordsOf}
 use Rattle.consistency.proofs.Visits.{agreed-chosen, agreed-compared, agreed-not}

@@ -1,4 +1,4 @@
--- `tops::agrees` meets its contract: the words of the two entries are compared.
+-- `consistency::agrees` meets its contract: the words of the two entries are compared.
 -- Assumes nothing.
 use mathlib.Core.Path.{sym}
 use Rattle.spec.specs.Words.{wordsOf}

@@ -1,4 +1,4 @@
--- `tops::block_fine` meets its contract, case by case.
+-- `consistency::block_fine` meets its contract, case by case.
 -- Assumes nothing.
 use mathlib.Core.Path.{sym, _∙_}
 use borrow.Author.Needs.{needs}

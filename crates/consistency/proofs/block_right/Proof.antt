@@ -1,4 +1,4 @@
--- `tops::block_right` meets its contract: the start is looked at, then the length and the fill.
+-- `consistency::block_right` meets its contract: the start is looked at, then the length and the fill.
 -- Assumes nothing.
 use mathlib.Core.Path.{sym, _∙_}
 use native.Mathlib.Omega.{arith}

@@ -1,4 +1,4 @@
--- `tops::length_right` meets its contract, test by test.
+-- `consistency::length_right` meets its contract, test by test.
 -- Assumes nothing.
 use native.Mathlib.Omega.{arith}
 use Rattle.consistency.proofs.Blocks.{length-low, length-high, length-whole, length-filled}

@@ -1,4 +1,4 @@
--- `tops::marked` meets its contract, case by case.
+-- `consistency::marked` meets its contract, case by case.
 -- Assumes nothing.
 use mathlib.Core.Path.{sym, _∙_}
 use native.Mathlib.Omega.{arith}

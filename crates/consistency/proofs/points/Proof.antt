@@ -1,4 +1,4 @@
--- `tops::points` meets its contract, case by case.
+-- `consistency::points` meets its contract, case by case.
 -- Assumes nothing.
 use borrow.Author.Tests.{eq-eqb, ne-eqb}
 use Rattle.consistency.proofs.points.Statement.{statement}

@@ -1,5 +1,5 @@
--- `tops::same_words` meets its contract. The loop's invariant: the comparison of all words is that of the words from i
--- on.
+-- `consistency::same_words` meets its contract. The loop's invariant: the comparison of all words is that of the words
+-- from i on.
 -- Assumes nothing.
 use Prim.Native.Nat.{_+_, _-_, _≤_, _<_}
 use mathlib.Core.Path.{_≡_, sym, _∙_}

@@ -1,4 +1,4 @@
--- `tops::starts` meets its contract, test by test.
+-- `consistency::starts` meets its contract, test by test.
 -- Assumes nothing.
 use native.Mathlib.Omega.{arith}
 use Rattle.consistency.proofs.Blocks.{start-chunk, start-past, start-free, start-within, start-fits}

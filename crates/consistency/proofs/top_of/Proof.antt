@@ -1,4 +1,4 @@
--- `tops::top_of` meets its contract: by the table where it holds the keys, else by the scan.
+-- `consistency::top_of` meets its contract: by the table where it holds the keys, else by the scan.
 -- Assumes nothing.
 use Rattle.spec.specs.Words.{wordsOf}
 use Rattle.consistency.proofs.Found.{shows-table, shows-scan}

@@ -1,4 +1,4 @@
--- `calls::format_told` meets its contract.
+-- `formatting::format_told` meets its contract.
 -- Assumes nothing.
 use borrow.Author.Needs.{needs}
 use Rattle.formatting.proofs.format_told.Statement.{statement}

@@ -1,4 +1,4 @@
--- `calls::formatting_phase` meets its contract.
+-- `formatting::formatting_phase` meets its contract.
 -- Assumes nothing.
 use borrow.Author.Tests.{eq-eqb, ne-eqb}
 use Rattle.formatting.proofs.formatting_phase.Statement.{statement}

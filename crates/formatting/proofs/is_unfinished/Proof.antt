@@ -1,4 +1,4 @@
--- `calls::is_unfinished` meets its contract.
+-- `formatting::is_unfinished` meets its contract.
 -- Assumes nothing.
 use borrow.Author.Tests.{le-leb, lt-leb}
 use Rattle.formatting.proofs.is_unfinished.Statement.{statement}

@@ -1,4 +1,4 @@
--- `calls::told` meets its contract.
+-- `formatting::told` meets its contract.
 -- Assumes nothing.
 use Rattle.formatting.proofs.told.Statement.{statement}
 use Rattle.formatting.proofs.told.Tie as tie

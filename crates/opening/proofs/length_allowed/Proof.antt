@@ -1,4 +1,4 @@
--- `recovery::length_allowed` meets its contract.
+-- `opening::length_allowed` meets its contract.
 -- Assumes nothing.
 use borrow.Author.Tests.{eq-eqb, ne-eqb, le-leb, lt-leb}
 use Rattle.spec.specs.Places.{chunkBytes, chunksIn, lengthAllowed}

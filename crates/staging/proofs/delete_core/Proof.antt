@@ -1,4 +1,4 @@
--- `calls::delete_core` meets its contract.
+-- `staging::delete_core` meets its contract.
 -- Assumes nothing.
 use mathlib.Core.Path.{sym, _∙_}
 use native.Mathlib.Omega.{arith}

@@ -1,4 +1,4 @@
--- `calls::put_core` meets its contract.
+-- `staging::put_core` meets its contract.
 -- Assumes nothing.
 use native.Mathlib.Omega.{arith}
 use borrow.Author.Needs.{needs}

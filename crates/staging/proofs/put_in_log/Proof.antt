@@ -1,4 +1,4 @@
--- `calls::put_in_log` meets its contract.
+-- `staging::put_in_log` meets its contract.
 -- Assumes nothing.
 use mathlib.Core.Path.{sym, _∙_}
 use native.Mathlib.Omega.{arith}

@@ -1,4 +1,4 @@
--- `noting::alone` meets its contract.
+-- `volatile::alone` meets its contract.
 -- Assumes nothing.
 use borrow.Author.Needs.{needs}
 use Rattle.volatile.specs.Known.{alone}

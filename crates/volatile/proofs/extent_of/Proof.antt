@@ -1,4 +1,4 @@
--- `noting::extent_of` meets its contract.
+-- `volatile::extent_of` meets its contract.
 -- Assumes nothing.
 use native.Mathlib.Omega.{arith}
 use borrow.Author.Needs.{needs}

@@ -1,4 +1,4 @@
--- `noting::noted` meets its contract.
+-- `volatile::noted` meets its contract.
 -- Assumes nothing.
 use native.Mathlib.Omega.{arith}
 use borrow.Author.Needs.{needs}
