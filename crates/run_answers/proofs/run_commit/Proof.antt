@@ -80,10 +80,10 @@ use Rattle.answers.proofs.told as told′
 use Rattle.answers.proofs.told.Symbol as told′-def
 use Rattle.answers.proofs.told.Symbol.{name as #told′}
 use Rattle.answers.proofs.told.Met as told′-thm
-use Rattle.run_answers.proofs.run_late as run-late′
-use Rattle.run_answers.proofs.run_late.Symbol as run-late′-def
-use Rattle.run_answers.proofs.run_late.Symbol.{name as #run-late′}
-use Rattle.run_answers.proofs.run_late.Met as run-late′-thm
+use Rattle.late_answers.proofs.run_late as run-late′
+use Rattle.late_answers.proofs.run_late.Symbol as run-late′-def
+use Rattle.late_answers.proofs.run_late.Symbol.{name as #run-late′}
+use Rattle.late_answers.proofs.run_late.Met as run-late′-thm
 use Rattle.answers.proofs.same as same′
 use Rattle.answers.proofs.same.Symbol as same′-def
 use Rattle.answers.proofs.same.Symbol.{name as #same′}
@@ -314,5 +314,5 @@ run-commit-spec 𝓤 H 𝓜 𝓖 𝓡 =
     (cited 𝓤 H (Of-is-fast-step′ 𝓤 H (𝓖 .A) (𝓜 .mem) (𝓡 .run)) 𝓜 𝓡 code.env #is-fast-step′ is-fast-step′-def.routine code.calls-fast-path·is-fast-step (is-fast-step′-thm.met 𝓤 H 𝓜 𝓖 𝓡))
     (cited 𝓤 H (Of-run-fast′ 𝓤 H (𝓖 .A) (𝓜 .mem) (𝓡 .run)) 𝓜 𝓡 code.env #run-fast′ run-fast′-def.routine code.calls-store-run·run-fast (run-fast′-thm.met 𝓤 H 𝓜 𝓖 𝓡))
     (cited 𝓤 H (Of-told′ 𝓤 H (𝓖 .A) (𝓜 .mem) (𝓡 .run)) 𝓜 𝓡 code.env #told′ told′-def.routine code.calls-answers·told (told′-thm.met 𝓤 H 𝓜 𝓖 𝓡))
-    (cited 𝓤 H (Of-run-late′ 𝓤 H (𝓖 .A) (𝓜 .mem) (𝓡 .run)) 𝓜 𝓡 code.env #run-late′ run-late′-def.routine code.calls-run-answers·run-late (run-late′-thm.met 𝓤 H 𝓜 𝓖 𝓡))
+    (cited 𝓤 H (Of-run-late′ 𝓤 H (𝓖 .A) (𝓜 .mem) (𝓡 .run)) 𝓜 𝓡 code.env #run-late′ run-late′-def.routine code.calls-late-answers·run-late (run-late′-thm.met 𝓤 H 𝓜 𝓖 𝓡))
     (cited 𝓤 H (Of-same′ 𝓤 H (𝓖 .A) (𝓜 .mem) (𝓡 .run)) 𝓜 𝓡 code.env #same′ same′-def.routine code.calls-answers·same (same′-thm.met 𝓤 H 𝓜 𝓖 𝓡)))

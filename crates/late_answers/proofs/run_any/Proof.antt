@@ -1,4 +1,4 @@
--- `run_answers::run_any` meets its contract: a walk of its MIR, made by walk_calls.py. Its references are given for
+-- `late_answers::run_any` meets its contract: a walk of its MIR, made by walk_calls.py. Its references are given for
 -- good to the functions that it calls, at their own lifetimes, shares and names. All that the proof knows of a function
 -- that it calls (`run_rest`, `told`) is that it meets its contract.
 -- Assumes nothing.
@@ -62,10 +62,10 @@ use Rattle.answers.proofs.told as told′
 use Rattle.answers.proofs.told.Symbol as told′-def
 use Rattle.answers.proofs.told.Symbol.{name as #told′}
 use Rattle.answers.proofs.told.Met as told′-thm
-use Rattle.run_answers.proofs.run_any.Key.{name as #self}
-use Rattle.run_answers.proofs.run_any as self
-use Rattle.run_answers.proofs.run_any.Statement as stated
-use Rattle.run_answers.proofs.run_any.Code as code
+use Rattle.late_answers.proofs.run_any.Key.{name as #self}
+use Rattle.late_answers.proofs.run_any as self
+use Rattle.late_answers.proofs.run_any.Statement as stated
+use Rattle.late_answers.proofs.run_any.Code as code
 
 abbrev stayed : Stays (self.ended .signature .params) (self.ended .kept)
 stayed = (gave-ref (0 ∷ []) tt (plain (λ _. T-Session.the-row)), (gave-slice (1 ∷ []) tt (plain (λ _. u8)), (gave-slice (2 ∷ []) tt (plain (λ _. u64)), tt)))
