@@ -1,9 +1,9 @@
 -- `late_answers::run_cleaning` meets its contract: a walk of its MIR, made by walk_calls.py. Its references are given
 -- for good to the functions that it calls, at their own lifetimes, shares and names. All that the proof knows of a
--- function that it calls (`is_copying`, `run_rest`, `told`, `run_any`, `same`) is that it meets its contract.
+-- function that it calls (`is_copying`, `run_any`, `same`, `run_other`) is that it meets its contract.
 -- Assumes nothing.
 use Rattle.fast_path.specs.Run.{RunsOn}
-use Rattle.answers.specs.Answers.{Told, answerOf}
+use Rattle.answers.specs.Answers.{Told}
 use Rattle.session.specs.Promise.{memory}
 use mathlib.Core.Path.{_≡_}
 use mathlib.Core.Bool.{true, false}
@@ -59,9 +59,6 @@ use Rattle.answers.proofs.Answer.Laws as T-Answer′
 use Rattle.session.specs.declared.Control.{Control}
 use Rattle.session.proofs.Control as T-Control
 use Rattle.session.proofs.Control.Laws as T-Control′
-use Rattle.spec.specs.declared.Report.{Report}
-use Rattle.spec.proofs.Report as T-Report
-use Rattle.spec.proofs.Report.Laws as T-Report′
 use Rattle.session.specs.declared.Session.{Session}
 use Rattle.session.proofs.Session as T-Session
 use Rattle.session.proofs.Session.Laws as T-Session′
@@ -72,14 +69,6 @@ use Rattle.running.proofs.is_copying as is-copying′
 use Rattle.running.proofs.is_copying.Symbol as is-copying′-def
 use Rattle.running.proofs.is_copying.Symbol.{name as #is-copying′}
 use Rattle.running.proofs.is_copying.Met as is-copying′-thm
-use Rattle.store_run.proofs.run_rest as run-rest′
-use Rattle.store_run.proofs.run_rest.Symbol as run-rest′-def
-use Rattle.store_run.proofs.run_rest.Symbol.{name as #run-rest′}
-use Rattle.store_run.proofs.run_rest.Met as run-rest′-thm
-use Rattle.answers.proofs.told as told′
-use Rattle.answers.proofs.told.Symbol as told′-def
-use Rattle.answers.proofs.told.Symbol.{name as #told′}
-use Rattle.answers.proofs.told.Met as told′-thm
 use Rattle.late_answers.proofs.run_any as run-any′
 use Rattle.late_answers.proofs.run_any.Symbol as run-any′-def
 use Rattle.late_answers.proofs.run_any.Symbol.{name as #run-any′}
@@ -88,6 +77,10 @@ use Rattle.answers.proofs.same as same′
 use Rattle.answers.proofs.same.Symbol as same′-def
 use Rattle.answers.proofs.same.Symbol.{name as #same′}
 use Rattle.answers.proofs.same.Met as same′-thm
+use Rattle.late_answers.proofs.run_other as run-other′
+use Rattle.late_answers.proofs.run_other.Symbol as run-other′-def
+use Rattle.late_answers.proofs.run_other.Symbol.{name as #run-other′}
+use Rattle.late_answers.proofs.run_other.Met as run-other′-thm
 use Rattle.late_answers.proofs.run_cleaning.Key.{name as #self}
 use Rattle.late_answers.proofs.run_cleaning as self
 use Rattle.late_answers.proofs.run_cleaning.Statement as stated
@@ -111,20 +104,6 @@ is-false : (b : Bool) → T (not b) → b ≡ false
 is-false true z = absurd z
 is-false false _ = refl
 
--- the contract of `run_rest`, and what it ensures
-abbrev Of-run-rest′ : {M : Type 1} (𝓤 : URA M) (H : Heap 𝓤) (A : Atoms 𝓤) (mem : Memory → SProp 𝓤) (run : Routine → Fun 𝓤) → Contract 𝓤
-Of-run-rest′ 𝓤 H A mem run = tripleOf 𝓤 H A run-rest′.signature (run-rest′.spec 𝓤 H A mem run)
-
-abbrev Said-run-rest′ : Report → Session → Session → List ℕ → List ℕ → List ℕ → List ℕ → Type 0
-Said-run-rest′ r x-s z-s x-image z-image x-table z-table = RunsOn (memory (x-s) (x-image) (x-table)) (memory (z-s) (z-image) (z-table)) r
-
--- the contract of `told`, and what it ensures
-abbrev Of-told′ : {M : Type 1} (𝓤 : URA M) (H : Heap 𝓤) (A : Atoms 𝓤) (mem : Memory → SProp 𝓤) (run : Routine → Fun 𝓤) → Contract 𝓤
-Of-told′ 𝓤 H A mem run = tripleOf 𝓤 H A told′.signature (told′.spec 𝓤 H A mem run)
-
-abbrev Said-told′ : Answer → Report → Type 0
-Said-told′ r report = r ≡ answerOf report
-
 -- the contract of `run_any`, and what it ensures
 abbrev Of-run-any′ : {M : Type 1} (𝓤 : URA M) (H : Heap 𝓤) (A : Atoms 𝓤) (mem : Memory → SProp 𝓤) (run : Routine → Fun 𝓤) → Contract 𝓤
 Of-run-any′ 𝓤 H A mem run = tripleOf 𝓤 H A run-any′.signature (run-any′.spec 𝓤 H A mem run)
@@ -138,6 +117,13 @@ Of-same′ 𝓤 H A mem run = tripleOf 𝓤 H A same′.signature (same′.spec 
 
 abbrev Said-same′ : Answer → Answer → Type 0
 Said-same′ r a = r ≡ a
+
+-- the contract of `run_other`, and what it ensures
+abbrev Of-run-other′ : {M : Type 1} (𝓤 : URA M) (H : Heap 𝓤) (A : Atoms 𝓤) (mem : Memory → SProp 𝓤) (run : Routine → Fun 𝓤) → Contract 𝓤
+Of-run-other′ 𝓤 H A mem run = tripleOf 𝓤 H A run-other′.signature (run-other′.spec 𝓤 H A mem run)
+
+abbrev Said-run-other′ : Answer → Session → Session → List ℕ → List ℕ → List ℕ → List ℕ → Type 0
+Said-run-other′ r x-s z-s x-image z-image x-table z-table = Told (RunsOn (memory (x-s) (x-image) (x-table)) (memory (z-s) (z-image) (z-table))) r
 
 module _ {M : Type 1} (𝓤 : URA M) (H : Heap 𝓤) (A : Atoms 𝓤) (W : Given 𝓤 H A) (at-mem : Memory → SProp 𝓤) (run : Routine → Fun 𝓤) (κ-s κ-image κ-table : Lft) (bounds : AllOutlive 3 (self.signature .outlives) (κ-s, (κ-image, (κ-table, tt)))) (q-s q-image q-table : Share) (b-s o-s : ℕ) (γ-s : GName) (x-s : Session) (b-image o-image : ℕ) (γ-image : GName) (x-image : List ℕ) (room-image : Room u8 (length x-image)) (b-table o-table : ℕ) (γ-table : GName) (x-table : List ℕ) (room-table : Room u64 (length x-table)) where
   abbrev ref-s : RefT Session
@@ -168,25 +154,25 @@ module _ {M : Type 1} (𝓤 : URA M) (H : Heap 𝓤) (A : Atoms 𝓤) (W : Given
   goes-0 : ent 𝓤 (sep 𝓤 (sem 𝓤 H A ftrue) (sem 𝓤 H A (owns (T-Control.the-row ∷ T-Setup.the-row ∷ usize ∷ usize ∷ []) ((x-s .control), ((x-s .setup), ((length x-image), ((length x-table), tt)))) (Lent.val-control (x-s .control) ∷ [], (Lent.val-setup (x-s .setup) ∷ [], (vint w64 (length x-image) ∷ [], (vint w64 (length x-table) ∷ [], tt))))))) (Of-is-copying′ 𝓤 H A at-mem run .pre to-0)
   goes-0 = qed W ((‵ ftrue) ∷ ‵ (owns (T-Control.the-row ∷ T-Setup.the-row ∷ usize ∷ usize ∷ []) ((x-s .control), ((x-s .setup), ((length x-image), ((length x-table), tt)))) (Lent.val-control (x-s .control) ∷ [], (Lent.val-setup (x-s .setup) ∷ [], (vint w64 (length x-image) ∷ [], (vint w64 (length x-table) ∷ [], tt))))) ∷ []) ∵ join ! $ frame ! $ done !
 
-  -- what the triple of `run_rest` binds outside, and what it asks
-  abbrev to-1 : Of-run-rest′ 𝓤 H A at-mem run .Ghost
+  -- what the triple of `run_any` binds outside, and what it asks
+  abbrev to-1 : Of-run-any′ 𝓤 H A at-mem run .Ghost
   to-1 = (((κ-s, (κ-image, (κ-table, tt))), (q-s, (q-image, (q-table, tt))), tt, (ref-s, (ref-image, (ref-table, tt))), (vptr b-s o-s ∷ [], (sliceVal (b-image, o-image) (length x-image) ∷ [], (sliceVal (b-table, o-table) (length x-table) ∷ [], tt)))), tt)
 
-  goes-1 : ent 𝓤 (sep 𝓤 (sep 𝓤 (A .lft κ-s q-s) (sep 𝓤 (A .lft κ-image q-image) (sep 𝓤 (A .lft κ-table q-table) (sem 𝓤 H A ftrue)))) (sem 𝓤 H A (owns (MutRef (named 0) κ-s T-Session.the-row ∷ MutSlice (named 1) κ-image u8 ∷ MutSlice (named 2) κ-table u64 ∷ []) (ref-s, (ref-image, (ref-table, tt))) (vptr b-s o-s ∷ [], (sliceVal (b-image, o-image) (length x-image) ∷ [], (sliceVal (b-table, o-table) (length x-table) ∷ [], tt)))))) (Of-run-rest′ 𝓤 H A at-mem run .pre to-1)
+  goes-1 : ent 𝓤 (sep 𝓤 (sep 𝓤 (A .lft κ-s q-s) (sep 𝓤 (A .lft κ-image q-image) (sep 𝓤 (A .lft κ-table q-table) (sem 𝓤 H A ftrue)))) (sem 𝓤 H A (owns (MutRef (named 0) κ-s T-Session.the-row ∷ MutSlice (named 1) κ-image u8 ∷ MutSlice (named 2) κ-table u64 ∷ []) (ref-s, (ref-image, (ref-table, tt))) (vptr b-s o-s ∷ [], (sliceVal (b-image, o-image) (length x-image) ∷ [], (sliceVal (b-table, o-table) (length x-table) ∷ [], tt)))))) (Of-run-any′ 𝓤 H A at-mem run .pre to-1)
   goes-1 = qed W ((‵ (flft κ-s q-s) ⊛ ‵ (flft κ-image q-image) ⊛ ‵ (flft κ-table q-table) ⊛ ‵ ftrue) ∷ ‵ (owns (MutRef (named 0) κ-s T-Session.the-row ∷ MutSlice (named 1) κ-image u8 ∷ MutSlice (named 2) κ-table u64 ∷ []) (ref-s, (ref-image, (ref-table, tt))) (vptr b-s o-s ∷ [], (sliceVal (b-image, o-image) (length x-image) ∷ [], (sliceVal (b-table, o-table) (length x-table) ∷ [], tt)))) ∷ []) ∵ join ! $ frame ! $ done !
 
-  -- what the triple of `told` binds outside, and what it asks
-  abbrev to-2 : (r-report : Report) (w-report : Val) → Of-told′ 𝓤 H A at-mem run .Ghost
-  to-2 r-report w-report = ((tt, tt, tt, (r-report, tt), (w-report ∷ [], tt)), tt)
+  -- what the triple of `same` binds outside, and what it asks
+  abbrev to-2 : (r-answer : Answer) (w-answer : Val) → Of-same′ 𝓤 H A at-mem run .Ghost
+  to-2 r-answer w-answer = ((tt, tt, tt, (r-answer, tt), (w-answer ∷ [], tt)), tt)
 
-  goes-2 : (r-report : Report) (w-report : Val) → ent 𝓤 (sep 𝓤 (sem 𝓤 H A ftrue) (sem 𝓤 H A (owns (T-Report.the-row ∷ []) (r-report, tt) (w-report ∷ [], tt)))) (Of-told′ 𝓤 H A at-mem run .pre (to-2 r-report w-report))
-  goes-2 r-report w-report = qed W ((‵ ftrue) ∷ ‵ (owns (T-Report.the-row ∷ []) (r-report, tt) (w-report ∷ [], tt)) ∷ []) ∵ join ! $ frame ! $ done !
+  goes-2 : (r-answer : Answer) (w-answer : Val) → ent 𝓤 (sep 𝓤 (sem 𝓤 H A ftrue) (sem 𝓤 H A (owns (T-Answer.the-row ∷ []) (r-answer, tt) (w-answer ∷ [], tt)))) (Of-same′ 𝓤 H A at-mem run .pre (to-2 r-answer w-answer))
+  goes-2 r-answer w-answer = qed W ((‵ ftrue) ∷ ‵ (owns (T-Answer.the-row ∷ []) (r-answer, tt) (w-answer ∷ [], tt)) ∷ []) ∵ join ! $ frame ! $ done !
 
-  -- what the triple of `run_any` binds outside, and what it asks
-  abbrev to-3 : Of-run-any′ 𝓤 H A at-mem run .Ghost
+  -- what the triple of `run_other` binds outside, and what it asks
+  abbrev to-3 : Of-run-other′ 𝓤 H A at-mem run .Ghost
   to-3 = (((κ-s, (κ-image, (κ-table, tt))), (q-s, (q-image, (q-table, tt))), tt, (ref-s, (ref-image, (ref-table, tt))), (vptr b-s o-s ∷ [], (sliceVal (b-image, o-image) (length x-image) ∷ [], (sliceVal (b-table, o-table) (length x-table) ∷ [], tt)))), tt)
 
-  goes-3 : ent 𝓤 (sep 𝓤 (sep 𝓤 (A .lft κ-s q-s) (sep 𝓤 (A .lft κ-image q-image) (sep 𝓤 (A .lft κ-table q-table) (sem 𝓤 H A ftrue)))) (sem 𝓤 H A (owns (MutRef (named 0) κ-s T-Session.the-row ∷ MutSlice (named 1) κ-image u8 ∷ MutSlice (named 2) κ-table u64 ∷ []) (ref-s, (ref-image, (ref-table, tt))) (vptr b-s o-s ∷ [], (sliceVal (b-image, o-image) (length x-image) ∷ [], (sliceVal (b-table, o-table) (length x-table) ∷ [], tt)))))) (Of-run-any′ 𝓤 H A at-mem run .pre to-3)
+  goes-3 : ent 𝓤 (sep 𝓤 (sep 𝓤 (A .lft κ-s q-s) (sep 𝓤 (A .lft κ-image q-image) (sep 𝓤 (A .lft κ-table q-table) (sem 𝓤 H A ftrue)))) (sem 𝓤 H A (owns (MutRef (named 0) κ-s T-Session.the-row ∷ MutSlice (named 1) κ-image u8 ∷ MutSlice (named 2) κ-table u64 ∷ []) (ref-s, (ref-image, (ref-table, tt))) (vptr b-s o-s ∷ [], (sliceVal (b-image, o-image) (length x-image) ∷ [], (sliceVal (b-table, o-table) (length x-table) ∷ [], tt)))))) (Of-run-other′ 𝓤 H A at-mem run .pre to-3)
   goes-3 = qed W ((‵ (flft κ-s q-s) ⊛ ‵ (flft κ-image q-image) ⊛ ‵ (flft κ-table q-table) ⊛ ‵ ftrue) ∷ ‵ (owns (MutRef (named 0) κ-s T-Session.the-row ∷ MutSlice (named 1) κ-image u8 ∷ MutSlice (named 2) κ-table u64 ∷ []) (ref-s, (ref-image, (ref-table, tt))) (vptr b-s o-s ∷ [], (sliceVal (b-image, o-image) (length x-image) ∷ [], (sliceVal (b-table, o-table) (length x-table) ∷ [], tt)))) ∷ []) ∵ join ! $ frame ! $ done !
 
   -- what the triple of `same` binds outside, and what it asks
@@ -196,15 +182,15 @@ module _ {M : Type 1} (𝓤 : URA M) (H : Heap 𝓤) (A : Atoms 𝓤) (W : Given
   goes-4 : (r-answer : Answer) (w-answer : Val) → ent 𝓤 (sep 𝓤 (sem 𝓤 H A ftrue) (sem 𝓤 H A (owns (T-Answer.the-row ∷ []) (r-answer, tt) (w-answer ∷ [], tt)))) (Of-same′ 𝓤 H A at-mem run .pre (to-4 r-answer w-answer))
   goes-4 r-answer w-answer = qed W ((‵ ftrue) ∷ ‵ (owns (T-Answer.the-row ∷ []) (r-answer, tt) (w-answer ∷ [], tt)) ∷ []) ∵ join ! $ frame ! $ done !
 
-  exits-1 : (r-copying : Bool) (r-report : Report) (r : Answer) (w : Val) (z-s : Session) (z-image : List ℕ) (z-table : List ℕ) → Said-is-copying′ r-copying (x-s .control) (x-s .setup) (length x-image) (length x-table) → T r-copying → Said-run-rest′ r-report x-s z-s x-image z-image x-table z-table → Said-told′ r r-report → length z-image ≡ length x-image → length z-table ≡ length x-table
+  exits-1 : (r-copying : Bool) (r-answer : Answer) (r : Answer) (w : Val) (z-s : Session) (z-image : List ℕ) (z-table : List ℕ) → Said-is-copying′ r-copying (x-s .control) (x-s .setup) (length x-image) (length x-table) → T r-copying → Said-run-any′ r-answer x-s z-s x-image z-image x-table z-table → Said-same′ r r-answer → length z-image ≡ length x-image → length z-table ≡ length x-table
       → ent 𝓤 (⋆ 𝓤 H A (‵ (flft κ-s q-s) ∷ ‵ (flft κ-image q-image) ∷ ‵ (flft κ-table q-table) ∷ ‵ (fres γ-s (T-Session.the-row .coded .code z-s)) ∷ ‵ (finally u8 γ-image z-image) ∷ ‵ (finally u64 γ-table z-table) ∷ ‵ (T-Answer.the-row .own r (w ∷ [])) ∷ [])) (Post w)
-  exits-1 r-copying r-report r w z-s z-image z-table e-copying held e-report e l-image l-table =
+  exits-1 r-copying r-answer r w z-s z-image z-table e-copying held e-answer e l-image l-table =
       qed W (‵ (flft κ-s q-s) ∷ ‵ (flft κ-image q-image) ∷ ‵ (flft κ-table q-table) ∷ ‵ (fres γ-s (T-Session.the-row .coded .code z-s)) ∷ ‵ (finally u8 γ-image z-image) ∷ ‵ (finally u64 γ-table z-table) ∷ ‵ (T-Answer.the-row .own r (w ∷ [])) ∷ []) ∵
-      suffices ! _ (ends-at 𝓤 H A self.ended stayed (self.clauses 𝓤 H A at-mem run) W (((κ-s, (κ-image, (κ-table, tt))), (q-s, (q-image, (q-table, tt))), bounds, a, vals), tt) w r (z-s, (z-image, (z-table, tt))) (tt, (l-image, (l-table, tt)))) $ says ! ((r-report, (e-report, e))) $
+      suffices ! _ (ends-at 𝓤 H A self.ended stayed (self.clauses 𝓤 H A at-mem run) W (((κ-s, (κ-image, (κ-table, tt))), (q-s, (q-image, (q-table, tt))), bounds, a, vals), tt) w r (z-s, (z-image, (z-table, tt))) (tt, (l-image, (l-table, tt)))) $ says ! (subst (Told (RunsOn (memory x-s x-image x-table) (memory z-s z-image z-table))) (sym e) e-answer) $
       nothing ! $ move ! (3 ∷ 0 ∷ []) $ join ! $ move ! (2 ∷ 0 ∷ []) $ join ! $ move ! (1 ∷ 0 ∷ []) $ join ! $ frame ! $
       nothing ! $ move ! (3 ∷ 0 ∷ []) $ fjoin ! $ move ! (2 ∷ 0 ∷ []) $ fjoin ! $ move ! (1 ∷ 0 ∷ []) $ fjoin ! $ done !
 
-  exits-2 : (r-copying : Bool) (r-answer : Answer) (r : Answer) (w : Val) (z-s : Session) (z-image : List ℕ) (z-table : List ℕ) → Said-is-copying′ r-copying (x-s .control) (x-s .setup) (length x-image) (length x-table) → T (not r-copying) → Said-run-any′ r-answer x-s z-s x-image z-image x-table z-table → Said-same′ r r-answer → length z-image ≡ length x-image → length z-table ≡ length x-table
+  exits-2 : (r-copying : Bool) (r-answer : Answer) (r : Answer) (w : Val) (z-s : Session) (z-image : List ℕ) (z-table : List ℕ) → Said-is-copying′ r-copying (x-s .control) (x-s .setup) (length x-image) (length x-table) → T (not r-copying) → Said-run-other′ r-answer x-s z-s x-image z-image x-table z-table → Said-same′ r r-answer → length z-image ≡ length x-image → length z-table ≡ length x-table
       → ent 𝓤 (⋆ 𝓤 H A (‵ (flft κ-s q-s) ∷ ‵ (flft κ-image q-image) ∷ ‵ (flft κ-table q-table) ∷ ‵ (fres γ-s (T-Session.the-row .coded .code z-s)) ∷ ‵ (finally u8 γ-image z-image) ∷ ‵ (finally u64 γ-table z-table) ∷ ‵ (T-Answer.the-row .own r (w ∷ [])) ∷ [])) (Post w)
   exits-2 r-copying r-answer r w z-s z-image z-table e-copying failed e-answer e l-image l-table =
       qed W (‵ (flft κ-s q-s) ∷ ‵ (flft κ-image q-image) ∷ ‵ (flft κ-table q-table) ∷ ‵ (fres γ-s (T-Session.the-row .coded .code z-s)) ∷ ‵ (finally u8 γ-image z-image) ∷ ‵ (finally u64 γ-table z-table) ∷ ‵ (T-Answer.the-row .own r (w ∷ [])) ∷ []) ∵
@@ -212,7 +198,7 @@ module _ {M : Type 1} (𝓤 : URA M) (H : Heap 𝓤) (A : Atoms 𝓤) (W : Given
       nothing ! $ move ! (3 ∷ 0 ∷ []) $ join ! $ move ! (2 ∷ 0 ∷ []) $ join ! $ move ! (1 ∷ 0 ∷ []) $ join ! $ frame ! $
       nothing ! $ move ! (3 ∷ 0 ∷ []) $ fjoin ! $ move ! (2 ∷ 0 ∷ []) $ fjoin ! $ move ! (1 ∷ 0 ∷ []) $ fjoin ! $ done !
 
-  module _ (C : Calls 𝓤 H) (Λ : Loops 𝓤 H) (fm : FmC 𝓤 H (W .laws) C) (known-is-copying′ : Triple 𝓤 (C #is-copying′) (Of-is-copying′ 𝓤 H A at-mem run)) (known-run-rest′ : Triple 𝓤 (C #run-rest′) (Of-run-rest′ 𝓤 H A at-mem run)) (known-told′ : Triple 𝓤 (C #told′) (Of-told′ 𝓤 H A at-mem run)) (known-run-any′ : Triple 𝓤 (C #run-any′) (Of-run-any′ 𝓤 H A at-mem run)) (known-same′ : Triple 𝓤 (C #same′) (Of-same′ 𝓤 H A at-mem run)) where
+  module _ (C : Calls 𝓤 H) (Λ : Loops 𝓤 H) (fm : FmC 𝓤 H (W .laws) C) (known-is-copying′ : Triple 𝓤 (C #is-copying′) (Of-is-copying′ 𝓤 H A at-mem run)) (known-run-any′ : Triple 𝓤 (C #run-any′) (Of-run-any′ 𝓤 H A at-mem run)) (known-same′ : Triple 𝓤 (C #same′) (Of-same′ 𝓤 H A at-mem run)) (known-run-other′ : Triple 𝓤 (C #run-other′) (Of-run-other′ 𝓤 H A at-mem run)) where
     walk : ent 𝓤 (onEntry 𝓤 H A self.signature (κ-s, (κ-image, (κ-table, tt))) (q-s, (q-image, (q-table, tt))) a vals) (WpFn 𝓤 H C Λ code.function (vptr b-s o-s ∷ sliceVal (b-image, o-image) (length x-image) ∷ sliceVal (b-table, o-table) (length x-table) ∷ []) Post)
     walk =
         qed W ((‵ (flft κ-s q-s) ⊛ ‵ (flft κ-image q-image) ⊛ ‵ (flft κ-table q-table) ⊛ ‵ ftrue) ∷ ‵ (owns (MutRef (named 0) κ-s T-Session.the-row ∷ MutSlice (named 1) κ-image u8 ∷ MutSlice (named 2) κ-table u64 ∷ []) a vals) ∷ []) ∵ enter ! C Λ code.function (vptr b-s o-s ∷ sliceVal (b-image, o-image) (length x-image) ∷ sliceVal (b-table, o-table) (length x-table) ∷ []) _ $
@@ -236,47 +222,47 @@ module _ {M : Type 1} (𝓤 : URA M) (H : Heap 𝓤) (A : Atoms 𝓤) (W : Given
         assigns ! (of-opd ! (load ! (from ! (stop !)) (look ! 41 refl))) (from ! (stop !)) (init ! 31 refl (tt, tt)) $
         first ! $ branches ! (load ! (from ! (stop !)) (look ! 31 refl))
         (λ held.
-        -- `run_rest`
+        -- `run_any`
         assigns ! (addr ! (from ! (hop ! (look ! 51 refl) (stop !)))) (from ! (stop !)) (init ! 29 refl (tt, tt)) $
         assigns ! (addr ! (from ! (fld ! refl (hop ! (look-in ! 49 (sub ! 0 refl (whole !))) (stop !))))) (from ! (stop !)) (init ! 27 refl (tt, tt)) $
         assigns ! (agg ! (and-then ! (load ! (from ! (stop !)) (look ! 27 refl)) (and-then ! (load ! (from ! (fld ! refl (stop !))) (look-in ! 49 (sub ! 1 refl (whole !)))) (no-more !)))) (from ! (stop !)) (init ! 25 refl (tt, (tt, (record { fits = room-image .0 }, tt)))) $
         assigns ! (addr ! (from ! (fld ! refl (hop ! (look-in ! 47 (sub ! 0 refl (whole !))) (stop !))))) (from ! (stop !)) (init ! 23 refl (tt, tt)) $
         assigns ! (agg ! (and-then ! (load ! (from ! (stop !)) (look ! 23 refl)) (and-then ! (load ! (from ! (fld ! refl (stop !))) (look-in ! 47 (sub ! 1 refl (whole !)))) (no-more !)))) (from ! (stop !)) (init ! 21 refl (tt, (tt, (record { fits = room-table .0 }, tt)))) $
         nothing ! $ move ! (9 ∷ 0 ∷ []) $ fjoin ! $ move ! (10 ∷ 0 ∷ []) $ fjoin ! $ move ! (4 ∷ 0 ∷ []) $ fjoin ! $ nothing ! $ move ! (6 ∷ 0 ∷ []) $ join ! $ move ! (7 ∷ 0 ∷ []) $ join ! $ move ! (5 ∷ 0 ∷ []) $ join ! $
-        use2 W (raw (Of-run-rest′ 𝓤 H A at-mem run .pre to-1)) goes-1 $
-        calls-at ! fm (Of-run-rest′ 𝓤 H A at-mem run) known-run-rest′ to-1 (and-then ! (load ! (from ! (stop !)) (look ! 24 refl)) (and-then ! (load ! (from ! (stop !)) (look ! 20 refl)) (and-then ! (load ! (from ! (stop !)) (look ! 16 refl)) (no-more !)))) (λ w-report.
-        use1 W (later (some (λ (r-report : Report). ((‵ (flft κ-s q-s) ⊛ ‵ (flft κ-image q-image) ⊛ ‵ (flft κ-table q-table) ⊛ ‵ ftrue) ⊛ ‵ (T-Report.the-row .own r-report (w-report ∷ []))) ⊛ raw (ensured 𝓤 H A run-rest′.ended (run-rest′.clauses 𝓤 H A at-mem run) (κ-s, (κ-image, (κ-table, tt))) (ref-s, (ref-image, (ref-table, tt))) tt r-report)))) (id⊢ 𝓤 _) $ await ! tt $ pick ! (λ r-report. split ! $
-        -- what `run_rest` ensures, at some last values
-        move ! (1 ∷ []) $ use1 W (some (λ (zs-report : (Session × (List ℕ × (List ℕ × Unit {0})))). ‵ (lasts run-rest′.ended (κ-s, (κ-image, (κ-table, tt))) (ref-s, (ref-image, (ref-table, tt))) zs-report) ⊛ raw (fact 𝓤 (Said-run-rest′ r-report x-s (zs-report .0) x-image (zs-report .1 .0) x-table (zs-report .1 .1 .0))))) (id⊢ 𝓤 _) $ pick ! (λ zs-report. split ! $
-        move ! (1 ∷ []) $ heard ! (Said-run-rest′ r-report x-s (zs-report .0) x-image (zs-report .1 .0) x-table (zs-report .1 .1 .0)) (λ e-report. fsplit ! $ move ! (1 ∷ []) $ fsplit ! $ fsplit ! $ move ! (1 ∷ []) $ feqL ! (λ l-image. move ! (1 ∷ []) $ fsplit ! $ fsplit ! $ move ! (1 ∷ []) $ feqL ! (λ l-table.
-        move ! (4 ∷ []) $ split ! $ move ! (1 ∷ []) $ peeks ! T-Report.the-row (Is T-Report.the-row) (shows 𝓤 H A T-Report.the-row) r-report (w-report ∷ []) (λ is-report. move ! (1 ∷ []) $ split ! $ move ! (1 ∷ []) $ split ! $ move ! (1 ∷ []) $ split ! $ land ! (from ! (stop !)) (init ! 42 refl (EL.lawful T-Report.the-type T-Report′.the-laws 𝓤 H A W tt .typed r-report _ is-report .0)) $
-        -- `told`
+        use2 W (raw (Of-run-any′ 𝓤 H A at-mem run .pre to-1)) goes-1 $
+        calls-at ! fm (Of-run-any′ 𝓤 H A at-mem run) known-run-any′ to-1 (and-then ! (load ! (from ! (stop !)) (look ! 24 refl)) (and-then ! (load ! (from ! (stop !)) (look ! 20 refl)) (and-then ! (load ! (from ! (stop !)) (look ! 16 refl)) (no-more !)))) (λ w-answer.
+        use1 W (later (some (λ (r-answer : Answer). ((‵ (flft κ-s q-s) ⊛ ‵ (flft κ-image q-image) ⊛ ‵ (flft κ-table q-table) ⊛ ‵ ftrue) ⊛ ‵ (T-Answer.the-row .own r-answer (w-answer ∷ []))) ⊛ raw (ensured 𝓤 H A run-any′.ended (run-any′.clauses 𝓤 H A at-mem run) (κ-s, (κ-image, (κ-table, tt))) (ref-s, (ref-image, (ref-table, tt))) tt r-answer)))) (id⊢ 𝓤 _) $ await ! tt $ pick ! (λ r-answer. split ! $
+        -- what `run_any` ensures, at some last values
+        move ! (1 ∷ []) $ use1 W (some (λ (zs-answer : (Session × (List ℕ × (List ℕ × Unit {0})))). ‵ (lasts run-any′.ended (κ-s, (κ-image, (κ-table, tt))) (ref-s, (ref-image, (ref-table, tt))) zs-answer) ⊛ raw (fact 𝓤 (Said-run-any′ r-answer x-s (zs-answer .0) x-image (zs-answer .1 .0) x-table (zs-answer .1 .1 .0))))) (id⊢ 𝓤 _) $ pick ! (λ zs-answer. split ! $
+        move ! (1 ∷ []) $ heard ! (Said-run-any′ r-answer x-s (zs-answer .0) x-image (zs-answer .1 .0) x-table (zs-answer .1 .1 .0)) (λ e-answer. fsplit ! $ move ! (1 ∷ []) $ fsplit ! $ fsplit ! $ move ! (1 ∷ []) $ feqL ! (λ l-image. move ! (1 ∷ []) $ fsplit ! $ fsplit ! $ move ! (1 ∷ []) $ feqL ! (λ l-table.
+        move ! (4 ∷ []) $ split ! $ move ! (1 ∷ []) $ peeks ! T-Answer.the-row (Is T-Answer.the-row) (shows 𝓤 H A T-Answer.the-row) r-answer (w-answer ∷ []) (λ is-answer. move ! (1 ∷ []) $ split ! $ move ! (1 ∷ []) $ split ! $ move ! (1 ∷ []) $ split ! $ land ! (from ! (stop !)) (init ! 42 refl (LL.lawful T-Answer.the-type T-Answer′.the-laws 𝓤 H A W .typed r-answer _ is-answer .0)) $
+        -- `same`
         nothing ! $ move ! (5 ∷ 0 ∷ []) $ fjoin ! $ nothing ! $
-        use2 W (raw (Of-told′ 𝓤 H A at-mem run .pre (to-2 r-report w-report))) (goes-2 r-report w-report) $
-        calls-at ! fm (Of-told′ 𝓤 H A at-mem run) known-told′ (to-2 r-report w-report) (and-then ! (load ! (from ! (stop !)) (look ! 42 refl)) (no-more !)) (λ w.
-        use1 W (later (some (λ (r : Answer). ((‵ ftrue) ⊛ ‵ (T-Answer.the-row .own r (w ∷ []))) ⊛ raw (ensured 𝓤 H A told′.ended (told′.clauses 𝓤 H A at-mem run) tt (r-report, tt) tt r)))) (id⊢ 𝓤 _) $ await ! tt $ pick ! (λ r. split ! $
-        -- what `told` ensures, at some last values
-        move ! (1 ∷ []) $ use1 W (some (λ (zs : (Unit {0} × Unit {0})). ‵ (lasts told′.ended tt (r-report, tt) zs) ⊛ raw (fact 𝓤 (Said-told′ r r-report)))) (id⊢ 𝓤 _) $ pick ! (λ zs. split ! $
-        move ! (1 ∷ []) $ heard ! (Said-told′ r r-report) (λ e. fsplit ! $
+        use2 W (raw (Of-same′ 𝓤 H A at-mem run .pre (to-2 r-answer w-answer))) (goes-2 r-answer w-answer) $
+        calls-at ! fm (Of-same′ 𝓤 H A at-mem run) known-same′ (to-2 r-answer w-answer) (and-then ! (load ! (from ! (stop !)) (look ! 42 refl)) (no-more !)) (λ w.
+        use1 W (later (some (λ (r : Answer). ((‵ ftrue) ⊛ ‵ (T-Answer.the-row .own r (w ∷ []))) ⊛ raw (ensured 𝓤 H A same′.ended (same′.clauses 𝓤 H A at-mem run) tt (r-answer, tt) tt r)))) (id⊢ 𝓤 _) $ await ! tt $ pick ! (λ r. split ! $
+        -- what `same` ensures, at some last values
+        move ! (1 ∷ []) $ use1 W (some (λ (zs : (Unit {0} × Unit {0})). ‵ (lasts same′.ended tt (r-answer, tt) zs) ⊛ raw (fact 𝓤 (Said-same′ r r-answer)))) (id⊢ 𝓤 _) $ pick ! (λ zs. split ! $
+        move ! (1 ∷ []) $ heard ! (Said-same′ r r-answer) (λ e. fsplit ! $
         move ! (2 ∷ []) $ split ! $ move ! (1 ∷ []) $ peeks ! T-Answer.the-row (Is T-Answer.the-row) (shows 𝓤 H A T-Answer.the-row) r (w ∷ []) (λ is. land ! (from ! (stop !)) (init ! 59 refl (LL.lawful T-Answer.the-type T-Answer′.the-laws 𝓤 H A W .typed r _ is .0)) $
         -- the result
         returns-within ! Post refl (look ! 59 refl) $ forget ! 27 refl $ forget ! 29 refl $ forget ! 31 refl $ forget ! 33 refl $ forget ! 35 refl $ forget ! 37 refl $ forget ! 39 refl $ forget ! 41 refl $ forget ! 45 refl $ forget ! 47 refl $ forget ! 49 refl $ forget ! 51 refl $ forget ! 53 refl $ forget ! 55 refl $ forget ! 57 refl $ forget ! 59 refl $
         move ! (59 ∷ 60 ∷ []) $ free1 ! $ move ! (57 ∷ 58 ∷ []) $ free1 ! $ move ! (55 ∷ 56 ∷ []) $ free1 ! $ move ! (53 ∷ 54 ∷ []) $ free1 ! $ move ! (51 ∷ 52 ∷ []) $ free1 ! $ move ! (49 ∷ 50 ∷ []) $ free1 ! $ move ! (47 ∷ 48 ∷ []) $ free1 ! $ move ! (45 ∷ 46 ∷ []) $ free1 ! $ move ! (43 ∷ 44 ∷ []) $ free1 ! $ move ! (41 ∷ 42 ∷ []) $ free1 ! $ move ! (39 ∷ 40 ∷ []) $ free1 ! $ move ! (37 ∷ 38 ∷ []) $ free1 ! $ move ! (35 ∷ 36 ∷ []) $ free1 ! $ move ! (33 ∷ 34 ∷ []) $ free1 ! $ move ! (31 ∷ 32 ∷ []) $ free1 ! $ move ! (29 ∷ 30 ∷ []) $ free1 ! $ move ! (27 ∷ 28 ∷ []) $ free1 ! $ move ! (25 ∷ 26 ∷ []) $ free1 ! $ move ! (23 ∷ 24 ∷ []) $ free1 ! $ move ! (21 ∷ 22 ∷ []) $ free1 ! $ move ! (19 ∷ 20 ∷ []) $ free1 ! $ move ! (17 ∷ 18 ∷ []) $ free1 ! $ free0 ! $
-        keep ! (7 ∷ 6 ∷ 4 ∷ 11 ∷ 10 ∷ 8 ∷ 0 ∷ []) $ by ! (exits-1 r-copying r-report r w (zs-report .0) (zs-report .1 .0) (zs-report .1 .1 .0) e-copying held e-report e l-image l-table))))))))))))))
+        keep ! (7 ∷ 6 ∷ 4 ∷ 11 ∷ 10 ∷ 8 ∷ 0 ∷ []) $ by ! (exits-1 r-copying r-answer r w (zs-answer .0) (zs-answer .1 .0) (zs-answer .1 .1 .0) e-copying held e-answer e l-image l-table))))))))))))))
         (λ failed.
-        -- `run_any`
+        -- `run_other`
         assigns ! (addr ! (from ! (hop ! (look ! 51 refl) (stop !)))) (from ! (stop !)) (init ! 19 refl (tt, tt)) $
         assigns ! (addr ! (from ! (fld ! refl (hop ! (look-in ! 49 (sub ! 0 refl (whole !))) (stop !))))) (from ! (stop !)) (init ! 17 refl (tt, tt)) $
         assigns ! (agg ! (and-then ! (load ! (from ! (stop !)) (look ! 17 refl)) (and-then ! (load ! (from ! (fld ! refl (stop !))) (look-in ! 49 (sub ! 1 refl (whole !)))) (no-more !)))) (from ! (stop !)) (init ! 15 refl (tt, (tt, (record { fits = room-image .0 }, tt)))) $
         assigns ! (addr ! (from ! (fld ! refl (hop ! (look-in ! 47 (sub ! 0 refl (whole !))) (stop !))))) (from ! (stop !)) (init ! 13 refl (tt, tt)) $
         assigns ! (agg ! (and-then ! (load ! (from ! (stop !)) (look ! 13 refl)) (and-then ! (load ! (from ! (fld ! refl (stop !))) (look-in ! 47 (sub ! 1 refl (whole !)))) (no-more !)))) (from ! (stop !)) (init ! 11 refl (tt, (tt, (record { fits = room-table .0 }, tt)))) $
         nothing ! $ move ! (9 ∷ 0 ∷ []) $ fjoin ! $ move ! (10 ∷ 0 ∷ []) $ fjoin ! $ move ! (4 ∷ 0 ∷ []) $ fjoin ! $ nothing ! $ move ! (6 ∷ 0 ∷ []) $ join ! $ move ! (7 ∷ 0 ∷ []) $ join ! $ move ! (5 ∷ 0 ∷ []) $ join ! $
-        use2 W (raw (Of-run-any′ 𝓤 H A at-mem run .pre to-3)) goes-3 $
-        calls-at ! fm (Of-run-any′ 𝓤 H A at-mem run) known-run-any′ to-3 (and-then ! (load ! (from ! (stop !)) (look ! 14 refl)) (and-then ! (load ! (from ! (stop !)) (look ! 10 refl)) (and-then ! (load ! (from ! (stop !)) (look ! 6 refl)) (no-more !)))) (λ w-answer.
-        use1 W (later (some (λ (r-answer : Answer). ((‵ (flft κ-s q-s) ⊛ ‵ (flft κ-image q-image) ⊛ ‵ (flft κ-table q-table) ⊛ ‵ ftrue) ⊛ ‵ (T-Answer.the-row .own r-answer (w-answer ∷ []))) ⊛ raw (ensured 𝓤 H A run-any′.ended (run-any′.clauses 𝓤 H A at-mem run) (κ-s, (κ-image, (κ-table, tt))) (ref-s, (ref-image, (ref-table, tt))) tt r-answer)))) (id⊢ 𝓤 _) $ await ! tt $ pick ! (λ r-answer. split ! $
-        -- what `run_any` ensures, at some last values
-        move ! (1 ∷ []) $ use1 W (some (λ (zs-answer : (Session × (List ℕ × (List ℕ × Unit {0})))). ‵ (lasts run-any′.ended (κ-s, (κ-image, (κ-table, tt))) (ref-s, (ref-image, (ref-table, tt))) zs-answer) ⊛ raw (fact 𝓤 (Said-run-any′ r-answer x-s (zs-answer .0) x-image (zs-answer .1 .0) x-table (zs-answer .1 .1 .0))))) (id⊢ 𝓤 _) $ pick ! (λ zs-answer. split ! $
-        move ! (1 ∷ []) $ heard ! (Said-run-any′ r-answer x-s (zs-answer .0) x-image (zs-answer .1 .0) x-table (zs-answer .1 .1 .0)) (λ e-answer. fsplit ! $ move ! (1 ∷ []) $ fsplit ! $ fsplit ! $ move ! (1 ∷ []) $ feqL ! (λ l-image. move ! (1 ∷ []) $ fsplit ! $ fsplit ! $ move ! (1 ∷ []) $ feqL ! (λ l-table.
+        use2 W (raw (Of-run-other′ 𝓤 H A at-mem run .pre to-3)) goes-3 $
+        calls-at ! fm (Of-run-other′ 𝓤 H A at-mem run) known-run-other′ to-3 (and-then ! (load ! (from ! (stop !)) (look ! 14 refl)) (and-then ! (load ! (from ! (stop !)) (look ! 10 refl)) (and-then ! (load ! (from ! (stop !)) (look ! 6 refl)) (no-more !)))) (λ w-answer.
+        use1 W (later (some (λ (r-answer : Answer). ((‵ (flft κ-s q-s) ⊛ ‵ (flft κ-image q-image) ⊛ ‵ (flft κ-table q-table) ⊛ ‵ ftrue) ⊛ ‵ (T-Answer.the-row .own r-answer (w-answer ∷ []))) ⊛ raw (ensured 𝓤 H A run-other′.ended (run-other′.clauses 𝓤 H A at-mem run) (κ-s, (κ-image, (κ-table, tt))) (ref-s, (ref-image, (ref-table, tt))) tt r-answer)))) (id⊢ 𝓤 _) $ await ! tt $ pick ! (λ r-answer. split ! $
+        -- what `run_other` ensures, at some last values
+        move ! (1 ∷ []) $ use1 W (some (λ (zs-answer : (Session × (List ℕ × (List ℕ × Unit {0})))). ‵ (lasts run-other′.ended (κ-s, (κ-image, (κ-table, tt))) (ref-s, (ref-image, (ref-table, tt))) zs-answer) ⊛ raw (fact 𝓤 (Said-run-other′ r-answer x-s (zs-answer .0) x-image (zs-answer .1 .0) x-table (zs-answer .1 .1 .0))))) (id⊢ 𝓤 _) $ pick ! (λ zs-answer. split ! $
+        move ! (1 ∷ []) $ heard ! (Said-run-other′ r-answer x-s (zs-answer .0) x-image (zs-answer .1 .0) x-table (zs-answer .1 .1 .0)) (λ e-answer. fsplit ! $ move ! (1 ∷ []) $ fsplit ! $ fsplit ! $ move ! (1 ∷ []) $ feqL ! (λ l-image. move ! (1 ∷ []) $ fsplit ! $ fsplit ! $ move ! (1 ∷ []) $ feqL ! (λ l-table.
         move ! (4 ∷ []) $ split ! $ move ! (1 ∷ []) $ peeks ! T-Answer.the-row (Is T-Answer.the-row) (shows 𝓤 H A T-Answer.the-row) r-answer (w-answer ∷ []) (λ is-answer. move ! (1 ∷ []) $ split ! $ move ! (1 ∷ []) $ split ! $ move ! (1 ∷ []) $ split ! $ land ! (from ! (stop !)) (init ! 40 refl (LL.lawful T-Answer.the-type T-Answer′.the-laws 𝓤 H A W .typed r-answer _ is-answer .0)) $
         -- `same`
         nothing ! $ move ! (5 ∷ 0 ∷ []) $ fjoin ! $ nothing ! $
@@ -293,17 +279,17 @@ module _ {M : Type 1} (𝓤 : URA M) (H : Heap 𝓤) (A : Atoms 𝓤) (W : Given
         keep ! (7 ∷ 6 ∷ 4 ∷ 11 ∷ 10 ∷ 8 ∷ 0 ∷ []) $ by ! (exits-2 r-copying r-answer r w (zs-answer .0) (zs-answer .1 .0) (zs-answer .1 .1 .0) e-copying failed e-answer e l-image l-table)))))))))))))))))))))))))))))))))))))))))))
 
 module _ {M : Type 1} (𝓤 : URA M) (H : Heap 𝓤) (A : Atoms 𝓤) (W : Given 𝓤 H A) (mem : Memory → SProp 𝓤) (run : Routine → Fun 𝓤) where
-  walks : (C : Calls 𝓤 H) (Λ : Loops 𝓤 H) → FmC 𝓤 H (W .laws) C → Triple 𝓤 (C #is-copying′) (Of-is-copying′ 𝓤 H A mem run) → Triple 𝓤 (C #run-rest′) (Of-run-rest′ 𝓤 H A mem run) → Triple 𝓤 (C #told′) (Of-told′ 𝓤 H A mem run) → Triple 𝓤 (C #run-any′) (Of-run-any′ 𝓤 H A mem run) → Triple 𝓤 (C #same′) (Of-same′ 𝓤 H A mem run) → Walks 𝓤 H A self.ended stayed (WpFn 𝓤 H C Λ code.function) (self.clauses 𝓤 H A mem run)
-  walks C Λ fm known-is-copying′ known-run-rest′ known-told′ known-run-any′ known-same′ = walked 𝓤 H A self.ended stayed (self.clauses 𝓤 H A mem run) (WpFn 𝓤 H C Λ code.function)
+  walks : (C : Calls 𝓤 H) (Λ : Loops 𝓤 H) → FmC 𝓤 H (W .laws) C → Triple 𝓤 (C #is-copying′) (Of-is-copying′ 𝓤 H A mem run) → Triple 𝓤 (C #run-any′) (Of-run-any′ 𝓤 H A mem run) → Triple 𝓤 (C #same′) (Of-same′ 𝓤 H A mem run) → Triple 𝓤 (C #run-other′) (Of-run-other′ 𝓤 H A mem run) → Walks 𝓤 H A self.ended stayed (WpFn 𝓤 H C Λ code.function) (self.clauses 𝓤 H A mem run)
+  walks C Λ fm known-is-copying′ known-run-any′ known-same′ known-run-other′ = walked 𝓤 H A self.ended stayed (self.clauses 𝓤 H A mem run) (WpFn 𝓤 H C Λ code.function)
       (λ κs. (ptr-vals, (slice-vals, (slice-vals, tt)))) (λ κs. (mut-tells (named 0) (κs .0) T-Session.the-row, (mut-slice-tells (named 1) (κs .1 .0) u8, (mut-slice-tells (named 2) (κs .1 .1 .0) u64, tt))))
       (λ κs qs bounds a g are. via 𝓤 _ (fst∗ 𝓤 _ (emp 𝓤))
-      (walk 𝓤 H A W mem run (κs .0) (κs .1 .0) (κs .1 .1 .0) bounds (qs .0) (qs .1 .0) (qs .1 .1 .0) (a .0 .ptr .0) (a .0 .ptr .1) (a .0 .name) (a .0 .now) (a .1 .0 .ptr .0) (a .1 .0 .ptr .1) (a .1 .0 .name) (a .1 .0 .now) (are .1 .0 .0 .1) (a .1 .1 .0 .ptr .0) (a .1 .1 .0 .ptr .1) (a .1 .1 .0 .name) (a .1 .1 .0 .now) (are .1 .1 .0 .0 .1) C Λ fm known-is-copying′ known-run-rest′ known-told′ known-run-any′ known-same′))
+      (walk 𝓤 H A W mem run (κs .0) (κs .1 .0) (κs .1 .1 .0) bounds (qs .0) (qs .1 .0) (qs .1 .1 .0) (a .0 .ptr .0) (a .0 .ptr .1) (a .0 .name) (a .0 .now) (a .1 .0 .ptr .0) (a .1 .0 .ptr .1) (a .1 .0 .name) (a .1 .0 .now) (are .1 .0 .0 .1) (a .1 .1 .0 .ptr .0) (a .1 .1 .0 .ptr .1) (a .1 .1 .0 .name) (a .1 .1 .0 .now) (are .1 .1 .0 .0 .1) C Λ fm known-is-copying′ known-run-any′ known-same′ known-run-other′))
 
-meets : {M : Type 1} (𝓤 : URA M) (H : Heap 𝓤) (A : Atoms 𝓤) → Given 𝓤 H A → (mem : Memory → SProp 𝓤) (run : Routine → Fun 𝓤) (𝓣 : Tables 𝓤 H) → Triple 𝓤 (𝓣 .C #is-copying′) (Of-is-copying′ 𝓤 H A mem run) → Triple 𝓤 (𝓣 .C #run-rest′) (Of-run-rest′ 𝓤 H A mem run) → Triple 𝓤 (𝓣 .C #told′) (Of-told′ 𝓤 H A mem run) → Triple 𝓤 (𝓣 .C #run-any′) (Of-run-any′ 𝓤 H A mem run) → Triple 𝓤 (𝓣 .C #same′) (Of-same′ 𝓤 H A mem run)
+meets : {M : Type 1} (𝓤 : URA M) (H : Heap 𝓤) (A : Atoms 𝓤) → Given 𝓤 H A → (mem : Memory → SProp 𝓤) (run : Routine → Fun 𝓤) (𝓣 : Tables 𝓤 H) → Triple 𝓤 (𝓣 .C #is-copying′) (Of-is-copying′ 𝓤 H A mem run) → Triple 𝓤 (𝓣 .C #run-any′) (Of-run-any′ 𝓤 H A mem run) → Triple 𝓤 (𝓣 .C #same′) (Of-same′ 𝓤 H A mem run) → Triple 𝓤 (𝓣 .C #run-other′) (Of-run-other′ 𝓤 H A mem run)
     → Meets 𝓤 H A self.signature (WpFn 𝓤 H (𝓣 .C) (𝓣 .Λ) code.function) (self.spec 𝓤 H A mem run)
-meets 𝓤 H A W mem run 𝓣 known-is-copying′ known-run-rest′ known-told′ known-run-any′ known-same′ =
+meets 𝓤 H A W mem run 𝓣 known-is-copying′ known-run-any′ known-same′ known-run-other′ =
     walk-meets 𝓤 H A self.ended stayed W (goes-gave-ref 𝓤 H A W 3 0 tt (plain (λ _. T-Session.the-row)), (goes-gave-slice 𝓤 H A W 3 1 tt (plain (λ _. u8)), (goes-gave-slice 𝓤 H A W 3 2 tt (plain (λ _. u64)), tt))) (self.clauses 𝓤 H A mem run)
-    (WpFn 𝓤 H (𝓣 .C) (𝓣 .Λ) code.function) (WpFn-mono 𝓤 H (W .laws) 𝓣 code.function) (walks 𝓤 H A W mem run (𝓣 .C) (𝓣 .Λ) (fmOf 𝓤 H (W .laws) 𝓣) known-is-copying′ known-run-rest′ known-told′ known-run-any′ known-same′)
+    (WpFn 𝓤 H (𝓣 .C) (𝓣 .Λ) code.function) (WpFn-mono 𝓤 H (W .laws) 𝓣 code.function) (walks 𝓤 H A W mem run (𝓣 .C) (𝓣 .Λ) (fmOf 𝓤 H (W .laws) 𝓣) known-is-copying′ known-run-any′ known-same′ known-run-other′)
 
 pub run-cleaning-spec : {M : Type 1} → stated.statement M
 unfolding code.routine tablesOf
@@ -312,7 +298,6 @@ run-cleaning-spec 𝓤 H 𝓜 𝓖 𝓡 =
     (tables 𝓤 H 𝓜 𝓡 code.env .C) (tables 𝓤 H 𝓜 𝓡 code.env .Λ) #self code.function (code.unfolded 𝓤 H 𝓜 𝓡)
     (meets 𝓤 H (𝓖 .A) (givenOf 𝓤 H 𝓜 𝓖) (𝓜 .mem) (𝓡 .run) (tablesOf 𝓤 H 𝓜 (tables 𝓤 H 𝓜 𝓡 code.env))
     (cited 𝓤 H (Of-is-copying′ 𝓤 H (𝓖 .A) (𝓜 .mem) (𝓡 .run)) 𝓜 𝓡 code.env #is-copying′ is-copying′-def.routine code.calls-running·is-copying (is-copying′-thm.met 𝓤 H 𝓜 𝓖 𝓡))
-    (cited 𝓤 H (Of-run-rest′ 𝓤 H (𝓖 .A) (𝓜 .mem) (𝓡 .run)) 𝓜 𝓡 code.env #run-rest′ run-rest′-def.routine code.calls-store-run·run-rest (run-rest′-thm.met 𝓤 H 𝓜 𝓖 𝓡))
-    (cited 𝓤 H (Of-told′ 𝓤 H (𝓖 .A) (𝓜 .mem) (𝓡 .run)) 𝓜 𝓡 code.env #told′ told′-def.routine code.calls-answers·told (told′-thm.met 𝓤 H 𝓜 𝓖 𝓡))
     (cited 𝓤 H (Of-run-any′ 𝓤 H (𝓖 .A) (𝓜 .mem) (𝓡 .run)) 𝓜 𝓡 code.env #run-any′ run-any′-def.routine code.calls-late-answers·run-any (run-any′-thm.met 𝓤 H 𝓜 𝓖 𝓡))
-    (cited 𝓤 H (Of-same′ 𝓤 H (𝓖 .A) (𝓜 .mem) (𝓡 .run)) 𝓜 𝓡 code.env #same′ same′-def.routine code.calls-answers·same (same′-thm.met 𝓤 H 𝓜 𝓖 𝓡)))
+    (cited 𝓤 H (Of-same′ 𝓤 H (𝓖 .A) (𝓜 .mem) (𝓡 .run)) 𝓜 𝓡 code.env #same′ same′-def.routine code.calls-answers·same (same′-thm.met 𝓤 H 𝓜 𝓖 𝓡))
+    (cited 𝓤 H (Of-run-other′ 𝓤 H (𝓖 .A) (𝓜 .mem) (𝓡 .run)) 𝓜 𝓡 code.env #run-other′ run-other′-def.routine code.calls-late-answers·run-other (run-other′-thm.met 𝓤 H 𝓜 𝓖 𝓡)))
