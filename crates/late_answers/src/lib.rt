@@ -1,5 +1,5 @@
-// Several steps in one call, answered in numbers, where no commit has a store to come and no staging is begun: a commit's
-// last action and its end, a cleaning, or whatever else is begun.
+// Several steps in one call, answered in numbers, where no commit has a store to come and no staging is begun: a
+// commit's last action and its end, a cleaning, or whatever else is begun.
 ghost use Rattle.fast_path.specs.Run.{RunsOn};
 ghost use Rattle.answers.specs.Answers.{Told};
 ghost use Rattle.session.specs.Promise.{memory};
@@ -22,8 +22,8 @@ pub fn run_other(s: &mut Session, image: &mut [u8], table: &mut [u64]) -> Answer
     answers::same(answer)
 }
 
-// The same, with a cleaning told apart: so `run_any` is called in two places, and the compiler keeps it out of the runs of
-// commits and stagings, which then save few registers.
+// The same, with a cleaning told apart: so `run_any` is called in two places, and the compiler keeps it out of the runs
+// of commits and stagings, which then save few registers.
 pub fn run_cleaning(s: &mut Session, image: &mut [u8], table: &mut [u64]) -> Answer
     ensures { λ r. ⌜ Told (RunsOn (memory (now (s .entry)) (now (image .entry)) (now (table .entry))) (memory (now (s .exit)) (now (image .exit)) (now (table .exit)))) r ⌝ }
 {
