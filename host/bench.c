@@ -134,7 +134,8 @@ __attribute__((noinline)) static void commit_by_runs(uint64_t key, size_t items,
     commit_in(key, items, value, size, (struct way){durable, false});
 }
 
-/* The same words, stores, write-backs and fences: `line` is where the batch goes, *directory the chunk's directory word. */
+/* The same words, stores, write-backs and fences: `line` is where the batch goes, *directory the chunk's directory
+ * word. */
 __attribute__((noinline)) static void floor_commit(size_t *chunk, size_t *line, uint64_t key, size_t items, const uint8_t *value,
                                                    size_t size, bool durable)
 {
@@ -368,9 +369,9 @@ static inline uint64_t copied_out(const uint8_t *at, uint64_t length)
     return first;
 }
 
-/* The look-ups of a block of keys, by the floor's hash or, where that is none, by the register; the sum is of what they answered.
- * Where they wait, each key is known only once the look-up before has answered, as for a clerk; else the processor
- * works on several at once. The values are copied out or only found. */
+/* The look-ups of a block of keys, by the floor's hash or, where that is none, by the register; the sum is of what
+ * they answered. Where they wait, each key is known only once the look-up before has answered, as for a clerk; else
+ * the processor works on several at once. The values are copied out or only found. */
 static inline __attribute__((always_inline)) uint64_t look_block(const uint64_t *keys, const uint64_t *hash, bool wait, bool copy)
 {
     const uint64_t *w = (const uint64_t *)(const void *)image;
@@ -385,7 +386,8 @@ static inline __attribute__((always_inline)) uint64_t look_block(const uint64_t 
     return answers;
 }
 
-/* Look-ups of all keys. The two sides take turns in going first: the second finds in the cache what the first has read. */
+/* Look-ups of all keys. The two sides take turns in going first: the second finds in the cache what the first has
+ * read. */
 static inline __attribute__((always_inline)) void look_all(const char *name, const uint64_t *keys, size_t n,
                                                            const uint64_t *hash, bool wait, bool copy)
 {

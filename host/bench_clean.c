@@ -118,8 +118,8 @@ static size_t append(struct plain *p, size_t chunk, const uint64_t *payload, siz
     return at;
 }
 
-/* The first log chunk with space that is not `other`, else the first free one if so many are free, else 0. A chunk passed
- * over has no space for so many lines, or is about to be freed. */
+/* The first log chunk with space that is not `other`, else the first free one if so many are free, else 0. A chunk
+ * passed over has no space for so many lines, or is about to be freed. */
 static size_t place(struct plain *p, size_t lines, size_t needed_free, size_t other)
 {
     size_t free_chunks = 0, first_free = 0;
@@ -177,8 +177,8 @@ static bool plain_put(struct plain *p, uint64_t key, const uint8_t *value, size_
     return true;
 }
 
-/* The chunk with the fewest words in use, of those that would take fewer lines; of equals the most lines, and of those the
- * highest number; 0 where there is none. */
+/* The chunk with the fewest words in use, of those that would take fewer lines; of equals the most lines, and of those
+ * the highest number; 0 where there is none. */
 static size_t plain_choose(const struct plain *p)
 {
     size_t best = 0;

@@ -128,7 +128,8 @@ static void make_area(struct area *a, size_t most)
     a->pages = p + PAGE;
 }
 
-/* The area becomes `bytes` bytes, at its pages' end or start. So that a case costs little, the pattern stands in 64 bytes. */
+/* The area becomes `bytes` bytes, at its pages' end or start. So that a case costs little, the pattern stands in 64
+ * bytes. */
 static void place(struct area *a, size_t bytes)
 {
     a->bytes = bytes;
@@ -350,7 +351,8 @@ static void run(uint64_t actions)
     }
 }
 
-/* A begun call's answer: begun, with at most so many actions, or one of the refusals. Then it is run, or left unfinished. */
+/* A begun call's answer: begun, with at most so many actions, or one of the refusals. Then it is run, or left
+ * unfinished. */
 static void begun(int which, zkv_report r, uint64_t most, uint64_t numbers)
 {
     tally[which][r.kind == ZKV_REFUSED]++;
@@ -658,8 +660,8 @@ static uint64_t first_word(uint64_t op, uint64_t placement, uint64_t version, ui
     return op | placement << 2 | version << 4 | tail << 24;
 }
 
-/* Entries one behind the other in so many words, now and then a wrong one; where `tidy`, a few keys with rising versions and
- * nothing wrong. */
+/* Entries one behind the other in so many words, now and then a wrong one; where `tidy`, a few keys with rising
+ * versions and nothing wrong. */
 static bool tidy;
 static uint64_t last_version;
 
@@ -766,7 +768,8 @@ static void near_record(void)
     }
 }
 
-/* A table whose words look like keys and what the table holds of them: an extent, a place, a version, a number of entries, several tops. */
+/* A table whose words look like keys and what the table holds of them: an extent, a place, a version, a number of
+ * entries, several tops. */
 static void near_table(void)
 {
     for (size_t i = 0; i < table_words(); i++) {

@@ -22,7 +22,8 @@ static _Alignas(64) uint8_t image[BYTES], seen[BYTES], trial[BYTES];
 static uint64_t table[WORDS], trial_table[WORDS];
 static zkv_record record, trial_record;
 
-/* The changes of the image during one call: their number, the word and value of each, and how many were of several words. */
+/* The changes of the image during one call: their number, the word and value of each, and how many were of several
+ * words. */
 struct change {
     uint64_t word, value;
 };

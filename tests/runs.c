@@ -27,7 +27,8 @@ static zkv_report go_on(uint64_t *steps)
     return step();
 }
 
-/* A begun call that stores lines and then `seals` directory words, by runs alone: a run for each flush, each fence and the end. */
+/* A begun call that stores lines and then `seals` directory words, by runs alone: a run for each flush, each fence and
+ * the end. */
 static void whole(zkv_report r, uint64_t lines, uint64_t seals)
 {
     uint64_t steps = 0, fences = seals + (lines > 0);

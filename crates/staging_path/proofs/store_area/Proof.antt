@@ -1,5 +1,5 @@
--- `staging_path::store_area` meets its contract. The loop's invariant: what is saved so far, with whatever is saved behind
--- it, is one row.
+-- `staging_path::store_area` meets its contract. The loop's invariant: what is saved so far, with whatever is saved
+-- behind it, is one row.
 -- Assumes nothing.
 use mathlib.Core.Path.{refl}
 use Prim.Native.Nat.{_-_, _≤_}
