@@ -1,3 +1,4 @@
 pub mod Examples
 pub mod Slips
 pub mod Registers
+pub mod Stuck

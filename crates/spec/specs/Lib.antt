@@ -19,3 +19,4 @@ pub mod Means
 pub mod FormatCut
 pub mod Reopening
 pub mod Fixed
+pub mod Unstuck

@@ -1,11 +1,16 @@
 -- DEMAND 3 of the archive level, and so of every level: every list of calls and power cuts, choosings and cleanings and
 -- values up to the largest block's included, for the very contracts that the public functions ensure.
+-- And NEVER STUCK of the same contracts, by the host's rule that no commit is begun while no chunk is free.
 -- Assumes nothing.
 use Rattle.spec.specs.History.{Demand3}
+use Rattle.spec.specs.Unstuck.{NeverStuck}
 use Rattle.session.specs.State.{limit, stateOf}
 use Rattle.session.specs.Fits.{Fits}
-use Rattle.theory_histories.proofs.Every.{at-the-archive}
+use Rattle.theory_histories.proofs.Every.{at-the-archive, room-at-the-archive}
 use Rattle.session.specs.Fits.{Proper}
 
 pub faithful : Demand3 Proper stateOf Fits 12 limit
 faithful = at-the-archive Proper stateOf Fits
+
+pub never-stuck : NeverStuck Proper stateOf Fits 12 limit
+never-stuck = room-at-the-archive Proper stateOf Fits

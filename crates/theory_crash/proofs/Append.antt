@@ -8,10 +8,10 @@ use mathlib.Core.List.{List, [], _∷_, _++_}
 use Prim.Native.Nat.{ℕ, zero, suc, _+_, _-_, _*_, _≤_, _<_}
 use native.Mathlib.Omega.{arith}
 use lib.ListN.{length, replicate, length-append}
-use Rattle.spec.specs.Places.{base}
+use Rattle.spec.specs.Places.{base, chunkWords}
 use Rattle.spec.specs.Medium.{Medium, cellAt}
 use Rattle.spec.specs.Directory.{linesOf, sizeOf}
-use Rattle.spec.specs.Log.{Entry, encodeAll, placed}
+use Rattle.spec.specs.Log.{Entry, encodeAll, placed, Entries, imageEntries}
 use Rattle.spec.specs.Blocks.{pointed}
 use Rattle.spec.specs.Contents.{Held, contentsBy, meaning, keysOf, keptIn}
 use Rattle.spec.specs.Opening.{fine}
@@ -20,10 +20,10 @@ use Rattle.theory_log.specs.Batch.{AllRight}
 use Rattle.theory_log.specs.Contents.{Mem, Top}
 use Rattle.theory_base.proofs.Through.{Through}
 use Rattle.theory_crash.specs.Accepted.{Needs}
-use Rattle.theory_crash.specs.Rest.{AtRest, Flushed, Rests, Cuts}
+use Rattle.theory_crash.specs.Rest.{AtRest, Flushed, Rests, Cuts, CutsTo}
 use Rattle.theory_crash.specs.Batch.{entryWords, Effect, Place}
 use Rattle.theory_crash.proofs.Commit.{commit-through, commit-count}
-use Rattle.theory_crash.proofs.Clean.{clean-through}
+use Rattle.theory_crash.proofs.Clean.{clean-through, clean-to}
 
 -- The padding.
 zeros-length : (i : ℕ) → length {A = ℕ} (replicate i 0) ≡ i
@@ -90,4 +90,17 @@ module _ (p : ℕ) (lo : 12 ≤ p) (hi : p ≤ 16) (n keys : ℕ) (C : ℕ → H
   clean-append s d old old′ low high no-data few ne place some′ =
       rw (append-is p d old (linesOf p ws d) (keptIn p s es))
       (clean-through p lo hi n s old′ keys C ws es m rest holds few flushed low high no-data d old (linesOf p ws d) (linesFor (length (encodeAll (keptIn p s es)))) (padding (keptIn p s es))
+      ne (place .low) (place .high) refl (place .no-data) some′ (place .fit) (entries-length (keptIn p s es)))
+
+  -- by entries
+  pub clean-append-to : (s d old old′ : ℕ) → 1 ≤ s → s < n → sizeOf p ws s ≡ 0 → length (keysOf es) ≤ keys → (s ≡ d → ⊥)
+      → Place p n d (linesFor (length (encodeAll (keptIn p s es)))) ws → 1 ≤ linesFor (length (encodeAll (keptIn p s es)))
+      → (Q : List Entry → Type 0) → Q es
+      → ((ys : List ℕ) (before behind : List Entry) → es ≡ before ++ behind → imageEntries p n ys ≡ Entries (before ++ (placed (base p d + 8 * linesOf p ws d) (keptIn p s es) ++ behind))
+      → Q (before ++ (placed (base p d + 8 * linesOf p ws d) (keptIn p s es) ++ behind)))
+      → ((hs : List Entry) → ((f : Entry) → Mem f hs → (f .at < base p s) ⊎ (base p s + chunkWords p ≤ f .at)) → Q hs)
+      → Through (CutsTo p n Q) (CutsTo p n Q) (appendOf p d old (linesOf p ws d) (encodeAll (keptIn p s es)) ++ freeOf s old′) m
+  clean-append-to s d old old′ low high no-data few ne place some′ =
+      rw (append-is p d old (linesOf p ws d) (keptIn p s es))
+      (clean-to p lo hi n s old′ keys C ws es m rest holds few flushed low high no-data d old (linesOf p ws d) (linesFor (length (encodeAll (keptIn p s es)))) (padding (keptIn p s es))
       ne (place .low) (place .high) refl (place .no-data) some′ (place .fit) (entries-length (keptIn p s es)))

@@ -116,7 +116,7 @@ Spares d Fence = Unit {0}
 pub seal-spares : (d w : ℕ) → Each (Spares d) (sealOf d w)
 seal-spares d w = (inl refl, (tt, (tt, tt)))
 
-spares-avoids : (d c : ℕ) → c < maxChunks → (c ≡ d → ⊥) → (a : Action) → Spares d a → Avoids (directoryWord c) a
+pub spares-avoids : (d c : ℕ) → c < maxChunks → (c ≡ d → ⊥) → (a : Action) → Spares d a → Avoids (directoryWord c) a
 spares-avoids d c l n (Store a v) (inl e) = λ q. n (omega arith)
 spares-avoids d c l n (Store a v) (inr h) = λ q. omega arith
 spares-avoids d c l n (Flush x) s = tt

@@ -14,7 +14,7 @@ use Rattle.spec.specs.Basics.{either, filter}
 use Rattle.spec.specs.Places.{chunkWords, chunkLines, base, directoryWord}
 use Rattle.spec.specs.Medium.{Cell, Action, Medium, run, latest, cellAt}
 use Rattle.spec.specs.Directory.{roleOf, sizeIn, linesOf, sizeOf, freedWord}
-use Rattle.spec.specs.Log.{Entry, encodeAll, placed}
+use Rattle.spec.specs.Log.{Entry, encodeAll, placed, Entries, imageEntries}
 use Rattle.spec.specs.Blocks.{pointed}
 use Rattle.spec.specs.Contents.{Held, chosen, known, contentsBy, meaning, keysOf, isKept, keptIn}
 use Rattle.spec.specs.Opening.{fine}
@@ -30,12 +30,12 @@ use Rattle.theory_log.proofs.Tops.{chosen-top}
 use Rattle.theory_log.proofs.Directory.{size-is}
 use Rattle.theory_log.proofs.Kept.{Parts, parts, kept-is}
 use Rattle.theory_crash.specs.Accepted.{Ok, Needs}
-use Rattle.theory_crash.specs.Rest.{AtRest, Flushed, Rests, Cuts}
+use Rattle.theory_crash.specs.Rest.{AtRest, Flushed, Rests, Cuts, CutsTo}
 use Rattle.theory_crash.specs.Batch.{entryWords, Batch}
 use Rattle.theory_crash.specs.Clean.{Covers}
 use Rattle.theory_crash.proofs.Effects.{copies}
-use Rattle.theory_crash.proofs.Commit.{keys-from, Ended, commit-ends}
-use Rattle.theory_crash.proofs.Free.{lines-this, free-ok, free-through}
+use Rattle.theory_crash.proofs.Commit.{commit-to, keys-from, Ended, commit-ends}
+use Rattle.theory_crash.proofs.Free.{free-to, lines-this, free-ok, free-through}
 use Rattle.theory_crash.proofs.Covers.{covers}
 
 -- Members of a list of three parts.
@@ -59,7 +59,7 @@ wider f as′ bs cs (inl x) = go (mem-cases f as′ cs x)
     go (inr y) = mem-r f as′ (bs ++ cs) (mem-r f bs cs y)
 
 -- copies stand where they were put
-placed-in : (at : ℕ) (es : List Entry) (f : Entry) → Mem f (placed at es) → (at ≤ f .at) × (f .at < at + length (encodeAll es))
+pub placed-in : (at : ℕ) (es : List Entry) (f : Entry) → Mem f (placed at es) → (at ≤ f .at) × (f .at < at + length (encodeAll es))
 placed-in at [] f m = absurd m
 placed-in at (e ∷ es) f (inl q) = let b : f .at ≡ at = ap (λ (y : Entry). y .at) q in (omega arith, rw length-append (omega arith))
 placed-in at (e ∷ es) f (inr m) = let r = placed-in (at + (2 + length (e .value))) es f m in let a = r .0 in let b = r .1 in (omega arith, rw length-append (omega arith))
@@ -120,6 +120,9 @@ module _ (p : ℕ) (lo : 12 ≤ p) (hi : p ≤ 16) (n s old′ keys : ℕ) (C : 
 
     clean-none : kept ≡ [] → Through (Cuts p n keys C C) (Rests p n keys C) (freeOf s old′) m
     clean-none e = free-through p lo hi n s old′ ws es (r .ok) low high no-data xs chunk ys t (none-covers e) keys C m r holds few flushed
+
+    clean-none-to : kept ≡ [] → (Q : List Entry → Type 0) → Q es → Q rest → Through (CutsTo p n Q) (CutsTo p n Q) (freeOf s old′) m
+    clean-none-to e Q a b = free-to p lo hi n s old′ ws es (r .ok) low high no-data xs chunk ys t (none-covers e) Q a b m r
 
     pub clean-left : kept ≡ [] → Left p n s old′ keys ws rest
     clean-left e = record {
@@ -288,6 +291,18 @@ module _ (p : ℕ) (lo : 12 ≤ p) (hi : p ≤ 16) (n s old′ keys : ℕ) (C : 
           let e : Mid (run acts m) = through-end (Cuts p n keys C C) (λ m′. Mid m′ × Flushed p n m′) acts m (commit-ends p lo hi n d old l b z keys C ws es kept (λ mean c. c) m r holds batch few-both settled flushed) .0 in
           rw (e .rests .now) (copied (run acts m) e)
 
+      clean-some-to : (Q : List Entry → Type 0) → Q es → ((ys : List ℕ) (before behind : List Entry) → es ≡ before ++ behind → imageEntries p n ys ≡ Entries (before ++ (placed at′ kept ++ behind)) → Q (before ++ (placed at′ kept ++ behind)))
+          → ((hs : List Entry) → ((f : Entry) → Mem f hs → (f .at < base p s) ⊎ (base p s + chunkWords p ≤ f .at)) → Q hs)
+          → Through (CutsTo p n Q) (CutsTo p n Q) (acts ++ freeOf s old′) m
+      clean-some-to Q a q o =
+          let e : Mid (run acts m) = through-end (Cuts p n keys C C) (λ m′. Mid m′ × Flushed p n m′) acts m (commit-ends p lo hi n d old l b z keys C ws es kept (λ mean c. c) m r holds batch few-both settled flushed) .0 in
+          let u = parts′ (run acts m) e in
+          let here : Q (e .entries) = rw (e .joined) (q (e .image) (e .before) (e .behind) (e .split) (rw (e .joined) at (e .rests .ok .parsed))) in
+          let last = free-to p lo hi n s old′ (e .image) (e .entries) (e .rests .ok) low high (no-data′ (run acts m) e) (u .0) (u .1) (u .2) (u .3) (cov (run acts m) e) Q here (o (u .0 ++ u .2) (u .3 .outside)) (run acts m) (e .rests) in
+          through-append (CutsTo p n Q) (CutsTo p n Q) acts (freeOf s old′) m
+          (through-map (CutsTo p n Q) (CutsTo p n Q) (λ m′. Unit {0}) (Through (CutsTo p n Q) (CutsTo p n Q) (freeOf s old′)) acts m (λ m′ x. x) (λ x. last)
+          (commit-to p lo hi n d old l b z keys C ws es kept (λ mean c. c) m r holds batch few-both settled Q a q))
+
       clean-some : Through (Cuts p n keys C C) (Rests p n keys C) (acts ++ freeOf s old′) m
       clean-some =
           through-append (Cuts p n keys C C) (Rests p n keys C) acts (freeOf s old′) m
@@ -305,3 +320,20 @@ module _ (p : ℕ) (lo : 12 ≤ p) (hi : p ≤ 16) (n s old′ keys : ℕ) (C : 
       let q = parts p lo hi n s ws es low high (r .ok .parsed) in
       let e = kept-is p lo hi n s ws es (q .0) (q .1) (q .2) (q .3) in
       rw e (clean-some (q .0) (q .1) (q .2) (q .3) d old l b z ne d-low d-high lines d-no-data some′ fit (rw e at size))
+
+  -- BY ENTRIES: what a cut in a cleaning finds: before the copies, with them, or without the chunk that is cleaned
+  pub clean-free-to : keptIn p s es ≡ [] → (Q : List Entry → Type 0) → Q es → ((hs : List Entry) → ((f : Entry) → Mem f hs → (f .at < base p s) ⊎ (base p s + chunkWords p ≤ f .at)) → Q hs)
+      → Through (CutsTo p n Q) (CutsTo p n Q) (freeOf s old′) m
+  clean-free-to e Q a o =
+      let q = parts p lo hi n s ws es low high (r .ok .parsed) in
+      clean-none-to (q .0) (q .1) (q .2) (q .3) (sym (kept-is p lo hi n s ws es (q .0) (q .1) (q .2) (q .3)) ∙ e) Q a (o (q .0 ++ q .2) (q .3 .outside))
+
+  pub clean-to : (d old l b z : ℕ) → (s ≡ d → ⊥) → 1 ≤ d → d < n → linesOf p ws d ≡ l → sizeOf p ws d ≡ 0 → 1 ≤ b → l + b ≤ chunkLines p → length (entryWords (keptIn p s es) z) ≡ 8 * b
+      → (Q : List Entry → Type 0) → Q es → ((ys : List ℕ) (before behind : List Entry) → es ≡ before ++ behind → imageEntries p n ys ≡ Entries (before ++ (placed (base p d + 8 * l) (keptIn p s es) ++ behind))
+      → Q (before ++ (placed (base p d + 8 * l) (keptIn p s es) ++ behind)))
+      → ((hs : List Entry) → ((f : Entry) → Mem f hs → (f .at < base p s) ⊎ (base p s + chunkWords p ≤ f .at)) → Q hs)
+      → Through (CutsTo p n Q) (CutsTo p n Q) (commitOf p d old l b (entryWords (keptIn p s es) z) ++ freeOf s old′) m
+  clean-to d old l b z ne d-low d-high lines d-no-data some′ fit size Q a j o =
+      let q = parts p lo hi n s ws es low high (r .ok .parsed) in
+      let e = kept-is p lo hi n s ws es (q .0) (q .1) (q .2) (q .3) in
+      rw e (clean-some-to (q .0) (q .1) (q .2) (q .3) d old l b z ne d-low d-high lines d-no-data some′ fit (rw e at size) Q a (rw e at j) o)

@@ -17,7 +17,7 @@ use Rattle.spec.specs.Opening.{fine}
 use Rattle.spec.specs.Actions.{bodyOf, sealOf, commitOf}
 use Rattle.theory_log.specs.Contents.{Mem, Top}
 use Rattle.theory_base.proofs.Words as W
-use Rattle.theory_base.proofs.Through.{Through, through-kept, through-map, through-append, through-prefix}
+use Rattle.theory_base.proofs.Through.{Through, Each, through-kept, through-map, through-append, through-prefix}
 use Rattle.theory_base.proofs.Places.{lines-words, base-apart, past-directory, line-in}
 use Rattle.theory_log.proofs.Batch.{entries-agree}
 use Rattle.theory_log.proofs.Clean.{mem-placed}
@@ -25,13 +25,13 @@ use Rattle.theory_log.proofs.Contents.{mem-l, mem-r}
 use Rattle.theory_log.proofs.Directory.{lines-is, size-is, lines-most}
 use Rattle.theory_log.proofs.Keys.{known-mem, mem-known, keys-fewer}
 use Rattle.theory_crash.specs.Accepted.{Needs, Ok, Support}
-use Rattle.theory_crash.specs.Rest.{AtRest, Ready, Flushed, Holds, Rests, Cuts}
+use Rattle.theory_crash.specs.Rest.{AtRest, Ready, Flushed, Holds, Rests, Cuts, CutsTo}
 use Rattle.theory_crash.specs.Batch.{entryWords, Batch}
 use Rattle.theory_crash.proofs.Directory.{log-no-size}
 use Rattle.theory_crash.proofs.Blocks.{needs-first, needs-move, needs-only}
 use Rattle.theory_crash.proofs.Frame.{directory-in, chunk-in, lines-in}
-use Rattle.theory_crash.proofs.Rest.{rest-length, rest-long, rest-now, stays-old, stays-new}
-use Rattle.theory_crash.proofs.Switch.{switch}
+use Rattle.theory_crash.proofs.Rest.{rest-length, rest-long, rest-now, rest-to, stays-old, stays-new}
+use Rattle.theory_crash.proofs.Switch.{switch, switch-to}
 use Rattle.theory_crash.proofs.Cells.{each-append, length-writes, length-flushes, Spares, seal-spares, flushed-after}
 use Rattle.theory_crash.proofs.Body.{Busy, InArea, busy-kept, each-body, body-spares, body-hit, body-out, body-now}
 use Rattle.theory_crash.proofs.Publish as P
@@ -74,11 +74,14 @@ module _ (p : ℕ) (lo : 12 ≤ p) (hi : p ≤ 16) (n d old l b z keys : ℕ) (C
   still-size : (vs : List ℕ) → getD vs (directoryWord d) 0 ≡ w → sizeOf p vs d ≡ 0
   still-size vs e = size-is p vs d ∙ ap (λ (x : ℕ). sizeIn (roleOf p x)) e ∙ sym (size-is p ws d) ∙ bt .no-data
 
-  pub body-through : Through (Cuts p n keys C D) (Busy p n es C d w) body m
-  body-through =
-      through-map (Busy p n es C d w) (Cuts p n keys C D) (Busy p n es C d w) (Busy p n es C d w) body m (λ m′ t. stays-old p lo hi n keys C D m′ (t .0, es, t .1, few-old, t .2)) (λ t. t)
+  body-busy : Through (Busy p n es C d w) (Busy p n es C d w) body m
+  body-busy =
       (through-kept (Busy p n es C d w) (Busy p n es C d w) (InArea p d (linesIn (roleOf p w))) (busy-kept p lo hi n es C d w (bt .low) (bt .high) still-size) (λ m′ t. t) body m
       (rw count (each-body p lo hi d l b (entryWords fs z) (bt .size) (bt .fit))) (ws, rest, holds, refl))
+
+  pub body-through : Through (Cuts p n keys C D) (Busy p n es C d w) body m
+  body-through =
+      through-map (Busy p n es C d w) (Cuts p n keys C D) (Busy p n es C d w) (Busy p n es C d w) body m (λ m′ t. stays-old p lo hi n keys C D m′ (t .0, es, t .1, few-old, t .2)) (λ t. t) body-busy
 
   -- the words written are settled then, and so is what the batch needs
   hit : (k j : ℕ) → k ≡ base p d + 8 * l + j → j < 8 * b → cellAt m1 k ≡ fresh (getD (entryWords fs z) j 0)
@@ -274,6 +277,27 @@ module _ (p : ℕ) (lo : 12 ≤ p) (hi : p ≤ 16) (n d old l b z keys : ℕ) (C
           staged = λ e t. P.fine-same p lo hi n d old l b z ws1 es fs E (r1 .ok) bt1 here e (as-before e t .0) .0;
           chunks = same-chunks;
         }
+
+    seal-to : (Q : List Entry → Type 0) → Q es → ((ys : List ℕ) (before behind : List Entry) → es ≡ before ++ behind → imageEntries p n ys ≡ Entries (before ++ (batch ++ behind)) → Q (before ++ (batch ++ behind)))
+        → Through (CutsTo p n Q) (AtRest p n vs gs) (sealOf d (logWord old (l + b))) m1
+    seal-to Q a q =
+        let sh = P.shape p lo hi n d old l b z ws1 es fs E (r1 .ok) bt1 here in
+        switch-to p lo hi n d ws1 es vs gs d-in Q a (q vs (sh .0) (sh .1) (sh .2) (sh .3)) (logWord old (l + b)) m1 r1 ok1 ready refl
+
+  -- BY ENTRIES: a cut finds those before, or these with the batch among them
+  pub commit-to : (Q : List Entry → Type 0) → Q es → ((ys : List ℕ) (before behind : List Entry) → es ≡ before ++ behind → imageEntries p n ys ≡ Entries (before ++ (batch ++ behind)) → Q (before ++ (batch ++ behind))) → Through (CutsTo p n Q) (λ m′. Unit {0}) acts m
+  unfolding commitOf
+  commit-to Q a q =
+      through-append (CutsTo p n Q) (λ m′. Unit {0}) body (sealOf d (logWord old (l + b))) m
+      (through-map (Busy p n es C d w) (CutsTo p n Q) (Busy p n es C d w) (Through (CutsTo p n Q) (λ m′. Unit {0}) (sealOf d (logWord old (l + b)))) body m
+      (λ m′ t. rest-to p lo hi n (t .0) es m′ (t .1) Q a)
+      (λ t. through-map (CutsTo p n Q) (CutsTo p n Q) (AtRest p n (vs (t .0) (t .1) (t .2) (t .3)) (gs (t .0) (t .1) (t .2) (t .3))) (λ m′. Unit {0}) (sealOf d (logWord old (l + b))) m1 (λ m′ x. x) (λ x. tt)
+      (seal-to (t .0) (t .1) (t .2) (t .3) Q a q)) body-busy)
+
+  -- the directory words that it stores
+  pub acts-spares : Each (Spares d) acts
+  unfolding commitOf
+  acts-spares = each-append (Spares d) body (sealOf d (logWord old (l + b))) (body-spares p lo hi d l b (entryWords fs z) (bt .size) (bt .low)) (seal-spares d (logWord old (l + b)))
 
   -- THE COMMIT
   acts-end : Through (Cuts p n keys C D) Ended acts m

@@ -19,6 +19,7 @@ use Rattle.spec.specs.Opening.{directoryTest}
 use Rattle.spec.specs.declared.Role.{Role}
 use Rattle.spec.specs.declared.Role.the-variants as R
 use Rattle.theory_base.proofs.Lists.{both-l, both-r, both-i}
+use Rattle.theory_base.proofs.Sizes as Z
 use Rattle.theory_log.proofs.Directory.{role-log, role-data, role-freed}
 use Rattle.theory_crash.specs.Accepted.{Calm}
 
@@ -75,6 +76,31 @@ by-size p low high h = go (eqb low 0) (eqb high 0) (eqb low 1) (both (leb 1 high
 pub word-size : (p w : ℕ) → 1 ≤ sizeIn (roleOf p w) → isSize p (sizeIn (roleOf p w)) ≡ true
 unfolding roleOf
 word-size p w h = by-size p (w % 256) (w / 256) h
+
+-- a word that says a role, and neither lines nor a size, says free
+by-free : (p low high : ℕ) → isRole (roleBy p low high) ≡ true → sizeIn (roleBy p low high) ≡ 0 → linesIn (roleBy p low high) ≡ 0 → isFree (roleBy p low high) ≡ true
+by-free p low high h = go (eqb low 0) (eqb high 0) (eqb low 1) (both (leb 1 high) (leb high (chunkLines p))) refl (eqb low 2) (isSize p high) refl h
+  where
+    go : (b0 b1 b2 b3 : Bool) → both (leb 1 high) (leb high (chunkLines p)) ≡ b3 → (b4 b5 : Bool) → isSize p high ≡ b5
+        → isRole (pick b0 (pick b1 R.Free R.Wrong) (pick b2 (pick b3 (R.Log high) R.Wrong) (pick b4 (pick b5 (R.Data high) R.Wrong) R.Wrong))) ≡ true
+        → sizeIn (pick b0 (pick b1 R.Free R.Wrong) (pick b2 (pick b3 (R.Log high) R.Wrong) (pick b4 (pick b5 (R.Data high) R.Wrong) R.Wrong))) ≡ 0
+        → linesIn (pick b0 (pick b1 R.Free R.Wrong) (pick b2 (pick b3 (R.Log high) R.Wrong) (pick b4 (pick b5 (R.Data high) R.Wrong) R.Wrong))) ≡ 0
+        → isFree (pick b0 (pick b1 R.Free R.Wrong) (pick b2 (pick b3 (R.Log high) R.Wrong) (pick b4 (pick b5 (R.Data high) R.Wrong) R.Wrong))) ≡ true
+    go true true b2 b3 e b4 b5 f x y z = refl
+    go true false b2 b3 e b4 b5 f x y z = x
+    go false b1 true true e b4 b5 f x y z = absurd (let l = leb-true 1 high (both-l (leb 1 high) (leb high (chunkLines p)) e) in omega arith)
+    go false b1 true false e b4 b5 f x y z = x
+    go false b1 false b3 e true true f x y z = absurd (let l = Z.size-is p high f .0 in omega arith)
+    go false b1 false b3 e true false f x y z = x
+    go false b1 false b3 e false b5 f x y z = x
+
+pub word-free : (p w : ℕ) → isRole (roleOf p w) ≡ true → sizeIn (roleOf p w) ≡ 0 → linesIn (roleOf p w) ≡ 0 → isFree (roleOf p w) ≡ true
+unfolding roleOf
+word-free p w a b c = by-free p (w % 256) (w / 256) a b c
+
+pub right-role : (p n c w : ℕ) → 1 ≤ c → c < n → directoryRight p n c w ≡ true → isRole (roleOf p w) ≡ true
+unfolding directoryRight
+right-role p n c w a b h = rw (le-leb 1 c a, lt-ltb c n b) at h
 
 -- The word of a chunk of the image; only such a chunk is in use.
 pub role-right : (p n c w : ℕ) → 1 ≤ c → c < n → isRole (roleOf p w) ≡ true → directoryRight p n c w ≡ true

@@ -13,7 +13,7 @@ use lib.Seq.{slice-empty, getD-append-add}
 use borrow.Author.Tests.{eq-eqb}
 use Rattle.spec.specs.Basics.{both}
 use Rattle.spec.specs.Places.{base, directoryWord, maxChunks}
-use Rattle.spec.specs.Medium.{Cell, fresh, values, added, marked, drained, Action, Store, Flush, Fence, Medium, apply, run, latest, cellAt, Mem as Among, CanCutTo}
+use Rattle.spec.specs.Medium.{Cell, fresh, values, added, marked, drained, Action, Store, Flush, Fence, step, Medium, apply, run, latest, cellAt, Mem as Among, CanCutTo}
 use Rattle.spec.specs.Header.{wordValues, headerTest, headerRight, headerMap, checkWord, headerTail}
 use Rattle.spec.specs.Directory.{roleOf, linesOf, sizeOf}
 use Rattle.spec.specs.Log.{Entries, allFrom}
@@ -297,6 +297,21 @@ module _ (p : ℕ) (lo : 12 ≤ p) (hi : p ≤ 16) (n : ℕ) (least : 4 ≤ n) (
           through-append B (Rests p n 0 empty) (fillOf words 64) (firstWordOf h) m1
           (through-map B B Zero (Through B (Rests p n 0 empty) (firstWordOf h)) (fillOf words 64) m1 (λ m′ t. t) (λ z′. last (run (fillOf words 64) m1) z′ (cells z)) (fill m1 z))
 
+  -- each directory word is settled then, and 0
+  fresh-cell : (c : ℕ) → c < maxChunks → cellAt (run (firstWordOf 0 ++ (fillOf words 64 ++ firstWordOf h)) m₀) (directoryWord c) ≡ fresh 0
+  fresh-cell c l =
+      let k = directoryWord c in
+      let x = cellAt m₀ k in
+      let y = runCell (firstWordOf 0) k x in
+      let e : k ≡ 1 + (7 + c) = omega arith in
+      let z : runCell (fillOf words 64) k y ≡ fresh 0 = fill-cell k (7 + c) y e (omega arith) ∙ ap fresh (free c) in
+      W.cell-run (firstWordOf 0 ++ (fillOf words 64 ++ firstWordOf h)) m₀ k (in-words m₀ long k (omega arith))
+      ∙ runCell-append (firstWordOf 0) (fillOf words 64 ++ firstWordOf h) k x
+      ∙ runCell-append (fillOf words 64) (firstWordOf h) k y
+      ∙ ap (runCell (firstWordOf h) k) z
+      ∙ ap (λ (q : Cell). drained (step (Flush 0) k q)) (W.step-store-other 0 h k (fresh 0) (omega arith))
+      ∙ ap drained (W.step-flush-fresh 0 k 0)
+
 -- FORMATTING an image of n chunks, whatever the medium holds
 pub format-through : (p : ℕ) → 12 ≤ p → p ≤ 16 → (n : ℕ) → 4 ≤ n → n ≤ maxChunks → (station centre : Given) (m₀ : Medium) → length m₀ ≡ base p n
     → Through (FormatCuts p n m₀) (Rests p n 0 empty) (formatOf n station centre) m₀
@@ -308,3 +323,11 @@ format-through p lo hi n least most station centre m₀ long =
 pub format-count : (n : ℕ) (station centre : Given) → length (formatOf n station centre) ≡ 582
 unfolding formatOf fillOf
 format-count n station centre = simp (length-append, length-writes, blank-length n station centre)
+
+-- what a formatting leaves in the directory
+pub format-fresh : (p : ℕ) → 12 ≤ p → p ≤ 16 → (n : ℕ) → 4 ≤ n → n ≤ maxChunks → (station centre : Given) (m₀ : Medium) → length m₀ ≡ base p n
+    → (c : ℕ) → c < maxChunks → cellAt (run (formatOf n station centre) m₀) (directoryWord c) ≡ fresh 0
+unfolding formatOf blankOf
+format-fresh p lo hi n least most station centre m₀ long =
+    fresh-cell p lo hi n least most m₀ long (headerMap station centre) (blankOf (headerTail n station centre)) (blank-length n station centre)
+    (header-made n station centre (replicate maxChunks 0)) (blank-free n station centre)

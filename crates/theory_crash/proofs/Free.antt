@@ -30,13 +30,13 @@ use Rattle.theory_log.proofs.Tops.{chosen-top, contents-mean, meaning-moved, me
 use Rattle.theory_log.proofs.Directory.{lines-is, size-is}
 use Rattle.theory_log.proofs.Kept.{Parts}
 use Rattle.theory_crash.specs.Accepted.{Calm, Ok, Support}
-use Rattle.theory_crash.specs.Rest.{AtRest, Ready, Flushed, Rests, Cuts}
+use Rattle.theory_crash.specs.Rest.{AtRest, Ready, Flushed, Rests, Cuts, CutsTo}
 use Rattle.theory_crash.specs.Clean.{Covers}
 use Rattle.theory_crash.proofs.Directory.{freed-word, header-agree}
 use Rattle.theory_crash.proofs.Blocks.{needs-first, needs-move, fits-in, needs-only}
 use Rattle.theory_crash.proofs.Frame.{live-fits, directory-in}
-use Rattle.theory_crash.proofs.Rest.{rest-length, rest-long, word-in-medium, rest-quiet, rest-store, store-contents, stays-old}
-use Rattle.theory_crash.proofs.Switch.{switch}
+use Rattle.theory_crash.proofs.Rest.{rest-length, rest-long, word-in-medium, rest-quiet, rest-store, rest-to, store-contents, stays-old}
+use Rattle.theory_crash.proofs.Switch.{switch, switch-to}
 use Rattle.theory_crash.proofs.Cells.{seal-spares, flushed-after}
 use Rattle.theory_crash.proofs.Publish.{slice-set, not-mine}
 use Rattle.theory_crash.proofs.Commit.{keys-from}
@@ -162,25 +162,31 @@ module _ (p : ℕ) (lo : 12 ≤ p) (hi : p ≤ 16) (n d old : ℕ) (ws : List �
         let w = other-word (unitWord (e .field)) (not-mine p lo hi n d ws es ok low high no-data e (ok .blocks e t′) (unitWord (e .field)) (needs-first p ws e (need .0)) .0) in
         inr (inr (inr (e, t′, needs-move p ws freed e k w need)))
 
+    ready : (m : Medium) → AtRest p n ws es m → Ready p n d freed gs m
+    ready m r = record {
+      long = rest-length p lo hi n ws es m r ∙ sym (length-set ws (directoryWord d) (freedWord old));
+      settled = λ k s q. r .settled k (support-was k q s) ∙ ap fresh (sym (other-word k q));
+      calm = λ c l q z x t. r .calm c l (sym (lines-other c q) ∙ z) x t;
+    }
+
+    -- by entries: a cut finds those before, or those of the other chunks
+    pub free-to : (Q : List Entry → Type 0) → Q es → Q gs → (m : Medium) → AtRest p n ws es m → Through (CutsTo p n Q) (CutsTo p n Q) (freeOf d old) m
+    free-to Q a b m r =
+        through-map (CutsTo p n Q) (CutsTo p n Q) (AtRest p n freed gs) (CutsTo p n Q) (freeOf d old) m (λ m′ t. t) (λ t. rest-to p lo hi n freed gs (run (freeOf d old) m) t Q b)
+        (switch-to p lo hi n d ws es freed gs d-in Q a b (freedWord old) m r free-ok (ready m r) refl)
+
     -- FREEING A LOG CHUNK
     pub free-through : (keys : ℕ) (C : ℕ → Held) (m : Medium) → AtRest p n ws es m → ((k : ℕ) → contentsBy (meaning ws) es k ≡ C k) → length (keysOf es) ≤ keys → Flushed p n m
         → Through (Cuts p n keys C C) (Rests p n keys C) (freeOf d old) m
     free-through keys C m r h few fl =
         through-map (Cuts p n keys C C) (Cuts p n keys C C) (AtRest p n freed gs) (Rests p n keys C) (freeOf d old) m (λ m′ t. t) end
-        (switch p lo hi n d ws es freed gs d-in keys C C few few′ h now (freedWord old) m r free-ok ready refl)
+        (switch p lo hi n d ws es freed gs d-in keys C C few few′ h now (freedWord old) m r free-ok (ready m r) refl)
       where
         few′ : length (keysOf gs) ≤ keys
         few′ = let q = keys-from gs es (λ e t. (e, was e t, refl)) in omega arith
 
         now : (k : ℕ) → contentsBy (meaning freed) gs k ≡ C k
         now k = free-contents k ∙ h k
-
-        ready : Ready p n d freed gs m
-        ready = record {
-          long = rest-length p lo hi n ws es m r ∙ sym (length-set ws (directoryWord d) (freedWord old));
-          settled = λ k s q. r .settled k (support-was k q s) ∙ ap fresh (sym (other-word k q));
-          calm = λ c l q z x t. r .calm c l (sym (lines-other c q) ∙ z) x t;
-        }
 
         end : AtRest p n freed gs (run (freeOf d old) m) → Rests p n keys C (run (freeOf d old) m)
         end r′ = ((freed, gs, r′, few′, now), freed-flushed m r fl (r′ .now))
@@ -213,6 +219,12 @@ module _ (p : ℕ) (lo : 12 ≤ p) (hi : p ≤ 16) (n d old : ℕ) (ws : List �
 
     pub data-rest : AtRest p n freed es (apply (Store (directoryWord d) (freedWord old)) m)
     data-rest = rest-store p lo hi n ws es m r (directoryWord d) (freedWord old) in-m out says
+
+    pub free-data-to : (Q : List Entry → Type 0) → Q es → Through (CutsTo p n Q) (CutsTo p n Q) (freeOf d old) m
+    free-data-to Q a =
+        let r2 = rest-quiet p lo hi n freed es m1 data-rest (Flush (lineOf (directoryWord d))) tt in
+        let r3 = rest-quiet p lo hi n freed es m2 r2 Fence tt in
+        (rest-to p lo hi n ws es m r Q a, (rest-to p lo hi n freed es m1 data-rest Q a, (rest-to p lo hi n freed es m2 r2 Q a, rest-to p lo hi n freed es (apply Fence m2) r3 Q a)))
 
     pub free-data : (keys : ℕ) (C : ℕ → Held) → ((k : ℕ) → contentsBy (meaning ws) es k ≡ C k) → length (keysOf es) ≤ keys → Flushed p n m → Through (Cuts p n keys C C) (Rests p n keys C) (freeOf d old) m
     free-data keys C h few fl = (

@@ -17,3 +17,4 @@ pub mod Covers
 pub mod Clean
 pub mod Append
 pub mod Crash
+pub mod Room

@@ -20,7 +20,7 @@ use Rattle.theory_base.proofs.Words as W
 use Rattle.theory_base.proofs.Through.{Quiet, quiet-step, quiet-fresh}
 use Rattle.theory_log.proofs.Directory.{lines-is}
 use Rattle.theory_crash.specs.Accepted.{Calm, Ok, Support, Framed}
-use Rattle.theory_crash.specs.Rest.{AtRest, Holds, Stays, Cuts}
+use Rattle.theory_crash.specs.Rest.{AtRest, Holds, Stays, Cuts, CutsTo}
 use Rattle.theory_crash.proofs.Frame.{directory-in, support-in, lines-same, frame-ok, frame-contents, frame-support}
 
 -- a cut, from its words
@@ -88,6 +88,9 @@ module _ (p : ℕ) (lo : 12 ≤ p) (hi : p ≤ 16) where
     -- EVERY CUT of a medium at rest is accepted, with the same entries and contents
     pub rest-cut : (xs : List ℕ) → CanCutTo m xs → Ok p n xs es × ((k : ℕ) → contentsBy (meaning xs) es k ≡ contentsBy (meaning ws) es k)
     rest-cut xs t = (frame-ok p lo hi n ws es xs (r .ok) (rest-framed xs t), frame-contents p lo hi n ws es xs (r .ok) (rest-framed xs t))
+
+    pub rest-to : (Q : List Entry → Type 0) → Q es → CutsTo p n Q m
+    rest-to Q q xs t = (es, (rest-cut xs t .0, q))
 
     -- FLUSHES AND FENCES keep it.
     pub rest-quiet : (a : Action) → Quiet a → AtRest p n ws es (apply a m)

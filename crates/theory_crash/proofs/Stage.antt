@@ -25,12 +25,12 @@ use Rattle.theory_base.proofs.Places.{units-words, past-directory, one-chunk, l
 use Rattle.theory_base.proofs.Sizes as Z
 use Rattle.theory_log.proofs.Directory.{lines-is, size-is, lines-most}
 use Rattle.theory_crash.specs.Accepted.{Calm, Ok, Support}
-use Rattle.theory_crash.specs.Rest.{AtRest, Flushed, Cuts}
+use Rattle.theory_crash.specs.Rest.{AtRest, Flushed, Cuts, CutsTo}
 use Rattle.theory_crash.specs.Stage.{Slot, Stored}
 use Rattle.theory_crash.proofs.Directory.{data-no-lines, free-says, data-word}
 use Rattle.theory_crash.proofs.Blocks.{Fits, fits-in}
 use Rattle.theory_crash.proofs.Frame.{live-fits, chunk-in}
-use Rattle.theory_crash.proofs.Rest.{rest-length, rest-long, rest-now, word-in-medium, rest-quiet, rest-store, store-contents, stays-old}
+use Rattle.theory_crash.proofs.Rest.{rest-length, rest-long, rest-now, word-in-medium, rest-quiet, rest-store, store-contents, stays-old, rest-to}
 use Rattle.theory_crash.proofs.Cells.{each-append, each-writes, each-flushes, length-writes, length-flushes, writes-out, writes-hit, flushes-now, flushes-keep, flushes-hit, avoids-run, Spares, flushed-after}
 use Rattle.theory_crash.proofs.Body.{Busy}
 
@@ -251,6 +251,22 @@ module _ (p : ℕ) (lo : 12 ≤ p) (hi : p ≤ 16) where
           flushed′ : Flushed p n m′
           flushed′ = flushed-after p lo hi n (unitChunk p u) (blockOf u words) m (r .ok .least) (r .ok .most) (rest-long p lo hi n ws es m r) (block-spares (unitChunk p u) u words far) fl (λ x. word-flushed)
 
+  -- by entries: they stay
+  pub stage-to : (n : ℕ) (es : List Entry) (ws : List ℕ) (m : Medium) (u s : ℕ) (words : List ℕ) → AtRest p n ws es m → Slot p n ws es u s → length words ≤ 32 * s
+      → (Q : List Entry → Type 0) → Q es → Through (CutsTo p n Q) (CutsTo p n Q) (blockOf u words) m
+  stage-to n es ws m u s words r sl fit Q a =
+      through-map B (CutsTo p n Q) B (CutsTo p n Q) (blockOf u words) m (λ m″ t. rest-to p lo hi n (t .0) es m″ (t .1) Q a) (λ t. rest-to p lo hi n (t .0) es (run (blockOf u words) m) (t .1) Q a)
+      (through-kept B B (InBlock u s) (block-kept n es C u s w (λ vs e. slot-moves p n ws vs es u s e sl)) (λ m″ t. t) (blockOf u words) m (in-block u s words fit) (ws, r, (λ k. refl), refl))
+    where
+      w : ℕ
+      w = getD ws (directoryWord (unitChunk p u)) 0
+
+      C : ℕ → Held
+      C = contentsBy (meaning ws) es
+
+      B : Medium → Type 0
+      B = Busy p n es C (unitChunk p u) w
+
   -- A free chunk becomes a data chunk.
   module _ (n keys : ℕ) (es : List Entry) (C : ℕ → Held) (ws : List ℕ) (m : Medium) (c old s : ℕ) (r : AtRest p n ws es m) (h : (k : ℕ) → contentsBy (meaning ws) es k ≡ C k)
       (few : length (keysOf es) ≤ keys) (fl : Flushed p n m) (low : 1 ≤ c) (high : c < n) (free : isFree (roleAt p ws c) ≡ true) (size : isSize p s ≡ true) where
@@ -341,6 +357,11 @@ module _ (p : ℕ) (lo : 12 ≤ p) (hi : p ≤ 16) where
           aligned = rw (q .1) (zero-mod s);
           dead = λ e t pt k. no-block e t pt (ap (unitChunk p) k ∙ q .0);
         }
+
+    pub take-stage-to : (words : List ℕ) → length words ≤ 32 * s → (Q : List Entry → Type 0) → Q es → Through (CutsTo p n Q) (CutsTo p n Q) (takeOf c old s ++ blockOf u words) m
+    take-stage-to words fit Q a =
+        let r2 = rest-quiet p lo hi n taken es m1 r1 (Flush (lineOf (directoryWord c))) tt in
+        (rest-to p lo hi n ws es m r Q a, (rest-to p lo hi n taken es m1 r1 Q a, stage-to n es taken m2 u s words r2 first-slot fit Q a))
 
     -- STAGING A LARGE VALUE into the first block of a free chunk
     pub take-stage-through : (words : List ℕ) → length words ≤ 32 * s

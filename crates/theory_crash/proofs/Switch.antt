@@ -18,9 +18,9 @@ use Rattle.theory_base.proofs.Words as W
 use Rattle.theory_base.proofs.Through.{Through, Quiet, quiet-step, quiet-fresh}
 use Rattle.theory_log.proofs.Directory.{lines-is}
 use Rattle.theory_crash.specs.Accepted.{Calm, Ok, Support, Framed}
-use Rattle.theory_crash.specs.Rest.{AtRest, Ready, Allowed, Switching, Holds, Cuts}
+use Rattle.theory_crash.specs.Rest.{AtRest, Ready, Allowed, Switching, Holds, Cuts, CutsTo}
 use Rattle.theory_crash.proofs.Frame.{directory-in, support-in, frame-ok, frame-contents}
-use Rattle.theory_crash.proofs.Rest.{latest-quiet, only, rest-length, stays-old}
+use Rattle.theory_crash.proofs.Rest.{latest-quiet, only, rest-length, rest-to, stays-old}
 
 module _ (p : ℕ) (lo : 12 ≤ p) (hi : p ≤ 16) (n d : ℕ) where
   -- One image that is settled but for the word of chunk d.
@@ -126,6 +126,59 @@ module _ (p : ℕ) (lo : 12 ≤ p) (hi : p ≤ 16) (n d : ℕ) where
     pub switching-rests : (m : Medium) → Switching p n d ws es vs gs m → latest m ≡ vs → cellAt m (directoryWord d) ≡ fresh (getD vs (directoryWord d) 0) → AtRest p n vs gs m
     switching-rests m s now e = ready-rest vs gs (s .new-ok) m d-in (s .new-ready) now e
 
+    -- THE SWITCH, for whatever holds of the image before and while it is under way
+    pub switch-by : (B : Medium → Type 0) → ((m : Medium) → AtRest p n ws es m → B m) → ((m : Medium) → Switching p n d ws es vs gs m → B m)
+        → (w : ℕ) (m : Medium) → AtRest p n ws es m → Ok p n vs gs → Ready p n d vs gs m → vs ≡ set ws (directoryWord d) w → Through B (AtRest p n vs gs) (sealOf d w) m
+    switch-by B rests switches w m rest ok ready e = (rests m rest, (switches m1 s1, (switches m2 s2, switching-rests m3 s3 now cell)))
+      where
+        fl : Action
+        fl = Flush (lineOf (directoryWord d))
+
+        m1 : Medium
+        m1 = apply (Store (directoryWord d) w) m
+
+        m2 : Medium
+        m2 = apply fl m1
+
+        m3 : Medium
+        m3 = apply Fence m2
+
+        in-m : directoryWord d < length m
+        in-m = word-in vs gs ok m ready d d-in
+
+        word : getD vs (directoryWord d) 0 ≡ w
+        word = rw e (getD-set-same ws (directoryWord d) w 0 (directory-in p lo hi n ws es (rest .ok) d d-in))
+
+        s1 : Switching p n d ws es vs gs m1
+        s1 = rest-switches m w rest ok ready word
+
+        s2 : Switching p n d ws es vs gs m2
+        s2 = switching-quiet m1 fl tt s1
+
+        s3 : Switching p n d ws es vs gs m3
+        s3 = switching-quiet m2 Fence tt s2
+
+        now : latest m3 ≡ vs
+        now = latest-quiet Fence m2 tt ∙ latest-quiet fl m1 tt ∙ W.latest-store (directoryWord d) w m ∙ ap (λ (l : List ℕ). set l (directoryWord d) w) (rest .now) ∙ sym e
+
+        cell1 : cellAt m1 (directoryWord d) ≡ added w (cellAt m (directoryWord d))
+        cell1 = W.cell-apply (Store (directoryWord d) w) m (directoryWord d) in-m ∙ W.step-store-same (directoryWord d) w (directoryWord d) (cellAt m (directoryWord d)) refl
+
+        cell : cellAt m3 (directoryWord d) ≡ fresh (getD vs (directoryWord d) 0)
+        cell =
+            W.cell-apply Fence m2 (directoryWord d) (rw (W.length-apply, W.length-apply) in-m)
+            ∙ ap drained (W.cell-apply fl m1 (directoryWord d) (rw W.length-apply in-m) ∙ W.step-flush-hit (lineOf (directoryWord d)) (directoryWord d) (cellAt m1 (directoryWord d)) refl ∙ ap marked cell1)
+            ∙ ap fresh (sym word)
+
+    -- by entries alone: a cut finds the old ones or the new ones
+    pub switch-to : (Q : List Entry → Type 0) → Q es → Q gs → (w : ℕ) (m : Medium) → AtRest p n ws es m → Ok p n vs gs → Ready p n d vs gs m → vs ≡ set ws (directoryWord d) w
+        → Through (CutsTo p n Q) (AtRest p n vs gs) (sealOf d w) m
+    switch-to Q a b = switch-by (CutsTo p n Q) (λ m r. rest-to p lo hi n ws es m r Q a) (λ m s xs t. go m s xs (switching-cut m s xs t))
+      where
+        go : (m : Medium) → Switching p n d ws es vs gs m → (xs : List ℕ) → Framed p n ws es xs ⊎ Framed p n vs gs xs → (fs : List Entry) × (Ok p n xs fs × Q fs)
+        go m s xs (inl f) = (es, (frame-ok p lo hi n ws es xs (s .old-ok) f, a))
+        go m s xs (inr f) = (gs, (frame-ok p lo hi n vs gs xs (s .new-ok) f, b))
+
     module _ (keys : ℕ) (C D : ℕ → Held) (few : length (keysOf es) ≤ keys) (few′ : length (keysOf gs) ≤ keys)
         (old : (k : ℕ) → contentsBy (meaning ws) es k ≡ C k) (new : (k : ℕ) → contentsBy (meaning vs) gs k ≡ D k) where
       pub switching-cuts : (m : Medium) → Switching p n d ws es vs gs m → Cuts p n keys C D m
@@ -137,43 +190,4 @@ module _ (p : ℕ) (lo : 12 ≤ p) (hi : p ≤ 16) (n d : ℕ) where
 
       -- THE SWITCH, whole
       pub switch : (w : ℕ) (m : Medium) → AtRest p n ws es m → Ok p n vs gs → Ready p n d vs gs m → vs ≡ set ws (directoryWord d) w → Through (Cuts p n keys C D) (AtRest p n vs gs) (sealOf d w) m
-      switch w m rest ok ready e = (stays-old p lo hi n keys C D m (ws, es, rest, few, old), (switching-cuts m1 s1, (switching-cuts m2 s2, switching-rests m3 s3 now cell)))
-        where
-          fl : Action
-          fl = Flush (lineOf (directoryWord d))
-
-          m1 : Medium
-          m1 = apply (Store (directoryWord d) w) m
-
-          m2 : Medium
-          m2 = apply fl m1
-
-          m3 : Medium
-          m3 = apply Fence m2
-
-          in-m : directoryWord d < length m
-          in-m = word-in vs gs ok m ready d d-in
-
-          word : getD vs (directoryWord d) 0 ≡ w
-          word = rw e (getD-set-same ws (directoryWord d) w 0 (directory-in p lo hi n ws es (rest .ok) d d-in))
-
-          s1 : Switching p n d ws es vs gs m1
-          s1 = rest-switches m w rest ok ready word
-
-          s2 : Switching p n d ws es vs gs m2
-          s2 = switching-quiet m1 fl tt s1
-
-          s3 : Switching p n d ws es vs gs m3
-          s3 = switching-quiet m2 Fence tt s2
-
-          now : latest m3 ≡ vs
-          now = latest-quiet Fence m2 tt ∙ latest-quiet fl m1 tt ∙ W.latest-store (directoryWord d) w m ∙ ap (λ (l : List ℕ). set l (directoryWord d) w) (rest .now) ∙ sym e
-
-          cell1 : cellAt m1 (directoryWord d) ≡ added w (cellAt m (directoryWord d))
-          cell1 = W.cell-apply (Store (directoryWord d) w) m (directoryWord d) in-m ∙ W.step-store-same (directoryWord d) w (directoryWord d) (cellAt m (directoryWord d)) refl
-
-          cell : cellAt m3 (directoryWord d) ≡ fresh (getD vs (directoryWord d) 0)
-          cell =
-              W.cell-apply Fence m2 (directoryWord d) (rw (W.length-apply, W.length-apply) in-m)
-              ∙ ap drained (W.cell-apply fl m1 (directoryWord d) (rw W.length-apply in-m) ∙ W.step-flush-hit (lineOf (directoryWord d)) (directoryWord d) (cellAt m1 (directoryWord d)) refl ∙ ap marked cell1)
-              ∙ ap fresh (sym word)
+      switch = switch-by (Cuts p n keys C D) (λ m r. stays-old p lo hi n keys C D m (ws, es, r, few, old)) switching-cuts

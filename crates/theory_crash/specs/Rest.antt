@@ -61,6 +61,10 @@ Rests p n keys C m = Stays p n keys C m × Flushed p n m
 abbrev pub Cuts : ℕ → ℕ → ℕ → (ℕ → Held) → (ℕ → Held) → Medium → Type 0
 Cuts p n keys C D m = (xs : List ℕ) → CanCutTo m xs → Holds p n keys C xs ⊎ Holds p n keys D xs
 
+-- every cut leaves an accepted image whose entries are such
+abbrev pub CutsTo : ℕ → ℕ → (List Entry → Type 0) → Medium → Type 0
+CutsTo p n Q m = (xs : List ℕ) → CanCutTo m xs → (fs : List Entry) × (Ok p n xs fs × Q fs)
+
 -- Formatting, begun on the medium m₀: a cut leaves what a cut of m₀ might have left, or an image that opening refuses
 -- with 2, or an empty register.
 abbrev pub empty : ℕ → Held

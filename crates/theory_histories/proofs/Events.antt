@@ -50,7 +50,7 @@ module _ (p limit : ℕ) (laws : Laws p limit) {S : Type 0} (Proper : S → Type
 
   module _ (k : Call) (w : World S) (b : Book) (s s′ : S) (image′ table table′ : List ℕ) (r : Report) (i : Inv p Proper stateOf Fits bytes w b) (same : SameLent (w .lent) s table)
       (c : Called Proper stateOf Fits p limit k s s′ (w .image) image′ table table′ r) where
-    lent : HeldAt p Proper stateOf Fits bytes (some (record { session = s; table = table })) w b
+    pub lent : HeldAt p Proper stateOf Fits bytes (some (record { session = s; table = table })) w b
     lent = same-lent w b (w .lent) s table same (i .held)
 
     follows : (wordsOf image′ ≡ latest (mediumAfter r (w .medium))) × (length image′ ≡ length (w .image))
@@ -59,7 +59,7 @@ module _ (p limit : ℕ) (laws : Laws p limit) {S : Type 0} (Proper : S → Type
     pub answered : Ready Proper stateOf Fits p limit k s (wordsOf (w .image)) table → r ≡ answer p limit k (stateOf s) (latest (w .medium)) bytes (w .least)
     answered y = rw (← (i .agrees), ← (i .sized), ← (lent .1)) (c .exact y .answered)
 
-    became : Ready Proper stateOf Fits p limit k s (wordsOf (w .image)) table → stateOf s′ ≡ next p limit k (stateOf s) (latest (w .medium)) bytes (w .least)
+    pub became : Ready Proper stateOf Fits p limit k s (wordsOf (w .image)) table → stateOf s′ ≡ next p limit k (stateOf s) (latest (w .medium)) bytes (w .least)
     became y = rw (← (i .agrees), ← (i .sized), ← (lent .1)) (c .exact y .became)
 
     pub usual-kept : Usual k → Inv p Proper stateOf Fits bytes (afterCall k w s′ image′ table′ r) (note k r b)

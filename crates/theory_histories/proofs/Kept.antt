@@ -80,7 +80,7 @@ part-direct ws (some e) =
     (pick-direct (pointed e) (R.Part (8 * (unitWord (e .field) + 1)) (getD ws (unitWord (e .field)) 0)) (R.Part (8 * (e .at + 2)) (e .field)) (λ u m. (refl, refl)) (λ u m. (refl, refl)))
     (λ u m. (refl, refl))
 
-look-direct : (ws : List ℕ) (es : List Entry) (k : ℕ) → Direct (lookUp ws es k)
+pub look-direct : (ws : List ℕ) (es : List Entry) (k : ℕ) → Direct (lookUp ws es k)
 unfolding lookUp
 look-direct ws es k = part-direct ws (chosen k es)
 
@@ -91,7 +91,7 @@ gated-direct (some n) r d = λ u m. (refl, refl)
 pub look-reads : (p limit k : ℕ) (σ : State) (ws : List ℕ) (bytes table : ℕ) → Direct (answer p limit (LookUp k) σ ws bytes table)
 look-reads p limit k σ ws bytes table = gated-direct (gate σ bytes table) (lookUp ws (entriesIn p (chunksIn p bytes) ws) k) (look-direct ws (entriesIn p (chunksIn p bytes) ws) k)
 
-chosen-direct : (c : Option ℕ) → Direct (chosenOr c)
+pub chosen-direct : (c : Option ℕ) → Direct (chosenOr c)
 chosen-direct none = λ u m. (refl, refl)
 chosen-direct (some c) = λ u m. (refl, refl)
 

@@ -9,3 +9,5 @@ pub mod Interrupted
 pub mod Twins
 pub mod Ends
 pub mod Fixed
+pub mod RoomKept
+pub mod NeverStuck

@@ -80,7 +80,7 @@ module _ (p limit : ℕ) (laws : Laws p limit) {S : Type 0} (Proper : S → Type
   closed-walk (r ∷ rs) n m m′ s s′ image image′ table table′ e (s₁, (image₁, (table₁, (c, rest)))) =
       closed-walk rs n (mediumAfter r m) m′ s₁ s′ image₁ image′ table₁ table′ (idle-step s s₁ image image₁ table table₁ r e c .1) rest
 
-  format-walk : (B A : Medium → Type 0) (l t : ℕ) (o : Bool) (acts : List Action) (rs : List Report) (n : ℕ) (m m′ : Medium) (s s′ : S) (image image′ table table′ : List ℕ)
+  pub format-walk : (B A : Medium → Type 0) (l t : ℕ) (o : Bool) (acts : List Action) (rs : List Report) (n : ℕ) (m m′ : Medium) (s s′ : S) (image image′ table table′ : List ℕ)
       → stateOf s ≡ Formatting o l t acts → l ≡ length image → t ≡ length table → wordsOf image ≡ latest m → Through B A acts m
       → Stepped Proper stateOf Fits p limit (rs ++ (R.End n ∷ [])) m s image table m′ s′ image′ table′ → A m′ × (wordsOf image′ ≡ latest m′) × (length image′ ≡ l)
   format-walk B A l t o [] [] n m m′ s s′ image image′ table table′ e x y g h (s₁, (image₁, (table₁, (c, rest)))) =

@@ -12,3 +12,4 @@ pub mod Agree
 pub mod Tops
 pub mod Keys
 pub mod Kept
+pub mod Roomy

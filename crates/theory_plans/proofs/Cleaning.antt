@@ -104,7 +104,7 @@ module _ (p : ℕ) (lo : 12 ≤ p) (hi : p ≤ 16) (n table : ℕ) (C : ℕ → 
   few = s .keys
 
   -- what is kept fits into a free chunk
-  kept-fits : linesFor (length (encodeAll kept)) ≤ chunkLines p
+  pub kept-fits : linesFor (length (encodeAll kept)) ≤ chunkLines p
   kept-fits =
       let q = parts p lo hi n c ws es low high (s .rest .ok .parsed) in
       let e = kept-is p lo hi n c ws es (q .0) (q .1) (q .2) (q .3) in
@@ -167,7 +167,7 @@ pub need-begin : (b : Bool) (r : Refusal) (q : Plan) (items : List Entry) (task 
 need-begin true r q items task acts h = (refl, h)
 need-begin false r q items task acts h = absurd (let z : _≡_ {A = ℕ} 0 1 = cc in omega arith)
 
-in-use : (p n : ℕ) (ws : List ℕ) (c : ℕ) → inUse p n ws c ≡ true → (1 ≤ c) × (c < n) × (isFree (roleAt p ws c) ≡ false)
+pub in-use : (p n : ℕ) (ws : List ℕ) (c : ℕ) → inUse p n ws c ≡ true → (1 ≤ c) × (c < n) × (isFree (roleAt p ws c) ≡ false)
 in-use p n ws c h =
     let r = both-r (leb 1 c) (both (ltb c n) (negate (isFree (roleAt p ws c)))) h in (
       leb-true 1 c (both-l (leb 1 c) (both (ltb c n) (negate (isFree (roleAt p ws c)))) h),

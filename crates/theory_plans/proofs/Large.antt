@@ -49,7 +49,7 @@ block-words v bytes s large room =
         let q : (length v + 7) / 8 ≡ suc (length v / 8) = omega (arith, ne) in
         rw q (lt-ltb (getD (packed v) (length v / 8) 0) (256 ^ (length v % 8)) (packed-filled v bytes ne))
 
-words-fit : (s : ℕ) (words : List ℕ) → BlockWords s words → length words ≤ 32 * s
+pub words-fit : (s : ℕ) (words : List ℕ) → BlockWords s words → length words ≤ 32 * s
 words-fit s words bw = let a = bw .room in let b = bw .count in omega arith
 
 map-same : (f g : Entry → Item) (es : List Entry) → ((e : Entry) → Mem e es → f e ≡ g e) → map f es ≡ map g es

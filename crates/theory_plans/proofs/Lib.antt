@@ -9,3 +9,7 @@ pub mod Item
 pub mod Large
 pub mod Staging
 pub mod Hold
+pub mod Room
+pub mod RoomClean
+pub mod Unstuck
+pub mod RoomStarts

@@ -61,7 +61,7 @@ live-mem : (es : List Entry) (e : Entry) → Top es e → pointed e ≡ true →
 live-mem es e t h = pointer-mem e (filter (isTop es) es) (filter-mem (isTop es) e es (t .0) (top-is es e t)) h
 
 -- the block found, if any
-abbrev spare : ℕ → ℕ → List ℕ → List Entry → List Entry → ℕ → Option ℕ
+abbrev pub spare : ℕ → ℕ → List ℕ → List Entry → List Entry → ℕ → Option ℕ
 spare p n ws es items s = first (filter (λ u. negate (isIn u (liveBlocks es ++ pointers items))) (blocksFrom p ws s (upFrom 1 (n - 1))))
 
 -- A FREE CHUNK, where no block was found
