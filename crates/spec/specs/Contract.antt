@@ -7,12 +7,12 @@ use mathlib.Core.Option.{Option, none, some}
 use mathlib.Core.List.{List, [], _∷_, _++_, map}
 use Prim.Native.Nat.{ℕ, suc, _+_, _*_, _/_, _≤_, _<_}
 use lib.ListN.{length, drop, replicate, set}
-use Rattle.spec.specs.Words.{wordsOf}
+use Rattle.spec.specs.Words.{AreBytes, wordsOf}
 use Rattle.spec.specs.Places.{chunksIn}
 use Rattle.spec.specs.Medium.{Action, Store, Flush, Fence}
 use Rattle.spec.specs.Log.{Entry}
 use Rattle.spec.specs.Reports.{actionOf, partIn, asReport, isRefused}
-use Rattle.spec.specs.Plans.{Staging, Committing, Cleaning, Task}
+use Rattle.spec.specs.Plans.{Staging, Committing, Cleaning}
 use Rattle.spec.specs.Machine.{Kind, ToFormat, ToOpen, ToWork, ToStep, kindOf, Call, Format, Open, Put, Delete, Commit, Abandon, LookUp, Choose, Clean, Step, State, Closed, Rest, Busy, Formatting, itemsOf, countOf, answer, next, barred, refusals, stepsLeft}
 use Rattle.spec.specs.declared.Refusal.{Refusal}
 use Rattle.spec.specs.declared.Report.{Report}
@@ -35,6 +35,16 @@ ChangedBy (some Fence) bytes bytes′ = bytes′ ≡ bytes
 
 abbrev pub Changed : Report → List ℕ → List ℕ → Type 0
 Changed r bytes bytes′ = ChangedBy (actionOf r) bytes bytes′
+
+-- an action at a place past the image: a word or a line that it does not have
+abbrev pub PastBy : Option Action → List ℕ → Type 0
+PastBy none bytes = ⊥
+PastBy (some (Store w v)) bytes = length bytes ≤ 8 * w + 7
+PastBy (some (Flush l)) bytes = length bytes ≤ 64 * l
+PastBy (some Fence) bytes = ⊥
+
+abbrev pub Past : Report → List ℕ → Type 0
+Past r bytes = PastBy (actionOf r) bytes
 
 -- the bytes that a look-up hands out
 abbrev pub orEmpty : Option (List ℕ) → List ℕ
@@ -83,6 +93,19 @@ Anyway p limit (LookUp k) σ σ′ ws bytes table r = Refuses r ⊎ ((a : ℕ) �
 Anyway p limit Choose σ σ′ ws bytes table r = Refuses r ⊎ ((c : ℕ) × ((r ≡ R.Chosen c) × ((1 ≤ c) × (c < chunksIn p bytes))))
 Anyway p limit (Clean c) σ σ′ ws bytes table r = Refuses r ⊎ Begins (CleansIn bytes table) σ′ r
 Anyway p limit Step σ σ′ ws bytes table r = (r ≡ answer p limit Step σ ws bytes table) × (σ′ ≡ next p limit Step σ ws bytes table)
+
+-- the count at a call's end: 0 but for a cleaning. The calls that answer directly are never begun.
+abbrev pub CountAt : Call → ℕ → Type 0
+CountAt (Format x y) n = n ≡ 0
+CountAt Open n = ⊥
+CountAt (Put k v) n = n ≡ 0
+CountAt (Delete k) n = n ≡ 0
+CountAt Commit n = n ≡ 0
+CountAt Abandon n = ⊥
+CountAt (LookUp k) n = ⊥
+CountAt Choose n = ⊥
+CountAt (Clean c) n = Unit {0}
+CountAt Step n = ⊥
 
 -- An implementation has records of a type S. It tells which of them are proper values of that type, reads one as a
 -- state, and keeps record and table fitting the image's words: "memory as our calls left it". An opening and a
@@ -160,7 +183,15 @@ module _ {S : Type 0} (Proper : S → Type 0) (stateOf : S → State) (Fits : S 
       (s′ : S) × ((bytes : List ℕ) × ((bytes′ : List ℕ) × ((table : List ℕ) × ((table′ : List ℕ)
       × ((length bytes ≡ b) × ((length table ≡ t) × (Called Step s s′ bytes bytes′ table table′ r × SteppedOn b t s′ rs)))))))
 
-  -- the next a + 1 steps report the a actions that were to come, in order, and then the end with the call's count
+  -- From a call that was begun with a actions, whichever it is and whatever it was lent: actions and a count are fixed
+  -- there, and the next a + 1 steps report those a actions, in order, and then the end with that count.
   abbrev pub Ends : Type 0
-  Ends = (s : S) (b t : ℕ) (items : List Entry) (task : Task) (acts : List Action) (rs : List Report)
-      → stateOf s ≡ Busy b t items task acts → SteppedOn b t s rs → length rs ≡ suc (length acts) → rs ≡ map asReport acts ++ (R.End (countOf task) ∷ [])
+  Ends = (k : Call) (s s′ : S) (bytes bytes′ table table′ : List ℕ) (a : ℕ) → Called k s s′ bytes bytes′ table table′ (R.Begun a)
+      → (acts : List Action) × ((n : ℕ) × ((length acts ≡ a) × (CountAt k n
+      × ((rs : List Report) → SteppedOn (length bytes) (length table) s′ rs → length rs ≡ suc a → rs ≡ map asReport acts ++ (R.End n ∷ [])))))
+
+  -- PAST THE IMAGE NOTHING CHANGES: an altered record may have a step report a store or flush at a place that the lent
+  -- image does not have, and then no byte of it is another.
+  abbrev pub PastImage : Type 0
+  PastImage = (k : Call) (s s′ : S) (bytes bytes′ table table′ : List ℕ) (r : Report)
+      → Called k s s′ bytes bytes′ table table′ r → AreBytes bytes → AreBytes bytes′ → Past r bytes → bytes′ ≡ bytes

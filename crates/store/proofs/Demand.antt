@@ -2,15 +2,25 @@
 -- values up to the largest block's included, for the very contracts that the public functions ensure.
 -- And NEVER STUCK of the same contracts, by the host's rule that no commit is begun while no chunk is free.
 -- Assumes nothing.
+use Rattle.spec.specs.Contract.{Ends, PastImage}
 use Rattle.spec.specs.History.{Demand3}
 use Rattle.spec.specs.Unstuck.{NeverStuck}
 use Rattle.session.specs.State.{limit, stateOf}
-use Rattle.session.specs.Fits.{Fits}
+use Rattle.session.specs.Fits.{Fits, Proper}
 use Rattle.theory_histories.proofs.Every.{at-the-archive, room-at-the-archive}
-use Rattle.session.specs.Fits.{Proper}
+use Rattle.theory_histories.proofs.Ends.{ends}
+use Rattle.theory_histories.proofs.PastImage.{past-image}
 
 pub faithful : Demand3 Proper stateOf Fits 12 limit
 faithful = at-the-archive Proper stateOf Fits
 
 pub never-stuck : NeverStuck Proper stateOf Fits 12 limit
 never-stuck = room-at-the-archive Proper stateOf Fits
+
+-- of the same contracts, whatever memory holds: every begun call ends after its count, and a store or flush past the
+-- image changes nothing
+pub ends-after-count : Ends Proper stateOf Fits 12 limit
+ends-after-count = ends Proper stateOf Fits 12 limit
+
+pub past-changes-nothing : PastImage Proper stateOf Fits 12 limit
+past-changes-nothing = past-image Proper stateOf Fits 12 limit

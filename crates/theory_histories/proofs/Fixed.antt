@@ -24,18 +24,15 @@ use Rattle.spec.specs.declared.Refusal.{Refusal}
 use Rattle.spec.specs.declared.Refusal.the-variants as N
 use Rattle.spec.specs.declared.Report.{Report}
 use Rattle.spec.specs.declared.Report.the-variants as R
-use Rattle.theory_histories.proofs.Ends.{ends, ends-so-far}
+use Rattle.theory_histories.proofs.Ends.{never-refused, busy-goes, ends-so-far, ends-whole}
 
 -- an accepted plan is the state's: what is begun is what the plan has
-never : (a : ℕ) (x : Refusal) → R.Begun a ≡ R.Refused x → ⊥
-never a x h = let z : _≡_ {A = ℕ} 0 1 = cc in omega arith
-
 plan-is : (q : Plan) (σ : State) (bytes table a b t : ℕ) (count : ℕ) (acts : List Action) → R.Begun a ≡ gated (gate σ bytes table) (planned q) → Busy b t [] (Cleaning count) acts ≡ begun q σ → q ≡ Begin [] (Cleaning count) acts
 plan-is (Refuse x) σ bytes table a b t count acts h e = absurd (go (gate σ bytes table) h)
   where
     go : (g : Option Refusal) → R.Begun a ≡ gated g (R.Refused x) → ⊥
-    go none k = never a x k
-    go (some y) k = never a y k
+    go none k = never-refused a x k
+    go (some y) k = never-refused a y k
 plan-is (Begin items task acts′) Closed bytes table a b t count acts h e = absurd (let z : _≡_ {A = ℕ} 0 1 = cc in omega arith)
 plan-is (Begin items task acts′) (Rest b′ t′ before) bytes table a b t count acts h e =
     let i : items ≡ [] = cc in
@@ -45,8 +42,8 @@ plan-is (Begin items task acts′) (Rest b′ t′ before) bytes table a b t cou
 plan-is (Begin items task acts′) (Busy b′ t′ before task′ rest) bytes table a b t count acts h e = absurd (go (both (eqb b′ bytes) (eqb t′ table)) h)
   where
     go : (g : Bool) → R.Begun a ≡ gated (pick g (some N.Unfinished) (some N.ImageLength)) (planned (Begin items task acts′)) → ⊥
-    go true k = never a N.Unfinished k
-    go false k = never a N.ImageLength k
+    go true k = never-refused a N.Unfinished k
+    go false k = never-refused a N.ImageLength k
 plan-is (Begin items task acts′) (Formatting o b′ t′ rest) bytes table a b t count acts h e = absurd (let z : _≡_ {A = ℕ} 0 1 = cc in omega arith)
 
 next-begun : (p limit c : ℕ) (σ : State) (ws : List ℕ) (bytes table a : ℕ) → answer p limit (Clean c) σ ws bytes table ≡ R.Begun a
@@ -59,15 +56,15 @@ module _ {S : Type 0} (Proper : S → Type 0) (stateOf : S → State) (Fits : S 
   fixed c s s′ bytes bytes′ table table′ a called = go (called .anyway)
     where
       go : Refuses (R.Begun a) ⊎ Begins (CleansIn (length bytes) (length table)) (stateOf s′) (R.Begun a) → FixedAt Proper stateOf Fits p limit c s s′ bytes table a
-      go (inl (x, h)) = absurd (never a x h)
+      go (inl (x, h)) = absurd (never-refused a x h)
       go (inr (acts, ((count, busy), said))) =
           let long : length acts ≡ a = let e = said in let q : a ≡ length acts = cc in sym q in
           record {
             acts = acts;
             count = count;
             long = long;
-            so-far = λ rs w h. ends-so-far Proper stateOf Fits p limit s′ (length bytes) (length table) [] (Cleaning count) acts rs busy w (omega arith);
-            whole = λ rs w h. ends Proper stateOf Fits p limit s′ (length bytes) (length table) [] (Cleaning count) acts rs busy w (omega arith);
+            so-far = λ rs w h. ends-so-far Proper stateOf Fits p limit (length bytes) (length table) count (λ l. Busy (length bytes) (length table) [] (Cleaning count) l) (busy-goes (length bytes) (length table) [] (Cleaning count)) s′ acts rs busy w (omega arith);
+            whole = λ rs w h. ends-whole Proper stateOf Fits p limit (length bytes) (length table) count (λ l. Busy (length bytes) (length table) [] (Cleaning count) l) (busy-goes (length bytes) (length table) [] (Cleaning count)) s′ acts rs busy w (omega arith);
             planned = λ f. plan-of acts count busy (called .exact f);
           }
         where

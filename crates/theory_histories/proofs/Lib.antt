@@ -11,3 +11,4 @@ pub mod Ends
 pub mod Fixed
 pub mod RoomKept
 pub mod NeverStuck
+pub mod PastImage
