@@ -1,4 +1,4 @@
-/* Speed of the register beside a plain C floor, in one run: a table of ratios, and with --svg a picture of it.
+/* Speed of the register beside a plain C floor, in one run: a table of ratios.
  *
  * A durable put is staging, commit and all steps, with real write-backs (clwb or the best there is) and fences; its
  * floor makes the same words, stores, write-backs and fences in plain C, with no index and no check. The same without
@@ -13,7 +13,7 @@
  * taken, and of each side the best of several rounds counts. Other work on the machine still shows: a run beside it may
  * have ratios half as high again. A ratio is our time over the floor's: 1.00 is the floor itself.
  *
- * bench [--svg FILE] */
+ * bench      bench/middle.py prints the middle of several runs, and draws it */
 #define _GNU_SOURCE
 #include <inttypes.h>
 
@@ -465,71 +465,8 @@ static void print_table(void)
     }
 }
 
-/* Where a ratio stands on the picture's axis: powers of two at whole numbers, straight lines between them. */
-static double axis(double ratio)
+int main(void)
 {
-    double x = 0;
-    while (ratio >= 2) {
-        ratio /= 2;
-        x += 1;
-    }
-    while (ratio < 1) {
-        ratio *= 2;
-        x -= 1;
-    }
-    return x + ratio - 1;
-}
-
-static bool draw_table(const char *path)
-{
-    enum { WIDTH = 960, LEFT = 290, RIGHT = 190, TOP = 76, STEP = 28 };
-    FILE *f = fopen(path, "w");
-    if (f == NULL) {
-        return false;
-    }
-    double least = 0, most = 1;
-    for (size_t i = 0; i < row_count; i++) {
-        double x = axis(rows[i].ours / rows[i].floor);
-        least = x < least ? x : least;
-        most = x > most ? x : most;
-    }
-    double scale = (WIDTH - LEFT - RIGHT) / (most - least), one = LEFT - least * scale;
-    int bottom = TOP + STEP * (int)row_count, height = bottom + 28;
-    fprintf(f, "<svg xmlns=\"http://www.w3.org/2000/svg\" width=\"%d\" height=\"%d\" viewBox=\"0 0 %d %d\" "
-               "font-family=\"sans-serif\" font-size=\"13\" fill=\"#222222\">\n", WIDTH, height, WIDTH, height);
-    fprintf(f, "<rect width=\"%d\" height=\"%d\" fill=\"#ffffff\"/>\n", WIDTH, height);
-    fprintf(f, "<text x=\"16\" y=\"24\" font-size=\"16\">Time over that of plain C, one run (%s, ordinary memory)</text>\n",
-            write_back_name(how));
-    fprintf(f, "<text x=\"16\" y=\"46\" fill=\"#555555\">1 is plain C with the same stores, write-backs and fences, a plain hash, "
-               "a plain scan; each line doubles</text>\n");
-    for (int power = 0; power <= (int)most; power++) {
-        double x = one + power * scale;
-        fprintf(f, "<line x1=\"%.1f\" y1=\"%d\" x2=\"%.1f\" y2=\"%d\" stroke=\"%s\"/>\n", x, TOP - 6, x, bottom,
-                power == 0 ? "#c04030" : "#dddddd");
-        fprintf(f, "<text x=\"%.1f\" y=\"%d\" text-anchor=\"middle\" fill=\"#555555\">%d</text>\n", x, bottom + 16, 1 << power);
-    }
-    for (size_t i = 0; i < row_count; i++) {
-        struct row *r = &rows[i];
-        double ratio = r->ours / r->floor, x = one + axis(ratio) * scale, from = x < one ? x : one, to = x < one ? one : x;
-        int y = TOP + STEP * (int)i, digits = r->ours < 10 ? 2 : 0;
-        fprintf(f, "<text x=\"%d\" y=\"%d\" text-anchor=\"end\">%s</text>\n", LEFT - 10, y + 15, r->name);
-        fprintf(f, "<rect x=\"%.1f\" y=\"%d\" width=\"%.1f\" height=\"20\" fill=\"#4878a8\"/>\n", from, y, to - from);
-        fprintf(f, "<text x=\"%.1f\" y=\"%d\">%.2f (%.*f %s, C %.*f %s)</text>\n", to + 8, y + 15, ratio, digits, r->ours,
-                r->unit, digits, r->floor, r->unit);
-    }
-    fprintf(f, "</svg>\n");
-    return fclose(f) == 0;
-}
-
-int main(int count, char **argument)
-{
-    const char *picture = NULL;
-    if (count == 3 && strcmp(argument[1], "--svg") == 0) {
-        picture = argument[2];
-    } else if (count != 1) {
-        fputs("usage: bench [--svg FILE]\n", stderr);
-        return 2;
-    }
     const struct way durable = {true, false}, durable_by_steps = {true, true};
     const struct way plain = {false, false}, plain_by_steps = {false, true};
     how = best_write_back();
@@ -560,9 +497,5 @@ int main(int count, char **argument)
     printf("write-back by %s, ordinary memory\n", write_back_name(how));
     print_table();
     print_full_room();
-    if (picture != NULL && !draw_table(picture)) {
-        fprintf(stderr, "bench: %s cannot be written\n", picture);
-        return 2;
-    }
     return 0;
 }

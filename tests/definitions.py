@@ -4,7 +4,8 @@ python3 tests/definitions.py SEED COUNT [--only PATTERN] [--show N] [--keep] [--
 
 Makes COUNT images (whole, damaged in each clause, foreign, after power cuts) with calls and histories of calls, and beside them numbers,
 logs, media and desk books; writes what the model says of each as a fact of a throw-away crate over a copy of crates/spec; has `rt check`
-compute them. A fact that does not hold is named, the first N (2) with both values, and the exit status is 1.
+compute them. A fact that does not hold is named, the first N (2) with both values, and the exit status is 1. So it is where no call was
+refused with one of the numbers in force (unless --only is given).
 --only checks the facts whose names have the pattern; --keep leaves the throw-away repository behind and says where it is; --spec takes
 another copy of crates/spec.
 """
@@ -21,6 +22,7 @@ TESTS = os.path.dirname(os.path.abspath(__file__))
 sys.path[:0] = [TESTS, os.path.join(TESTS, 'model')]
 from facts import cases, codes                                                  # noqa: E402
 from facts.codes import Fact, WORD, listed                                            # noqa: E402
+from landed import REFUSALS                                                           # noqa: E402
 
 CRATES = 4                      # the facts are shared out among so many crates, which are checked side by side
 
@@ -170,9 +172,12 @@ def main():
             print(f'kept: {folder}')
         else:
             shutil.rmtree(folder)
+    missing = [] if args.only else [n for n in REFUSALS if n not in codes.seen]
+    if missing:
+        print(f'definitions: no call was refused with {", ".join(map(str, missing))}, so that was not compared: make more images')
     print('refusals compared, each with how many calls gave it: ' + ', '.join(f'{n} ({len(codes.seen[n])})' for n in sorted(codes.seen)))
     print(f'definitions: {count} images, {len(sheet_of)} facts, {len(failed)} differences')
-    return 1 if failed else 0
+    return 1 if failed or missing else 0
 
 
 if __name__ == '__main__':

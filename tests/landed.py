@@ -12,6 +12,8 @@ import register_model                                                           
 
 CARDS = {1, 4, 6, 8, 14}
 
+REFUSALS = range(1, 18 if 9 in CARDS else 17)           # the numbers that a call may refuse with
+
 RULES = register_model.Model(CARDS)
 
 

@@ -3,8 +3,8 @@
  * will store is made to differ from the new value in every byte, so that a store in parts would be seen. What is stored
  * is learned from steps on a copy; a run must make the same stores in the same order.
  *
- * Instructions are watched by the processor's trap flag. A formatting, commits of 1 and of 64 lines and cleanings of
- * full chunks are stepped, so that every kind of store comes; then such commits and cleanings are run. Built with
+ * Instructions are watched by the processor's trap flag. A formatting, commits of 1 and of 64 lines, stagings of large
+ * values and cleanings are stepped, so that every kind of store comes; then all but the formatting are run. Built with
  * -DTORN the step stores byte by byte, with -DTORN_RUN the run does, and this program must find it. */
 #define _GNU_SOURCE
 #include <inttypes.h>
@@ -207,9 +207,35 @@ static bool cleanings(bool running)
     return whole;
 }
 
+/* Stagings of large values: the first of a block size takes a chunk, the second finds a block there. Each stores its
+ * length and its words, and one directory word where a chunk is taken. The chunks are freed again. */
+static void stagings(const uint8_t *value, bool running)
+{
+    static const size_t length[] = {ZKV_LOG_VALUE_MAX + 1, 1000, ZKV_VALUE_MAX};
+    for (size_t i = 0; i < sizeof length / sizeof *length; i++) {
+        for (uint64_t taken = 2; taken-- > 0;) {
+            uint64_t before = stores;
+            zkv_report r = zkv_put(&record, image, BYTES, table, WORDS, 900, value, length[i]);
+            finish(r, running);
+            if (stores - before != 1 + (length[i] + 7) / 8 + taken) {
+                fail("a staging stored another number of words than its length, its value and a chunk taken", r);
+            }
+            r = zkv_abandon(&record, image, BYTES, table, WORDS);
+            if (r.kind != ZKV_ABANDONED) {
+                fail("a staging was not abandoned", r);
+            }
+        }
+        zkv_report r = zkv_empty_chunk(&record, image, BYTES, table, WORDS, 1);
+        if (r.kind != ZKV_CHOSEN) {
+            fail("no data chunk is empty", r);
+        }
+        finish(zkv_clean(&record, image, BYTES, table, WORDS, r.first), running);
+    }
+}
+
 int main(void)
 {
-    static uint8_t value[ZKV_LOG_VALUE_MAX];
+    static uint8_t value[ZKV_VALUE_MAX];
     struct sigaction act = {.sa_handler = trapped};
     sigaction(SIGTRAP, &act, NULL);
     for (size_t i = 0; i < sizeof value; i++) {
@@ -222,7 +248,9 @@ int main(void)
     }
     commits(value, false);
     bool stepped = cleanings(false);
+    stagings(value, false);
     commits(value, true);
+    stagings(value, true);
     if (!cleanings(true) || !stepped) {
         puts("one_move: no cleaning copied 64 lines");
         return 1;
