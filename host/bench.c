@@ -101,7 +101,7 @@ static inline __attribute__((always_inline)) void run(zkv_report begun, struct w
     for (;;) {
         zkv_report r = way.by_steps ? zkv_step(&record, image, BYTES, table, TABLE) : zkv_run(&record, image, BYTES, table, TABLE);
         if (r.kind == ZKV_FLUSH) {
-            if (way.durable) {
+            if (way.durable && r.first < BYTES / ZKV_LINE_BYTES) {
                 write_back_line(how, image + ZKV_LINE_BYTES * r.first);
             }
         } else if (r.kind == ZKV_FENCE) {

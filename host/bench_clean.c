@@ -49,7 +49,9 @@ static uint64_t run(struct ours *s, zkv_report r)
     for (;;) {
         r = zkv_run(LENT(s));
         if (r.kind == ZKV_FLUSH) {
-            write_back_line(how, s->image + ZKV_LINE_BYTES * r.first);
+            if (r.first < ROOM_BYTES / ZKV_LINE_BYTES) {
+                write_back_line(how, s->image + ZKV_LINE_BYTES * r.first);
+            }
         } else if (r.kind == ZKV_FENCE) {
             store_fence();
         } else if (r.kind == ZKV_END) {

@@ -1,5 +1,6 @@
 /* What the library has beside the proved calls, in plain C over them: its version, the words of the refusals, a
- * begun call carried out to its end, and the write-back of lines on this processor. See the end of zitskvoze.h. */
+ * begun call carried out to its end, a free chunk after an opening, and the write-back of lines on this processor. See
+ * the end of zitskvoze.h. */
 #include "device.h"
 
 extern inline const char *zkv_sentence(uint64_t number);
@@ -18,7 +19,9 @@ zkv_report zkv_finish(zkv_record *record, uint8_t *image, size_t bytes, uint64_t
         case ZKV_STORE:
             break;
         case ZKV_FLUSH:
-            flush(context, image + ZKV_LINE_BYTES * report.first);
+            if (report.first < bytes / ZKV_LINE_BYTES) {        /* of a record that was altered a line past the image */
+                flush(context, image + ZKV_LINE_BYTES * report.first);
+            }
             break;
         case ZKV_FENCE:
             if (fence(context) != 0) {
@@ -30,6 +33,25 @@ zkv_report zkv_finish(zkv_record *record, uint8_t *image, size_t bytes, uint64_t
         }
         report = zkv_run(record, image, bytes, table, words);
     }
+}
+
+zkv_report zkv_make_room(zkv_record *record, uint8_t *image, size_t bytes, uint64_t *table, size_t words,
+                         void (*flush)(void *context, const uint8_t *line), int (*fence)(void *context), void *context)
+{
+    if (zkv_free_chunks(image, bytes) > 0) {
+        return (zkv_report){ZKV_IDLE, 0, 0};
+    }
+    zkv_report report = zkv_choose(record, image, bytes, table, words);
+    if (report.kind == ZKV_CHOSEN) {
+        report = zkv_clean(record, image, bytes, table, words, (size_t)report.first);
+    }
+    if (report.kind == ZKV_REFUSED && (report.first == ZKV_NOT_CLEANABLE || report.first == ZKV_NO_SPACE)) {
+        zkv_report empty = zkv_empty_chunk(record, image, bytes, table, words, 0);
+        if (empty.kind == ZKV_CHOSEN) {
+            report = zkv_clean(record, image, bytes, table, words, (size_t)empty.first);
+        }
+    }
+    return zkv_finish(record, image, bytes, table, words, report, flush, fence, context);
 }
 
 int zkv_best_write_back(void)

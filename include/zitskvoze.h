@@ -70,6 +70,13 @@
  * zkv_choose names log chunks alone: a data chunk whose large values were all superseded or deleted is named by
  * zkv_empty_chunk, and freed by zkv_clean with its number (3 actions). Else the image is full of present values.
  *
+ * Begin a commit only while a free chunk stands (zkv_free_chunks is not 0). A power cut in a cleaning can leave none; a
+ * commit may then go into the one chunk that could still be freed, and the register is stuck: every commit and every
+ * cleaning gets 13 for good. So after an opening that finds no free chunk, and before any commit, choose and clean
+ * once, to the end: that copies nothing, is never refused, and leaves a free chunk; from then on one stands until the
+ * next power cut. zkv_make_room looks and does it: a host that calls it after each opening has kept the rule, and its
+ * register is never stuck. An image that was made in another way may be stuck, or full, already.
+ *
  * REFUSALS
  *
  * What was refused did not happen: a host looks at every answer. A refusal leaves image, table and record as they were;
@@ -86,26 +93,29 @@
  *   latest word, and the promise holds.
  * - Formatting an image that holds a register destroys it. zkv_format does not ask: the host does.
  * - Memory altered behind the calls' back (image, table or record): every call is still safe, reads and writes nothing
- *   outside what is lent, and ends after its count; but any number of the table may come, and values may be wrong. Open
- *   again.
+ *   outside what is lent, and ends after its count; but any number of the table may come, and values may be wrong. A
+ *   reported word or line may lie past the image: no byte of it was changed then, and there is nothing to write back.
+ *   zkv_finish passes over it; hosts that step by themselves must too (line < bytes / 64). Open again.
  * - Lengths must be true: a length above what is really there is beyond any proof.
  * - The archive is for x86-64 Linux. Words are little-endian, so an image may be moved between machines of that kind.
- * - One call at a time, one writer to an image. The library has no lock: the host needs one, also between processes
- *   (the program zkv takes a lock on the image's file).
+ * - One call at a time, one writer to an image. But calls that are lent a const record, or an image alone, only read
+ *   record, image and table, so that several threads may make them at once while no other call runs. The library has no
+ *   lock: the host needs one, also between processes (the program zkv takes a lock on the image's file).
  * - Where only the pages of a file stand behind the image, a fence is an msync; hosts on persistent memory map it with
  *   MAP_SYNC, else a flushed line may be durable in a page that the file does not have yet.
  * - A word must reach the medium whole. Aligned 8-byte stores do; tests/one_move.sh looks at the compiled code. Do not
  *   build the library in a way that changes it (instrumentation of its stores, another back end).
- * - The format has no checksum: a byte of a value that is changed behind the calls' back opens as another value (57 to
- *   83 of 100 one-bit flips in committed lines did). Hold what was printed against the register, and keep a digest of
- *   the image elsewhere.
+ * - The format has no checksum: a byte of a value that is changed behind the calls' back opens as another value (16 to
+ *   83 of 100 one-bit flips in committed lines did, more of them the longer the labels are). Hold what was printed
+ *   against the register, and keep a digest of the image elsewhere.
  * - A table too small for the image's keys makes a refused opening slow: up to some 70 times an accepted one, whatever
  *   the table's length. Lend one of ZKV_TABLE_WORDS_MAX words where memory allows.
  * - An opening takes some 64 KB of stack, and so does a cleaning's last step where a key's entries stand twice.
  * - The log only grows until it is cleaned: superseded and deleted values take space until then, and known keys include
  *   deleted ones that still have an entry. Clean when time allows, or when 13 comes; it may take several cleanings
  *   until a commit finds space. Commits leave a free chunk to clean into (they take one only where three are free, two
- *   for deletes alone), so that cleaning a chosen chunk gets 13 only in an image that was filled in another way.
+ *   for deletes alone), so that cleaning a chosen chunk gets 13 only where the host did not keep the rule above, or in
+ *   an image that was made in another way. In an image full of present values even a delete may get 13.
  * - A cleaning changes no value, and the parts that zkv_look_up answered before it are no longer the values' places.
  * - Each put or delete of a key has a version, one above the key's highest. The last one, 1,048,575, is kept for a
  *   delete: a key at 1,048,574 gets 12 for a put and can be deleted. When its entries are cleaned away it begins at 1
@@ -269,7 +279,8 @@ zkv_report zkv_open(zkv_record *record, const uint8_t *image, size_t bytes, uint
 /* Begins staging a put of `length` bytes, which are copied into the record. Look-up does not see it before its commit
  * has ended. ZKV_BEGUN with 0 actions for a value of at most ZKV_LOG_VALUE_MAX bytes, else with those that write its
  * block; or refused: 2, 1, 8, 9, 12, 10, 7, 13. A block that was staged and then abandoned, or superseded, is used
- * again. */
+ * again. A put that gets 13 (no block is to be had) leaves staged what was staged before it: commit that, or forget it
+ * by zkv_abandon where all or none of the batch is to last; then clean, and stage again what is missing. */
 zkv_report zkv_put(zkv_record *record, const uint8_t *image, size_t bytes, const uint64_t *table, size_t words,
                    uint64_t key, const uint8_t *value, size_t length);
 
@@ -368,8 +379,8 @@ zkv_place zkv_fault(const uint8_t *image, size_t bytes);
 const char *zkv_version(void);
 
 /* Carries a begun call out to its end, by zkv_run, and answers the last report: ZKV_END or a refusal. `report` is what
- * the begin answered; one that asks for nothing (a refusal, ZKV_OPENED) is answered at once, so that every call may
- * stand there:
+ * the begin answered, or a step (ZKV_BEGUN, ZKV_STORE, ZKV_FLUSH, ZKV_FENCE); one of any other kind asks for nothing
+ * and is answered at once, as it is (a refusal, ZKV_OPENED, ZKV_CHOSEN), so that every call may stand there:
  *     r = zkv_finish(LENT, zkv_put(LENT, key, value, length), flush, fence, context);
  * `flush` starts the write-back of the 64 bytes at `line`. `fence` waits until all that was started is durable and
  * answers 0, or another number where it could not. Then that ZKV_FENCE is answered: the call is unfinished, and nothing
@@ -377,6 +388,16 @@ const char *zkv_version(void);
  * the pages may be lost (fsync(2)): open the file again and look at what is there. */
 zkv_report zkv_finish(zkv_record *record, uint8_t *image, size_t bytes, uint64_t *table, size_t words, zkv_report report,
                       void (*flush)(void *context, const uint8_t *line), int (*fence)(void *context), void *context);
+
+/* Keeps the rule that a commit is begun only while a free chunk stands. To be called after each opening that answered
+ * ZKV_OPENED, where the register is to be written, before anything is staged. It answers
+ * - ZKV_IDLE: a free chunk stands, and nothing was done;
+ * - ZKV_END: a chunk was freed, the one that zkv_choose named, else a data chunk that holds no present value;
+ * - ZKV_FENCE: a fence failed, as in zkv_finish, which goes on with this report;
+ * - refused with 13 or 16: no chunk can be freed, as the register is full, or was stuck before. It can be read, and
+ *   a commit may still find space. Refused with 2, 1, 8, 15: as zkv_clean. */
+zkv_report zkv_make_room(zkv_record *record, uint8_t *image, size_t bytes, uint64_t *table, size_t words,
+                         void (*flush)(void *context, const uint8_t *line), int (*fence)(void *context), void *context);
 
 /* The two functions for zkv_finish where the image is memory, persistent or ordinary: write-back by clwb, clflushopt or
  * clflush, whichever the processor has, and sfence. Their context is the address of an int that zkv_best_write_back
