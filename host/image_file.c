@@ -6,8 +6,11 @@
 #include <fcntl.h>
 #include <libgen.h>
 #include <limits.h>
+#include <pthread.h>
+#include <sched.h>
 #include <signal.h>
 #include <stdarg.h>
+#include <stdatomic.h>
 #include <stdint.h>
 #include <stdio.h>
 #include <stdlib.h>
@@ -15,7 +18,7 @@
 #include <sys/file.h>
 #include <sys/mman.h>
 #include <sys/stat.h>
-#include <sys/time.h>
+#include <sys/uio.h>
 #include <time.h>
 #include <unistd.h>
 
@@ -26,6 +29,9 @@
 #endif
 #ifndef MAP_SYNC
 #define MAP_SYNC 0x80000
+#endif
+#ifndef sigev_notify_thread_id
+#define sigev_notify_thread_id _sigev_un._tid
 #endif
 
 _Static_assert(sizeof ((zkv_file *)NULL)->made == PATH_MAX, "the names of a new file have the length that the system allows");
@@ -42,56 +48,280 @@ __attribute__((format(printf, 1, 2))) static const char *wrong(const char *forma
     return text;
 }
 
-/* ---- signals and descriptors */
+/* ---- the open files, as signal handlers need them */
 
-static char bus_message[PATH_MAX + 256];
-static const char *volatile nameless;       /* a new file that has not got its name, and is to be removed if it never does */
+struct open_file {
+    struct open_file *next;
+    int descriptor;             /* no two open files have the same */
+    const uint8_t *image;
+    size_t bytes;               /* 0: not mapped yet */
+    const char *name;
+    pid_t process;              /* that opened it: a child of it has the list too, but not the file to remove */
+    char made[PATH_MAX];        /* of a new file without its name: what it was made under; else empty */
+};
 
-static void on_bus_error(int signal)
+static struct open_file *open_files;
+static atomic_flag list_held = ATOMIC_FLAG_INIT;
+
+/* The list is held for a moment, and with every signal blocked: so no handler runs in the thread that holds it, and a
+ * handler may wait for it. */
+static void hold_list(sigset_t *before)
 {
-    (void)signal;
-    ssize_t written = write(STDERR_FILENO, bus_message, strlen(bus_message));
-    (void)written;
-    if (nameless != NULL) {
-        unlink(nameless);
+    sigset_t all;
+    sigfillset(&all);
+    pthread_sigmask(SIG_BLOCK, &all, before);
+    while (atomic_flag_test_and_set_explicit(&list_held, memory_order_acquire)) {
+        sched_yield();
     }
+}
+
+static void let_list_go(const sigset_t *before)
+{
+    atomic_flag_clear_explicit(&list_held, memory_order_release);
+    pthread_sigmask(SIG_SETMASK, before, NULL);
+}
+
+/* A fork takes the list along: it is to be nobody's in the child, which has none of the other threads. */
+static _Thread_local sigset_t before_fork;
+
+static void hold_for_fork(void)
+{
+    hold_list(&before_fork);
+}
+
+static void let_go_after_fork(void)
+{
+    let_list_go(&before_fork);
+}
+
+static void watch_forks(void)
+{
+    pthread_atfork(hold_for_fork, let_go_after_fork, let_go_after_fork);
+}
+
+static void list_as_it_is(struct open_file *o, const zkv_file *f)
+{
+    o->descriptor = f->descriptor;
+    o->image = f->image;
+    o->bytes = f->bytes;
+    o->name = f->name;
+    o->process = getpid();
+    strcpy(o->made, f->made);
+}
+
+/* Puts an open file on the list, in memory that the caller got and forget_file frees. */
+static void add_to_list(struct open_file *o, const zkv_file *f)
+{
+    list_as_it_is(o, f);
+    o->next = open_files;
+    open_files = o;
+}
+
+/* What the list has of an open file becomes what it is now. */
+static void list_anew(const zkv_file *f)
+{
+    sigset_t before;
+    hold_list(&before);
+    for (struct open_file *o = open_files; o != NULL; o = o->next) {
+        if (o->descriptor == f->descriptor) {
+            list_as_it_is(o, f);
+        }
+    }
+    let_list_go(&before);
+}
+
+static void forget_file(int descriptor)
+{
+    struct open_file *found = NULL;
+    sigset_t before;
+    hold_list(&before);
+    for (struct open_file **o = &open_files; *o != NULL && found == NULL;) {
+        if ((*o)->descriptor == descriptor) {
+            found = *o;
+            *o = found->next;
+        } else {
+            o = &(*o)->next;
+        }
+    }
+    let_list_go(&before);
+    free(found);
+}
+
+/* ---- signals and descriptors. What runs in a handler makes system calls alone. */
+
+static _Atomic(const char *) the_program;
+static struct sigaction bus_before;         /* what the host did at SIGBUS before zkv_file_guard */
+
+/* With the list held. */
+static void remove_nameless(void)
+{
+    for (const struct open_file *o = open_files; o != NULL; o = o->next) {
+        if (o->made[0] != 0 && o->process == getpid()) {
+            unlink(o->made);
+        }
+    }
+}
+
+static void act_by_default(int signal)
+{
+    struct sigaction usual = {.sa_handler = SIG_DFL};
+    sigaction(signal, &usual, NULL);
+}
+
+/* A fault outside the images is none of ours: it goes to the handler that the host had. */
+static void pass_on(int signal, siginfo_t *info, void *context)
+{
+    if (bus_before.sa_flags & SA_SIGINFO) {
+        bus_before.sa_sigaction(signal, info, context);
+    } else if (bus_before.sa_handler != SIG_DFL && bus_before.sa_handler != SIG_IGN) {
+        bus_before.sa_handler(signal);
+    } else if (info->si_code > 0) {
+        act_by_default(signal);             /* the access is made again, and ends the program */
+    } else if (bus_before.sa_handler == SIG_DFL) {
+        act_by_default(signal);
+        raise(signal);
+    }
+}
+
+static struct iovec part(const char *text)
+{
+    return (struct iovec){.iov_base = (char *)(uintptr_t)text, .iov_len = strlen(text)};
+}
+
+static void on_bus_error(int signal, siginfo_t *info, void *context)
+{
+    const struct open_file *found = NULL;
+    sigset_t before;
+    hold_list(&before);
+    for (const struct open_file *o = open_files; o != NULL && info->si_code > 0; o = o->next) {
+        if ((uintptr_t)info->si_addr - (uintptr_t)o->image < o->bytes) {
+            found = o;
+        }
+    }
+    if (found == NULL) {
+        let_list_go(&before);
+        pass_on(signal, info, context);
+        return;
+    }
+    struct iovec message[] = {
+        part(atomic_load(&the_program)), part(": "), part(found->name),
+        part(": the system has no page for a part of the file: the disk is full, or the file was cut while it was in use\n")};
+    ssize_t written = writev(STDERR_FILENO, message, sizeof message / sizeof *message);
+    (void)written;
+    remove_nameless();
     _exit(2);
 }
 
-static void name_in_bus_message(const char *program, const char *name)
+/* The program ends by the signal as if there were no handler. The list stays held: no other thread makes a file now. */
+static void on_end(int signal)
 {
-    static const char *the_program;
-    if (program != NULL) {
-        the_program = program;
+    sigset_t before, this_one;
+    hold_list(&before);
+    remove_nameless();
+    act_by_default(signal);
+    raise(signal);
+    sigemptyset(&this_one);
+    sigaddset(&this_one, signal);
+    pthread_sigmask(SIG_UNBLOCK, &this_one, NULL);
+    _exit(128 + signal);                    /* the first process of a container does not end by its own signals */
+}
+
+static bool at_default(int signal)
+{
+    struct sigaction found;
+    return sigaction(signal, NULL, &found) == 0 && !(found.sa_flags & SA_SIGINFO) && found.sa_handler == SIG_DFL;
+}
+
+static bool guard_pages(void)
+{
+    struct sigaction found, bus = {.sa_sigaction = on_bus_error, .sa_flags = SA_SIGINFO}, ignored = {.sa_handler = SIG_IGN};
+    sigset_t needed;                        /* a parent may have blocked it */
+    sigemptyset(&needed);
+    sigaddset(&needed, SIGBUS);
+    if (sigaction(SIGBUS, NULL, &found) != 0) {
+        return false;
     }
-    snprintf(bus_message, sizeof bus_message,
-             "%s: %s: the system has no page for a part of the file: the disk is full, or the file was cut while it was in use\n",
-             the_program != NULL ? the_program : "host", name);
+    if (!(found.sa_flags & SA_SIGINFO) || found.sa_sigaction != on_bus_error) {
+        bus_before = found;
+    }
+    bus.sa_flags |= found.sa_flags & SA_ONSTACK;
+    return sigaction(SIGBUS, &bus, NULL) == 0 && sigaction(SIGXFSZ, &ignored, NULL) == 0 &&
+           pthread_sigmask(SIG_UNBLOCK, &needed, NULL) == 0;
 }
 
 int zkv_file_guard(const char *program)
 {
+    static const int ends[] = {SIGINT, SIGTERM, SIGHUP};
+    static pthread_once_t watched = PTHREAD_ONCE_INIT;
+    struct sigaction end = {.sa_handler = on_end};
+    pthread_once(&watched, watch_forks);
     for (int d = 0; d <= 2; d++) {
         /* The lowest free number is d: reading fails where writing is meant, and writing where reading is. */
         if (fcntl(d, F_GETFD) < 0 && (errno != EBADF || open("/dev/null", d == 0 ? O_WRONLY : O_RDONLY) != d)) {
             return 0;
         }
     }
-    struct sigaction bus = {.sa_handler = on_bus_error}, ignored = {.sa_handler = SIG_IGN};
-    sigset_t needed;                        /* a parent may have blocked them */
-    sigemptyset(&needed);
-    sigaddset(&needed, SIGBUS);
-    sigaddset(&needed, SIGALRM);
-    name_in_bus_message(program, "an image");
-    return sigaction(SIGBUS, &bus, NULL) == 0 && sigaction(SIGXFSZ, &ignored, NULL) == 0 &&
-           sigprocmask(SIG_UNBLOCK, &needed, NULL) == 0;
+    for (size_t i = 0; i < sizeof ends / sizeof *ends; i++) {
+        if (at_default(ends[i]) && sigaction(ends[i], &end, NULL) != 0) {
+            return 0;
+        }
+    }
+    atomic_store(&the_program, program);
+    return guard_pages();
 }
 
 /* ---- locks */
 
+static int tick_signal;         /* 0: there is none to be had */
+
 static void on_tick(int signal)
 {
     (void)signal;
+}
+
+/* A real-time signal that the host does nothing at: it is kept from then on, so that no wait ends another's. */
+static void choose_tick_signal(void)
+{
+    struct sigaction tick = {.sa_handler = on_tick};
+    for (int signal = SIGRTMAX - 1; signal >= SIGRTMIN && tick_signal == 0; signal--) {
+        if (at_default(signal) && sigaction(signal, &tick, NULL) == 0) {
+            tick_signal = signal;
+        }
+    }
+}
+
+struct ticks {
+    timer_t timer;
+    sigset_t before;
+};
+
+/* From here on a signal each second gets this thread, and no other, out of a system call. */
+static bool begin_ticks(struct ticks *t)
+{
+    static pthread_once_t chosen = PTHREAD_ONCE_INIT;
+    struct itimerspec each_second = {{1, 0}, {1, 0}};
+    pthread_once(&chosen, choose_tick_signal);
+    if (tick_signal == 0) {
+        errno = EAGAIN;
+        return false;
+    }
+    struct sigevent to_this_thread = {.sigev_notify = SIGEV_THREAD_ID, .sigev_signo = tick_signal};
+    sigset_t ticking;                       /* threads of a host often block every signal */
+    to_this_thread.sigev_notify_thread_id = gettid();
+    sigemptyset(&ticking);
+    sigaddset(&ticking, tick_signal);
+    if (timer_create(CLOCK_MONOTONIC, &to_this_thread, &t->timer) != 0) {
+        return false;
+    }
+    pthread_sigmask(SIG_UNBLOCK, &ticking, &t->before);
+    timer_settime(t->timer, 0, &each_second, NULL);
+    return true;
+}
+
+static void end_ticks(const struct ticks *t)
+{
+    timer_delete(t->timer);
+    pthread_sigmask(SIG_SETMASK, &t->before, NULL);
 }
 
 static double seconds_now(void)
@@ -107,12 +337,12 @@ static const char *lock(int descriptor, int kind, const char *name, zkv_file_wai
     if (flock(descriptor, kind | LOCK_NB) == 0) {
         return NULL;
     }
-    struct sigaction tick = {.sa_handler = on_tick}, before;
-    struct itimerval each_second = {{1, 0}, {1, 0}}, never = {{0, 0}, {0, 0}};
+    struct ticks ticks;
+    if (!begin_ticks(&ticks)) {
+        return wrong("is locked by another program, and cannot be waited for: %s", strerror(errno));
+    }
     bool told = false, late = false;
     int status = -1;
-    sigaction(SIGALRM, &tick, &before);
-    setitimer(ITIMER_REAL, &each_second, NULL);
     do {
         double waited = seconds_now() - begin;
         late = wait.seconds >= 0 && waited >= (double)wait.seconds;
@@ -125,8 +355,7 @@ static const char *lock(int descriptor, int kind, const char *name, zkv_file_wai
         }
     } while (!late && status != 0 && errno == EINTR);
     int number = errno;
-    setitimer(ITIMER_REAL, &never, NULL);
-    sigaction(SIGALRM, &before, NULL);
+    end_ticks(&ticks);
     if (late) {
         return wrong("is locked by another program; waited %ld s", wait.seconds);
     }
@@ -155,7 +384,7 @@ static const char *map(zkv_file *f, size_t bytes, bool writing)
     f->image = at;
     f->bytes = bytes;
     f->how = best_write_back();
-    name_in_bus_message(NULL, f->name);
+    list_anew(f);
     return NULL;
 }
 
@@ -294,21 +523,43 @@ static const char *open_locked(zkv_file *f, zkv_file_wait wait)
     }
 }
 
-const char *zkv_file_open(zkv_file *f, const char *name, enum zkv_file_use use, zkv_file_wait wait)
+static const char *open_mapped(zkv_file *f, zkv_file_wait wait)
 {
-    nothing_mapped(f, name, use);
     const char *text = open_locked(f, wait);
     if (text != NULL || !length_allowed(f->length)) {
         return text;
     }
     size_t bytes = (size_t)f->length;
-    if (use == ZKV_FILE_WRITE) {
+    struct open_file *listed = malloc(sizeof *listed);
+    if (listed == NULL) {
+        return "no memory";
+    }
+    sigset_t before;
+    hold_list(&before);
+    add_to_list(listed, f);
+    let_list_go(&before);
+    if (f->use == ZKV_FILE_WRITE) {
         text = reserve(f->descriptor, bytes);
     }
     if (text == NULL) {
-        text = map(f, bytes, use == ZKV_FILE_WRITE);
+        text = map(f, bytes, f->use == ZKV_FILE_WRITE);
     }
     return text != NULL ? text : settle(f);
+}
+
+/* What failed leaves nothing open. */
+static const char *or_close(zkv_file *f, const char *text)
+{
+    if (text != NULL) {
+        zkv_file_close(f);
+    }
+    return text;
+}
+
+const char *zkv_file_open(zkv_file *f, const char *name, enum zkv_file_use use, zkv_file_wait wait)
+{
+    nothing_mapped(f, name, use);
+    return or_close(f, open_mapped(f, wait));
 }
 
 const char *zkv_file_confirm(const zkv_file *f)
@@ -355,44 +606,55 @@ static bool behind_links(const char *name, char found[PATH_MAX])
     return false;
 }
 
-/* A file's name lasts only once its folder is synced. */
-static const char *sync_folder(const char *name)
+/* Makes the file, locked: it is this host's alone already when it gets its name. From here on a signal that ends the
+ * program removes it. */
+static const char *make_locked(zkv_file *f)
 {
-    char copy[PATH_MAX];
-    strcpy(copy, name);
-    const char *folder = dirname(copy);
-    int descriptor = open(folder, O_RDONLY | O_DIRECTORY | O_CLOEXEC);
-    bool synced = descriptor >= 0 && fsync(descriptor) == 0;
-    const char *text = synced ? NULL : wrong("its folder %s cannot be synced: %s", folder, strerror(errno));
-    if (descriptor >= 0) {
-        close(descriptor);
+    struct open_file *listed = malloc(sizeof *listed);
+    if (listed == NULL) {
+        f->made[0] = 0;
+        return "no memory";
     }
-    return text;
+    sigset_t before;
+    hold_list(&before);
+    f->descriptor = mkostemp(f->made, O_CLOEXEC);          /* of mode 0600 */
+    int number = errno;
+    if (f->descriptor >= 0) {
+        add_to_list(listed, f);
+    }
+    let_list_go(&before);
+    if (f->descriptor < 0) {
+        free(listed);
+        f->made[0] = 0;
+        return wrong("no file can be made beside it: %s", strerror(number));
+    }
+    return flock(f->descriptor, LOCK_EX | LOCK_NB) == 0 ? NULL : wrong("cannot be locked: %s", strerror(errno));
 }
 
-const char *zkv_file_new(zkv_file *f, const char *name, size_t bytes)
+static const char *new_mapped(zkv_file *f, size_t bytes)
 {
-    nothing_mapped(f, name, ZKV_FILE_WRITE);
-    if (!behind_links(name, f->wanted)) {
+    if (!behind_links(f->name, f->wanted)) {
         return wrong("its place cannot be found: %s", strerror(errno));
     }
     if (snprintf(f->made, sizeof f->made, "%s.new-XXXXXX", f->wanted) >= (int)sizeof f->made) {
         f->made[0] = 0;
         return "its name is too long";
     }
-    f->descriptor = mkostemp(f->made, O_CLOEXEC);          /* of mode 0600 */
-    if (f->descriptor < 0) {
-        int number = errno;
-        f->made[0] = 0;
-        return wrong("no file can be made beside it: %s", strerror(number));
+    const char *text = make_locked(f);
+    if (text == NULL) {
+        text = reserve(f->descriptor, bytes);
     }
-    nameless = f->made;
-    const char *text = reserve(f->descriptor, bytes);
     struct stat about;
     if (text == NULL && !look_at(f, &about)) {
         text = wrong("cannot be looked at: %s", strerror(errno));
     }
     return text != NULL ? text : map(f, bytes, true);
+}
+
+const char *zkv_file_new(zkv_file *f, const char *name, size_t bytes)
+{
+    nothing_mapped(f, name, ZKV_FILE_WRITE);
+    return or_close(f, new_mapped(f, bytes));
 }
 
 /* The new name, unless a file has it already. */
@@ -408,6 +670,26 @@ static int rename_to_nobodys(const char *from, const char *to)
     return status;
 }
 
+/* The name, given to a file that is durable, in a folder that can be synced: a name lasts only once its folder is. */
+static const char *rename_in(int folder, zkv_file *f, const zkv_file *old)
+{
+    struct stat named;
+    if (folder < 0 || fsync(folder) != 0) {
+        return wrong("its folder cannot be synced: %s", strerror(errno));
+    }
+    if (old != NULL && (stat(old->name, &named) != 0 || !is_file(old, &named))) {
+        return "was exchanged for another file, or removed, meanwhile; that is left as it is";
+    }
+    if ((old != NULL ? rename(f->made, f->wanted) : rename_to_nobodys(f->made, f->wanted)) != 0) {
+        return errno == EEXIST ? "has been made by another program meanwhile; it is left as it is"
+                               : wrong("the new file cannot get its name: %s", strerror(errno));
+    }
+    f->made[0] = 0;
+    list_anew(f);
+    return fsync(folder) == 0 ? NULL : wrong("is there, but its folder could not be synced, so that a power cut may take it back: %s",
+                                             strerror(errno));
+}
+
 const char *zkv_file_take_name(zkv_file *f, const zkv_file *old)
 {
     if (old != NULL && (fchown(f->descriptor, old->owner, old->group) != 0 || fchmod(f->descriptor, old->mode) != 0)) {
@@ -417,30 +699,33 @@ const char *zkv_file_take_name(zkv_file *f, const zkv_file *old)
     if (text != NULL) {
         return text;
     }
-    if (fsync(f->descriptor) != 0) {
+    struct stat about;
+    if (fsync(f->descriptor) != 0 || fstat(f->descriptor, &about) != 0) {
         return wrong("cannot be made durable: %s", strerror(errno));
     }
-    struct stat named;
-    if (old != NULL && (stat(old->name, &named) != 0 || !is_file(old, &named))) {
-        return "was exchanged for another file, or removed, meanwhile; that is left as it is";
+    if (about.st_size != f->length) {
+        return "was cut or stretched before it had its name";
     }
-    if ((old != NULL ? rename(f->made, f->wanted) : rename_to_nobodys(f->made, f->wanted)) != 0) {
-        return errno == EEXIST ? "has been made by another program meanwhile; it is left as it is"
-                               : wrong("the new file cannot get its name: %s", strerror(errno));
+    char place[PATH_MAX];
+    strcpy(place, f->wanted);
+    int folder = open(dirname(place), O_RDONLY | O_DIRECTORY | O_CLOEXEC);
+    text = rename_in(folder, f, old);
+    if (folder >= 0) {
+        close(folder);
     }
-    nameless = NULL;
-    f->made[0] = 0;
-    return sync_folder(f->wanted);
+    return text;
 }
 
 void zkv_file_close(zkv_file *f)
 {
-    if (f->bytes > 0) {
-        munmap(f->image, f->bytes);
-    }
     if (f->made[0] != 0) {
         unlink(f->made);
-        nameless = NULL;
+    }
+    if (f->descriptor >= 0) {
+        forget_file(f->descriptor);         /* before its address and number may be another's */
+    }
+    if (f->bytes > 0) {
+        munmap(f->image, f->bytes);
     }
     if (f->descriptor >= 0) {
         close(f->descriptor);
