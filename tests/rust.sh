@@ -2,14 +2,25 @@
 # The crate for hosts in Rust (host/rust): builds offline without a warning, its sizes and places are the C compiler's,
 # its tests hold, and its example keeps labels that zkv reads.
 #
-# tests/rust.sh         needs host/build/zkv and libzitskvoze.a (make -C host); passes with a word where cargo (1.77 on)
-#                       is not there
+# tests/rust.sh         needs host/build/zkv and libzitskvoze.a (make -C host), and cargo 1.77 on: where that is missing
+#                       it is installed, as the gate installs what it needs, and where it cannot be the test fails
 set -euo pipefail
 cd "$(dirname "$0")/.."
 fail() { echo "rust: $*" >&2; exit 1; }
 [ -e host/build/libzitskvoze.a ] || { echo "host/build/libzitskvoze.a is missing: run make -C host" >&2; exit 2; }
-minor=$(cargo --version 2> /dev/null | sed -n 's/^cargo 1\.\([0-9]*\)\..*/\1/p')
-[ "${minor:-0}" -ge 77 ] || { echo "rust: not tried, as there is no cargo of version 1.77 on here"; exit 0; }
+has_cargo() {
+    local minor
+    minor=$(cargo --version 2> /dev/null | sed -n 's/^cargo 1\.\([0-9]*\)\..*/\1/p')
+    [ "${minor:-0}" -ge 77 ]
+}
+# Debian has a later one under the second name where the first is old.
+has_cargo || {
+    apt-get update || true
+    for package in cargo cargo-web; do
+        has_cargo || apt-get install -y "$package" || true
+    done
+} >&2
+has_cargo || fail "there is no cargo of version 1.77 on, and it cannot be installed"
 work=$(mktemp -d)
 trap 'rm -rf "$work"' EXIT
 [ ! -w /dev/shm ] || export TMPDIR=/dev/shm         # the tests sync often
@@ -34,7 +45,7 @@ ZKV_LAYOUT=$("$work/layout")
 cd host/rust
 cargo test --offline --locked > "$work/log" 2>&1 || { cat "$work/log" >&2; fail "the tests do not hold"; }
 tests=$(grep -c '^test .* ok$' "$work/log")
-[ "$tests" -ge 9 ] || fail "only $tests tests were run"
+[ "$tests" -ge 14 ] || fail "only $tests tests were run"
 cargo build --offline --locked --example labels > "$work/log" 2>&1 || { cat "$work/log" >&2; fail "the example does not build"; }
 cd ../..
 

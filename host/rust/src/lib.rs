@@ -108,7 +108,8 @@ pub fn version() -> String {
 }
 
 /// From here on a file that is cut while it is in use, or a disk that is full, ends the program with a message and
-/// status 2 instead of a signal. Answers whether it could.
+/// status 2 instead of a signal; and SIGINT, SIGTERM and SIGHUP, where they are at their default, also remove a
+/// register that is being made. Answers whether it could.
 pub fn guard(program: &'static CStr) -> bool {
     // Safety: the text lasts, as the library keeps its address.
     unsafe { sys::zkv_file_guard(program.as_ptr()) != 0 }
@@ -133,8 +134,7 @@ impl Register {
         };
         register.finish(begun)?;
         register.file.take_name()?;
-        drop(register);
-        Register::open(path)
+        register.opened()
     }
 
     /// Opens a register to be written, and waits for its lock as long as it takes.
@@ -146,14 +146,37 @@ impl Register {
     pub fn open_with(path: impl AsRef<Path>, access: Access, wait: Option<Duration>) -> Result<Register, Error> {
         right_version()?;
         let file = File::open(path.as_ref(), access, wait)?;
-        let mut register = Register::over(file, access);
-        let (at, bytes, words) = register.lent();
+        Register::over(file, access).opened()
+    }
+
+    fn opened(mut self) -> Result<Register, Error> {
+        let (at, bytes, words) = self.lent();
         // Safety: as above.
-        let report = unsafe { sys::zkv_open(&mut *register.record, at, bytes, register.table.as_mut_ptr(), words) };
+        let report = unsafe { sys::zkv_open(&mut *self.record, at, bytes, self.table.as_mut_ptr(), words) };
         match report.kind {
-            sys::OPENED => Ok(register),
+            sys::OPENED if self.access == Access::Write => self.make_room().map(|()| self),
+            sys::OPENED => Ok(self),
             sys::REFUSED => Err(refused(report.first)),
             _ => Err(Error::Odd(format!("an opening answered {report:?}"))),
+        }
+    }
+
+    /// A commit is to be begun only while a free chunk stands, and a power cut in a cleaning can leave none: then a
+    /// chunk is freed. A register that is full, of which none can be freed, is opened all the same.
+    fn make_room(&mut self) -> Result<(), Error> {
+        let (at, bytes, words) = self.lent();
+        // Safety: as above; the context of the two functions is the file that is open.
+        let report = unsafe {
+            sys::zkv_make_room(&mut *self.record, at, bytes, self.table.as_mut_ptr(), words,
+                sys::zkv_file_flush, sys::zkv_file_fence, self.file.raw().cast::<c_void>())
+        };
+        if report.kind == sys::IDLE {
+            return Ok(());
+        }
+        match ended(report) {
+            Ok(_) => self.file.confirm(),
+            Err(Error::Refused(Refusal::NotCleanable | Refusal::NoSpace)) => Ok(()),
+            Err(error) => Err(error),
         }
     }
 
@@ -249,12 +272,7 @@ impl Register {
             sys::zkv_finish(&mut *self.record, at, bytes, self.table.as_mut_ptr(), words, begun,
                 sys::zkv_file_flush, sys::zkv_file_fence, self.file.raw().cast::<c_void>())
         };
-        match report.kind {
-            sys::END => Ok(report.first),
-            sys::REFUSED => Err(refused(report.first)),
-            sys::FENCE => Err(Error::NotDurable),
-            _ => Err(Error::Odd(format!("a call ended with {report:?}"))),
-        }
+        ended(report)
     }
 
     fn begin_cleaning(&mut self, chunk: u64) -> sys::Report {
@@ -445,6 +463,16 @@ impl Iterator for Labels<'_> {
 }
 
 impl ExactSizeIterator for Labels<'_> {}
+
+/// What the report says that a begun call was carried out to: the number of its end.
+fn ended(report: sys::Report) -> Result<u64, Error> {
+    match report.kind {
+        sys::END => Ok(report.first),
+        sys::REFUSED => Err(refused(report.first)),
+        sys::FENCE => Err(Error::NotDurable),
+        _ => Err(Error::Odd(format!("a call ended with {report:?}"))),
+    }
+}
 
 fn right_version() -> Result<(), Error> {
     match version() {

@@ -10,6 +10,7 @@ pub const REFUSED: u64 = 0;
 pub const BEGUN: u64 = 1;
 pub const FENCE: u64 = 4;
 pub const END: u64 = 5;
+pub const IDLE: u64 = 6;
 pub const OPENED: u64 = 7;
 pub const CHOSEN: u64 = 9;
 
@@ -102,6 +103,10 @@ extern "C" {
     pub fn zkv_finish(
         record: *mut Record, image: *mut u8, bytes: usize, table: *mut u64, words: usize,
         report: Report, flush: Flush, fence: Fence, context: *mut c_void,
+    ) -> Report;
+    pub fn zkv_make_room(
+        record: *mut Record, image: *mut u8, bytes: usize, table: *mut u64, words: usize,
+        flush: Flush, fence: Fence, context: *mut c_void,
     ) -> Report;
     pub fn zkv_look_up(
         record: *const Record, image: *const u8, bytes: usize, table: *const u64, words: usize,

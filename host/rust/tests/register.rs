@@ -1,9 +1,11 @@
 //! The register through the safe interface: what is put comes back, to the byte, after reopening; batches; refusals;
-//! cleaning; locks.
+//! cleaning, also one that was cut off; locks.
 use std::collections::BTreeMap;
 use std::fs;
-use std::path::PathBuf;
-use std::time::Duration;
+use std::path::{Path, PathBuf};
+use std::sync::mpsc;
+use std::thread;
+use std::time::{Duration, Instant};
 
 use zitskvoze::{Access, Change, Chunk, Error, Refusal, Register, VALUE_MAX};
 
@@ -189,12 +191,113 @@ fn a_file_that_is_exchanged_is_noticed() {
 fn another_thread_may_have_it() {
     let folder = Folder::new("thread");
     let mut register = Register::create(folder.file(), 4, None, None).unwrap();
-    let register = std::thread::spawn(move || register.put(1, b"one").map(|()| register)).join().unwrap().unwrap();
-    std::thread::scope(|s| {
+    let register = thread::spawn(move || register.put(1, b"one").map(|()| register)).join().unwrap().unwrap();
+    thread::scope(|s| {
         for _ in 0..2 {
             s.spawn(|| assert_eq!(register.get(1).unwrap().unwrap(), b"one"));
         }
     });
+}
+
+#[test]
+fn a_wait_is_over_in_time_in_any_thread() {
+    let folder = Folder::new("wait");
+    let writer = Register::create(folder.file(), 4, None, None).unwrap();
+    let (done, waited) = mpsc::channel();
+    let (file, begin) = (folder.file(), Instant::now());
+    thread::spawn(move || done.send(Register::open_with(file, Access::Write, Some(Duration::from_secs(1))).err().unwrap()));
+    let error = waited.recv_timeout(Duration::from_secs(5)).expect("the wait is over");
+    assert_eq!(error.to_string(), "is locked by another program; waited 1 s");
+    assert!(begin.elapsed() >= Duration::from_secs(1));
+    drop(writer);
+}
+
+/// The calls of zitskvoze.h that cut a cleaning off in the middle, which the crate does not do.
+mod c {
+    #[repr(C)]
+    #[derive(Clone, Copy)]
+    pub struct Report {
+        pub kind: u64,
+        pub first: u64,
+        pub second: u64,
+    }
+
+    pub const BEGUN: u64 = 1;
+    pub const OPENED: u64 = 7;
+    pub const RECORD_WORDS: usize = 1685;
+    pub const TABLE_WORDS: usize = 4096;
+    pub const LAST_ACTIONS: u64 = 3; // of a cleaning: the chunk becomes free
+
+    #[repr(C, align(64))]
+    pub struct Image(pub [u8; 4 * 4096]);
+
+    extern "C" {
+        pub fn zkv_open(record: *mut u64, image: *const u8, bytes: usize, table: *mut u64, words: usize) -> Report;
+        pub fn zkv_clean(record: *mut u64, image: *const u8, bytes: usize, table: *const u64, words: usize, chunk: usize) -> Report;
+        pub fn zkv_step(record: *mut u64, image: *mut u8, bytes: usize, table: *mut u64, words: usize) -> Report;
+    }
+}
+
+/// The file becomes what a power cut before the last three actions of the chunk's cleaning leaves.
+fn cut_cleaning(path: &Path, chunk: usize) {
+    let mut image = Box::new(c::Image(fs::read(path).unwrap().try_into().unwrap()));
+    let (mut record, mut table) = (vec![0; c::RECORD_WORDS], vec![0; c::TABLE_WORDS]);
+    let (record, table, words) = (record.as_mut_ptr(), table.as_mut_ptr(), table.len());
+    let (at, bytes) = (image.0.as_mut_ptr(), image.0.len());
+    // Safety: what is lent is this function's, of these lengths.
+    unsafe {
+        assert_eq!(c::zkv_open(record, at, bytes, table, words).kind, c::OPENED);
+        let begun = c::zkv_clean(record, at, bytes, table, words, chunk);
+        assert_eq!(begun.kind, c::BEGUN);
+        for _ in c::LAST_ACTIONS..begun.first {
+            c::zkv_step(record, at, bytes, table, words);
+        }
+    }
+    fs::write(path, image.0).unwrap();
+}
+
+/// A label of a whole line of the log.
+fn line(key: u64, print: u8) -> Vec<u8> {
+    [&key.to_le_bytes()[..], &[print; 40]].concat()
+}
+
+/// Chunk 1 full of 64 labels, of which 32 are deleted or printed anew in chunk 2, which is full too; a power cut in the
+/// cleaning of chunk 1 leaves no free chunk. An opening that does nothing about it, and 32 labels more, would leave a
+/// register in which nothing goes any more.
+#[test]
+fn a_cleaning_that_was_cut_off_leaves_no_stuck_register() {
+    let folder = Folder::new("stuck");
+    let mut book = BTreeMap::new();
+    let mut register = Register::create(folder.file(), 4, None, None).unwrap();
+    let mut put = |register: &mut Register, keys: std::ops::Range<u64>, print: u8| {
+        for key in keys {
+            register.put(key, &line(key, print)).unwrap();
+            book.insert(key, line(key, print));
+        }
+        book.clone()
+    };
+    put(&mut register, 0..64, 1);
+    assert_eq!(register.delete(0), Ok(true));
+    put(&mut register, 1..32, 2);
+    let mut before = put(&mut register, 64..96, 1);
+    before.remove(&0);
+    assert_eq!((register.free_chunks(), register.chunk(3)), (1, Ok(Chunk::Free)));
+    drop(register);
+    cut_cleaning(&folder.file(), 1);
+
+    let reader = Register::open_with(folder.file(), Access::Read, None).unwrap();
+    assert_eq!((reader.free_chunks(), all(&reader)), (0, before.clone()), "reading changes nothing");
+    drop(reader);
+    let mut register = Register::open(folder.file()).unwrap();
+    assert_eq!((register.free_chunks(), all(&register)), (1, before));
+    let mut after = put(&mut register, 1000..1032, 1);
+    after.remove(&0);
+    register.put(1, b"still goes").unwrap();
+    assert_eq!(register.delete(2), Ok(true));
+    after.insert(1, b"still goes".to_vec());
+    after.remove(&2);
+    assert!(register.free_chunks() > 0);
+    assert_eq!(all(&register), after);
 }
 
 #[test]
