@@ -338,10 +338,10 @@ static const char *lock(int descriptor, int kind, const char *name, zkv_file_wai
         return NULL;
     }
     struct ticks ticks;
-    if (!begin_ticks(&ticks)) {
+    bool ticking = wait.seconds >= 0 || wait.notice != NULL, told = false, late = false;
+    if (ticking && !begin_ticks(&ticks)) {
         return wrong("is locked by another program, and cannot be waited for: %s", strerror(errno));
     }
-    bool told = false, late = false;
     int status = -1;
     do {
         double waited = seconds_now() - begin;
@@ -355,7 +355,9 @@ static const char *lock(int descriptor, int kind, const char *name, zkv_file_wai
         }
     } while (!late && status != 0 && errno == EINTR);
     int number = errno;
-    end_ticks(&ticks);
+    if (ticking) {
+        end_ticks(&ticks);
+    }
     if (late) {
         return wrong("is locked by another program; waited %ld s", wait.seconds);
     }

@@ -200,9 +200,10 @@ static void *wait_for_lock(void *waiter)
     return NULL;
 }
 
-static void sleep_for(double seconds)
+/* Sleeps so long, or until the waiter is done. */
+static void sleep_for(double seconds, const struct waiter *w)
 {
-    for (double end = now() + seconds; now() < end;) {
+    for (double end = now() + seconds; now() < end && !w->done;) {
         usleep(10000);
     }
 }
@@ -215,28 +216,33 @@ static void test_waits(void)
     struct sigaction alarm = {.sa_handler = on_alarm}, found;
     struct itimerval often = {{0, 50000}, {0, 50000}}, left;
     zkv_file holder;
-    pthread_t thread[3];
+    pthread_t thread[4];
     make("a.img");
     HOLD(zkv_file_open(&holder, "a.img", ZKV_FILE_WRITE, at_once) == NULL);
     HOLD(sigaction(SIGALRM, &alarm, NULL) == 0 && setitimer(ITIMER_REAL, &often, NULL) == 0);
     for (int i = 0; i < 2; i++) {
         HOLD(pthread_create(&thread[i], NULL, wait_for_lock, &w[i]) == 0);
     }
-    sleep_for(3.8);
-    HOLD(w[0].done && w[0].seconds >= 1 && w[0].seconds < 2.5);
-    HOLD(w[1].done && w[1].seconds >= 2 && w[1].seconds < 3.5);
+    sleep_for(10, &w[0]);
+    sleep_for(10, &w[1]);
+    HOLD(w[0].done && w[0].seconds >= 1 && w[0].seconds < 4);
+    HOLD(w[1].done && w[1].seconds >= 2 && w[1].seconds < 5);
     HOLD(notices == 1);
     HOLD(sigaction(SIGALRM, NULL, &found) == 0 && found.sa_handler == on_alarm);
-    HOLD(getitimer(ITIMER_REAL, &left) == 0 && left.it_interval.tv_usec == 50000 && alarms > 20);
+    HOLD(getitimer(ITIMER_REAL, &left) == 0 && left.it_interval.tv_usec == 50000 && alarms > 5);
 
-    /* A wait that is not over gets the lock when it is given back, with no more ticks behind it. */
-    struct waiter late = {.name = "a.img", .wait = {30, notice}, .expected = true};
-    HOLD(pthread_create(&thread[2], NULL, wait_for_lock, &late) == 0);
-    sleep_for(1.2);
+    /* Waits that are not over get the lock when it is given back. */
+    struct waiter late[] = {{.name = "a.img", .wait = {30, NULL}, .expected = true}, {.name = "a.img", .wait = {-1, NULL}, .expected = true}};
+    for (int i = 0; i < 2; i++) {
+        HOLD(pthread_create(&thread[2 + i], NULL, wait_for_lock, &late[i]) == 0);
+    }
+    sleep_for(1.2, &late[0]);
+    HOLD(!late[0].done && !late[1].done);
     zkv_file_close(&holder);
-    sleep_for(0.5);
-    HOLD(late.done && late.seconds < 1.7);
-    for (int i = 0; i < 3; i++) {
+    sleep_for(10, &late[0]);
+    sleep_for(10, &late[1]);
+    HOLD(late[0].done && late[0].seconds < 10 && late[1].done && late[1].seconds < 10);
+    for (int i = 0; i < 4; i++) {
         HOLD(pthread_join(thread[i], NULL) == 0);
     }
 }
