@@ -35,6 +35,12 @@ zkv_report zkv_finish(zkv_record *record, uint8_t *image, size_t bytes, uint64_t
     }
 }
 
+static bool cannot_be_freed(zkv_report report)
+{
+    return report.kind == ZKV_REFUSED && (report.first == ZKV_NOT_CLEANABLE || report.first == ZKV_NO_SPACE);
+}
+
+/* The chunk that is chosen is enough for a host that keeps the rule; the others are for images from before. */
 zkv_report zkv_make_room(zkv_record *record, uint8_t *image, size_t bytes, uint64_t *table, size_t words,
                          void (*flush)(void *context, const uint8_t *line), int (*fence)(void *context), void *context)
 {
@@ -45,11 +51,8 @@ zkv_report zkv_make_room(zkv_record *record, uint8_t *image, size_t bytes, uint6
     if (report.kind == ZKV_CHOSEN) {
         report = zkv_clean(record, image, bytes, table, words, (size_t)report.first);
     }
-    if (report.kind == ZKV_REFUSED && (report.first == ZKV_NOT_CLEANABLE || report.first == ZKV_NO_SPACE)) {
-        zkv_report empty = zkv_empty_chunk(record, image, bytes, table, words, 0);
-        if (empty.kind == ZKV_CHOSEN) {
-            report = zkv_clean(record, image, bytes, table, words, (size_t)empty.first);
-        }
+    for (size_t chunk = 1; cannot_be_freed(report) && chunk < bytes / ZKV_CHUNK_BYTES; chunk++) {
+        report = zkv_clean(record, image, bytes, table, words, chunk);
     }
     return zkv_finish(record, image, bytes, table, words, report, flush, fence, context);
 }

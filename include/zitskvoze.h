@@ -99,8 +99,9 @@
  * - Lengths must be true: a length above what is really there is beyond any proof.
  * - The archive is for x86-64 Linux. Words are little-endian, so an image may be moved between machines of that kind.
  * - One call at a time, one writer to an image. But calls that are lent a const record, or an image alone, only read
- *   record, image and table, so that several threads may make them at once while no other call runs. The library has no
- *   lock: the host needs one, also between processes (the program zkv takes a lock on the image's file).
+ *   record, image and table, so that several threads may make them at once, each with words of its own for what they
+ *   answer, while no other call runs. The library has no lock: the host needs one, also between processes (the program
+ *   zkv takes a lock on the image's file).
  * - Where only the pages of a file stand behind the image, a fence is an msync; hosts on persistent memory map it with
  *   MAP_SYNC, else a flushed line may be durable in a page that the file does not have yet.
  * - A word must reach the medium whole. Aligned 8-byte stores do; tests/one_move.sh looks at the compiled code. Do not
@@ -392,10 +393,11 @@ zkv_report zkv_finish(zkv_record *record, uint8_t *image, size_t bytes, uint64_t
 /* Keeps the rule that a commit is begun only while a free chunk stands. To be called after each opening that answered
  * ZKV_OPENED, where the register is to be written, before anything is staged. It answers
  * - ZKV_IDLE: a free chunk stands, and nothing was done;
- * - ZKV_END: a chunk was freed, the one that zkv_choose named, else a data chunk that holds no present value;
+ * - ZKV_END: a chunk was freed, the one that zkv_choose named or else the first that can be;
  * - ZKV_FENCE: a fence failed, as in zkv_finish, which goes on with this report;
  * - refused with 13 or 16: no chunk can be freed, as the register is full, or was stuck before. It can be read, and
- *   a commit may still find space. Refused with 2, 1, 8, 15: as zkv_clean. */
+ *   a commit may still find space;
+ * - refused with 2, 1, 8 or 15, as zkv_clean. */
 zkv_report zkv_make_room(zkv_record *record, uint8_t *image, size_t bytes, uint64_t *table, size_t words,
                          void (*flush)(void *context, const uint8_t *line), int (*fence)(void *context), void *context);
 

@@ -198,6 +198,19 @@ static void goes_on_with_rule(void)
     put_and_clean();
 }
 
+/* A host that did not keep the rule put labels first: choosing names the chunk of the copies, of which 15 labels cannot
+ * go anywhere; but 17 of the first chunk can go behind them. */
+static void another_chunk_is_freed(void)
+{
+    enum { ANEW = 15 };
+    change_many(CHUNK_LINES / 2, CHUNK_LINES / 2 + ANEW, 0);
+    zkv_report r = zkv_choose(LENT);
+    HOLD(r.kind == ZKV_CHOSEN && r.first == now.first_log + 2 && no_space(zkv_clean(LENT, (size_t)r.first)));
+    r = make_room(&never);
+    HOLD(r.kind == ZKV_END && r.first == CHUNK_LINES / 2 - ANEW && free_chunks() == 1);
+    labels_are_there();
+}
+
 /* What is refused changes nothing. */
 static void refusals(void)
 {
@@ -222,6 +235,10 @@ int main(void)
         refusals();
         now = cut;
         goes_on_with_rule();
+        if (chunks < CHUNKS_MOST) {
+            now = cut;
+            another_chunk_is_freed();
+        }
         now = cut;
         fill_without_rule();
         zkv_report r = make_room(&never);
