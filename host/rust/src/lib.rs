@@ -142,7 +142,8 @@ impl Register {
         Register::open_with(path, Access::Write, None)
     }
 
-    /// Opens a register, and waits for its lock at most so long (in whole seconds, rounded down).
+    /// Opens a register, and waits for its lock at most so long (in whole seconds, rounded down). Where it is to be
+    /// written and no chunk is free, as a power cut in a cleaning can leave it, one is freed first.
     pub fn open_with(path: impl AsRef<Path>, access: Access, wait: Option<Duration>) -> Result<Register, Error> {
         right_version()?;
         let file = File::open(path.as_ref(), access, wait)?;
