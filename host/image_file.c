@@ -149,7 +149,7 @@ static void forget_file(int descriptor)
 
 /* ---- signals and descriptors. What runs in a handler makes system calls alone. */
 
-static _Atomic(const char *) the_program;
+static _Atomic(const char *) the_program = "host";
 static struct sigaction bus_before;         /* what the host did at SIGBUS before zkv_file_guard */
 
 /* With the list held. */
@@ -266,7 +266,9 @@ int zkv_file_guard(const char *program)
             return 0;
         }
     }
-    atomic_store(&the_program, program);
+    if (program != NULL) {
+        atomic_store(&the_program, program);
+    }
     return guard_pages();
 }
 
