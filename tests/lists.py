@@ -176,8 +176,20 @@ def finds(program):
     return True
 
 
+def says_what_is_lost(program):
+    """Where standard output takes nothing, standard error says so; where it takes all, nothing is said."""
+    data = bytes_of(small(), 0, 16_384)
+    with open('/dev/full', 'wb') as full:
+        lost = subprocess.run([program], input=data, stdout=full, stderr=subprocess.PIPE, timeout=60)
+    whole = subprocess.run([program], input=data, stdout=subprocess.DEVNULL, stderr=subprocess.PIPE, timeout=60)
+    return lost.stderr != b'' and whole.stderr == b''
+
+
 def run(program):
     wrong = 0
+    if not says_what_is_lost(program):
+        wrong += 1
+        print('a list that could not be printed is not said to be lost')
     if not finds(program):
         wrong += 1
         print('a difference is not found')

@@ -12,5 +12,13 @@ fn main() {
     let mut out: [u8; 133160] = [0; 133160];
     let n = io::read_full(0, &mut image);
     let end = list_text::list_image(&image[..n], &mut table, &mut buffer, &mut keys, &mut out);
-    io::write_all(1, &out[..end]);
+    report(io::write_all(1, &out[..end]));
+}
+
+// A program of the kit has no exit status: what could not be printed is said on standard error.
+fn report(printed: bool) {
+    if printed {
+        return;
+    }
+    io::write_all(2, b"list: not all of it could be printed\n");
 }
