@@ -12,6 +12,7 @@ ghost use Rattle.directory.specs.Counts.{linesUsed};
 ghost use Rattle.stat.specs.Counts.{Known};
 ghost use Rattle.inspect.specs.Numbers.{stationOf, centreOf, ToldAs};
 ghost use Rattle.inspect.specs.History.{entryFrom};
+ghost use Rattle.entries.specs.KeyEntries.{entriesFrom, EntriesListed};
 ghost use Rattle.faults.specs.Faults.{Told as Located};
 ghost use Rattle.chunk_stat.specs.Contract.{Described, Emptied};
 ghost use Rattle.answers.specs.Answers.{Told, Shown, CountTold, ListTold};
@@ -119,6 +120,15 @@ pub extern "C" fn zkv_centre(image: &[u8], number: &mut u64) -> u64
     ensures { λ r. ⌜ ToldAs (centreOf (chunksIn 12 (length (now (image .entry)))) (wordsOf (now (image .entry)))) r (now (number .exit)) ⌝ }
 {
     inspect::tell_centre(image, number)
+}
+
+// The entries of a key that stand at or behind a word of the image, into the lent words as far as these reach
+// (`entries::entries_from`); how many there are.
+#[no_mangle]
+pub extern "C" fn zkv_entries(image: &[u8], key: u64, from: usize, words: &mut [u64]) -> usize
+    ensures { λ r. ⌜ EntriesListed (entriesFrom 12 (chunksIn 12 (length (now (image .entry)))) (wordsOf (now (image .entry))) key from) (now (words .entry)) (now (words .exit)) r ⌝ }
+{
+    entries::entries_from(image, key, from, words)
 }
 
 // The first entry of a key that stands at or behind a word of the image (`inspect::entry_from`).

@@ -30,9 +30,12 @@ abbrev pub entryWith : (mark : ℕ) → Entry → KeyEntry
 entryWith mark e = record { found = 1; place = e .at; op = e .op; version = e .version; block = e .placement; field = e .field; chosen = mark }
 
 -- with 1 for the chosen entry of the key, by which the register goes, and 0 for every other
+abbrev pub numbered : (key : ℕ) → List Entry → Entry → KeyEntry
+numbered key es e = entryWith (pick (isAt (chosen key es) (e .at)) 1 0) e
+
 abbrev pub numbersOf : (key : ℕ) → List Entry → Option Entry → KeyEntry
 numbersOf key es none = noEntry
-numbersOf key es (some e) = entryWith (pick (isAt (chosen key es) (e .at)) 1 0) e
+numbersOf key es (some e) = numbered key es e
 
 -- of an image of n chunks; none where an entry of its log is wrong
 unfoldable pub entryFrom : ℕ → ℕ → List ℕ → (key from : ℕ) → KeyEntry

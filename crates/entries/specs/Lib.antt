@@ -1,0 +1,2 @@
+pub mod KeyEntries
+pub mod Filling
