@@ -146,36 +146,31 @@ int command_info(const char *file, char **word, const struct options *o)
 
 /* ---- history */
 
+/* Of entries as zkv_entries writes them. */
 static int by_version(const void *a, const void *b)
 {
-    const zkv_key_entry *x = a, *y = b;
-    if (x->version != y->version) {
-        return x->version < y->version ? -1 : 1;
-    }
-    return x->place < y->place ? -1 : x->place > y->place;
+    const uint64_t *x = a, *y = b;
+    int word = x[ZKV_ENTRY_VERSION] != y[ZKV_ENTRY_VERSION] ? ZKV_ENTRY_VERSION : ZKV_ENTRY_PLACE;
+    return x[word] < y[word] ? -1 : x[word] > y[word];
 }
 
-/* The key's entries, in memory that the caller frees. */
-static int entries_of(struct station *s, uint64_t key, zkv_key_entry **entry, size_t *count)
+/* The key's entries by version, in memory that the caller frees. Where they do not fit they are asked for once more. */
+static int entries_of(struct station *s, uint64_t key, uint64_t **entry, size_t *count)
 {
+    enum { SIZE = ZKV_ENTRY_WORDS * sizeof **entry };
     size_t room = 0;
     *entry = NULL;
-    *count = 0;
-    zkv_key_entry e = zkv_entry(s->file.image, s->file.bytes, key, 0);
-    for (; e.found != 0; e = zkv_entry(s->file.image, s->file.bytes, key, e.place + 1)) {
-        if (*count == room) {
-            room = 2 * room + 64;
-            zkv_key_entry *more = realloc(*entry, room * sizeof *more);
-            if (more == NULL) {
-                return trouble(s->file.name, "no memory for the entries");
-            }
-            *entry = more;
+    *count = 64;
+    while (room < *count) {
+        room = *count;
+        uint64_t *more = realloc(*entry, room * SIZE);
+        if (more == NULL) {
+            return trouble(s->file.name, "no memory for the entries");
         }
-        (*entry)[(*count)++] = e;
+        *entry = more;
+        *count = zkv_entries(s->file.image, s->file.bytes, key, 0, *entry, room * ZKV_ENTRY_WORDS);
     }
-    if (*count > 0) {
-        qsort(*entry, *count, sizeof **entry, by_version);
-    }
+    qsort(*entry, *count, SIZE, by_version);
     return DONE;
 }
 
@@ -192,21 +187,22 @@ static void print_value(FILE *to, const uint8_t *value, uint64_t length)
 }
 
 /* A line for an entry. What a superseded entry says of a block is not read: another value may be there. */
-static int print_entry(struct station *s, FILE *to, uint64_t key, const zkv_key_entry *e)
+static int print_entry(struct station *s, FILE *to, uint64_t key, const uint64_t *e)
 {
     const uint8_t *image = s->file.image;
-    uint64_t start, length;
-    fprintf(to, "%" PRIu64 " %s chunk %" PRIu64 " line %" PRIu64 " %s", e->version, e->op == 1 ? "put" : "delete",
-            8 * e->place / ZKV_CHUNK_BYTES, 8 * e->place % ZKV_CHUNK_BYTES / ZKV_LINE_BYTES, e->chosen ? "current" : "superseded");
-    if (e->op == 1 && e->block == 0) {
-        print_value(to, image + 8 * e->place + 16, e->field);
-    } else if (e->op == 1 && e->chosen) {
+    uint64_t start, length, byte = 8 * e[ZKV_ENTRY_PLACE];
+    bool put = e[ZKV_ENTRY_OP] == 1, chosen = e[ZKV_ENTRY_CHOSEN] != 0;
+    fprintf(to, "%" PRIu64 " %s chunk %" PRIu64 " line %" PRIu64 " %s", e[ZKV_ENTRY_VERSION], put ? "put" : "delete",
+            byte / ZKV_CHUNK_BYTES, byte % ZKV_CHUNK_BYTES / ZKV_LINE_BYTES, chosen ? "current" : "superseded");
+    if (put && e[ZKV_ENTRY_BLOCK] == 0) {
+        print_value(to, image + byte + 16, e[ZKV_ENTRY_FIELD]);
+    } else if (put && chosen) {
         uint64_t number = zkv_look_up(LENT(s), key, &start, &length);
         if (number != 0) {
             return refused(s->file.name, number, "key %" PRIu64 ": ", key);
         }
         print_value(to, image + start, length);
-    } else if (e->op == 1) {
+    } else if (put) {
         fputs(" in a block that may hold another value now", to);
     }
     fputc('\n', to);
@@ -217,7 +213,7 @@ static uint64_t history_key;
 
 static int print_history(struct station *s, FILE *to)
 {
-    zkv_key_entry *entry;
+    uint64_t *entry;
     size_t count;
     int status = entries_of(s, history_key, &entry, &count);
     if (status == DONE && count == 0) {
@@ -227,7 +223,7 @@ static int print_history(struct station *s, FILE *to)
         fprintf(to, "entries %zu\n", count);
     }
     for (size_t i = 0; status == DONE && i < count; i++) {
-        status = print_entry(s, to, history_key, &entry[i]);
+        status = print_entry(s, to, history_key, entry + i * ZKV_ENTRY_WORDS);
     }
     free(entry);
     return status;

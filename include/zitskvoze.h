@@ -259,6 +259,17 @@ typedef struct zkv_key_entry {
     uint64_t found, place, op, version, block, field, chosen;
 } zkv_key_entry;
 
+/* The words of an entry as zkv_entries writes them, in this order: each means what it does in zkv_key_entry. */
+enum zkv_entry_word {
+    ZKV_ENTRY_PLACE = 0,
+    ZKV_ENTRY_OP = 1,
+    ZKV_ENTRY_VERSION = 2,
+    ZKV_ENTRY_BLOCK = 3,
+    ZKV_ENTRY_FIELD = 4,
+    ZKV_ENTRY_CHOSEN = 5,
+    ZKV_ENTRY_WORDS = 6       /* how many they are */
+};
+
 /* Where a fault is (zkv_fault). `refusal` is 0, or 1 to 6 as an opening answers it. `word` is a word of the image, so
  * byte 8 * word: of 2 a word of the header (7 where only the sum is wrong), of 3 the first wrong directory word and
  * `chunk` its chunk; of 4 to 6 the first word of an entry, in `chunk`. Of 4 `before` entries of the log stand before
@@ -365,8 +376,13 @@ uint64_t zkv_station(const uint8_t *image, size_t bytes, uint64_t *number);
 /* The same of the centre number. */
 uint64_t zkv_centre(const uint8_t *image, size_t bytes, uint64_t *number);
 
-/* The first entry of a key at or behind word `from`, by chunk, then offset; none where an entry of the log is wrong. To
- * have all: from 0, then from each entry's place + 1, until `found` is 0. Each call reads the whole log twice. */
+/* The entries of a key at or behind word `from` (0 for all), by chunk, then offset, into `words`: ZKV_ENTRY_WORDS for
+ * each, as many whole entries as the `room` words hold; the words behind them stay. Answers how many there are, whether
+ * they fit or not: where they are more than room / ZKV_ENTRY_WORDS, lend more, or ask again from the last one's
+ * place + 1. None where an entry of the log is wrong. Each call reads the log twice, whatever the room. */
+size_t zkv_entries(const uint8_t *image, size_t bytes, uint64_t key, size_t from, uint64_t *words, size_t room);
+
+/* The first of these alone; `found` is 0 where there is none. It reads the log twice too. */
 zkv_key_entry zkv_entry(const uint8_t *image, size_t bytes, uint64_t key, size_t from);
 
 /* Why an opening refuses the image, and where; 0 where it does not, or only because the keys do not fit the table (7).

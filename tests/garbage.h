@@ -554,6 +554,44 @@ static void count_calls(void)
     record_kept();
 }
 
+/* Into words that hold a pattern: whole entries of the image, rising, the first as zkv_entry answers it; the words
+ * behind them stay. */
+static void entries_call(void)
+{
+    call = "zkv_entries";
+    uint64_t key = some_key(), last = 0;
+    size_t from = one_in(2) ? 0 : one_in(2) ? below(image.bytes / 8) : (size_t)draw();
+    place(&keys, 8 * (one_in(3) ? below(3) : below(KEYS_ROOM)));
+    uint64_t *word = (uint64_t *)(void *)keys.at;
+    size_t room = keys.bytes / 8;
+    memset(keys.at, 0x5A, keys.bytes);
+    remember();
+    size_t count = zkv_entries(image.at, image.bytes, key, from, word, room);
+    zkv_key_entry one = zkv_entry(image.at, image.bytes, key, from);
+    uint64_t first[ZKV_ENTRY_WORDS] = {one.place, one.op, one.version, one.block, one.field, one.chosen};
+    image_kept();
+    around(&keys);
+    size_t written = room / ZKV_ENTRY_WORDS < count ? room / ZKV_ENTRY_WORDS : count;
+    if (count > image.bytes / 16 || (count > 0) != (one.found == 1)) {
+        fault("%zu entries, and the first is found %" PRIu64, count, one.found);
+    }
+    if (written > 0 && memcmp(word, first, sizeof first) != 0) {
+        fault("the first of %zu entries is not the one that zkv_entry answers", count);
+    }
+    for (size_t i = 0; i < written; i++) {
+        uint64_t at = word[i * ZKV_ENTRY_WORDS + ZKV_ENTRY_PLACE];
+        if (at < 512 || at < from || at <= last || 8 * at + 16 > image.bytes || word[i * ZKV_ENTRY_WORDS + ZKV_ENTRY_CHOSEN] > 1) {
+            fault("an entry at word %" PRIu64 " behind one at word %" PRIu64, at, last);
+        }
+        last = at;
+    }
+    for (size_t i = written * ZKV_ENTRY_WORDS; i < room; i++) {
+        if (word[i] != 0x5A5A5A5A5A5A5A5Aull) {
+            fault("a word behind the entries was changed");
+        }
+    }
+}
+
 /* What is asked of chunks, entries and header: a number of the table or none, places inside the image. */
 static void inside_calls(void)
 {
@@ -637,6 +675,7 @@ static void all_calls(bool openings)
                 inside_calls();
             }
             list_call();
+            entries_call();
             finish();
             break;
         case 8:

@@ -67,7 +67,9 @@ static void write_labels(void)
 /* What is asked of chunks, entries and header, of the labels above: a put, an empty put and its delete in one chunk. */
 static void look_inside(void)
 {
-    uint64_t number = 1;
+    enum { ROOM = 3 * ZKV_ENTRY_WORDS - 1 };
+    uint64_t number = 1, entry[ROOM];
+    entry[ROOM - 1] = 99;
     zkv_chunk_row row = zkv_chunk(LENT, 1);
     zkv_key_entry e = zkv_entry(file.image, file.bytes, 5, 0);
     HOLD(row.refused == 0 && row.role == ZKV_LOG_CHUNK && row.size == 2 && row.live == 1 && row.deletes == 1 && row.superseded == 1);
@@ -77,6 +79,10 @@ static void look_inside(void)
     e = zkv_entry(file.image, file.bytes, 5, (size_t)e.place + 1);
     HOLD(e.found == 1 && e.op == 2 && e.version == 2 && e.chosen == 1);
     HOLD(zkv_entry(file.image, file.bytes, 5, (size_t)e.place + 1).found == 0);
+    HOLD(zkv_entries(file.image, file.bytes, 5, 0, entry, ROOM) == 2 && entry[ROOM - 1] == 99);
+    HOLD(entry[ZKV_ENTRY_OP] == 1 && entry[ZKV_ENTRY_VERSION] == 1 && entry[ZKV_ENTRY_CHOSEN] == 0);
+    HOLD(entry[ZKV_ENTRY_WORDS + ZKV_ENTRY_PLACE] == e.place && entry[ZKV_ENTRY_WORDS + ZKV_ENTRY_CHOSEN] == 1);
+    HOLD(zkv_entries(file.image, file.bytes, 5, (size_t)e.place, entry, 0) == 1);
     HOLD(zkv_station(file.image, file.bytes, &number) == 1 && number == 7);
     HOLD(zkv_centre(file.image, file.bytes, &number) == 0 && number == 0);
     HOLD(zkv_fault(file.image, file.bytes).refusal == 0);

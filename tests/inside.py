@@ -10,6 +10,7 @@ entry and how many stand before it, the first top entry whose block is wrong, an
 import json
 import os
 import random
+import resource
 import struct
 import subprocess
 import sys
@@ -85,6 +86,49 @@ def compare_history(v, name, key):
     lines = r.stdout.decode().split('\n')[:-1]
     if (r.returncode, lines) != ((0, [f'entries {len(wanted)}'] + wanted) if wanted else (1, [])):
         fail(f'{name}: history of {key} says {lines} and the model {wanted}')
+
+
+# ---- a log with many entries of one key
+
+def make_long(rng, name, lines):
+    """An entry in each of so many lines: those of key 7, two thirds of all, with their versions in any order and the newest one twice."""
+    count = 504
+    words = [1, count, 0, 0, 0, 0, 0, -(1 + count) % (1 << 64)] + [0] * (512 * count - 8)
+    many = 2 * lines // 3
+    entries = [(7, version) for version in (*range(1, many), many - 1)] + [(8, version) for version in range(1, lines - many + 1)]
+    rng.shuffle(entries)
+    newest = rng.randbytes(8)
+    for i, (key, version) in enumerate(entries):
+        chunk, line = 1 + i // 64, i % 64
+        words[8 + chunk] = 1 + 256 * (line + 1)
+        at = 512 * chunk + 8 * line
+        value = newest if version == many - 1 else b'%08d' % version
+        words[at:at + 3] = (2 + 16 * version, key, 0) if version % 50 == 1 else (1 + 16 * version + (8 << 24), key, int.from_bytes(value, 'little'))
+    open(name, 'wb').write(struct.pack(f'<{len(words)}Q', *words))
+
+
+def history_seconds(name):
+    """Of processor time, the least of three."""
+    def once():
+        before = resource.getrusage(resource.RUSAGE_CHILDREN)
+        zkv('history', name, 7)
+        after = resource.getrusage(resource.RUSAGE_CHILDREN)
+        return after.ru_utime + after.ru_stime - before.ru_utime - before.ru_stime
+    return min(once() for _ in range(3))
+
+
+def compare_long(rng, name):
+    """Against the model; and four times the entries take no more than eight times as long."""
+    seconds = []
+    for lines in (8000, 32000):
+        make_long(rng, name, lines)
+        v = View(*words_in(name), TABLE, model=RULES)
+        for key in (7, 8, 9):
+            compare_history(v, name, key)
+        seconds.append(history_seconds(name))
+    if seconds[1] > 8 * seconds[0]:
+        fail(f'history took {seconds[0]:.3f} s at 8,000 entries and {seconds[1]:.3f} s at 32,000')
+    return seconds[1]
 
 
 # ---- one that does not
@@ -221,10 +265,11 @@ def main():
                 wanted = {'accepted': False, 'refusal': number, 'sentence': found.get('sentence'), **place_of(number, changed, nbytes)}
                 if found != wanted:
                     fail(f'check says {found} and the model {wanted}')
+        long = compare_long(rng, name)
     if set(told) < {2, 3, 4, 5, 6}:
         fail(f'only the refusals {sorted(told)} were met')
     print(f'inside: {registers} registers and {opened} altered ones told chunk by chunk, {sum(told.values())} faults placed: '
-          + ', '.join(f'{told[n]} of {n}' for n in sorted(told)))
+          + ', '.join(f'{told[n]} of {n}' for n in sorted(told)) + f'; a history over 32,000 entries in {long:.3f} s')
 
 
 main()

@@ -31,7 +31,7 @@ cat > "$work/layout.c" <<'END'
 #define AT(field) offsetof(zkv_file, field)
 int main(void)
 {
-    const size_t found[] = {sizeof(zkv_record), sizeof(zkv_report), sizeof(zkv_chunk_row), sizeof(zkv_key_entry), sizeof(zkv_file_wait),
+    const size_t found[] = {sizeof(zkv_record), sizeof(zkv_report), sizeof(zkv_chunk_row), ZKV_ENTRY_WORDS, sizeof(zkv_file_wait),
                             sizeof(zkv_file), AT(bytes), AT(name), AT(length), AT(use), AT(page), AT(device), AT(made), AT(wanted)};
     for (size_t i = 0; i < sizeof found / sizeof *found; i++) {
         printf("%s%zu", i == 0 ? "" : " ", found[i]);

@@ -423,16 +423,14 @@ impl Register {
 
     /// The entries of a key that still stand in the log, by chunk, then offset.
     pub fn history(&self, key: u64) -> Vec<Entry> {
-        let (mut entries, mut from) = (Vec::new(), 0);
-        loop {
+        let (mut words, mut count) = (Vec::new(), 64);
+        while words.len() < count * sys::ENTRY_WORDS {
+            words.resize(count * sys::ENTRY_WORDS, 0);
             // Safety: as above.
-            let e = unsafe { sys::zkv_entry(self.file.image(), self.file.bytes(), key, from) };
-            if e.found == 0 {
-                return entries;
-            }
-            entries.push(Entry { version: e.version, put: e.op == 1, block: e.block != 0, current: e.chosen != 0, place: e.place });
-            from = e.place as usize + 1;
+            count = unsafe { sys::zkv_entries(self.file.image(), self.file.bytes(), key, 0, words.as_mut_ptr(), words.len()) };
         }
+        let entry = |e: &[u64]| Entry { place: e[0], put: e[1] == 1, version: e[2], block: e[3] != 0, current: e[5] != 0 };
+        words.chunks_exact(sys::ENTRY_WORDS).take(count).map(entry).collect()
     }
 
     /// Whether the file is as long as it was and, where it is written, still the name's. Every write asks it itself.
@@ -487,14 +485,14 @@ mod tests {
     /// The C compiler's sizes and places, as tests/rust.sh finds them, are those of sys.rs.
     #[test]
     fn layout() {
-        use crate::sys::{ChunkRow, File, KeyEntry, Record, Report, Wait};
+        use crate::sys::{ChunkRow, File, Record, Report, Wait, ENTRY_WORDS};
         use std::mem::{offset_of, size_of};
         let Ok(wanted) = std::env::var("ZKV_LAYOUT") else { return };
         let found = [
             size_of::<Record>(),
             size_of::<Report>(),
             size_of::<ChunkRow>(),
-            size_of::<KeyEntry>(),
+            ENTRY_WORDS,
             size_of::<Wait>(),
             size_of::<File>(),
             offset_of!(File, bytes),

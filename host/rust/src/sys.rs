@@ -44,17 +44,8 @@ pub struct ChunkRow {
     pub used: u64,
 }
 
-#[repr(C)]
-#[derive(Clone, Copy, Debug)]
-pub struct KeyEntry {
-    pub found: u64,
-    pub place: u64,
-    pub op: u64,
-    pub version: u64,
-    pub block: u64,
-    pub field: u64,
-    pub chosen: u64,
-}
+/// The words of an entry as zkv_entries writes them: place, op, version, block, field, chosen.
+pub const ENTRY_WORDS: usize = 6;
 
 #[repr(C)]
 pub struct File {
@@ -131,7 +122,7 @@ extern "C" {
     ) -> Report;
     pub fn zkv_station(image: *const u8, bytes: usize, number: *mut u64) -> u64;
     pub fn zkv_centre(image: *const u8, bytes: usize, number: *mut u64) -> u64;
-    pub fn zkv_entry(image: *const u8, bytes: usize, key: u64, from: usize) -> KeyEntry;
+    pub fn zkv_entries(image: *const u8, bytes: usize, key: u64, from: usize, words: *mut u64, room: usize) -> usize;
     pub fn zkv_sentence(number: u64) -> *const c_char;
     pub fn zkv_version() -> *const c_char;
 

@@ -325,6 +325,13 @@ fn chunks_and_entries_are_told() {
     let told: Vec<_> = register.history(1).iter().map(|e| (e.version, e.put, e.block, e.current)).collect();
     assert_eq!(told, [(1, true, false, false), (2, true, false, true)]);
     assert!(register.history(4).is_empty());
+    // more than there is room for at first
+    for _ in 0..100 {
+        register.put(4, b"again").unwrap();
+    }
+    let places: Vec<_> = register.history(4).iter().map(|e| (e.version, e.current, e.place)).collect();
+    assert_eq!(places.len(), 100);
+    assert!(places.windows(2).all(|p| p[0].2 < p[1].2) && places.iter().all(|p| p.1 == (p.0 == 100)));
     register.delete(3).unwrap();
     register.clean().unwrap();
     assert_eq!(register.chunk(data).unwrap(), Chunk::Free);
