@@ -15,7 +15,8 @@
 
 /* ---- options, by the commands that have them */
 
-enum { FORCE = 1, STATION = 2, CENTRE = 4, EMPTY = 8, NO_CLEAN = 16, PAUSE = 32, WAIT = 64, JSON = 128, AGAINST = 256, SVG = 512 };
+enum { FORCE = 1, STATION = 2, CENTRE = 4, EMPTY = 8, NO_CLEAN = 16, PAUSE = 32, WAIT = 64, JSON = 128, AGAINST = 256, SVG = 512,
+       LINE = 1024 };
 
 static const struct option {
     const char *name;
@@ -32,7 +33,8 @@ static const struct option {
     {"--wait", WAIT, "seconds, at most 1000000", 1000000},
     {"--json", JSON, NULL, 0},
     {"--against", AGAINST, "a digest: 64 hexadecimal digits", 0},
-    {"--svg", SVG, "a file's name", 0},
+    {"--svg", SVG, "a file's name, or -", 0},
+    {"--line", LINE, NULL, 0},
 };
 
 static const struct command {
@@ -47,12 +49,12 @@ static const struct command {
     {"put", 2, 0, EMPTY | NO_CLEAN | PAUSE | WAIT, command_put,
      "FILE KEY VALUEFILE|- [--empty] [--no-clean] [--pause MICROSECONDS] [--wait SECONDS]"},
     {"get", 1, 0, WAIT, command_get, "FILE KEY [--wait SECONDS]"},
-    {"scan", 2, 0, EMPTY | WAIT, command_scan, "FILE KEY SCANFILE|- [--empty] [--wait SECONDS]"},
+    {"scan", 2, 0, EMPTY | LINE | WAIT, command_scan, "FILE KEY SCANFILE|- [--line] [--empty] [--wait SECONDS]"},
     {"delete", 1, 0, NO_CLEAN | PAUSE | WAIT, command_delete, "FILE KEY [--no-clean] [--pause MICROSECONDS] [--wait SECONDS]"},
     {"clean", 0, 1, PAUSE | WAIT, command_clean, "FILE [CHUNK] [--pause MICROSECONDS] [--wait SECONDS]"},
     {"list", 0, 0, JSON | WAIT, command_list, "FILE [--json] [--wait SECONDS]"},
     {"stat", 0, 0, JSON | WAIT, command_stat, "FILE [--json] [--wait SECONDS]"},
-    {"info", 0, 0, SVG | WAIT, command_info, "FILE [--svg OUT] [--wait SECONDS]"},
+    {"info", 0, 0, SVG | WAIT, command_info, "FILE [--svg OUT|-] [--wait SECONDS]"},
     {"history", 1, 0, WAIT, command_history, "FILE KEY [--wait SECONDS]"},
     {"check", 0, 0, AGAINST | JSON | WAIT, command_check, "FILE [--against SUM] [--json] [--wait SECONDS]"},
     {"digest", 0, 0, WAIT, command_digest, "FILE [--wait SECONDS]"},
@@ -69,15 +71,21 @@ static void print_usage(FILE *to)
     for (size_t i = 0; i < COMMANDS; i++) {
         fprintf(to, "%s zkv %s %s\n", i == 0 ? "usage:" : "      ", commands[i].name, commands[i].usage);
     }
-    fputs("       zkv --help | --version\n"
+    fputs("       zkv help | -h | --help | --version\n"
+          "       zkv COMMAND --help\n"
           "exit status: 0 done (of scan and check: a match), 1 the key is absent, 2 usage or system, 3 refused, 4 put aside\n", to);
+}
+
+static void print_usage_of(FILE *to, const struct command *c)
+{
+    fprintf(to, "usage: zkv %s %s\n", c->name, c->usage);
 }
 
 /* What is wrong with the command line, and how the command is used. */
 static int misused(const struct command *c, const char *what, const char *word)
 {
     fprintf(stderr, "zkv: %s: %s%s%s\n", c->name, what, word != NULL ? ": " : "", word != NULL ? word : "");
-    fprintf(stderr, "usage: zkv %s %s\n", c->name, c->usage);
+    print_usage_of(stderr, c);
     return TROUBLE;
 }
 
@@ -90,6 +98,17 @@ bool number_of(const char *s, uint64_t *n)
     errno = 0;
     *n = strtoull(s, &end, 10);
     return errno == 0 && *end == 0;
+}
+
+int key_of(const char *file, const char *given, uint64_t *key)
+{
+    if (!number_of(given, key)) {
+        return trouble(file, "%s is no key: a key is a decimal number below 2^64", given);
+    }
+    if (given[0] == '0' && given[1] != 0) {
+        fprintf(stderr, "zkv: %s: %s is key %" PRIu64 ": leading zeros are no part of a key\n", file, given, *key);
+    }
+    return DONE;
 }
 
 static void set_option(struct options *o, unsigned bit, uint64_t n, const char *given)
@@ -124,6 +143,9 @@ static void set_option(struct options *o, unsigned bit, uint64_t n, const char *
     case SVG:
         o->svg = given;
         break;
+    case LINE:
+        o->line = true;
+        break;
     default:
         o->wait = (long)n;
     }
@@ -151,13 +173,18 @@ static bool fits(const struct option *p, const char *given, uint64_t *n)
     return number_of(given, n) && *n <= p->most;
 }
 
-/* The words and options behind the command's name. */
+/* The words and options behind the command's name. A question for help stands alone: among words it may be a file's
+ * name that was meant, and the command is not done. */
 static int play(const struct command *c, int count, char **argument)
 {
     char *word[WORDS_MAX + 1] = {NULL};
     struct options o = {.wait = -1};
     int words = 0;
     bool only_words = false;
+    if (count == 1 && strcmp(argument[0], "--help") == 0) {
+        print_usage_of(stdout, c);
+        return DONE;
+    }
     for (int i = 0; i < count; i++) {
         char *a = argument[i];
         if (only_words || strncmp(a, "--", 2) != 0) {
@@ -189,13 +216,33 @@ static int play(const struct command *c, int count, char **argument)
     return c->run(word[0], word + 1, &o);
 }
 
+static const struct command *command_named(const char *name)
+{
+    for (size_t i = 0; i < COMMANDS; i++) {
+        if (strcmp(commands[i].name, name) == 0) {
+            return &commands[i];
+        }
+    }
+    return NULL;
+}
+
 static int command(int count, char **argument)
 {
     if (count < 2) {
         print_usage(stderr);
         return TROUBLE;
     }
-    bool help = strcmp(argument[1], "--help") == 0, version = strcmp(argument[1], "--version") == 0;
+    const char *name = argument[1];
+    bool help = strcmp(name, "help") == 0 || strcmp(name, "--help") == 0 || strcmp(name, "-h") == 0;
+    bool version = strcmp(name, "--version") == 0;
+    const struct command *c = command_named(help && count == 3 ? argument[2] : name);
+    if (c != NULL && help) {
+        print_usage_of(stdout, c);
+        return DONE;
+    }
+    if (c != NULL) {
+        return play(c, count - 2, argument + 2);
+    }
     if (count == 2 && help) {
         print_usage(stdout);
         return DONE;
@@ -204,12 +251,8 @@ static int command(int count, char **argument)
         printf("zkv %s\n", zkv_version());
         return DONE;
     }
-    for (size_t i = 0; i < COMMANDS; i++) {
-        if (strcmp(commands[i].name, argument[1]) == 0) {
-            return play(&commands[i], count - 2, argument + 2);
-        }
-    }
-    fprintf(stderr, "zkv: %s: %s\n", argument[1], help || version ? "it stands alone" : "there is no such command");
+    bool asked = help && count == 3, alone = !asked && (help || version);
+    fprintf(stderr, "zkv: %s: %s\n", asked ? argument[2] : name, alone ? "it stands alone" : "there is no such command");
     print_usage(stderr);
     return TROUBLE;
 }

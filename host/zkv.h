@@ -12,13 +12,13 @@ enum { DONE = 0, ABSENT = 1, TROUBLE = 2, REFUSED = 3, PUT_ASIDE = 4 };
 
 /* What the command line says besides the command, its file and its words. */
 struct options {
-    bool force, empty, no_clean, json;
+    bool force, empty, no_clean, json, line;
     bool station_given, centre_given;
     uint64_t station, centre;
     long pause_us;              /* between steps */
     long wait;                  /* seconds for the lock; -1: as long as it takes */
     const char *against;        /* a digest; NULL: none is given */
-    const char *svg;            /* a file for the picture; NULL: none is given */
+    const char *svg;            /* a file for the picture, - for standard output; NULL: none is given */
 };
 
 /* A register in a file, with all that is lent to the calls. */
@@ -28,6 +28,7 @@ struct station {
     uint64_t *table;
     size_t words;               /* of the table */
     long pause_us;
+    bool held;                  /* set before an opening: a file that is only read stays locked and mapped, too */
     bool in_memory;             /* no file: a copy that is thrown away */
 };
 
@@ -56,10 +57,15 @@ struct put_so_far {
 __attribute__((format(printf, 2, 3))) int trouble(const char *file, const char *format, ...);
 __attribute__((format(printf, 3, 4))) int refused(const char *file, uint64_t number, const char *about, ...);
 
-/* zkv_register.c: opening, and carrying a begun call out. */
+/* zkv_register.c: opening, and carrying a begun call out. A file that is only read is copied into memory and closed, so
+ * that its lock is free again; what was opened to be written is held until the program ends. */
 int lend(struct station *s, size_t bytes, const struct options *o);        /* a key table for an image of so many bytes */
 int open_image(struct station *s, const char *name, enum zkv_file_use use, const struct options *o, uint64_t *number);
 int need_register(struct station *s, const char *name, enum zkv_file_use use, const struct options *o);
+/* Opens to be written, for commits. A commit is begun only while a free chunk stands, else a power cut in a cleaning
+ * can leave a register that is stuck for good (zitskvoze.h): where the opening finds none, a chunk is cleaned first,
+ * which copies nothing. */
+int need_room(struct station *s, const char *name, const struct options *o);
 int carry_out(struct station *s, zkv_report *report);                       /* to its end, or a refusal, left in *report */
 int confirmed(const struct station *s);                                    /* before a command says that it is done */
 int read_value(const char *from, bool empty_meant, const uint8_t **value, size_t *length);
@@ -67,19 +73,24 @@ int read_value(const char *from, bool empty_meant, const uint8_t **value, size_t
 enum { DIGEST_ROOM = 65 };      /* 64 digits and the end */
 enum { VALUE_ROOM = 65537 };    /* more than any value's limit, so that the library sees what is too long */
 
-/* zkv_labels.c: how many keys are present; the labels by rising key, until `take` answers no DONE; their digest; and
- * what `print` prints, printed once the file is known to be whole. */
+/* zkv_labels.c: how many keys are present; the label of a key; the labels by rising key, until `take` answers no DONE;
+ * their digest; and what `print` prints, printed once it is whole. */
 uint64_t labels_in(struct station *s);
+int label_of_key(struct station *s, uint64_t key, struct label *l);
 int each_label(struct station *s, int (*take)(struct station *s, const struct label *l, void *to), void *to);
 int digest_of(struct station *s, char digest[DIGEST_ROOM]);
 int print_whole(struct station *s, int (*print)(struct station *s, FILE *to));
 void print_json(FILE *to, const char *text, size_t length);     /* printable text in quotes */
 
 /* zkv_write.c: each leaves a refusal, if there is one, in *report. Cleans the chunk that is named, else the one that is
- * chosen, else one that holds no label, and counts it. Stages and commits a put or, where value is NULL, a delete; a
- * refused commit leaves nothing staged. */
+ * chosen, else one that holds no label, and counts it. Whether cleaning may help against a refusal. Stages and commits
+ * a put or, where value is NULL, a delete; a refused commit leaves nothing staged, and as many chunks free as before. */
 int clean_one(struct station *s, const uint64_t *named, struct cleaned *done, zkv_report *report);
+bool cleaning_may_help(struct station *s, const zkv_report *report);
 int change(struct station *s, uint64_t key, const uint8_t *value, size_t length, zkv_report *report);
+/* Forgets the staged items of a refused commit, and frees chunks that were taken for their blocks until as many are
+ * free as were before. */
+int give_up(struct station *s, uint64_t free_before);
 
 /* zkv_load.c: puts labels by batches, in their order; where one is refused, it is the first behind those that are
  * in. */
@@ -105,7 +116,9 @@ int command_list(const char *file, char **word, const struct options *o);
 int command_dump(const char *file, char **word, const struct options *o);
 int command_digest(const char *file, char **word, const struct options *o);
 
-/* zkv.c: a decimal number below 2^64. */
+/* zkv.c: a decimal number below 2^64; and a key, which is one: says so where it has leading zeros, which are no part of
+ * it, and answers the exit status. */
 bool number_of(const char *s, uint64_t *n);
+int key_of(const char *file, const char *given, uint64_t *key);
 
 #endif

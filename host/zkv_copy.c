@@ -96,13 +96,7 @@ static int copy_to(struct station *old, struct station *new, const struct labels
     if (status == DONE) {
         status = confirmed(old);
     }
-    const char *text = NULL;
-    if (status == DONE) {
-        text = zkv_file_take_name(&new->file, NULL);
-    }
-    if (status == DONE && text == NULL) {
-        text = zkv_file_confirm(&new->file);
-    }
+    const char *text = status == DONE ? zkv_file_take_name(&new->file, NULL) : NULL;
     return text == NULL ? status : trouble(new->file.name, "%s", text);
 }
 
@@ -124,9 +118,10 @@ static int nobody_has(const char *name)
     return errno == ENOENT ? DONE : trouble(name, "%s", strerror(errno));
 }
 
+/* The lock is held until the copy has its name: a label that is put meanwhile would be in one of the two alone. */
 int command_copy(const char *file, char **word, const struct options *o)
 {
-    static struct station old, new;
+    static struct station old = {.held = true}, new;
     struct labels all = {NULL, 0};
     uint64_t chunks = 0;
     int status = word[1] != NULL ? chunks_of(word[0], word[1], &chunks) : DONE;

@@ -14,7 +14,7 @@
 static const char *const roles[] = {"free", "log", "data", "wrong"};
 
 struct chunks {
-    size_t count;               /* with chunk 0, of which nothing is told */
+    size_t count;               /* with chunk 0, of which there is no row */
     zkv_chunk_row row[ZKV_CHUNKS_MAX];
 };
 
@@ -30,13 +30,31 @@ static int measure(struct station *s, struct chunks *all)
     return DONE;
 }
 
+/* The last of the free chunks that stand beside each other from chunk c on. */
+static size_t last_free(const struct chunks *all, size_t c)
+{
+    while (c + 1 < all->count && all->row[c + 1].role == ZKV_FREE_CHUNK) {
+        c++;
+    }
+    return c;
+}
+
+/* A line for each chunk; one for free chunks that stand beside each other. */
 static void print_table(const struct chunks *all)
 {
-    puts("chunk  role  lines  live  superseded  deletes  blocks  bytes  used");
+    puts("   chunk  role  lines  live  superseded  deletes  blocks  bytes  used");
     for (size_t c = 1; c < all->count; c++) {
         const zkv_chunk_row *r = &all->row[c];
         bool data = r->role == ZKV_DATA_CHUNK;
-        printf("%5zu  %-5s%6" PRIu64 "%6" PRIu64 "%12" PRIu64 "%9" PRIu64 "%8" PRIu64 "%7" PRIu64 "%6" PRIu64 "\n", c, roles[r->role & 3],
+        if (r->role == ZKV_FREE_CHUNK) {
+            size_t first = c;
+            char chunks[24];
+            c = last_free(all, first);
+            snprintf(chunks, sizeof chunks, c > first ? "%zu..%zu" : "%zu", first, c);
+            printf("%8s  free\n", chunks);
+            continue;
+        }
+        printf("%8zu  %-5s%6" PRIu64 "%6" PRIu64 "%12" PRIu64 "%9" PRIu64 "%8" PRIu64 "%7" PRIu64 "%6" PRIu64 "\n", c, roles[r->role & 3],
                data ? 0 : r->size, r->live, r->superseded, r->deletes, r->blocks, data ? 256 * r->size : 0, r->used);
     }
 }
@@ -44,12 +62,27 @@ static void print_table(const struct chunks *all)
 /* ---- the picture: a box for each chunk; of a log chunk as much of its height as is committed, shared by what its
  * entries are; of a data chunk a part for each block */
 
-enum { BOX = 44, GAP = 6, BOXES = 16, LINES = ZKV_CHUNK_BYTES / ZKV_LINE_BYTES, HEAD = 40 };
+enum { BOX = 44, GAP = 6, BOXES = 16, LINES = ZKV_CHUNK_BYTES / ZKV_LINE_BYTES, HEAD = 40, SIGN = 12 };
 
-static void print_box(FILE *to, double x, double y, double height, const char *colour)
+enum { LIVE, SUPERSEDED, DELETES, BLOCKS_USED, BLOCKS_FREE, FREE, CHUNK_0, MEANINGS };
+
+/* What each colour means. */
+static const struct {
+    const char *meaning, *colour;
+} key[MEANINGS] = {
+    [LIVE] = {"live", "#4c9f70"},
+    [SUPERSEDED] = {"superseded", "#e0a030"},
+    [DELETES] = {"deletes", "#8f8f8f"},
+    [BLOCKS_USED] = {"blocks used", "#3f6fb5"},
+    [BLOCKS_FREE] = {"blocks free", "#c9d8ee"},
+    [FREE] = {"free", "#ffffff"},
+    [CHUNK_0] = {"chunk 0: header and directory", "#7a5c8e"},
+};
+
+static void print_box(FILE *to, double x, double y, double height, int meaning)
 {
     if (height > 0) {
-        fprintf(to, "<rect x=\"%.1f\" y=\"%.1f\" width=\"%d\" height=\"%.1f\" fill=\"%s\"/>\n", x, y, BOX, height, colour);
+        fprintf(to, "<rect x=\"%.1f\" y=\"%.1f\" width=\"%d\" height=\"%.1f\" fill=\"%s\"/>\n", x, y, BOX, height, key[meaning].colour);
     }
 }
 
@@ -58,49 +91,57 @@ static void print_log_chunk(FILE *to, const zkv_chunk_row *r, double x, double y
     uint64_t entries = r->live + r->superseded + r->deletes;
     double used = (double)BOX * (double)r->size / LINES, each = entries > 0 ? used / (double)entries : 0;
     double live = each * (double)r->live, gone = each * (double)r->deletes;
-    print_box(to, x, y, live, "#4c9f70");
-    print_box(to, x, y + live, gone, "#8f8f8f");
-    print_box(to, x, y + live + gone, used - live - gone, "#e0a030");
+    print_box(to, x, y, live, LIVE);
+    print_box(to, x, y + live, gone, DELETES);
+    print_box(to, x, y + live + gone, used - live - gone, SUPERSEDED);
 }
 
 static void print_data_chunk(FILE *to, const zkv_chunk_row *r, double x, double y)
 {
     double used = r->blocks > 0 ? (double)BOX * (double)r->used / (double)r->blocks : 0;
-    print_box(to, x, y, used, "#3f6fb5");
-    print_box(to, x, y + used, BOX - used, "#c9d8ee");
+    print_box(to, x, y, used, BLOCKS_USED);
+    print_box(to, x, y + used, BOX - used, BLOCKS_FREE);
 }
 
+/* The box of chunk c, whose row is r; chunk 0 has none. */
 static void print_chunk(FILE *to, const zkv_chunk_row *r, size_t c)
 {
-    double x = GAP + (double)((c - 1) % BOXES) * (BOX + GAP), y = HEAD + (double)((c - 1) / BOXES) * (BOX + GAP);
-    fprintf(to, "<g><title>chunk %zu: %s", c, roles[r->role & 3]);
-    if (r->role == ZKV_LOG_CHUNK) {
+    double x = GAP + (double)(c % BOXES) * (BOX + GAP), y = HEAD + (double)(c / BOXES) * (BOX + GAP);
+    fprintf(to, "<g><title>chunk %zu: %s", c, c == 0 ? "header and directory" : roles[r->role & 3]);
+    if (c > 0 && r->role == ZKV_LOG_CHUNK) {
         fprintf(to, ", %" PRIu64 " lines: %" PRIu64 " live, %" PRIu64 " superseded, %" PRIu64 " deletes", r->size, r->live, r->superseded,
                 r->deletes);
-    } else if (r->role == ZKV_DATA_CHUNK) {
+    } else if (c > 0 && r->role == ZKV_DATA_CHUNK) {
         fprintf(to, ", %" PRIu64 " blocks of %" PRIu64 " bytes: %" PRIu64 " used", r->blocks, 256 * r->size, r->used);
     }
     fputs("</title>\n", to);
-    print_box(to, x, y, BOX, "#ffffff");
-    if (r->role == ZKV_LOG_CHUNK) {
+    print_box(to, x, y, BOX, c == 0 ? CHUNK_0 : FREE);
+    if (c > 0 && r->role == ZKV_LOG_CHUNK) {
         print_log_chunk(to, r, x, y);
-    } else if (r->role == ZKV_DATA_CHUNK) {
+    } else if (c > 0 && r->role == ZKV_DATA_CHUNK) {
         print_data_chunk(to, r, x, y);
     }
     fprintf(to, "<rect x=\"%.1f\" y=\"%.1f\" width=\"%d\" height=\"%d\" fill=\"none\" stroke=\"#404040\"/>\n", x, y, BOX, BOX);
     fprintf(to, "<text x=\"%.1f\" y=\"%.1f\">%zu</text></g>\n", x + 3, y + 12, c);
 }
 
+static void print_key(FILE *to)
+{
+    size_t x = GAP;
+    for (int i = 0; i < MEANINGS; i++) {
+        fprintf(to, "<rect x=\"%zu\" y=\"14\" width=\"%d\" height=\"%d\" fill=\"%s\" stroke=\"#404040\"/>"
+                    "<text x=\"%zu\" y=\"24\" font-size=\"12\">%s</text>\n", x, SIGN, SIGN, key[i].colour, x + SIGN + 4, key[i].meaning);
+        x += 2 * SIGN + 7 * strlen(key[i].meaning);
+    }
+}
+
 static void print_picture(FILE *to, const struct chunks *all)
 {
-    size_t rows = (all->count - 1 + BOXES - 1) / BOXES;
-    fprintf(to, "<svg xmlns=\"http://www.w3.org/2000/svg\" width=\"%d\" height=\"%zu\" font-family=\"sans-serif\" font-size=\"10\">\n",
-            GAP + BOXES * (BOX + GAP), HEAD + rows * (BOX + GAP));
-    fputs("<rect width=\"100%\" height=\"100%\" fill=\"#f4f4f4\"/>\n"
-          "<text x=\"6\" y=\"24\" font-size=\"12\">"
-          "<tspan fill=\"#4c9f70\">live</tspan> <tspan fill=\"#e0a030\">superseded</tspan> <tspan fill=\"#8f8f8f\">deletes</tspan> "
-          "<tspan fill=\"#3f6fb5\">blocks used</tspan> <tspan fill=\"#7d9cc9\">blocks free</tspan></text>\n", to);
-    for (size_t c = 1; c < all->count; c++) {
+    size_t rows = (all->count + BOXES - 1) / BOXES;
+    fprintf(to, "<svg xmlns=\"http://www.w3.org/2000/svg\" width=\"%d\" height=\"%zu\" font-family=\"sans-serif\" font-size=\"10\">\n"
+                "<rect width=\"100%%\" height=\"100%%\" fill=\"#f4f4f4\"/>\n", GAP + BOXES * (BOX + GAP), HEAD + rows * (BOX + GAP));
+    print_key(to);
+    for (size_t c = 0; c < all->count; c++) {
         print_chunk(to, &all->row[c], c);
     }
     fputs("</svg>\n", to);
@@ -127,6 +168,7 @@ static int write_picture(const char *name, const struct chunks *all)
     return DONE;
 }
 
+/* The picture alone where it goes to standard output. */
 int command_info(const char *file, char **word, const struct options *o)
 {
     static struct station s;
@@ -134,7 +176,10 @@ int command_info(const char *file, char **word, const struct options *o)
     (void)word;
     int status = need_register(&s, file, ZKV_FILE_READ, o);
     status = status == DONE ? measure(&s, &all) : status;
-    status = status == DONE ? confirmed(&s) : status;
+    if (status == DONE && o->svg != NULL && strcmp(o->svg, "-") == 0) {
+        print_picture(stdout, &all);
+        return DONE;
+    }
     if (status == DONE && o->svg != NULL) {
         status = write_picture(o->svg, &all);
     }

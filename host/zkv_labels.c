@@ -27,14 +27,12 @@ static int keys_of(struct station *s, uint64_t **keys, uint64_t *count)
 
 uint64_t labels_in(struct station *s)
 {
-    uint64_t *keys, count;
-    if (keys_of(s, &keys, &count) == DONE) {
-        free(keys);
-    }
+    uint64_t none, count;
+    zkv_list_keys(LENT(s), &none, 0, &count);
     return count;
 }
 
-static int label_of_key(struct station *s, uint64_t key, struct label *l)
+int label_of_key(struct station *s, uint64_t key, struct label *l)
 {
     uint64_t start, number = zkv_look_up(LENT(s), key, &start, &l->length);
     l->key = key;
@@ -69,9 +67,6 @@ int print_whole(struct station *s, int (*print)(struct station *s, FILE *to))
     bool whole = !ferror(to);
     if ((fclose(to) != 0 || !whole) && status == DONE) {
         status = trouble(s->file.name, "no memory for the text");
-    }
-    if (status == DONE) {
-        status = confirmed(s);
     }
     if (status == DONE) {
         fwrite(text, 1, bytes, stdout);

@@ -17,12 +17,22 @@ struct list {
     size_t bytes;
     struct label *label;        /* label i stands in line i + 1 */
     size_t labels;
+    size_t zeros, first_zero;   /* keys with leading zeros, and the first such line */
 };
+
+/* Above the longest list that can be loaded: every byte of an image in four characters, and ZKV_KEYS_MAX keys. A power
+ * of two, and so a length that the room for the text takes. */
+enum { LIST_END = 1 << 24 };
+
+_Static_assert(LIST_END > 4 * ZKV_CHUNKS_MAX * ZKV_CHUNK_BYTES + 22 * ZKV_KEYS_MAX, "a list that can be loaded is read");
 
 static int read_text(struct list *l, FILE *input)
 {
     size_t room = 0;
     do {
+        if (l->bytes == LIST_END) {
+            return trouble(l->name, "has %d bytes or more: no register can hold the labels of so long a list", LIST_END);
+        }
         if (l->bytes == room) {
             room = room == 0 ? 65536 : 2 * room;
             uint8_t *more = realloc(l->text, room);
@@ -80,6 +90,9 @@ static int read_label(struct list *l, uint8_t *line, size_t bytes)
     *tab = 0;
     if (strlen((const char *)line) != (size_t)(tab - line) || !number_of((const char *)line, &label->key)) {
         return trouble(l->name, "line %zu: does not begin with a key: a decimal number below 2^64", number);
+    }
+    if (line[0] == '0' && line[1] != 0 && l->zeros++ == 0) {
+        l->first_zero = number;
     }
     label->value = tab + 1;
     const char *wrong = decode(tab + 1, bytes - (size_t)(tab + 1 - line), &label->length);
@@ -162,6 +175,10 @@ static int read_list(struct list *l, const char *from, bool empty_meant)
     if (status == DONE) {
         status = read_labels(l);
     }
+    if (status == DONE && l->zeros > 0) {
+        fprintf(stderr, "zkv: %s: line %zu: leading zeros are no part of a key: it is key %" PRIu64 " (%zu such lines)\n", l->name,
+                l->first_zero, l->label[l->first_zero - 1].key, l->zeros);
+    }
     return status == DONE ? no_key_twice(l) : status;
 }
 
@@ -174,9 +191,10 @@ static void forget_list(struct list *l)
 /* ---- batches */
 
 /* Stages labels, as many as batch and space take but at most so many, and commits them; *done is how many, also
- * where the commit ended in trouble. A refusal, left in *report, leaves nothing staged. */
+ * where the commit ended in trouble. A refusal, left in *report, leaves nothing staged and no chunk taken. */
 static int put_batch(struct station *s, const struct label *label, size_t most, size_t *done, zkv_report *report)
 {
+    uint64_t free_before = zkv_free_chunks(s->file.image, s->file.bytes);
     size_t staged = 0;
     *done = 0;
     do {
@@ -186,7 +204,8 @@ static int put_batch(struct station *s, const struct label *label, size_t most, 
             return status;
         }
     } while (report->kind == ZKV_END && ++staged < most);
-    bool full = report->kind == ZKV_REFUSED && (report->first == ZKV_BATCH_FULL || report->first == ZKV_NO_SPACE);
+    bool full = report->kind == ZKV_REFUSED &&
+                (report->first == ZKV_BATCH_FULL || report->first == ZKV_NO_SPACE || report->first == ZKV_TABLE_FULL);
     if (report->kind == ZKV_END || (full && staged > 0)) {
         *done = staged;
         *report = zkv_commit(LENT(s));
@@ -195,20 +214,21 @@ static int put_batch(struct station *s, const struct label *label, size_t most, 
             return status;
         }
     }
-    if (report->kind == ZKV_REFUSED && staged > 0) {
-        zkv_abandon(LENT(s));
+    if (report->kind != ZKV_REFUSED || staged == 0) {
+        return DONE;
     }
-    return DONE;
+    *done = 0;
+    return give_up(s, free_before);
 }
 
-/* The same; where no space is left, chunks are cleaned as long as that is worth it. */
+/* The same; where cleaning may help, chunks are cleaned as long as that is worth it. */
 static int put_batch_with_cleaning(struct station *s, const struct label *label, size_t most, size_t *done, zkv_report *report)
 {
     struct cleaned cleaned = {0, 0, 0};
     for (;;) {
         zkv_report r;
         int status = put_batch(s, label, most, done, report);
-        if (status != DONE || report->kind != ZKV_REFUSED || report->first != ZKV_NO_SPACE) {
+        if (status != DONE || !cleaning_may_help(s, report)) {
             return status;
         }
         status = clean_one(s, NULL, &cleaned, &r);
@@ -279,7 +299,7 @@ int command_load(const char *file, char **word, const struct options *o)
     zkv_report r;
     int status = read_list(&l, word[0], o->empty);
     if (status == DONE) {
-        status = need_register(&s, file, ZKV_FILE_WRITE, o);
+        status = need_room(&s, file, o);
     }
     if (status == DONE) {
         status = put_labels(&s, l.label, l.labels, !o->no_clean, &p, &r);

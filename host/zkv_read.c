@@ -2,76 +2,84 @@
 #define _GNU_SOURCE
 #include <inttypes.h>
 #include <stdio.h>
-#include <stdlib.h>
 #include <string.h>
 #include <strings.h>
 
 #include "zkv.h"
 
-/* A copy of the key's label, taken while the file was whole: what lies in the file may be cut away under us. */
-static int label_of(const char *file, const char *given_key, const struct options *o, uint64_t *key, uint8_t **label, uint64_t *length)
+static int label_of(const char *file, const char *given_key, const struct options *o, struct label *l)
 {
     static struct station s;
-    uint64_t start;
-    if (!number_of(given_key, key)) {
-        return trouble(file, "%s is no key: a key is a decimal number below 2^64", given_key);
+    uint64_t key;
+    int status = key_of(file, given_key, &key);
+    if (status == DONE) {
+        status = need_register(&s, file, ZKV_FILE_READ, o);
     }
-    int status = need_register(&s, file, ZKV_FILE_READ, o);
-    if (status != DONE) {
-        return status;
-    }
-    uint64_t number = zkv_look_up(LENT(&s), *key, &start, length);
-    if (number != 0) {
-        return refused(file, number, "key %" PRIu64 ": ", *key);
-    }
-    *label = malloc(*length + 1);
-    if (*label == NULL) {
-        return trouble(file, "no memory for the label");
-    }
-    memcpy(*label, s.file.image + start, *length);
-    return confirmed(&s);
+    return status == DONE ? label_of_key(&s, key, l) : status;
 }
 
 int command_get(const char *file, char **word, const struct options *o)
 {
-    uint64_t key, length;
-    uint8_t *label;
-    int status = label_of(file, word[0], o, &key, &label, &length);
+    struct label l;
+    int status = label_of(file, word[0], o, &l);
     if (status == DONE) {
-        fwrite(label, 1, length, stdout);
+        fwrite(l.value, 1, l.length, stdout);
     }
     return status;
+}
+
+/* How long a scan is without one end of a line: carriage return, line feed, or both. */
+static size_t without_line_end(const uint8_t *scan, size_t scanned)
+{
+    if (scanned > 0 && scan[scanned - 1] == '\n') {
+        scanned--;
+    }
+    return scanned > 0 && scan[scanned - 1] == '\r' ? scanned - 1 : scanned;
+}
+
+/* Reads what was scanned. */
+static int read_scan(const char *from, const struct options *o, const uint8_t **scan, size_t *scanned)
+{
+    int status = read_value(from, o->empty, scan, scanned);
+    if (status != DONE || !o->line || *scanned == VALUE_ROOM) {
+        return status;
+    }
+    *scanned = without_line_end(*scan, *scanned);
+    if (*scanned > 0 || o->empty) {
+        return DONE;
+    }
+    return trouble(strcmp(from, "-") == 0 ? "standard input" : from, "gave 0 bytes and the end of a line; if that is meant, say --empty");
 }
 
 /* Compares what was scanned from a printed label with what the register says was printed. Bytes count from 1, as
  * cmp(1) counts. */
 int command_scan(const char *file, char **word, const struct options *o)
 {
-    uint64_t key, length, same = 0;
-    uint8_t *label;
+    struct label l;
     const uint8_t *scan;
     size_t scanned;
-    int status = read_value(word[1], o->empty, &scan, &scanned);
+    uint64_t same = 0;
+    int status = read_scan(word[1], o, &scan, &scanned);
     if (status == DONE) {
-        status = label_of(file, word[0], o, &key, &label, &length);
+        status = label_of(file, word[0], o, &l);
     }
     if (status != DONE) {
         return status;
     }
-    while (same < length && same < scanned && label[same] == scan[same]) {
+    while (same < l.length && same < scanned && l.value[same] == scan[same]) {
         same++;
     }
-    if (same == length && same == scanned) {
-        printf("match: key %" PRIu64 ", %" PRIu64 " bytes\n", key, length);
+    if (same == l.length && same == scanned) {
+        printf("match: key %" PRIu64 ", %" PRIu64 " bytes\n", l.key, l.length);
         return DONE;
     }
-    printf("PUT ASIDE: key %" PRIu64 ": byte %" PRIu64 ": ", key, same + 1);
-    if (same == length) {
-        printf("the label ends after %" PRIu64 " bytes, the scan has %zu%s\n", length, scanned, scanned == VALUE_ROOM ? " or more" : "");
+    printf("PUT ASIDE: key %" PRIu64 ": byte %" PRIu64 ": ", l.key, same + 1);
+    if (same == l.length) {
+        printf("the label ends after %" PRIu64 " bytes, the scan has %zu%s\n", l.length, scanned, scanned == VALUE_ROOM ? " or more" : "");
     } else if (same == scanned) {
-        printf("the scan ends after %zu bytes, the label has %" PRIu64 "\n", scanned, length);
+        printf("the scan ends after %zu bytes, the label has %" PRIu64 "\n", scanned, l.length);
     } else {
-        printf("the label has 0x%02x, the scan 0x%02x\n", label[same], scan[same]);
+        printf("the label has 0x%02x, the scan 0x%02x\n", l.value[same], scan[same]);
     }
     return PUT_ASIDE;
 }
@@ -112,16 +120,8 @@ static void print_place(const zkv_place *p)
     }
 }
 
-static void print_refusal(uint64_t number, const zkv_place *p, bool json)
+static void print_place_json(const zkv_place *p)
 {
-    const char *sentence = zkv_sentence(number);
-    if (!json) {
-        printf("refused %" PRIu64 ": %s\n", number, sentence);
-        print_place(p);
-        return;
-    }
-    printf("{\"accepted\":false,\"refusal\":%" PRIu64 ",\"sentence\":", number);
-    print_json(stdout, sentence, strlen(sentence));
     if (p->refusal >= ZKV_DIRECTORY_WRONG) {
         printf(",\"chunk\":%" PRIu64, p->chunk);
     }
@@ -134,7 +134,34 @@ static void print_refusal(uint64_t number, const zkv_place *p, bool json)
     if (p->refusal == ZKV_ENTRY_WRONG) {
         printf(",\"entries_before\":%" PRIu64, p->before);
     }
-    puts("}");
+}
+
+/* The refusal is printed before its place is looked for, which may take a while. A wrong length has no place. */
+static void print_refusal(const struct station *s, uint64_t number, bool json)
+{
+    const char *sentence = zkv_sentence(number);
+    if (json) {
+        printf("{\"accepted\":false,\"refusal\":%" PRIu64 ",\"sentence\":", number);
+        print_json(stdout, sentence, strlen(sentence));
+    } else {
+        printf("refused %" PRIu64 ": %s\n", number, sentence);
+    }
+    fflush(stdout);
+    zkv_place place = {0, 0, 0, 0};
+    if (number != ZKV_IMAGE_LENGTH && number != ZKV_TABLE_FULL) {
+        place = zkv_fault(s->file.image, s->file.bytes);
+    }
+    if (json) {
+        if (number == ZKV_IMAGE_LENGTH) {
+            printf(",\"bytes\":%jd", (intmax_t)s->file.length);
+        }
+        print_place_json(&place);
+        puts("}");
+    } else if (number == ZKV_IMAGE_LENGTH) {
+        printf("the file has %jd bytes\n", (intmax_t)s->file.length);
+    } else {
+        print_place(&place);
+    }
 }
 
 static void print_accepted(const char *digest, bool same, bool json)
@@ -160,24 +187,17 @@ int command_check(const char *file, char **word, const struct options *o)
     static struct station s;
     uint64_t number = 0;
     char digest[DIGEST_ROOM] = "";
-    zkv_place place = {0, 0, 0, 0};
     (void)word;
     int status = open_image(&s, file, ZKV_FILE_READ, o, &number);
-    if (status == DONE && number != 0 && number != ZKV_TABLE_FULL) {
-        place = zkv_fault(s.file.image, s.file.bytes);
+    if (status == DONE && number != 0) {
+        print_refusal(&s, number, o->json);
+        return REFUSED;
     }
-    if (status == DONE && number == 0 && o->against != NULL) {
+    if (status == DONE && o->against != NULL) {
         status = digest_of(&s, digest);
-    }
-    if (status == DONE) {
-        status = confirmed(&s);
     }
     if (status != DONE) {
         return status;
-    }
-    if (number != 0) {
-        print_refusal(number, &place, o->json);
-        return REFUSED;
     }
     bool same = o->against == NULL || same_digest(o->against, digest);
     print_accepted(digest, same, o->json);

@@ -7,6 +7,7 @@
 #include <stdlib.h>
 #include <string.h>
 #include <time.h>
+#include <unistd.h>
 
 #include "zkv.h"
 
@@ -30,6 +31,9 @@ int refused(const char *file, uint64_t number, const char *about, ...)
     fprintf(stderr, "refused %" PRIu64 ": %s", number, zkv_sentence(number));
     if (number == ZKV_TOO_LONG) {
         fprintf(stderr, " (at most %d bytes)", ZKV_VALUE_MAX);
+    } else if (number == ZKV_TABLE_FULL) {
+        fprintf(stderr, " (at most %d, and deleted keys count until they are cleaned away: delete what is not needed, then clean)",
+                ZKV_KEYS_MAX);
     }
     fputc('\n', stderr);
     va_end(arguments);
@@ -48,6 +52,37 @@ int lend(struct station *s, size_t bytes, const struct options *o)
     return s->table != NULL ? DONE : trouble("key table", "no memory");
 }
 
+/* From here on the station works on a copy in memory, and the file is closed: what reads our output may take as long as
+ * it likes, and nobody waits for the lock meanwhile. It is read and not copied from the mapping, where a hole would
+ * need a page. */
+static int take_copy(struct station *s)
+{
+    zkv_file *f = &s->file;
+    const char *name = f->name;
+    int64_t length = f->length;
+    size_t bytes = f->bytes, got = 0;
+    ssize_t part = 1;
+    uint8_t *copy = aligned_alloc(ZKV_CHUNK_BYTES, bytes + ZKV_CHUNK_BYTES);
+    if (copy == NULL) {
+        return trouble(name, "no memory for a copy");
+    }
+    while (got < bytes && (part > 0 || (part < 0 && errno == EINTR))) {
+        part = pread(f->descriptor, copy + got, bytes - got, (off_t)got);
+        got += part > 0 ? (size_t)part : 0;
+    }
+    int status = part < 0 ? trouble(name, "cannot be read: %s", strerror(errno)) : confirmed(s);
+    if (status == DONE && got < bytes) {
+        status = trouble(name, "has no more than %zu of its %zu bytes", got, bytes);
+    }
+    zkv_file_close(f);
+    f->name = name;
+    f->length = length;
+    f->image = copy;
+    f->bytes = bytes;
+    s->in_memory = true;
+    return status;
+}
+
 /* *number is the refusal's, 0 where the register is open. */
 int open_image(struct station *s, const char *name, enum zkv_file_use use, const struct options *o, uint64_t *number)
 {
@@ -55,7 +90,10 @@ int open_image(struct station *s, const char *name, enum zkv_file_use use, const
     if (text != NULL) {
         return trouble(name, "%s", text);
     }
-    int status = lend(s, s->file.bytes, o);
+    int status = use == ZKV_FILE_READ && !s->held ? take_copy(s) : DONE;
+    if (status == DONE) {
+        status = lend(s, s->file.bytes, o);
+    }
     if (status == DONE) {
         zkv_report r = zkv_open(LENT(s));
         *number = r.kind == ZKV_OPENED ? 0 : r.first;
@@ -73,13 +111,26 @@ int need_register(struct station *s, const char *name, enum zkv_file_use use, co
     return status;
 }
 
+int need_room(struct station *s, const char *name, const struct options *o)
+{
+    struct cleaned done = {0, 0, 0};
+    zkv_report r;
+    int status = need_register(s, name, ZKV_FILE_WRITE, o);
+    if (status == DONE && zkv_free_chunks(s->file.image, s->file.bytes) == 0) {
+        status = clean_one(s, NULL, &done, &r);
+    }
+    return status;
+}
+
 /* As zkv_finish does, but by steps and with a pause between them. */
 static zkv_report finish_slowly(struct station *s, zkv_report r)
 {
     struct timespec pause = {s->pause_us / 1000000, s->pause_us % 1000000 * 1000};
     for (;; r = zkv_step(LENT(s))) {
         if (r.kind == ZKV_FLUSH) {
-            zkv_file_flush(&s->file, s->file.image + ZKV_LINE_BYTES * r.first);
+            if (r.first < s->file.bytes / ZKV_LINE_BYTES) {
+                zkv_file_flush(&s->file, s->file.image + ZKV_LINE_BYTES * r.first);
+            }
         } else if (r.kind == ZKV_FENCE ? zkv_file_fence(&s->file) != 0 : r.kind != ZKV_BEGUN && r.kind != ZKV_STORE) {
             return r;
         }
@@ -122,7 +173,7 @@ int carry_out(struct station *s, zkv_report *report)
 
 int confirmed(const struct station *s)
 {
-    const char *text = zkv_file_confirm(&s->file);
+    const char *text = s->in_memory ? NULL : zkv_file_confirm(&s->file);
     return text == NULL ? DONE : trouble(s->file.name, "%s", text);
 }
 

@@ -37,7 +37,7 @@ static void end_trial(struct trial *t)
 /* How many labels of so many bytes, under keys that are absent, can be put one by one before a cleaning is needed. */
 static int try_puts(struct trial *t, size_t length, uint64_t *puts)
 {
-    static const uint8_t value[ZKV_LOG_VALUE_MAX];
+    static const uint8_t value[ZKV_VALUE_MAX];
     uint64_t start, bytes;
     memcpy(t->s.file.image, t->of->file.image, t->of->file.bytes);
     zkv_report r = zkv_open(LENT(&t->s));
@@ -65,7 +65,7 @@ struct stat_row {
     bool absent, quoted;        /* not told; a text in JSON, as keys are */
 };
 
-enum { CHUNKS, LABELS, DELETED, KNOWN, FREE, USED, LEFT, OF_16, OF_64, OF_256, STATION_NUMBER, CENTRE_NUMBER, ROWS };
+enum { CHUNKS, LABELS, DELETED, KNOWN, FREE, USED, LEFT, OF_16, OF_64, OF_256, OF_1000, OF_4088, STATION_NUMBER, CENTRE_NUMBER, ROWS };
 
 static int measure(struct station *s, struct stat_row *row)
 {
@@ -85,6 +85,8 @@ static int measure(struct station *s, struct stat_row *row)
     status = status == DONE ? try_puts(&t, 16, &row[OF_16].number) : status;
     status = status == DONE ? try_puts(&t, 64, &row[OF_64].number) : status;
     status = status == DONE ? try_puts(&t, 256, &row[OF_256].number) : status;
+    status = status == DONE ? try_puts(&t, 1000, &row[OF_1000].number) : status;
+    status = status == DONE ? try_puts(&t, ZKV_VALUE_MAX, &row[OF_4088].number) : status;
     end_trial(&t);
     return status;
 }
@@ -126,6 +128,8 @@ int command_stat(const char *file, char **word, const struct options *o)
         [OF_16] = {"labels of 16 bytes left", "labels_of_16_left", 0, false, false},
         [OF_64] = {"labels of 64 bytes left", "labels_of_64_left", 0, false, false},
         [OF_256] = {"labels of 256 bytes left", "labels_of_256_left", 0, false, false},
+        [OF_1000] = {"labels of 1000 bytes left", "labels_of_1000_left", 0, false, false},
+        [OF_4088] = {"labels of 4088 bytes left", "labels_of_4088_left", 0, false, false},
         [STATION_NUMBER] = {"station", "station", 0, false, true},
         [CENTRE_NUMBER] = {"centre", "centre", 0, false, true},
     };
@@ -133,9 +137,6 @@ int command_stat(const char *file, char **word, const struct options *o)
     int status = need_register(&s, file, ZKV_FILE_READ, o);
     if (status == DONE) {
         status = measure(&s, row);
-    }
-    if (status == DONE) {
-        status = confirmed(&s);
     }
     if (status == DONE && o->json) {
         print_rows_json(row);

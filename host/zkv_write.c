@@ -46,9 +46,6 @@ static int make_register(const char *file, size_t bytes, const struct options *o
         if (status == DONE) {
             text = zkv_file_take_name(&s.file, old);
         }
-        if (status == DONE && text == NULL) {
-            text = zkv_file_confirm(&s.file);
-        }
     }
     if (text != NULL) {
         status = trouble(file, "%s", text);
@@ -109,6 +106,12 @@ int clean_one(struct station *s, const uint64_t *named, struct cleaned *done, zk
     return status;
 }
 
+bool cleaning_may_help(struct station *s, const zkv_report *report)
+{
+    return report->kind == ZKV_REFUSED &&
+           (report->first == ZKV_NO_SPACE || (report->first == ZKV_TABLE_FULL && zkv_keys(&s->record) > labels_in(s)));
+}
+
 /* A chunk that is named, or one after the other until none is worth it: each leaves fewer lines in use or is freed and
  * not looked at again, so that this ends. */
 int command_clean(const char *file, char **word, const struct options *o)
@@ -152,8 +155,25 @@ static zkv_report stage(struct station *s, uint64_t key, const uint8_t *value, s
     return value != NULL ? zkv_put(LENT(s), key, value, length) : zkv_delete(LENT(s), key);
 }
 
+int give_up(struct station *s, uint64_t free_before)
+{
+    zkv_report r = zkv_abandon(LENT(s));
+    size_t from = 1;
+    int status = DONE;
+    while (status == DONE && r.kind != ZKV_REFUSED && zkv_free_chunks(s->file.image, s->file.bytes) < free_before) {
+        r = zkv_empty_chunk(LENT(s), from);
+        if (r.kind == ZKV_CHOSEN) {
+            from = r.first + 1;
+            r = zkv_clean(LENT(s), r.first);
+            status = carry_out(s, &r);
+        }
+    }
+    return status;
+}
+
 int change(struct station *s, uint64_t key, const uint8_t *value, size_t length, zkv_report *report)
 {
+    uint64_t free_before = zkv_free_chunks(s->file.image, s->file.bytes);
     *report = stage(s, key, value, length);
     int status = carry_out(s, report);
     if (status != DONE || report->kind == ZKV_REFUSED) {
@@ -161,13 +181,10 @@ int change(struct station *s, uint64_t key, const uint8_t *value, size_t length,
     }
     *report = zkv_commit(LENT(s));
     status = carry_out(s, report);
-    if (status == DONE && report->kind == ZKV_REFUSED) {
-        zkv_abandon(LENT(s));
-    }
-    return status;
+    return status == DONE && report->kind == ZKV_REFUSED ? give_up(s, free_before) : status;
 }
 
-/* The same; where no space is left, chunks are cleaned and it is tried again, until it is done or no cleaning is
+/* The same; where cleaning may help, chunks are cleaned and it is tried again, until it is done or no cleaning is
  * left. */
 static int change_with_cleaning(struct station *s, uint64_t key, const uint8_t *value, size_t length, zkv_report *report)
 {
@@ -175,7 +192,7 @@ static int change_with_cleaning(struct station *s, uint64_t key, const uint8_t *
     for (;;) {
         zkv_report r;
         int status = change(s, key, value, length, report);
-        if (status != DONE || report->kind != ZKV_REFUSED || report->first != ZKV_NO_SPACE) {
+        if (status != DONE || !cleaning_may_help(s, report)) {
             return status;
         }
         status = clean_one(s, NULL, &done, &r);
@@ -190,10 +207,10 @@ static int change_key(const char *file, const char *given_key, const uint8_t *va
     static struct station s;
     uint64_t key;
     zkv_report r;
-    if (!number_of(given_key, &key)) {
-        return trouble(file, "%s is no key: a key is a decimal number below 2^64", given_key);
+    int status = key_of(file, given_key, &key);
+    if (status == DONE) {
+        status = need_room(&s, file, o);
     }
-    int status = need_register(&s, file, ZKV_FILE_WRITE, o);
     if (status == DONE) {
         status = o->no_clean ? change(&s, key, value, length, &r) : change_with_cleaning(&s, key, value, length, &r);
     }

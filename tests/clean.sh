@@ -3,13 +3,15 @@
 # must, a refused put leaves everything as it was, and puts and cleanings that are killed (kill -9) at random moments
 # lose no label.
 #
-# tests/clean.sh [KILLS [SEED]]     16 kills, seed 1; needs host/build/zkv (make -C host)
+# tests/clean.sh [KILLS [SEED [PROGRAM]]]   16 kills, seed 1, host/build/zkv; needs host/build/cut_clean (make -C host)
 set -euo pipefail
 cd "$(dirname "$0")/.."
 kills=${1:-16}
 RANDOM=${2:-1}
-zkv=$PWD/host/build/zkv
-[ -x "$zkv" ] || { echo "host/build/zkv is missing: run make -C host" >&2; exit 2; }
+zkv=$(realpath "${3:-host/build/zkv}") cut_clean=$PWD/host/build/cut_clean
+for program in "$zkv" "$cut_clean"; do
+    [ -x "$program" ] || { echo "$program is missing: run make -C host" >&2; exit 2; }
+done
 work=$(mktemp -d)
 trap 'rm -rf "$work"' EXIT
 cd "$work"
@@ -106,10 +108,49 @@ for ((key = 101; key <= 190; key++)); do printf '%d\tlabel %-249d\\x20\n' "$key"
 "$zkv" clean cleaned > out
 grep -qx 'free chunks 9' out || fail "of 12 chunks with one large label 9 are free, and clean says: $(cat out)"
 "$zkv" get cleaned 1 | cmp -s - large || fail "the large label is lost"
-# A refused large label takes no space from the small ones.
+# A refused large label leaves as many chunks free as before, whether cleaning is allowed or not, alone and in a batch.
 "$zkv" format small 4
-[ "$(status "$zkv" put small 1 large)" -eq 3 ] || fail "a large label in 4 chunks does not end with 3"
+printf '1\t%04088d\n2\t%04088d\n' 1 2 > list
+for command in 'put small 1 large' 'put small 1 large --no-clean' 'load small list' 'load small list --no-clean'; do
+    [ "$(status "$zkv" $command)" -eq 3 ] || fail "zkv $command, a large label in 4 chunks, does not end with 3"
+    "$zkv" stat small | grep -qx 'free chunks 3' || fail "zkv $command is refused and leaves its chunk taken: $("$zkv" info small)"
+done
 printf 'label' | "$zkv" put small 2 - || fail "a small label after a large one that was refused"
+
+# A cleaning cut just before the chunk is freed leaves no free chunk. What is put then goes on being put and deleted:
+# a commit that took the place of the copies would have left the register stuck for good.
+"$cut_clean" cut || fail "no image of a cleaning that was cut"
+for ((key = 97; key <= 128; key++)); do printf '%d\tlabel %-41d\\x20\n' "$key" "$key"; done > list
+for how in put 'put --no-clean' load; do
+    cp cut stuck
+    [ "$("$zkv" check stuck)" = accepted ] || fail "a cleaning that was cut: refused"
+    for key in $([ "$how" = load ] || seq 97 128); do
+        printf 'label %-42d' "$key" | "$zkv" put stuck "$key" - ${how#put} 2> err || [ "$how" != put ] ||
+            fail "label $key after a cleaning that was cut: $(cat err)"
+    done
+    [ "$how" != load ] || "$zkv" load stuck list > /dev/null || fail "a load after a cleaning that was cut"
+    printf 'print %-42d' 40 > label
+    "$zkv" put stuck 40 label || fail "after a cleaning that was cut, and 32 labels by $how, a put is refused"
+    "$zkv" delete stuck 41 || fail "after a cleaning that was cut, and 32 labels by $how, a delete is refused"
+    "$zkv" get stuck 40 | cmp -s - label || fail "label 40 is another"
+    [ "$("$zkv" check stuck)" = accepted ] || fail "after a cleaning that was cut, and 32 labels by $how: refused"
+done
+
+# As many keys as can be known, some of them deleted: a put and a load of new keys clean the deleted ones away.
+"$zkv" format keys 504
+seq 65536 | sed 's/$/\t/' | "$zkv" load keys - > /dev/null || fail "a load of 65,536 keys"
+[ "$(status "$zkv" put keys 70000 next)" -eq 3 ] || fail "a key too many does not end with 3"
+grep -q 'refused 7: .*deleted keys count .*clean' err || fail "a key too many says: $(cat err)"
+for key in $(seq 20); do "$zkv" delete keys "$key"; done
+[ "$(status "$zkv" put keys 70000 next --no-clean)" -eq 3 ] || fail "a put that may not clean does not end with 3"
+"$zkv" put keys 70000 next || fail "a put that may clean deleted keys away is refused"
+seq 70001 70019 | sed 's/$/\t/' > list
+"$zkv" load keys list > /dev/null || fail "a load that may clean deleted keys away is refused"
+[ "$(status "$zkv" put keys 70020 next)" -eq 3 ] || fail "a key too many after 20 new ones does not end with 3"
+"$zkv" get keys 70000 | cmp -s - next || fail "key 70000 is lost"
+"$zkv" list keys > out
+grep -qx 'keys 65536' out || fail "there are not 65,536 labels: $(head -n 1 out)"
+rm keys
 
 # Puts and cleanings that are killed. Before each the register is nearly full, so that a put has to clean.
 killed=0 cleaning=0

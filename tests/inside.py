@@ -65,8 +65,14 @@ def compare_info(v, name):
         used = sum(u // v.geo.units == c for u in v.live)
         row = (size, puts, len(here) - len(live), len(live) - puts, 0, 0) if role == 1 else (0, 0, 0, 0, v.geo.units // size, 256 * size) \
             if role == 2 else (0,) * 6
-        wanted.append([str(c), ROLES[role], *map(str, row), str(used)])
-    found = [l.split() for l in zkv('info', name).stdout.decode().split('\n')[1:-1]]
+        wanted.append([str(c), ROLES[role], *map(str, row), str(used)] if role else [str(c), 'free'])
+    found = []
+    for line in zkv('info', name).stdout.decode().split('\n')[1:-1]:
+        number, *rest = line.split()
+        first, *last = map(int, number.split('..'))             # free chunks beside each other share a line
+        if found and found[-1][1:] == rest == ['free'] or last and (rest != ['free'] or last[0] <= first):
+            fail(f'{name}: info has a line {line}')
+        found += [[str(c), *rest] for c in range(first, last[0] + 1 if last else first + 1)]
     if found != wanted:
         fail(f'{name}: info says {[f for f, w in zip(found, wanted) if f != w]} and the model {[w for f, w in zip(found, wanted) if f != w]}')
 
@@ -132,6 +138,27 @@ def compare_long(rng, name):
 
 
 # ---- one that does not
+
+def told_at_once(name, *options):
+    """What check writes first, and in all: a pipe of packets keeps its writes apart."""
+    reading, writing = os.pipe2(os.O_DIRECT)
+    job = subprocess.Popen([ZKV, 'check', name, *options], stdout=writing)
+    os.close(writing)
+    parts = list(iter(lambda: os.read(reading, 4096), b''))
+    os.close(reading)
+    job.wait()
+    return parts[0].decode(), b''.join(parts).decode()
+
+
+def compare_at_once(name, number):
+    """The refusal is told before its place is looked for."""
+    first, text = told_at_once(name)
+    if not first.startswith(f'refused {number}: ') or first.count('\n') != 1 or not text[len(first):].startswith('at '):
+        fail(f'check of a refused image writes {first!r} first, and in all {text!r}')
+    first, text = told_at_once(name, '--json')
+    if not first.startswith(f'{{"accepted":false,"refusal":{number},') or '"byte"' in first or '"byte"' not in text:
+        fail(f'check --json of a refused image writes {first!r} first, and in all {text!r}')
+
 
 def header_place(words, count):
     fields = bin(words[0]).count('1')
@@ -262,6 +289,8 @@ def main():
                         fail(f'check says {found}, and the model accepts')
                     continue
                 told[number] = told.get(number, 0) + 1
+                if told[number] <= 2:
+                    compare_at_once(altered, number)
                 wanted = {'accepted': False, 'refusal': number, 'sentence': found.get('sentence'), **place_of(number, changed, nbytes)}
                 if found != wanted:
                     fail(f'check says {found} and the model {wanted}')

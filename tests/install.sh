@@ -1,7 +1,7 @@
 #!/usr/bin/env bash
-# The library as a package: `make -C host install` into a temporary DESTDIR puts every file where PREFIX says and
-# nothing elsewhere; host/hello.c builds against it by pkg-config alone, static and shared, and runs; uninstall leaves
-# nothing.
+# The library as a package: `make install` into a temporary DESTDIR puts every file where PREFIX says and nothing
+# elsewhere; host/hello.c builds against it by pkg-config alone, static and shared, and runs; uninstall leaves nothing.
+# `make test` runs the gate, and a build without the kit says what is missing.
 #
 # tests/install.sh [ARCHIVE]        target/staticlib/libregister.a; needs gcc, make, pkg-config
 set -euo pipefail
@@ -12,7 +12,7 @@ work=$(mktemp -d)
 trap 'rm -rf "$work"' EXIT
 root=$work/root prefix=/opt/register
 version=$(sed -n 's/^#define ZKV_VERSION "\(.*\)"$/\1/p' include/zitskvoze.h)
-package() { make -s -C host ARCHIVE="$archive" PREFIX="$prefix" DESTDIR="$root" "$@" > "$work/log" 2>&1 || { cat "$work/log" >&2; fail "make $*"; }; }
+package() { make -s ARCHIVE="$archive" PREFIX="$prefix" DESTDIR="$root" "$@" > "$work/log" 2>&1 || { cat "$work/log" >&2; fail "make $*"; }; }
 
 package install
 package install                             # a second time over the first
@@ -56,4 +56,11 @@ exported=$(nm -D --defined-only "$root$prefix/lib/libzitskvoze.so" | sed 's/^[0-
 cd "$OLDPWD"
 package uninstall
 [ -z "$(find "$root" ! -type d)" ] || fail "uninstall leaves $(find "$root" ! -type d)"
+[ "$(make -n test)" = .ci/run ] || fail "make test runs $(make -n test)"
+mkdir "$work/bin"
+ln -s "$(command -v make)" "$(command -v sed)" "$work/bin"
+status=0
+PATH=$work/bin make -C host archive LIBRARY="$work/none.a" > "$work/log" 2>&1 || status=$?
+[ "$status" -eq 2 ] || fail "a build without the kit ends with $status"
+grep -qF 'rt (the Rattle kit) is not on the path' "$work/log" || fail "a build without the kit says $(cat "$work/log")"
 echo "install: hello builds and runs by pkg-config, static and shared; nothing is left by uninstall"

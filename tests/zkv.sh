@@ -1,13 +1,14 @@
 #!/usr/bin/env bash
 # The program zkv in bad company: closed descriptors, files exchanged or cut under it, full disks, locks held by others,
-# FIFOs, links, limits, empty input, wrong lists and usage, a disk that breaks; what its exit statuses and messages say;
-# scans, lists, digests, loads and copies; what chunks and keys hold, and where a fault is.
+# readers that do not read, signals, FIFOs, links, limits, empty and endless input, wrong lists and usage, a disk that
+# breaks; what its exit statuses and messages say; scans, lists, digests, loads and copies; what chunks and keys hold,
+# and where a fault is.
 #
 # tests/zkv.sh [PROGRAM]        host/build/zkv; says every check that does not hold, and ends with 1 if there is one
 set -uo pipefail
 cd "$(dirname "$0")/.."
 zkv=$(realpath "${1:-host/build/zkv}")
-tests=$PWD/tests
+tests=$PWD/tests host=$PWD/host
 [ -x "$zkv" ] || { echo "$zkv is missing: run make -C host" >&2; exit 2; }
 work=$(mktemp -d)
 mounted=
@@ -213,11 +214,32 @@ ends 2 format l.img 1x6
 says 'l.img: 1x6 is no number of chunks'
 untouched l.img before
 ends 0 --version
-ends 0 --help
+for command in '--help' '-h' 'help' 'put --help' 'help put' 'list --help'; do
+    ends 0 $command
+    hold "zkv $command prints how it is used: $(head -n 1 out)" grep -q '^usage: zkv' out
+    hold "zkv $command prints it to standard output: $(cat err)" [ ! -s err ]
+done
+ends 0 put --help
+hold "zkv put --help is of put alone: $(cat out)" [ "$(grep -c zkv out)" -eq 1 ]
+ends 2 help pat
+says 'zkv: pat: there is no such command'
 cp value ./--force
 ends 0 put l.img 6 -- --force
 ends 0 get l.img 6
 prints 'A+ 450 ml'
+
+# Leading zeros of a key are no part of it, and that is said.
+for command in 'put l.img 007 value' 'get l.img 007' 'scan l.img 007 value' 'delete l.img 007'; do
+    ends 0 $command
+    says 'zkv: l.img: 007 is key 7: leading zeros are no part of a key'
+done
+printf '5\tA+\n007\tB-\n0008\tB-\n0\tB-\n' > list
+ends 0 load l.img list
+says 'zkv: list: line 2: leading zeros are no part of a key: it is key 7 (2 such lines)'
+ends 0 get l.img 7
+hold "nothing is said of a key without leading zeros: $(cat err)" [ ! -s err ]
+ends 0 get l.img 0
+hold "nothing is said of key 0: $(cat err)" [ ! -s err ]
 
 # 7. No bytes are no label, unless they are meant.
 fresh
@@ -288,6 +310,24 @@ ends 0 get l.img 5 --wait 0
 ends 2 put l.img 5 value --wait 0
 wait
 
+# A reader whose output nobody takes: the pipe is full, and a put beside it has the lock.
+fresh
+mkfifo pipe
+exec 7<> pipe
+dd if=/dev/zero of=pipe bs=4096 oflag=nonblock 2> /dev/null
+for command in 'get l.img 4711' 'list l.img' 'list l.img --json' 'dump l.img' 'digest l.img' 'scan l.img 4711 value' 'stat l.img' \
+    'info l.img' 'info l.img --svg -' 'history l.img 4711' 'check l.img' 'check l.img --json'; do
+    "$zkv" $command > pipe 2> /dev/null &
+    reader=$!
+    sleep 0.2
+    ends 0 put l.img 5 value --wait 1
+    hold "zkv $command still waits for its reader" kill -0 "$reader"
+    kill "$reader"
+    wait "$reader" 2> /dev/null
+done
+exec 7>&-
+rm pipe
+
 # 11. Statuses and messages.
 fresh
 ends 1 get l.img 77
@@ -315,6 +355,8 @@ at the directory word of chunk 0: byte 64'
 ends 3 format x.img 3
 says 'zkv: x.img: 3 chunks: refused 1'
 ends 3 check letter
+prints "refused 1: the image's length is not 4 to 504 times 4,096 bytes, or a lent length is unlike that at the opening
+the file has 8 bytes"
 ends 3 get letter 1
 says 'zkv: letter: 8 bytes: refused 1'
 rm -f small.img
@@ -348,6 +390,20 @@ ends 4 scan l.img 4711 nothing --empty
 ends 0 put l.img 8 nothing --empty
 ends 0 scan l.img 8 nothing --empty
 ends 2 scan l.img 8 nothing
+# A scanner that ends what it read like a line: one end is passed over, if that is said, and no more.
+for end in '\n' '\r' '\r\n' ''; do
+    printf "A+ 450 ml$end" > scan
+    ends 0 scan l.img 4711 scan --line
+    prints 'match: key 4711, 9 bytes'
+done
+for end in '\n\n' '\n\r' '\r\r' ' \n'; do
+    printf "A+ 450 ml$end" > scan
+    ends 4 scan l.img 4711 scan --line
+done
+printf '\r\n' > scan
+ends 2 scan l.img 8 scan --line
+says 'scan: gave 0 bytes and the end of a line; if that is meant, say --empty'
+ends 0 scan l.img 8 scan --line --empty
 
 # Lists: rising keys, no deleted ones, values that are printable, the greatest key.
 fresh
@@ -396,7 +452,7 @@ prints '{"keys":3,"labels":[
 ends 0 delete l.img 5
 ends 0 stat l.img --json
 prints '{"chunks":16,"labels":2,"deleted_keys":1,"known_keys":3,"free_chunks":14,"lines_used":4,"lines_left":828,"labels_of_16_left":828,'\
-'"labels_of_64_left":414,"labels_of_256_left":156,"station":"7","centre":null}'
+'"labels_of_64_left":414,"labels_of_256_left":156,"labels_of_1000_left":48,"labels_of_4088_left":12,"station":"7","centre":null}'
 ends 0 stat l.img
 prints 'chunks 16
 labels 2
@@ -408,6 +464,8 @@ lines left 828
 labels of 16 bytes left 828
 labels of 64 bytes left 414
 labels of 256 bytes left 156
+labels of 1000 bytes left 48
+labels of 4088 bytes left 12
 station 7'
 ends 0 check l.img --json
 prints '{"accepted":true}'
@@ -426,7 +484,7 @@ prints $'accepted\nPUT ASIDE: the digest is '"$sum, and not as given"
 ends 4 check l.img --against "$other" --json
 prints '{"accepted":true,"digest":"'"$sum"'","same":false}'
 ends 3 check letter --json
-prints '{"accepted":false,"refusal":1,"sentence":"the image'\''s length is not 4 to 504 times 4,096 bytes, or a lent length is unlike that at the opening"}'
+prints '{"accepted":false,"refusal":1,"sentence":"the image'\''s length is not 4 to 504 times 4,096 bytes, or a lent length is unlike that at the opening","bytes":8}'
 ends 3 check letter --against "$sum"
 ends 2 check l.img --against "${sum}0"
 says 'zkv: check: --against needs a digest: 64 hexadecimal digits'
@@ -440,6 +498,19 @@ ends 0 list none.img --json
 prints $'{"keys":0,"labels":[\n]}'
 ends 0 dump none.img
 prints ''
+
+# What a register holds, as the manual page says, is what stat says of an empty one.
+rows=0
+while read -r chunks bytes of_48 of_256 of_1000 of_4088; do
+    rm -f none.img
+    ends 0 format none.img "$chunks"
+    hold "$chunks chunks are $bytes bytes" [ "$(stat -c %s none.img)" -eq "$bytes" ]
+    ends 0 stat none.img
+    hold "$chunks chunks hold $of_48, $of_256, $of_1000 and $of_4088 labels, not '$(grep left out)'" [ "$(grep left out | sed 's/.* //' | tr '\n' ' ')" = \
+        "$of_48 $of_48 $((of_48 / 2)) $of_256 $of_1000 $of_4088 " ]
+    rows=$((rows + 1))
+done < <(sed -n '/^chunks  *bytes/,/^\.fi/p' "$host/zkv.1" | sed '1d;$d;s/,//g')
+hold "the manual page says what a register holds" [ "$rows" -ge 3 ]
 
 # Lists that are wrong change nothing, and the message says the line; standard output that is full or closed.
 fresh
@@ -480,6 +551,9 @@ ends 2 load l.img nofile
 says 'zkv: nofile: No such file'
 ends 2 load l.img disk
 says 'zkv: disk: cannot be read'
+ends 2 load l.img /dev/zero
+says 'zkv: /dev/zero: has 16777216 bytes or more: no register can hold the labels of so long a list'
+untouched l.img before
 : > list
 ends 0 load l.img list --empty
 prints $'labels 0\nbatches 0'
@@ -659,14 +733,17 @@ head -c 1000 /dev/zero | tr '\0' a > large
 head -c 999 large | "$zkv" put i.img 3 -
 cp i.img before
 ends 0 info i.img --svg p.svg
-prints 'chunk  role  lines  live  superseded  deletes  blocks  bytes  used
-    1  log       7     2           4        1       0      0     0
-    2  data      0     0           0        0       4   1024     1
-    3  free      0     0           0        0       0      0     0
-    4  free      0     0           0        0       0      0     0
-    5  free      0     0           0        0       0      0     0'
-hold "the picture has a box for each chunk" [ "$(grep -c '<title>chunk' p.svg)" -eq 5 ]
+prints '   chunk  role  lines  live  superseded  deletes  blocks  bytes  used
+       1  log       7     2           4        1       0      0     0
+       2  data      0     0           0        0       4   1024     1
+    3..5  free'
+hold "the picture has a box for each chunk" [ "$(grep -c '<title>chunk' p.svg)" -eq 6 ]
 hold "the picture is XML" python3 -c 'import xml.etree.ElementTree as t; t.parse("p.svg")'
+for meaning in live superseded deletes 'blocks used' 'blocks free' free 'chunk 0: header and directory'; do
+    hold "the picture says the colour of $meaning" grep -qF ">$meaning</text>" p.svg
+done
+ends 0 info i.img --svg -
+hold "a picture on standard output is the same, and nothing else" cmp -s out p.svg
 cp p.svg drawn
 for out in p.svg i.img fifo; do
     ends 2 info i.img --svg "$out"
