@@ -58,7 +58,7 @@ __attribute__((format(printf, 2, 3))) int trouble(const char *file, const char *
 __attribute__((format(printf, 3, 4))) int refused(const char *file, uint64_t number, const char *about, ...);
 
 /* zkv_register.c: opening, and carrying a begun call out. A file that is only read is copied into memory and closed, so
- * that its lock is free again; what was opened to be written is held until the program ends. */
+ * that its lock is free again, unless the station says that it is to be held. */
 int lend(struct station *s, size_t bytes, const struct options *o);        /* a key table for an image of so many bytes */
 int open_image(struct station *s, const char *name, enum zkv_file_use use, const struct options *o, uint64_t *number);
 int need_register(struct station *s, const char *name, enum zkv_file_use use, const struct options *o);

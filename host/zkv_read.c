@@ -7,15 +7,28 @@
 
 #include "zkv.h"
 
+/* The key's label, copied while the file was whole; then the lock is given back. To copy the label takes less time than
+ * to copy the image. */
 static int label_of(const char *file, const char *given_key, const struct options *o, struct label *l)
 {
-    static struct station s;
+    static struct station s = {.held = true};
+    static uint8_t value[ZKV_VALUE_MAX];
     uint64_t key;
     int status = key_of(file, given_key, &key);
-    if (status == DONE) {
-        status = need_register(&s, file, ZKV_FILE_READ, o);
+    if (status != DONE) {
+        return status;
     }
-    return status == DONE ? label_of_key(&s, key, l) : status;
+    status = need_register(&s, file, ZKV_FILE_READ, o);
+    if (status == DONE) {
+        status = label_of_key(&s, key, l);
+    }
+    if (status == DONE) {
+        memcpy(value, l->value, l->length);
+        l->value = value;
+        status = confirmed(&s);
+    }
+    zkv_file_close(&s.file);
+    return status;
 }
 
 int command_get(const char *file, char **word, const struct options *o)
