@@ -63,9 +63,9 @@ int lend(struct station *s, size_t bytes, const struct options *o);        /* a 
 int open_image(struct station *s, const char *name, enum zkv_file_use use, const struct options *o, uint64_t *number);
 int need_register(struct station *s, const char *name, enum zkv_file_use use, const struct options *o);
 /* Opens to be written, for commits. A commit is begun only while a free chunk stands, else a power cut in a cleaning
- * can leave a register that is stuck for good (zitskvoze.h): where the opening finds none, a chunk is cleaned first,
- * which copies nothing. */
-int need_room(struct station *s, const char *name, const struct options *o);
+ * can leave a register that is stuck for good (zitskvoze.h): where the opening finds none, a chunk is cleaned first, and
+ * counted. Where none can be cleaned the register is open too: the commit says that there is no space. */
+int need_room(struct station *s, const char *name, const struct options *o, struct cleaned *done);
 int carry_out(struct station *s, zkv_report *report);                       /* to its end, or a refusal, left in *report */
 int confirmed(const struct station *s);                                    /* before a command says that it is done */
 int read_value(const char *from, bool empty_meant, const uint8_t **value, size_t *length);

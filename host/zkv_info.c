@@ -277,9 +277,9 @@ static int print_history(struct station *s, FILE *to)
 int command_history(const char *file, char **word, const struct options *o)
 {
     static struct station s;
-    if (!number_of(word[0], &history_key)) {
-        return trouble(file, "%s is no key: a key is a decimal number below 2^64", word[0]);
+    int status = key_of(file, word[0], &history_key);
+    if (status == DONE) {
+        status = need_register(&s, file, ZKV_FILE_READ, o);
     }
-    int status = need_register(&s, file, ZKV_FILE_READ, o);
     return status == DONE ? print_whole(&s, print_history) : status;
 }

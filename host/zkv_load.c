@@ -296,10 +296,11 @@ int command_load(const char *file, char **word, const struct options *o)
     static struct station s;
     struct list l;
     struct put_so_far p = {0, 0, 0};
+    struct cleaned done;
     zkv_report r;
     int status = read_list(&l, word[0], o->empty);
     if (status == DONE) {
-        status = need_room(&s, file, o);
+        status = need_room(&s, file, o, &done);
     }
     if (status == DONE) {
         status = put_labels(&s, l.label, l.labels, !o->no_clean, &p, &r);

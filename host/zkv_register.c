@@ -111,17 +111,6 @@ int need_register(struct station *s, const char *name, enum zkv_file_use use, co
     return status;
 }
 
-int need_room(struct station *s, const char *name, const struct options *o)
-{
-    struct cleaned done = {0, 0, 0};
-    zkv_report r;
-    int status = need_register(s, name, ZKV_FILE_WRITE, o);
-    if (status == DONE && zkv_free_chunks(s->file.image, s->file.bytes) == 0) {
-        status = clean_one(s, NULL, &done, &r);
-    }
-    return status;
-}
-
 /* As zkv_finish does, but by steps and with a pause between them. */
 static zkv_report finish_slowly(struct station *s, zkv_report r)
 {
@@ -151,15 +140,9 @@ static int no_fence(void *unused)
     return 0;
 }
 
-int carry_out(struct station *s, zkv_report *report)
+/* Whether a call came to its end, or was refused. */
+static int ended(const struct station *s, const zkv_report *report)
 {
-    if (s->in_memory) {
-        *report = zkv_finish(LENT(s), *report, no_flush, no_fence, NULL);
-    } else if (s->pause_us > 0) {
-        *report = finish_slowly(s, *report);
-    } else {
-        *report = zkv_finish(LENT(s), *report, zkv_file_flush, zkv_file_fence, &s->file);
-    }
     switch (report->kind) {
     case ZKV_END:
     case ZKV_REFUSED:
@@ -169,6 +152,36 @@ int carry_out(struct station *s, zkv_report *report)
     default:
         return trouble(s->file.name, "a step answered %" PRIu64 " %" PRIu64, report->kind, report->first);
     }
+}
+
+int carry_out(struct station *s, zkv_report *report)
+{
+    if (s->in_memory) {
+        *report = zkv_finish(LENT(s), *report, no_flush, no_fence, NULL);
+    } else if (s->pause_us > 0) {
+        *report = finish_slowly(s, *report);
+    } else {
+        *report = zkv_finish(LENT(s), *report, zkv_file_flush, zkv_file_fence, &s->file);
+    }
+    return ended(s, report);
+}
+
+int need_room(struct station *s, const char *name, const struct options *o, struct cleaned *done)
+{
+    memset(done, 0, sizeof *done);
+    int status = need_register(s, name, ZKV_FILE_WRITE, o);
+    if (status != DONE) {
+        return status;
+    }
+    zkv_report r = zkv_make_room(LENT(s), zkv_file_flush, zkv_file_fence, &s->file);
+    if (r.kind == ZKV_IDLE) {
+        return DONE;
+    }
+    if (r.kind == ZKV_END) {
+        done->chunks = 1;
+        done->entries = r.first;
+    }
+    return ended(s, &r);
 }
 
 int confirmed(const struct station *s)

@@ -123,7 +123,7 @@ int command_clean(const char *file, char **word, const struct options *o)
     if (word[0] != NULL && !number_of(word[0], &chunk)) {
         return trouble(file, "%s is no chunk: a decimal number below 2^64", word[0]);
     }
-    int status = need_register(&s, file, ZKV_FILE_WRITE, o);
+    int status = word[0] != NULL ? need_register(&s, file, ZKV_FILE_WRITE, o) : need_room(&s, file, o, &done);
     if (status != DONE) {
         return status;
     }
@@ -186,16 +186,15 @@ int change(struct station *s, uint64_t key, const uint8_t *value, size_t length,
 
 /* The same; where cleaning may help, chunks are cleaned and it is tried again, until it is done or no cleaning is
  * left. */
-static int change_with_cleaning(struct station *s, uint64_t key, const uint8_t *value, size_t length, zkv_report *report)
+static int change_with_cleaning(struct station *s, uint64_t key, const uint8_t *value, size_t length, struct cleaned *done, zkv_report *report)
 {
-    struct cleaned done = {0, 0, 0};
     for (;;) {
         zkv_report r;
         int status = change(s, key, value, length, report);
         if (status != DONE || !cleaning_may_help(s, report)) {
             return status;
         }
-        status = clean_one(s, NULL, &done, &r);
+        status = clean_one(s, NULL, done, &r);
         if (status != DONE || r.kind != ZKV_END) {
             return status;
         }
@@ -205,14 +204,15 @@ static int change_with_cleaning(struct station *s, uint64_t key, const uint8_t *
 static int change_key(const char *file, const char *given_key, const uint8_t *value, size_t length, const struct options *o)
 {
     static struct station s;
+    struct cleaned done;
     uint64_t key;
     zkv_report r;
     int status = key_of(file, given_key, &key);
     if (status == DONE) {
-        status = need_room(&s, file, o);
+        status = need_room(&s, file, o, &done);
     }
     if (status == DONE) {
-        status = o->no_clean ? change(&s, key, value, length, &r) : change_with_cleaning(&s, key, value, length, &r);
+        status = o->no_clean ? change(&s, key, value, length, &r) : change_with_cleaning(&s, key, value, length, &done, &r);
     }
     if (status != DONE) {
         return status;

@@ -181,6 +181,32 @@ ends 0 check zeros
 prints accepted
 rm -f l.img.new-* f.img.new-*
 hold "nothing is left beside the files: $(ls -A)" [ -z "$(ls -A | grep new-)" ]
+# By a signal that asks it to end it ends, and removes what has no name yet; by one that is ignored it does not.
+cp l.img before
+for signal in INT TERM HUP; do
+    for command in 'format s.img 16' 'format l.img 16 --force' 'copy l.img s.img'; do
+        env --default-signal=$signal "$zkv" $command --pause 5000 2> /dev/null &
+        job=$!
+        for _ in $(seq 200); do [ -z "$(ls -A | grep new-)" ] || break; sleep 0.02; done
+        hold "zkv $command has begun" [ -n "$(ls -A | grep new-)" ]
+        kill -s $signal "$job"
+        wait "$job" 2> /dev/null
+        status=$?
+        hold "zkv $command ends by $signal, and not with $status" [ "$status" -eq $((128 + $(kill -l $signal))) ]
+        hold "$signal leaves nothing of zkv $command: $(ls -A)" [ -z "$(ls -A | grep -e new- -e '^s.img')" ]
+        rm -f *.new-*
+        untouched l.img before
+    done
+done
+env --ignore-signal=HUP "$zkv" format s.img 16 --pause 1000 2> /dev/null &
+job=$!
+for _ in $(seq 200); do [ -z "$(ls -A | grep new-)" ] || break; sleep 0.02; done
+kill -s HUP "$job"
+wait "$job"
+status=$?
+hold "a format that is to ignore HUP ends with 0, not $status" [ "$status" -eq 0 ]
+ends 0 check s.img
+rm -f s.img
 
 # 5. FIFOs and folders.
 mkfifo fifo
@@ -229,7 +255,7 @@ ends 0 get l.img 6
 prints 'A+ 450 ml'
 
 # Leading zeros of a key are no part of it, and that is said.
-for command in 'put l.img 007 value' 'get l.img 007' 'scan l.img 007 value' 'delete l.img 007'; do
+for command in 'put l.img 007 value' 'get l.img 007' 'scan l.img 007 value' 'history l.img 007' 'delete l.img 007'; do
     ends 0 $command
     says 'zkv: l.img: 007 is key 7: leading zeros are no part of a key'
 done
