@@ -59,15 +59,15 @@ __attribute__((format(printf, 3, 4))) int refused(const char *file, uint64_t num
 
 /* zkv_register.c: opening, and carrying a begun call out. A file that is only read is copied into memory and closed, so
  * that its lock is free again, unless the station says that it is to be held. */
-int lend(struct station *s, size_t bytes, const struct options *o);        /* a key table for an image of so many bytes */
+int lend(struct station *s, size_t bytes, const struct options *o);       /* a key table for an image of so many bytes */
 int open_image(struct station *s, const char *name, enum zkv_file_use use, const struct options *o, uint64_t *number);
 int need_register(struct station *s, const char *name, enum zkv_file_use use, const struct options *o);
 /* Opens to be written, for commits. A commit is begun only while a free chunk stands, else a power cut in a cleaning
- * can leave a register that is stuck for good (zitskvoze.h): where the opening finds none, a chunk is cleaned first, and
- * counted. Where none can be cleaned the register is open too: the commit says that there is no space. */
+ * can leave a register that is stuck for good (zitskvoze.h): where the opening finds none, a chunk is cleaned first,
+ * and counted. Where none can be cleaned the register is open too: the commit says that there is no space. */
 int need_room(struct station *s, const char *name, const struct options *o, struct cleaned *done);
-int carry_out(struct station *s, zkv_report *report);                       /* to its end, or a refusal, left in *report */
-int confirmed(const struct station *s);                                    /* before a command says that it is done */
+int carry_out(struct station *s, zkv_report *report);                    /* to its end, or a refusal, left in *report */
+int confirmed(const struct station *s);                                  /* before a command says that it is done */
 int read_value(const char *from, bool empty_meant, const uint8_t **value, size_t *length);
 
 enum { DIGEST_ROOM = 65 };      /* 64 digits and the end */
@@ -84,7 +84,7 @@ void print_json(FILE *to, const char *text, size_t length);     /* printable tex
 
 /* zkv_write.c: each leaves a refusal, if there is one, in *report. Cleans the chunk that is named, else the one that is
  * chosen, else one that holds no label, and counts it. Whether cleaning may help against a refusal. Stages and commits
- * a put or, where value is NULL, a delete; a refused commit leaves nothing staged, and as many chunks free as before. */
+ * a put or, where value is NULL, a delete; a refused commit leaves nothing staged, and as many chunks free as were. */
 int clean_one(struct station *s, const uint64_t *named, struct cleaned *done, zkv_report *report);
 bool cleaning_may_help(struct station *s, const zkv_report *report);
 int change(struct station *s, uint64_t key, const uint8_t *value, size_t length, zkv_report *report);

@@ -186,7 +186,8 @@ int change(struct station *s, uint64_t key, const uint8_t *value, size_t length,
 
 /* The same; where cleaning may help, chunks are cleaned and it is tried again, until it is done or no cleaning is
  * left. */
-static int change_with_cleaning(struct station *s, uint64_t key, const uint8_t *value, size_t length, struct cleaned *done, zkv_report *report)
+static int change_with_cleaning(struct station *s, uint64_t key, const uint8_t *value, size_t length, struct cleaned *done,
+                                zkv_report *report)
 {
     for (;;) {
         zkv_report r;

@@ -4,7 +4,8 @@
 # breaks; what its exit statuses and messages say; scans, lists, digests, loads and copies; what chunks and keys hold,
 # and where a fault is.
 #
-# tests/zkv.sh [PROGRAM]        host/build/zkv; says every check that does not hold, and ends with 1 if there is one
+# tests/zkv.sh [PROGRAM]        host/build/zkv; says every check that does not hold, and ends with 1 if there is one;
+#                               needs host/build/cut_clean (make -C host)
 set -uo pipefail
 cd "$(dirname "$0")/.."
 zkv=$(realpath "${1:-host/build/zkv}")
@@ -657,6 +658,13 @@ if command -v gcc > /dev/null && gcc -O2 -shared -fPIC -o failing.so "$tests/fai
     done
     fresh
     fails 1 put l.img 5 value
+    "$host/build/cut_clean" cut.img             # no chunk is free: one is freed before the put
+    fails 0 put cut.img 5 value
+    ends 0 get cut.img 5
+    prints "$(printf 'print %-42d' 5)"
+    ends 0 put cut.img 5 value
+    ends 0 get cut.img 5
+    prints "$(cat value)"
     rm -f d.img
     fails 0 copy l.img d.img
     hold "nothing is left of a copy that could not be synced: $(ls -A)" [ -z "$(ls -A | grep -e '^d.img' -e new-)" ]
