@@ -3,9 +3,9 @@
 The thin function has the shape
     pub fn f(s: &R, ..) -> P { let c = s.control; let k = s.setup; core(c, k, ..) }
 with any structs of the record, and its arrays of numbers (crate lent_record has its proofs/Lent.antt), copied out, in the order of the record's fields, and all of them passed; each other parameter, passed on under its own name, is one of
-&[T], &[T; n], &mut uN, a number uN/usize, bool; P is an enum, a struct, a number, bool, or `&'a [T]` where `'a` is a slice parameter's. Each reference has a lifetime of its own.
+&[T], &[T; n], &mut uN, &mut [T], a number uN/usize, bool; P is an enum, a struct, a number, bool, or `&'a [T]` where `'a` is a slice parameter's. Each reference has a lifetime of its own.
 Neither function has a `requires`; each has one `ensures { λ r. ⌜ .. ⌝ }`, which has a reference x only as `now (x .entry)` and `now (x .exit)`.
-TERM proves the thin function's fact from `e`, the core's fact, at: r (the result), h (the record), x-NAME (a parameter, or the list or number of a reference NAME at entry) and z-NAME (at exit). Default: e."""
+TERM proves the thin function's fact from `e`, the core's fact, at: r (the result), h (the record), x-NAME (a parameter, or the list or number of a reference NAME at entry) and z-NAME (at exit), l-NAME (that a `&mut [T]` has the length that it had). Default: e."""
 import re,sys,os
 W={'u8':'w8','u16':'w16','u32':'w32','u64':'w64','usize':'w64'}
 src_path=sys.argv[1]; FN=sys.argv[2]
@@ -50,6 +50,8 @@ def kind(t):
     if m: return ('sslice',m[1],None)
     m=re.match(r"&(?:'\w+ )?mut (\w+)$",t)
     if m and m[1] in W: return ('mnum',m[1],None)
+    m=re.match(r"&(?:'\w+ )?mut \[(\w+)\]$",t)
+    if m: return ('mslice',m[1],None)
     if t in W: return ('num',t,None)
     if t=='bool': return ('bool','bool',None)
     raise SystemExit('not known: '+t)
@@ -69,7 +71,9 @@ g=fn(CC,CORE); args=[x.strip() for x in argtext.split(',') if x.strip()]
 svar=f['params'][0][0]; R=re.match(r"&(?:'\w+ )?(\w+)$",f['params'][0][1])[1]
 fields=[(a,bare(t)) for a,t in structs[R]]; fix={a:k for k,(a,_) in enumerate(fields)}; fty=dict(fields)
 ps=[(n,)+kind(t) for n,t in f['params'][1:]]; pk={p[0]:p for p in ps}
-isref=lambda p:p[1] in('sslice','sarr','mnum')
+isref=lambda p:p[1] in('sslice','sarr','mnum','mslice')
+isslice=lambda p:p[1] in('sslice','mslice')
+ismut=lambda p:p[1] in('mnum','mslice')
 jf={}; n=1
 for p in ps:
     if isref(p): jf[p[0]]=n; n+=1
@@ -79,22 +83,25 @@ jc={}; n=0
 for cn,w,p in ca:
     if w=='p' and isref(p): jc[cn]=n; n+=1
 rowT=lambda p:f'(Array {p[2]} {p[3]})' if p[1]=='sarr' else p[2]
-def row(p,j,κ): return {'sslice':f'ShrSlice (named {j}) {κ} {p[2]}','sarr':f'ShrRef (named {j}) {κ} {rowT(p)}','mnum':f'MutRef (named {j}) {κ} {p[2]}'}.get(p[1],rowT(p))
+def row(p,j,κ): return {'sslice':f'ShrSlice (named {j}) {κ} {p[2]}','sarr':f'ShrRef (named {j}) {κ} {rowT(p)}','mnum':f'MutRef (named {j}) {κ} {p[2]}','mslice':f'MutSlice (named {j}) {κ} {p[2]}'}.get(p[1],rowT(p))
 def val(p):
-    v=V(p); return {'sslice':f'sliceVal (b-{v}, o-{v}) (length x-{v})','num':f'vint {W.get(p[2])} x-{v}','bool':f'vbool x-{v}'}.get(p[1],f'vptr b-{v} o-{v}')
+    v=V(p)
+    if isslice(p): return f'sliceVal (b-{v}, o-{v}) (length x-{v})'
+    return {'num':f'vint {W.get(p[2])} x-{v}','bool':f'vbool x-{v}'}.get(p[1],f'vptr b-{v} o-{v}')
 inner=lambda p:'ℕ' if p[1]=='mnum' else 'List ℕ'
 den=lambda p:f'RefT ({inner(p)})' if isref(p) else ('Bool' if p[1]=='bool' else 'ℕ')
 argv=lambda p:('ref-' if isref(p) else 'x-')+V(p)
-typed=lambda p:{'sslice':f'(tt, (tt, (record {{ fits = room-{V(p)} .0 }}, tt)))','num':f'(tt, record {{ fits = fit-{V(p)} }})'}.get(p[1],'(tt, tt)')
+typed=lambda p:f'(tt, (tt, (record {{ fits = room-{V(p)} .0 }}, tt)))' if isslice(p) else f'(tt, record {{ fits = fit-{V(p)} }})' if p[1]=='num' else '(tt, tt)'
 slot=lambda p:f'(ArrayOf (plain (λ _. {p[2]})) (λ _. tt) {p[3]})' if p[1]=='sarr' else f'(plain (λ _. {p[2]}))'
 def slotty(p):
     j=jf.get(p[0])
     return {'sslice':f'(shrSliceOf {{n = {nL}}} ({j} ∷ []) tt {slot(p)})','sarr':f'(shrRefTo {{n = {nL}}} ({j} ∷ []) tt {slot(p)})'}.get(p[1],f'(plain {{n = {nL}}} (λ _. {rowT(p)}))')
 sslot=f'(shrRefTo {{n = {nL}}} (0 ∷ []) tt (plain (λ _. T.the-row)))'
-stay=lambda p:f'gave-ref ({jf[p[0]]} ∷ []) tt {slot(p)}' if p[1]=='mnum' else f'stay-dropped {slotty(p)} yes'
-goes=lambda p:f'goes-gave-ref 𝓤 H A W {nL} {jf[p[0]]} tt {slot(p)}' if p[1]=='mnum' else f'goes-dropped 𝓤 H A W {nL} {slotty(p)} yes (λ κs x f. refl)'
+gave=lambda p:'gave-slice' if isslice(p) else 'gave-ref'
+stay=lambda p:f'{gave(p)} ({jf[p[0]]} ∷ []) tt {slot(p)}' if ismut(p) else f'stay-dropped {slotty(p)} yes'
+goes=lambda p:f'goes-{gave(p)} 𝓤 H A W {nL} {jf[p[0]]} tt {slot(p)}' if ismut(p) else f'goes-dropped 𝓤 H A W {nL} {slotty(p)} yes (λ κs x f. refl)'
 κs=['κ']+[f'κ-{V(p)}' for p in ps if isref(p)]; qs=['q']+[f'q-{V(p)}' for p in ps if isref(p)]
-muts=[p for p in ps if p[1]=='mnum']
+muts=[p for p in ps if ismut(p)]; lent=[p for p in muts if isslice(p)]   # `lent`: whose length is known to stay
 # the result
 P=f['ret']; assert P==g['ret'], 'the two results have unlike types'
 ms=re.match(r"&('\w+) \[(\w+)\]$",P)
@@ -176,9 +183,9 @@ use ghost.Atoms.{{Atoms, sem}}
 use contract.Monad.{{Fun, fact}}
 use contract.Running.{{givenOf, tables, tablesOf}}
 use contract.Lifetimes.{{AllOutlive}}
-use types.Kit.{{Given, ‵, raw, some, later, _⊛_, ⋆, _$_, _∵_, !, qed, by, move, keep, drop, use1, use2, split, join, pick, fsplit, fsplit3, fjoin, suffices, frame, await, done}}
+use types.Kit.{{Given, ‵, raw, some, later, _⊛_, ⋆, _$_, _∵_, !, qed, by, move, keep, drop, use1, use2, split, join, pick, fsplit, fsplit3, fjoin,{' feqL,' if lent else ''} suffices, frame, await, done}}
 use types.Run.{{look, init, forget, stop, hop, fld, from, load, addr, of-opd, and-then, no-more, assigns, land, returns, enter, alloc1, alloc0, params1, pass1, pass0, free1, free0}}
-use types.Part.{{whole, sub, look-in}}
+use types.Part.{{{'agg, ' if lent else ''}whole, sub, look-in}}
 use sound.WpLaws.{{FmC, fmOf, WpFn-mono}}
 use denote.RattleType.{{RattleType, owns}}
 use denote.Laws.{{Is, shows}}
@@ -186,7 +193,7 @@ use denote.Plain.{{uint-vals, uint-tells, uint-lawful, {'uint-makes, ' if arrays
 use denote.Builtin.{{{', '.join(['bool','ArrayOf']+types_)}}}
 use denote.Array.{{Array{', array-lawful, array-makes' if arrays else ''}}}
 use denote.Ref.{{RefT, MutRef, ShrRef, now, ptr-vals, mut-tells, shr-tells}}
-use denote.Slice.{{sliceVal, slice-vals, ShrSlice, Room, shr-slice-tells, shr-slice-lawful}}
+use denote.Slice.{{sliceVal, slice-vals, {'MutSlice, ' if lent else ''}ShrSlice, Room, {'finally, mut-slice-tells, ' if lent else ''}shr-slice-tells, shr-slice-lawful}}
 use denote.Signature.{{Slot, plain, shrRefTo, shrSliceOf}}
 use denote.Exit.{{yes}}
 use denote.Steps.{{looks, shuts, owned, peeks, heard, nothing}}
@@ -199,7 +206,7 @@ use denote.Triple.Statement.{{Contract, Triple}}
 use denote.Triple.Call.{{calls-at}}
 use denote.Triple.Clauses.{{ensured, lasts}}
 use denote.Triple.Table.{{entered, cited}}
-use denote.Triple.Walked.{{says, Stays, stay-dropped, gave-ref, walkOf, goes-dropped, goes-gave-ref, Walks, ends-at, walked, walk-meets}}
+use denote.Triple.Walked.{{says, Stays, stay-dropped, gave-ref, {'gave-slice, ' if lent else ''}walkOf, goes-dropped, goes-gave-ref, {'goes-gave-slice, ' if lent else ''}Walks, ends-at, walked, walk-meets}}
 use {dc(R)}''')
 for X in dict.fromkeys(fty[a] for _,a in copies if not isarr(a)): e(f'use {dc(X)}\nuse {pf(home[X],X)} as {al(X)}\nuse {pf(home[X],X)}.Laws as {al(X)}′')
 if P in enums or P in structs: e(f'use {dc(P)}\nuse {pf(home[P],P)} as P\nuse {pf(home[P],P)}.Laws as P′')
@@ -249,7 +256,7 @@ for i,p in enumerate(ps):
     v=V(p); at='a'+' .1'*(i+1)+' .0'; are='are'+' .1'*(i+1)+' .0'
     if isref(p):
         mp+=f' (b-{v} o-{v} : ℕ) (γ-{v} : GName) (x-{v} : {inner(p)})'; app+=[f'({at} .ptr .0)',f'({at} .ptr .1)',f'({at} .name)',f'({at} .now)']
-        if p[1]=='sslice': mp+=f' (room-{v} : Room {p[2]} (length x-{v}))'; app.append(f'({are} .0 .1)')
+        if isslice(p): mp+=f' (room-{v} : Room {p[2]} (length x-{v}))'; app.append(f'({are} .0 .1)')
     elif p[1]=='num': mp+=f' (x-{v} : ℕ) (fit-{v} : x-{v} < 2 ^ {W[p[2]][1:]})'; app+=[f'({at})',f'({are} .1)']
     else: mp+=f' (x-{v} : Bool)'; app+=[f'({at})']
 e(f'module _ {{M : Type 1}} (𝓤 : URA M) (H : Heap 𝓤) (A : Atoms 𝓤) (W : Given 𝓤 H A) (at-mem : Memory → SProp 𝓤) (run : Routine → Fun 𝓤) {mp} where')
@@ -291,10 +298,10 @@ class Cx:
             elif isinstance(x,tuple): r+=x[1]+' '
             else: r+=x+' $ '
         return r
-heap=[f'‵ ({rowP} .own r (w ∷ []))','‵ (flft κ q)']+[f'‵ (flft κ-{V(p)} q-{V(p)})' for p in ps if isref(p)]+[f'‵ (fres γ-{V(p)} ({p[2]} .coded .code z-{V(p)}))' for p in muts]
+heap=[f'‵ ({rowP} .own r (w ∷ []))','‵ (flft κ q)']+[f'‵ (flft κ-{V(p)} q-{V(p)})' for p in ps if isref(p)]+[f'‵ (finally {p[2]} γ-{V(p)} z-{V(p)})' if isslice(p) else f'‵ (fres γ-{V(p)} ({p[2]} .coded .code z-{V(p)}))' for p in muts]
 lab=['own_r','tok_s']+[f'tok_{p[0]}' for p in ps if isref(p)]+[f'fin_{p[0]}' for p in muts]
 x=Cx(lab)
-x.do(f'suffices ! _ (ends-at 𝓤 H A step.ended stayed (step.clauses 𝓤 H A at-mem run) W (({tup(κs)}, {tup(qs)}, bounds, a, vals), tt) w r {tup(["tt"]+[f"z-{V(p)}" if p in muts else "tt" for p in ps])} {tup(["tt"]*(1+len(ps)))})'); x.do(f'says ! ({proof})'); x.nl()
+x.do(f'suffices ! _ (ends-at 𝓤 H A step.ended stayed (step.clauses 𝓤 H A at-mem run) W (({tup(κs)}, {tup(qs)}, bounds, a, vals), tt) w r {tup(["tt"]+[f"z-{V(p)}" if p in muts else "tt" for p in ps])} {tup(["tt"]+[f"l-{V(p)}" if p in lent else "tt" for p in ps])})'); x.do(f'says ! ({proof})'); x.nl()
 x.do('nothing !',0,['G'])
 for p in reversed([p for p in ps if isref(p)]): x.mv([f'tok_{p[0]}','G']); x.do('join !',2,['G'])
 x.mv(['tok_s','G']); x.do('join !',2,['G']); x.do('frame !',1); x.nl()
@@ -304,8 +311,9 @@ for p in reversed(ps):
     else: x.do('nothing !',0,['N']); x.do('fjoin !',2,['F'])
 x.do('nothing !',0,['N']); x.do('fjoin !',2,['F']); x.mv(['F','own_r'])
 zb=''.join(f' (z-{V(p)} : {inner(p)})' for p in muts); za=''.join(f' z-{V(p)}' for p in muts)
-e(f'''  exits : (r : {tyP}) (w : Val){zb} → {saidAt(zname)} → ent 𝓤 (⋆ 𝓤 H A ({lst(heap)})) (Post w)
-  exits r w{za} e =
+lb=''.join(f' → length z-{V(p)} ≡ length x-{V(p)}' for p in lent); la=''.join(f' l-{V(p)}' for p in lent)
+e(f'''  exits : (r : {tyP}) (w : Val){zb} → {saidAt(zname)}{lb} → ent 𝓤 (⋆ 𝓤 H A ({lst(heap)})) (Post w)
+  exits r w{za} e{la} =
       qed W ({lst(heap)}) ∵
       {x.text('      ')}done !
 ''')
@@ -313,7 +321,8 @@ n=2+len(ps); Lp={p[0]:2+i for i,p in enumerate(ps)}; Ll={}
 for _,a in copies: Ll[a]=n; n+=1
 Lt={}
 for cn,w,p in ca:
-    if w=='p' and p in muts: Lt[p[0]]=n; n+=1
+    if w=='p' and p in lent: Lt[p[0]]=n+1; n+=2   # the place's address, and with it the length
+    elif w=='p' and p in muts: Lt[p[0]]=n; n+=1
 items=[]
 for i in reversed(range(n)): items+=[f'L{i}',f'D{i}']
 x=Cx(items+['toks','owns']); L=lambda i:x.pos(f'L{i}')
@@ -339,7 +348,10 @@ for _,a in copies:
     x.do(f'assigns ! (of-opd ! (load ! (from ! (hop ! (look ! {L(1)} refl) (fld ! refl (stop !)))) (look-in ! {x.pos("cell")} (sub ! {fix[a]} refl (whole !))))) (from ! (stop !)) (init ! {L(Ll[a])} refl ({lawOf(a)} .typed (h .{a}) _ {isOf(a)} .0))')
 x.nl(); x.do('use1 W (‵ (fat q′ (rawTy T′.mir) b o (mach h))) '+('(hidden 𝓤 H A W q′ b o h)' if arrays else '(W .laws .at-raw q′ T′.mir b o (mach h))')); x.mv(['cell','own','obor']); x.do('shuts ! tt T.the-row q′ h (mach h ∷ []) b o',3,['tok_s'])
 for cn,w,p in ca:
-    if w=='p' and p in muts: x.nl(); x.do(f'assigns ! (addr ! (from ! (hop ! (look ! {L(Lp[p[0]])} refl) (stop !)))) (from ! (stop !)) (init ! {L(Lt[p[0]])} refl (tt, tt))')
+    if w=='p' and p in lent:
+        x.nl(); x.do(f'assigns ! (addr ! (from ! (fld ! refl (hop ! (look-in ! {L(Lp[p[0]])} (sub ! 0 refl (whole !))) (stop !))))) (from ! (stop !)) (init ! {L(Lt[p[0]]-1)} refl (tt, tt))')
+        x.nl(); x.do(f'assigns ! (agg ! (and-then ! (load ! (from ! (stop !)) (look ! {L(Lt[p[0]]-1)} refl)) (and-then ! (load ! (from ! (fld ! refl (stop !))) (look-in ! {L(Lp[p[0]])} (sub ! 1 refl (whole !)))) (no-more !)))) (from ! (stop !)) (init ! {L(Lt[p[0]])} refl {typed(p)})')
+    elif w=='p' and p in muts: x.nl(); x.do(f'assigns ! (addr ! (from ! (hop ! (look ! {L(Lp[p[0]])} refl) (stop !)))) (from ! (stop !)) (init ! {L(Lt[p[0]])} refl (tt, tt))')
 x.nl('the call')
 for _,a in copies:
     x.do(f'owned ! {rowOf(a)} (Is {rowOf(a)}) {makesOf(a)} (h .{a}) _ {isOf(a)}',0,[f'own_@{a}'])
@@ -359,7 +371,9 @@ x.nl('what the core ensures, at some last values')
 x.mv(['ens']); x.do(f'use1 W (some (λ (zs : {prod(ztypes)}). ‵ (lasts core.ended {tup(cκ)} {ctup} zs) ⊛ raw (fact 𝓤 ({saidAt(zpath)})))) (id⊢ 𝓤 _)',1,['lf']); x.lam('pick ! (λ zs.'); x.do('split !',1,['lasts','fact'])
 x.nl(); x.mv(['fact']); x.lam(f'heard ! ({saidAt(zpath)}) (λ e.',1)
 for cn,w,p in ca:
-    x.mv(['lasts']); x.do('fsplit !',1,[f'fin_@{p}' if w=='k' else f'fin_{p[0]}','lasts'])
+    fin=f'fin_@{p}' if w=='k' else f'fin_{p[0]}'
+    x.mv(['lasts']); x.do('fsplit !',1,[fin,'lasts'])
+    if w=='p' and p in lent: x.do('fsplit !',1,[fin,'len']); x.mv(['len']); x.lam(f'feqL ! (λ l-{V(p)}.',1)
 x.nl(); x.mv(['tr']); x.do('split !',1,['G','own_r']); x.mv(['own_r']); x.lam(f'peeks ! {rowP} (Is {rowP}) (shows 𝓤 H A {rowP}) r (w ∷ []) (λ is.')
 for cn,w,p in ca:
     if w=='p' and isref(p): x.mv(['G']); x.do('split !',1,[f'tok_{p[0]}','G'])
@@ -369,7 +383,7 @@ for i in reversed(range(n)): x.do(f'forget ! {L(i)} refl')
 x.nl()
 for i in range(n): x.mv([f'L{i}',f'D{i}']); x.do('free1 !',2)
 x.do('free0 !'); x.nl(); x.do('keep ! ('+lst([x.pos(l) for l in lab])+')')
-last='by ! (exits r w'+''.join(' '+zpath(next(cn for cn,w,q_ in ca if w=='p' and q_==p),p) for p in muts)+' e)'
+last='by ! (exits r w'+''.join(' '+zpath(next(cn for cn,w,q_ in ca if w=='p' and q_==p),p) for p in muts)+f' e{la})'
 entry='(‵ (flft κ q) ⊛ '+''.join(f'‵ (flft κ-{V(p)} q-{V(p)}) ⊛ ' for p in ps if isref(p))+'‵ ftrue) ∷ ‵ (owns ('+lst(['ShrRef (named 0) κ T.the-row']+[row(p,jf.get(p[0]),f'κ-{V(p)}') for p in ps])+') a vals) ∷ []'
 vl=lst(['vptr b o']+[val(p) for p in ps])
 e(f'''  module _ (C : Calls 𝓤 H) (Λ : Loops 𝓤 H) (fm : FmC 𝓤 H (W .laws) C) (known : Triple 𝓤 (C #core) (Core 𝓤 H A at-mem run)) where
@@ -381,11 +395,11 @@ e(f'''  module _ (C : Calls 𝓤 H) (Λ : Loops 𝓤 H) (fm : FmC 𝓤 H (W .law
 module _ {{M : Type 1}} (𝓤 : URA M) (H : Heap 𝓤) (A : Atoms 𝓤) (W : Given 𝓤 H A) (mem : Memory → SProp 𝓤) (run : Routine → Fun 𝓤) where
   step-walks : (C : Calls 𝓤 H) (Λ : Loops 𝓤 H) → FmC 𝓤 H (W .laws) C → Triple 𝓤 (C #core) (Core 𝓤 H A mem run) → Walks 𝓤 H A step.ended stayed (WpFn 𝓤 H C Λ code.function) (step.clauses 𝓤 H A mem run)
   step-walks C Λ fm known = walked 𝓤 H A step.ended stayed (step.clauses 𝓤 H A mem run) (WpFn 𝓤 H C Λ code.function)''')
-spell=lambda p:{'sslice':'slice-vals','num':f'uint-vals {W.get(p[2])}','bool':'bool-vals'}.get(p[1],'ptr-vals')
+spell=lambda p:'slice-vals' if isslice(p) else {'num':f'uint-vals {W.get(p[2])}','bool':'bool-vals'}.get(p[1],'ptr-vals')
 def tells(p):
     if isref(p):
         j=jf[p[0]]; k='(κs'+' .1'*j+' .0)'
-        return {'sslice':'shr-slice-tells','sarr':'shr-tells','mnum':'mut-tells'}[p[1]]+f' (named {j}) {k} {rowT(p)}'
+        return {'sslice':'shr-slice-tells','sarr':'shr-tells','mnum':'mut-tells','mslice':'mut-slice-tells'}[p[1]]+f' (named {j}) {k} {rowT(p)}'
     return f'uint-tells {W[p[2]]}' if p[1]=='num' else 'bool-tells'
 e(f'''      (λ κs. {tup(['ptr-vals']+[spell(p) for p in ps])}) (λ κs. {tup(['shr-tells (named 0) (κs .0) T.the-row']+[tells(p) for p in ps])})
       (λ κs qs bounds a g are. via 𝓤 _ (fst∗ 𝓤 _ (emp 𝓤))
