@@ -1,6 +1,7 @@
 #!/usr/bin/env bash
 # Hosts in C and C++ against the headers: tests/host.c, which makes every call, and tests/host.cc compile without a
 # warning in every language version from C99 to C17 and C++11 to C++17, and run; the archive has what the headers say.
+# No call writes to what it is lent as const (tests/read_only.c).
 #
 # tests/hosts.sh        needs host/build/libzitskvoze.a (make -C host), gcc, g++; clang is tried too where it is
 set -euo pipefail
@@ -44,6 +45,14 @@ if command -v clang > /dev/null; then
     build_and_run clang c99 tests/host.c -O2
     build_and_run clang c17 tests/host.c -O0
 fi
+# Every call that is lent something as const, with that in read-only pages.
+sed -n 's/^[a-z_0-9 ]*[ *]\(zkv_[a-z_]*\)(.*const \(zkv_record \*record\|uint8_t \*image\),*.*/\1/p' include/zitskvoze.h > "$work/const"
+[ "$(wc -l < "$work/const")" -ge 20 ] || fail "the header's calls that are lent something as const were not found"
+while read -r name; do
+    grep -q "\b\(MADE\|BEGUN\)($name\b" tests/read_only.c || fail "tests/read_only.c does not call $name"
+done < "$work/const"
+gcc -std=c11 $warnings -O2 -o "$work/read_only" tests/read_only.c "$library" || fail "tests/read_only.c does not compile"
+"$work/read_only" || fail "tests/read_only.c does not run as it should"
 # A header stands alone, and a warning is found: the flags reach the compiler.
 for header in zitskvoze.h zitskvoze_file.h; do
     gcc -std=c99 $warnings -fsyntax-only -x c - <<< "#include <$header>" || fail "$header does not stand alone in C"

@@ -52,13 +52,13 @@ pub extern "C" fn zkv_look_up(
 // there are.
 #[no_mangle]
 pub extern "C" fn zkv_list_keys(
-    s: &mut Session,
+    s: &Session,
     image: &[u8],
     table: &[u64],
     keys: &mut [u64],
     count: &mut u64,
 ) -> u64
-    ensures { λ r. ⌜ CountTold (KeysListed (now (s .entry)) (now (s .exit)) (now (image .entry)) (now (table .entry)) (now (keys .entry)) (now (keys .exit))) r (now (count .exit)) ⌝ }
+    ensures { λ r. ⌜ CountTold (KeysListed (now (s .entry)) (now (image .entry)) (now (table .entry)) (now (keys .entry)) (now (keys .exit))) r (now (count .exit)) ⌝ }
 {
     let listed = store_read::list_keys(s, image, table, keys);
     answers::counted(listed, count)

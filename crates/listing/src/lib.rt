@@ -132,26 +132,6 @@ pub fn list_keys(
     }
 }
 
-// What a listing leaves of the record's control, which is as it was, and what it answers: for a thin call over the
-// record.
-pub struct Listings {
-    pub control: Control,
-    pub report: Counted,
-}
-
-pub fn list_core(
-    control: Control,
-    setup: Setup,
-    image: &[u8],
-    table: &[u64],
-    out: &mut [u64],
-) -> Listings
-    ensures { λ r. ⌜ (r .control ≡ control) × ListingKeys control setup (now (image .entry)) (now (table .entry)) (now (out .entry)) (now (out .exit)) (r .report) ⌝ }
-{
-    let report = list_keys(control, setup, image, table, out);
-    Listings { control, report }
-}
-
 // 2, 1, 8, 11, or what is listed of a key of the open register.
 pub fn list_key(control: Control, setup: Setup, image: &[u8], table: &[u64], key: u64) -> Listed
     ensures { λ r. ⌜ ListingKey control setup key (now (image .entry)) (now (table .entry)) r ⌝ }

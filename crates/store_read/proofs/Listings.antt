@@ -1,8 +1,8 @@
 -- The calls that list keys answer alike at two stations with the same state and image: a station reopened lists as one
 -- that was never closed.
 -- Assumes nothing.
-use mathlib.Core.Path.{_≡_, refl, sym, _∙_, ap}
-use mathlib.Core.Option.{Option, none, some}
+use mathlib.Core.Path.{_≡_, sym, _∙_, ap}
+use mathlib.Core.Option.{none, some}
 use mathlib.Core.List.{List}
 use Prim.Native.Nat.{ℕ, _≤_, _<_}
 use native.Mathlib.Omega.{arith}
@@ -10,19 +10,20 @@ use native.Mathlib.Decide.{decLt}
 use lib.ListN.{length, getD, take}
 use lib.Seq.{ext-getD, getD-take}
 use Rattle.spec.specs.Words.{wordsOf}
-use Rattle.spec.specs.Machine.{State, gate}
+use Rattle.spec.specs.Machine.{gate}
 use Rattle.spec.specs.Reopening.{Same}
 use Rattle.spec.specs.declared.Refusal.{Refusal}
 use Rattle.session.specs.declared.Session.{Session}
 use Rattle.session.specs.State.{stateOf, limit}
-use Rattle.session.specs.Fits.{Fits}
+use Rattle.session.specs.Fits.{Proper, Fits}
 use Rattle.listing.specs.declared.Counted.{Counted}
 use Rattle.listing.specs.declared.Counted.the-variants as C
 use Rattle.listing.specs.declared.Listed.{Listed}
+use Rattle.listing.specs.declared.Listed.the-variants as L
 use Rattle.listing.specs.Listing.{presentKeys, listedOf}
 use Rattle.listing.specs.Contract.{Lists, KeysBehind, entriesOf}
+use Rattle.listing.proofs.Alike.{gates, gated-alike}
 use Rattle.store_read.specs.List.{KeysListed, KeyListed}
-use Rattle.session.specs.Fits.{Proper}
 
 -- the same keys in two areas that held the same
 same-keys : (ks out one other : List ℕ) (a b : ℕ) → length one ≡ length out → length other ≡ length out → Lists ks out one a → Lists ks out other b
@@ -41,31 +42,29 @@ same-keys ks out one other a b l m x y f g = (same, ext-getD 0 one other (l ∙ 
 
 module _ (s t : Session) (image table beside : List ℕ) (w : Same Proper stateOf Fits 12 limit s t image image table beside) where
   -- the gate answers the same at both
-  gates : gate (stateOf t) (length image) (length beside) ≡ gate (stateOf s) (length image) (length table)
-  gates = rw (w .state, w .lengths)
+  same-gates : gate (stateOf t) (length image) (length beside) ≡ gate (stateOf s) (length image) (length table)
+  same-gates = gates s t image image table beside w
 
   refused-once : (n m : Refusal) → gate (stateOf s) (length image) (length table) ≡ some n → gate (stateOf t) (length image) (length beside) ≡ some m → n ≡ m
-  refused-once n m x y = let e = gates in cc
+  refused-once n m x y = let e = same-gates in cc
 
   never-both : (n : Refusal) → gate (stateOf s) (length image) (length table) ≡ some n → gate (stateOf s) (length image) (length table) ≡ none → ⊥
   never-both n x y = let z : _≡_ {A = ℕ} 0 1 = cc in omega arith
 
   -- one key
   pub key-alike : (key : ℕ) (r q : Listed) → KeyListed s key image table r → KeyListed t key image beside q → r ≡ q
-  key-alike key r q x y = go (gate (stateOf s) (length image) (length table)) refl
-    where
-      go : (g : Option Refusal) → gate (stateOf s) (length image) (length table) ≡ g → r ≡ q
-      go none e = x .listed .listed (s .buffer) e (w .fits) ∙ sym (y .listed .listed (t .buffer) (gates ∙ e) (w .also))
-      go (some n) e = x .listed .gated (s .buffer) n e ∙ sym (y .listed .gated (t .buffer) n (gates ∙ e))
+  key-alike key r q x y =
+      gated-alike s t image image table beside w L.Refused (listedOf (wordsOf image) (entriesOf image) key) r q (x .listed .gated (s .buffer))
+      (λ e. x .listed .listed (s .buffer) e (w .fits)) (y .listed .gated (t .buffer)) (λ e. y .listed .listed (t .buffer) e (w .also))
 
   -- all keys, into areas that held the same
-  pub keys-alike : (s′ t′ : Session) (out one other : List ℕ) (r q : Counted) → KeysListed s s′ image table out one r → KeysListed t t′ image beside out other q → (r ≡ q) × (one ≡ other)
-  keys-alike s′ t′ out one other r q x y = go r q (x .listed .answered) (y .listed .answered)
+  pub keys-alike : (out one other : List ℕ) (r q : Counted) → KeysListed s image table out one r → KeysListed t image beside out other q → (r ≡ q) × (one ≡ other)
+  keys-alike out one other r q x y = go r q (x .listed .answered) (y .listed .answered)
     where
       go : (r q : Counted) → KeysBehind (s .control) (s .setup) image table out one r → KeysBehind (t .control) (t .setup) image beside out other q → (r ≡ q) × (one ≡ other)
       go (C.Refused n) (C.Refused m) a b = (ap C.Refused (refused-once n m (a .0 (s .buffer)) (b .0 (t .buffer))), a .1 ∙ sym (b .1))
-      go (C.Refused n) (C.Keys d) a b = absurd (never-both n (a .0 (s .buffer)) (sym gates ∙ b .0 (t .buffer)))
-      go (C.Keys c) (C.Refused m) a b = absurd (never-both m (sym gates ∙ b .0 (t .buffer)) (a .0 (s .buffer)))
+      go (C.Refused n) (C.Keys d) a b = absurd (never-both n (a .0 (s .buffer)) (sym same-gates ∙ b .0 (t .buffer)))
+      go (C.Keys c) (C.Refused m) a b = absurd (never-both m (sym same-gates ∙ b .0 (t .buffer)) (a .0 (s .buffer)))
       go (C.Keys c) (C.Keys d) a b =
           let k = same-keys (presentKeys (wordsOf image) (entriesOf image)) out one other c d (x .listed .sized) (y .listed .sized) (a .3 (s .buffer) (w .fits)) (b .3 (t .buffer) (w .also)) (a .2) (b .2) in
           (ap C.Keys (k .0), k .1)

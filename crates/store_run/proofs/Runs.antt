@@ -1,7 +1,7 @@
 -- A RUN IS A LIST OF STEPS of the theorem on histories: `Runs`, which the call that takes several steps ensures, says
 -- the same as `Stepped`, the very steps of demand 3, with reports that each store a word and then the one that is told.
 -- And the fast path is a step, a run, or nothing. The calls that only read (counts, lists, look-ups, choosings) leave
--- record, image and table alone by their types, or say so (`List.KeysListed.same`).
+-- record, image and table alone by their types.
 -- Assumes nothing.
 use mathlib.Core.Path.{_≡_, refl}
 use mathlib.Core.Logic.{_⊎_, inl, inr}

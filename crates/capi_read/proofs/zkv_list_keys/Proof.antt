@@ -63,14 +63,14 @@ use Rattle.capi_read.proofs.zkv_list_keys.Statement as stated
 use Rattle.capi_read.proofs.zkv_list_keys.Code as code
 
 abbrev stayed : Stays (self.ended .signature .params) (self.ended .kept)
-stayed = (gave-ref (0 ∷ []) tt (plain (λ _. T-Session.the-row)), (stay-dropped (shrSliceOf {n = 5} (1 ∷ []) tt (plain (λ _. u8))) yes, (stay-dropped (shrSliceOf {n = 5} (2 ∷ []) tt (plain (λ _. u64))) yes, (gave-slice (3 ∷ []) tt (plain (λ _. u64)), (gave-ref (4 ∷ []) tt (plain (λ _. u64)), tt)))))
+stayed = (stay-dropped (shrRefTo {n = 5} (0 ∷ []) tt (plain (λ _. T-Session.the-row))) yes, (stay-dropped (shrSliceOf {n = 5} (1 ∷ []) tt (plain (λ _. u8))) yes, (stay-dropped (shrSliceOf {n = 5} (2 ∷ []) tt (plain (λ _. u64))) yes, (gave-slice (3 ∷ []) tt (plain (λ _. u64)), (gave-ref (4 ∷ []) tt (plain (λ _. u64)), tt)))))
 
 -- the contract of `list_keys`, and what it ensures
 abbrev Of-list-keys′ : {M : Type 1} (𝓤 : URA M) (H : Heap 𝓤) (A : Atoms 𝓤) (mem : Memory → SProp 𝓤) (run : Routine → Fun 𝓤) → Contract 𝓤
 Of-list-keys′ 𝓤 H A mem run = tripleOf 𝓤 H A list-keys′.signature (list-keys′.spec 𝓤 H A mem run)
 
-abbrev Said-list-keys′ : Counted → Session → Session → List ℕ → List ℕ → List ℕ → List ℕ → Type 0
-Said-list-keys′ r x-s z-s x-image x-table x-keys z-keys = KeysListed (x-s) (z-s) (x-image) (x-table) (x-keys) (z-keys) r
+abbrev Said-list-keys′ : Counted → Session → List ℕ → List ℕ → List ℕ → List ℕ → Type 0
+Said-list-keys′ r x-s x-image x-table x-keys z-keys = KeysListed (x-s) (x-image) (x-table) (x-keys) (z-keys) r
 
 -- the contract of `counted`, and what it ensures
 abbrev Of-counted′ : {M : Type 1} (𝓤 : URA M) (H : Heap 𝓤) (A : Atoms 𝓤) (mem : Memory → SProp 𝓤) (run : Routine → Fun 𝓤) → Contract 𝓤
@@ -111,8 +111,8 @@ module _ {M : Type 1} (𝓤 : URA M) (H : Heap 𝓤) (A : Atoms 𝓤) (W : Given
   abbrev to-1 : Of-list-keys′ 𝓤 H A at-mem run .Ghost
   to-1 = (((κ-s, (κ-image, (κ-table, (κ-keys, tt)))), (q-s, (q-image, (q-table, (q-keys, tt)))), tt, (ref-s, (ref-image, (ref-table, (ref-keys, tt)))), (vptr b-s o-s ∷ [], (sliceVal (b-image, o-image) (length x-image) ∷ [], (sliceVal (b-table, o-table) (length x-table) ∷ [], (sliceVal (b-keys, o-keys) (length x-keys) ∷ [], tt))))), tt)
 
-  goes-1 : ent 𝓤 (sep 𝓤 (sep 𝓤 (A .lft κ-s q-s) (sep 𝓤 (A .lft κ-image q-image) (sep 𝓤 (A .lft κ-table q-table) (sep 𝓤 (A .lft κ-keys q-keys) (sem 𝓤 H A ftrue))))) (sem 𝓤 H A (owns (MutRef (named 0) κ-s T-Session.the-row ∷ ShrSlice (named 1) κ-image u8 ∷ ShrSlice (named 2) κ-table u64 ∷ MutSlice (named 3) κ-keys u64 ∷ []) (ref-s, (ref-image, (ref-table, (ref-keys, tt)))) (vptr b-s o-s ∷ [], (sliceVal (b-image, o-image) (length x-image) ∷ [], (sliceVal (b-table, o-table) (length x-table) ∷ [], (sliceVal (b-keys, o-keys) (length x-keys) ∷ [], tt))))))) (Of-list-keys′ 𝓤 H A at-mem run .pre to-1)
-  goes-1 = qed W ((‵ (flft κ-s q-s) ⊛ ‵ (flft κ-image q-image) ⊛ ‵ (flft κ-table q-table) ⊛ ‵ (flft κ-keys q-keys) ⊛ ‵ ftrue) ∷ ‵ (owns (MutRef (named 0) κ-s T-Session.the-row ∷ ShrSlice (named 1) κ-image u8 ∷ ShrSlice (named 2) κ-table u64 ∷ MutSlice (named 3) κ-keys u64 ∷ []) (ref-s, (ref-image, (ref-table, (ref-keys, tt)))) (vptr b-s o-s ∷ [], (sliceVal (b-image, o-image) (length x-image) ∷ [], (sliceVal (b-table, o-table) (length x-table) ∷ [], (sliceVal (b-keys, o-keys) (length x-keys) ∷ [], tt))))) ∷ []) ∵ join ! $ frame ! $ done !
+  goes-1 : ent 𝓤 (sep 𝓤 (sep 𝓤 (A .lft κ-s q-s) (sep 𝓤 (A .lft κ-image q-image) (sep 𝓤 (A .lft κ-table q-table) (sep 𝓤 (A .lft κ-keys q-keys) (sem 𝓤 H A ftrue))))) (sem 𝓤 H A (owns (ShrRef (named 0) κ-s T-Session.the-row ∷ ShrSlice (named 1) κ-image u8 ∷ ShrSlice (named 2) κ-table u64 ∷ MutSlice (named 3) κ-keys u64 ∷ []) (ref-s, (ref-image, (ref-table, (ref-keys, tt)))) (vptr b-s o-s ∷ [], (sliceVal (b-image, o-image) (length x-image) ∷ [], (sliceVal (b-table, o-table) (length x-table) ∷ [], (sliceVal (b-keys, o-keys) (length x-keys) ∷ [], tt))))))) (Of-list-keys′ 𝓤 H A at-mem run .pre to-1)
+  goes-1 = qed W ((‵ (flft κ-s q-s) ⊛ ‵ (flft κ-image q-image) ⊛ ‵ (flft κ-table q-table) ⊛ ‵ (flft κ-keys q-keys) ⊛ ‵ ftrue) ∷ ‵ (owns (ShrRef (named 0) κ-s T-Session.the-row ∷ ShrSlice (named 1) κ-image u8 ∷ ShrSlice (named 2) κ-table u64 ∷ MutSlice (named 3) κ-keys u64 ∷ []) (ref-s, (ref-image, (ref-table, (ref-keys, tt)))) (vptr b-s o-s ∷ [], (sliceVal (b-image, o-image) (length x-image) ∷ [], (sliceVal (b-table, o-table) (length x-table) ∷ [], (sliceVal (b-keys, o-keys) (length x-keys) ∷ [], tt))))) ∷ []) ∵ join ! $ frame ! $ done !
 
   -- what the triple of `counted` binds outside, and what it asks
   abbrev to-2 : (r-listed : Counted) (w-listed : Val) → Of-counted′ 𝓤 H A at-mem run .Ghost
@@ -121,59 +121,58 @@ module _ {M : Type 1} (𝓤 : URA M) (H : Heap 𝓤) (A : Atoms 𝓤) (W : Given
   goes-2 : (r-listed : Counted) (w-listed : Val) → ent 𝓤 (sep 𝓤 (sep 𝓤 (A .lft κ-count q-count) (sem 𝓤 H A ftrue)) (sem 𝓤 H A (owns (T-Counted.the-row ∷ MutRef (named 0) κ-count u64 ∷ []) (r-listed, (ref-count, tt)) (w-listed ∷ [], (vptr b-count o-count ∷ [], tt))))) (Of-counted′ 𝓤 H A at-mem run .pre (to-2 r-listed w-listed))
   goes-2 r-listed w-listed = qed W ((‵ (flft κ-count q-count) ⊛ ‵ ftrue) ∷ ‵ (owns (T-Counted.the-row ∷ MutRef (named 0) κ-count u64 ∷ []) (r-listed, (ref-count, tt)) (w-listed ∷ [], (vptr b-count o-count ∷ [], tt))) ∷ []) ∵ join ! $ frame ! $ done !
 
-  exits : (r-listed : Counted) (r : ℕ) (w : Val) (z-s : Session) (z-keys : List ℕ) (z-count : ℕ) → Said-list-keys′ r-listed x-s z-s x-image x-table x-keys z-keys → Said-counted′ r r-listed x-count z-count → length z-keys ≡ length x-keys
-      → ent 𝓤 (⋆ 𝓤 H A (‵ (flft κ-s q-s) ∷ ‵ (flft κ-image q-image) ∷ ‵ (flft κ-table q-table) ∷ ‵ (flft κ-keys q-keys) ∷ ‵ (flft κ-count q-count) ∷ ‵ (fres γ-s (T-Session.the-row .coded .code z-s)) ∷ ‵ (finally u64 γ-keys z-keys) ∷ ‵ (fres γ-count (u64 .coded .code z-count)) ∷ ‵ (u64 .own r (w ∷ [])) ∷ [])) (Post w)
-  exits r-listed r w z-s z-keys z-count e-listed e l-keys =
-      qed W (‵ (flft κ-s q-s) ∷ ‵ (flft κ-image q-image) ∷ ‵ (flft κ-table q-table) ∷ ‵ (flft κ-keys q-keys) ∷ ‵ (flft κ-count q-count) ∷ ‵ (fres γ-s (T-Session.the-row .coded .code z-s)) ∷ ‵ (finally u64 γ-keys z-keys) ∷ ‵ (fres γ-count (u64 .coded .code z-count)) ∷ ‵ (u64 .own r (w ∷ [])) ∷ []) ∵
-      suffices ! _ (ends-at 𝓤 H A self.ended stayed (self.clauses 𝓤 H A at-mem run) W (((κ-s, (κ-image, (κ-table, (κ-keys, (κ-count, tt))))), (q-s, (q-image, (q-table, (q-keys, (q-count, tt))))), bounds, a, vals), tt) w r (z-s, (tt, (tt, (z-keys, (z-count, tt))))) (tt, (tt, (tt, (l-keys, (tt, tt)))))) $ says ! ((r-listed, (e-listed, e))) $
+  exits : (r-listed : Counted) (r : ℕ) (w : Val) (z-keys : List ℕ) (z-count : ℕ) → Said-list-keys′ r-listed x-s x-image x-table x-keys z-keys → Said-counted′ r r-listed x-count z-count → length z-keys ≡ length x-keys
+      → ent 𝓤 (⋆ 𝓤 H A (‵ (flft κ-s q-s) ∷ ‵ (flft κ-image q-image) ∷ ‵ (flft κ-table q-table) ∷ ‵ (flft κ-keys q-keys) ∷ ‵ (flft κ-count q-count) ∷ ‵ (finally u64 γ-keys z-keys) ∷ ‵ (fres γ-count (u64 .coded .code z-count)) ∷ ‵ (u64 .own r (w ∷ [])) ∷ [])) (Post w)
+  exits r-listed r w z-keys z-count e-listed e l-keys =
+      qed W (‵ (flft κ-s q-s) ∷ ‵ (flft κ-image q-image) ∷ ‵ (flft κ-table q-table) ∷ ‵ (flft κ-keys q-keys) ∷ ‵ (flft κ-count q-count) ∷ ‵ (finally u64 γ-keys z-keys) ∷ ‵ (fres γ-count (u64 .coded .code z-count)) ∷ ‵ (u64 .own r (w ∷ [])) ∷ []) ∵
+      suffices ! _ (ends-at 𝓤 H A self.ended stayed (self.clauses 𝓤 H A at-mem run) W (((κ-s, (κ-image, (κ-table, (κ-keys, (κ-count, tt))))), (q-s, (q-image, (q-table, (q-keys, (q-count, tt))))), bounds, a, vals), tt) w r (tt, (tt, (tt, (z-keys, (z-count, tt))))) (tt, (tt, (tt, (l-keys, (tt, tt)))))) $ says ! ((r-listed, (e-listed, e))) $
       nothing ! $ move ! (5 ∷ 0 ∷ []) $ join ! $ move ! (4 ∷ 0 ∷ []) $ join ! $ move ! (3 ∷ 0 ∷ []) $ join ! $ move ! (2 ∷ 0 ∷ []) $ join ! $ move ! (1 ∷ 0 ∷ []) $ join ! $ frame ! $
-      nothing ! $ move ! (3 ∷ 0 ∷ []) $ fjoin ! $ move ! (2 ∷ 0 ∷ []) $ fjoin ! $ nothing ! $ fjoin ! $ nothing ! $ fjoin ! $ move ! (1 ∷ 0 ∷ []) $ fjoin ! $ done !
+      nothing ! $ move ! (2 ∷ 0 ∷ []) $ fjoin ! $ move ! (1 ∷ 0 ∷ []) $ fjoin ! $ nothing ! $ fjoin ! $ nothing ! $ fjoin ! $ nothing ! $ fjoin ! $ done !
 
   module _ (C : Calls 𝓤 H) (Λ : Loops 𝓤 H) (fm : FmC 𝓤 H (W .laws) C) (known-list-keys′ : Triple 𝓤 (C #list-keys′) (Of-list-keys′ 𝓤 H A at-mem run)) (known-counted′ : Triple 𝓤 (C #counted′) (Of-counted′ 𝓤 H A at-mem run)) where
     walk : ent 𝓤 (onEntry 𝓤 H A self.signature (κ-s, (κ-image, (κ-table, (κ-keys, (κ-count, tt))))) (q-s, (q-image, (q-table, (q-keys, (q-count, tt))))) a vals) (WpFn 𝓤 H C Λ code.function (vptr b-s o-s ∷ sliceVal (b-image, o-image) (length x-image) ∷ sliceVal (b-table, o-table) (length x-table) ∷ sliceVal (b-keys, o-keys) (length x-keys) ∷ vptr b-count o-count ∷ []) Post)
     walk =
-        qed W ((‵ (flft κ-s q-s) ⊛ ‵ (flft κ-image q-image) ⊛ ‵ (flft κ-table q-table) ⊛ ‵ (flft κ-keys q-keys) ⊛ ‵ (flft κ-count q-count) ⊛ ‵ ftrue) ∷ ‵ (owns (MutRef (named 0) κ-s T-Session.the-row ∷ ShrSlice (named 1) κ-image u8 ∷ ShrSlice (named 2) κ-table u64 ∷ MutSlice (named 3) κ-keys u64 ∷ MutRef (named 4) κ-count u64 ∷ []) a vals) ∷ []) ∵ enter ! C Λ code.function (vptr b-s o-s ∷ sliceVal (b-image, o-image) (length x-image) ∷ sliceVal (b-table, o-table) (length x-table) ∷ sliceVal (b-keys, o-keys) (length x-keys) ∷ vptr b-count o-count ∷ []) _ $
-        alloc1 ! (λ l-0. alloc1 ! (λ l-1. alloc1 ! (λ l-2. alloc1 ! (λ l-3. alloc1 ! (λ l-4. alloc1 ! (λ l-5. alloc1 ! (λ l-6. alloc1 ! (λ l-7. alloc1 ! (λ l-8. alloc1 ! (λ l-9. alloc1 ! (λ l-10. alloc0 ! $ params1 ! $ pass1 ! (init ! 18 refl (tt, tt)) $ pass1 ! (init ! 16 refl (tt, (tt, (record { fits = room-image .0 }, tt)))) $ pass1 ! (init ! 14 refl (tt, (tt, (record { fits = room-table .0 }, tt)))) $ pass1 ! (init ! 12 refl (tt, (tt, (record { fits = room-keys .0 }, tt)))) $ pass1 ! (init ! 10 refl (tt, tt)) $ pass0 ! $
+        qed W ((‵ (flft κ-s q-s) ⊛ ‵ (flft κ-image q-image) ⊛ ‵ (flft κ-table q-table) ⊛ ‵ (flft κ-keys q-keys) ⊛ ‵ (flft κ-count q-count) ⊛ ‵ ftrue) ∷ ‵ (owns (ShrRef (named 0) κ-s T-Session.the-row ∷ ShrSlice (named 1) κ-image u8 ∷ ShrSlice (named 2) κ-table u64 ∷ MutSlice (named 3) κ-keys u64 ∷ MutRef (named 4) κ-count u64 ∷ []) a vals) ∷ []) ∵ enter ! C Λ code.function (vptr b-s o-s ∷ sliceVal (b-image, o-image) (length x-image) ∷ sliceVal (b-table, o-table) (length x-table) ∷ sliceVal (b-keys, o-keys) (length x-keys) ∷ vptr b-count o-count ∷ []) _ $
+        alloc1 ! (λ l-0. alloc1 ! (λ l-1. alloc1 ! (λ l-2. alloc1 ! (λ l-3. alloc1 ! (λ l-4. alloc1 ! (λ l-5. alloc1 ! (λ l-6. alloc1 ! (λ l-7. alloc1 ! (λ l-8. alloc1 ! (λ l-9. alloc0 ! $ params1 ! $ pass1 ! (init ! 16 refl (tt, tt)) $ pass1 ! (init ! 14 refl (tt, (tt, (record { fits = room-image .0 }, tt)))) $ pass1 ! (init ! 12 refl (tt, (tt, (record { fits = room-table .0 }, tt)))) $ pass1 ! (init ! 10 refl (tt, (tt, (record { fits = room-keys .0 }, tt)))) $ pass1 ! (init ! 8 refl (tt, tt)) $ pass0 ! $
         -- what is owned and the tokens, one by one
-        move ! (23 ∷ []) $ fsplit ! $ move ! (1 ∷ []) $ fsplit ! $ move ! (1 ∷ []) $ fsplit ! $ move ! (1 ∷ []) $ fsplit ! $ move ! (1 ∷ []) $ fsplit ! $ move ! (28 ∷ []) $ split ! $ move ! (1 ∷ []) $ split ! $ move ! (1 ∷ []) $ split ! $ move ! (1 ∷ []) $ split ! $ move ! (1 ∷ []) $ split ! $
+        move ! (21 ∷ []) $ fsplit ! $ move ! (1 ∷ []) $ fsplit ! $ move ! (1 ∷ []) $ fsplit ! $ move ! (1 ∷ []) $ fsplit ! $ move ! (1 ∷ []) $ fsplit ! $ move ! (26 ∷ []) $ split ! $ move ! (1 ∷ []) $ split ! $ move ! (1 ∷ []) $ split ! $ move ! (1 ∷ []) $ split ! $ move ! (1 ∷ []) $ split ! $
         -- `list_keys`
-        assigns ! (addr ! (from ! (hop ! (look ! 30 refl) (stop !)))) (from ! (stop !)) (init ! 18 refl (tt, tt)) $
-        assigns ! (addr ! (from ! (fld ! refl (hop ! (look-in ! 24 (sub ! 0 refl (whole !))) (stop !))))) (from ! (stop !)) (init ! 16 refl (tt, tt)) $
-        assigns ! (agg ! (and-then ! (load ! (from ! (stop !)) (look ! 16 refl)) (and-then ! (load ! (from ! (fld ! refl (stop !))) (look-in ! 24 (sub ! 1 refl (whole !)))) (no-more !)))) (from ! (stop !)) (init ! 14 refl (tt, (tt, (record { fits = room-keys .0 }, tt)))) $
+        assigns ! (addr ! (from ! (fld ! refl (hop ! (look-in ! 22 (sub ! 0 refl (whole !))) (stop !))))) (from ! (stop !)) (init ! 16 refl (tt, tt)) $
+        assigns ! (agg ! (and-then ! (load ! (from ! (stop !)) (look ! 16 refl)) (and-then ! (load ! (from ! (fld ! refl (stop !))) (look-in ! 22 (sub ! 1 refl (whole !)))) (no-more !)))) (from ! (stop !)) (init ! 14 refl (tt, (tt, (record { fits = room-keys .0 }, tt)))) $
         nothing ! $ move ! (9 ∷ 0 ∷ []) $ fjoin ! $ move ! (9 ∷ 0 ∷ []) $ fjoin ! $ move ! (9 ∷ 0 ∷ []) $ fjoin ! $ move ! (9 ∷ 0 ∷ []) $ fjoin ! $ nothing ! $ move ! (4 ∷ 0 ∷ []) $ join ! $ move ! (4 ∷ 0 ∷ []) $ join ! $ move ! (4 ∷ 0 ∷ []) $ join ! $ move ! (4 ∷ 0 ∷ []) $ join ! $
         use2 W (raw (Of-list-keys′ 𝓤 H A at-mem run .pre to-1)) goes-1 $
-        calls-at ! fm (Of-list-keys′ 𝓤 H A at-mem run) known-list-keys′ to-1 (and-then ! (load ! (from ! (stop !)) (look ! 11 refl)) (and-then ! (load ! (from ! (stop !)) (look ! 21 refl)) (and-then ! (load ! (from ! (stop !)) (look ! 19 refl)) (and-then ! (load ! (from ! (stop !)) (look ! 7 refl)) (no-more !))))) (λ w-listed.
+        calls-at ! fm (Of-list-keys′ 𝓤 H A at-mem run) known-list-keys′ to-1 (and-then ! (load ! (from ! (stop !)) (look ! 21 refl)) (and-then ! (load ! (from ! (stop !)) (look ! 19 refl)) (and-then ! (load ! (from ! (stop !)) (look ! 17 refl)) (and-then ! (load ! (from ! (stop !)) (look ! 7 refl)) (no-more !))))) (λ w-listed.
         use1 W (later (some (λ (r-listed : Counted). ((‵ (flft κ-s q-s) ⊛ ‵ (flft κ-image q-image) ⊛ ‵ (flft κ-table q-table) ⊛ ‵ (flft κ-keys q-keys) ⊛ ‵ ftrue) ⊛ ‵ (T-Counted.the-row .own r-listed (w-listed ∷ []))) ⊛ raw (ensured 𝓤 H A list-keys′.ended (list-keys′.clauses 𝓤 H A at-mem run) (κ-s, (κ-image, (κ-table, (κ-keys, tt)))) (ref-s, (ref-image, (ref-table, (ref-keys, tt)))) tt r-listed)))) (id⊢ 𝓤 _) $ await ! tt $ pick ! (λ r-listed. split ! $
         -- what `list_keys` ensures, at some last values
-        move ! (1 ∷ []) $ use1 W (some (λ (zs-listed : (Session × (Unit {0} × (Unit {0} × (List ℕ × Unit {0}))))). ‵ (lasts list-keys′.ended (κ-s, (κ-image, (κ-table, (κ-keys, tt)))) (ref-s, (ref-image, (ref-table, (ref-keys, tt)))) zs-listed) ⊛ raw (fact 𝓤 (Said-list-keys′ r-listed x-s (zs-listed .0) x-image x-table x-keys (zs-listed .1 .1 .1 .0))))) (id⊢ 𝓤 _) $ pick ! (λ zs-listed. split ! $
-        move ! (1 ∷ []) $ heard ! (Said-list-keys′ r-listed x-s (zs-listed .0) x-image x-table x-keys (zs-listed .1 .1 .1 .0)) (λ e-listed. fsplit ! $ move ! (1 ∷ []) $ fsplit ! $ move ! (1 ∷ []) $ fsplit ! $ move ! (1 ∷ []) $ fsplit ! $ fsplit ! $ move ! (1 ∷ []) $ feqL ! (λ l-keys.
-        move ! (5 ∷ []) $ split ! $ move ! (1 ∷ []) $ peeks ! T-Counted.the-row (Is T-Counted.the-row) (shows 𝓤 H A T-Counted.the-row) r-listed (w-listed ∷ []) (λ is-listed. move ! (1 ∷ []) $ split ! $ move ! (1 ∷ []) $ split ! $ move ! (1 ∷ []) $ split ! $ move ! (1 ∷ []) $ split ! $ land ! (from ! (stop !)) (init ! 23 refl (EL.lawful T-Counted.the-type T-Counted′.the-laws 𝓤 H A W tt .typed r-listed _ is-listed .0)) $
+        move ! (1 ∷ []) $ use1 W (some (λ (zs-listed : (Unit {0} × (Unit {0} × (Unit {0} × (List ℕ × Unit {0}))))). ‵ (lasts list-keys′.ended (κ-s, (κ-image, (κ-table, (κ-keys, tt)))) (ref-s, (ref-image, (ref-table, (ref-keys, tt)))) zs-listed) ⊛ raw (fact 𝓤 (Said-list-keys′ r-listed x-s x-image x-table x-keys (zs-listed .1 .1 .1 .0))))) (id⊢ 𝓤 _) $ pick ! (λ zs-listed. split ! $
+        move ! (1 ∷ []) $ heard ! (Said-list-keys′ r-listed x-s x-image x-table x-keys (zs-listed .1 .1 .1 .0)) (λ e-listed. fsplit ! $ move ! (1 ∷ []) $ fsplit ! $ move ! (1 ∷ []) $ fsplit ! $ move ! (1 ∷ []) $ fsplit ! $ fsplit ! $ move ! (1 ∷ []) $ feqL ! (λ l-keys.
+        move ! (5 ∷ []) $ split ! $ move ! (1 ∷ []) $ peeks ! T-Counted.the-row (Is T-Counted.the-row) (shows 𝓤 H A T-Counted.the-row) r-listed (w-listed ∷ []) (λ is-listed. move ! (1 ∷ []) $ split ! $ move ! (1 ∷ []) $ split ! $ move ! (1 ∷ []) $ split ! $ move ! (1 ∷ []) $ split ! $ land ! (from ! (stop !)) (init ! 21 refl (EL.lawful T-Counted.the-type T-Counted′.the-laws 𝓤 H A W tt .typed r-listed _ is-listed .0)) $
         -- `counted`
-        assigns ! (addr ! (from ! (hop ! (look ! 25 refl) (stop !)))) (from ! (stop !)) (init ! 15 refl (tt, tt)) $
+        assigns ! (addr ! (from ! (hop ! (look ! 23 refl) (stop !)))) (from ! (stop !)) (init ! 15 refl (tt, tt)) $
         nothing ! $ move ! (14 ∷ 0 ∷ []) $ fjoin ! $ move ! (6 ∷ 0 ∷ []) $ fjoin ! $ nothing ! $ move ! (12 ∷ 0 ∷ []) $ join ! $
         use2 W (raw (Of-counted′ 𝓤 H A at-mem run .pre (to-2 r-listed w-listed))) (goes-2 r-listed w-listed) $
-        calls-at ! fm (Of-counted′ 𝓤 H A at-mem run) known-counted′ (to-2 r-listed w-listed) (and-then ! (load ! (from ! (stop !)) (look ! 21 refl)) (and-then ! (load ! (from ! (stop !)) (look ! 13 refl)) (no-more !))) (λ w.
+        calls-at ! fm (Of-counted′ 𝓤 H A at-mem run) known-counted′ (to-2 r-listed w-listed) (and-then ! (load ! (from ! (stop !)) (look ! 19 refl)) (and-then ! (load ! (from ! (stop !)) (look ! 13 refl)) (no-more !))) (λ w.
         use1 W (later (some (λ (r : ℕ). ((‵ (flft κ-count q-count) ⊛ ‵ ftrue) ⊛ ‵ (u64 .own r (w ∷ []))) ⊛ raw (ensured 𝓤 H A counted′.ended (counted′.clauses 𝓤 H A at-mem run) (κ-count, tt) (r-listed, (ref-count, tt)) tt r)))) (id⊢ 𝓤 _) $ await ! tt $ pick ! (λ r. split ! $
         -- what `counted` ensures, at some last values
         move ! (1 ∷ []) $ use1 W (some (λ (zs : (Unit {0} × (ℕ × Unit {0}))). ‵ (lasts counted′.ended (κ-count, tt) (r-listed, (ref-count, tt)) zs) ⊛ raw (fact 𝓤 (Said-counted′ r r-listed x-count (zs .1 .0))))) (id⊢ 𝓤 _) $ pick ! (λ zs. split ! $
         move ! (1 ∷ []) $ heard ! (Said-counted′ r r-listed x-count (zs .1 .0)) (λ e. fsplit ! $ move ! (1 ∷ []) $ fsplit ! $
-        move ! (3 ∷ []) $ split ! $ move ! (1 ∷ []) $ peeks ! u64 (Is u64) (shows 𝓤 H A u64) r (w ∷ []) (λ is. move ! (1 ∷ []) $ split ! $ land ! (from ! (stop !)) (init ! 38 refl (uint-lawful 𝓤 H A W w64 .typed r _ is .0)) $
+        move ! (3 ∷ []) $ split ! $ move ! (1 ∷ []) $ peeks ! u64 (Is u64) (shows 𝓤 H A u64) r (w ∷ []) (λ is. move ! (1 ∷ []) $ split ! $ land ! (from ! (stop !)) (init ! 36 refl (uint-lawful 𝓤 H A W w64 .typed r _ is .0)) $
         -- the result
-        returns ! (look ! 38 refl) $ forget ! 18 refl $ forget ! 20 refl $ forget ! 22 refl $ forget ! 24 refl $ forget ! 26 refl $ forget ! 28 refl $ forget ! 30 refl $ forget ! 32 refl $ forget ! 34 refl $ forget ! 36 refl $ forget ! 38 refl $
-        move ! (38 ∷ 39 ∷ []) $ free1 ! $ move ! (36 ∷ 37 ∷ []) $ free1 ! $ move ! (34 ∷ 35 ∷ []) $ free1 ! $ move ! (32 ∷ 33 ∷ []) $ free1 ! $ move ! (30 ∷ 31 ∷ []) $ free1 ! $ move ! (28 ∷ 29 ∷ []) $ free1 ! $ move ! (26 ∷ 27 ∷ []) $ free1 ! $ move ! (24 ∷ 25 ∷ []) $ free1 ! $ move ! (22 ∷ 23 ∷ []) $ free1 ! $ move ! (20 ∷ 21 ∷ []) $ free1 ! $ move ! (18 ∷ 19 ∷ []) $ free1 ! $ free0 ! $
-        keep ! (10 ∷ 9 ∷ 8 ∷ 6 ∷ 0 ∷ 15 ∷ 11 ∷ 3 ∷ 2 ∷ []) $ by ! (exits r-listed r w (zs-listed .0) (zs-listed .1 .1 .1 .0) (zs .1 .0) e-listed e l-keys)))))))))))))))))))))))
+        returns ! (look ! 36 refl) $ forget ! 18 refl $ forget ! 20 refl $ forget ! 22 refl $ forget ! 24 refl $ forget ! 26 refl $ forget ! 28 refl $ forget ! 30 refl $ forget ! 32 refl $ forget ! 34 refl $ forget ! 36 refl $
+        move ! (36 ∷ 37 ∷ []) $ free1 ! $ move ! (34 ∷ 35 ∷ []) $ free1 ! $ move ! (32 ∷ 33 ∷ []) $ free1 ! $ move ! (30 ∷ 31 ∷ []) $ free1 ! $ move ! (28 ∷ 29 ∷ []) $ free1 ! $ move ! (26 ∷ 27 ∷ []) $ free1 ! $ move ! (24 ∷ 25 ∷ []) $ free1 ! $ move ! (22 ∷ 23 ∷ []) $ free1 ! $ move ! (20 ∷ 21 ∷ []) $ free1 ! $ move ! (18 ∷ 19 ∷ []) $ free1 ! $ free0 ! $
+        keep ! (10 ∷ 9 ∷ 8 ∷ 6 ∷ 0 ∷ 11 ∷ 3 ∷ 2 ∷ []) $ by ! (exits r-listed r w (zs-listed .1 .1 .1 .0) (zs .1 .0) e-listed e l-keys))))))))))))))))))))))
 
 module _ {M : Type 1} (𝓤 : URA M) (H : Heap 𝓤) (A : Atoms 𝓤) (W : Given 𝓤 H A) (mem : Memory → SProp 𝓤) (run : Routine → Fun 𝓤) where
   walks : (C : Calls 𝓤 H) (Λ : Loops 𝓤 H) → FmC 𝓤 H (W .laws) C → Triple 𝓤 (C #list-keys′) (Of-list-keys′ 𝓤 H A mem run) → Triple 𝓤 (C #counted′) (Of-counted′ 𝓤 H A mem run) → Walks 𝓤 H A self.ended stayed (WpFn 𝓤 H C Λ code.function) (self.clauses 𝓤 H A mem run)
   walks C Λ fm known-list-keys′ known-counted′ = walked 𝓤 H A self.ended stayed (self.clauses 𝓤 H A mem run) (WpFn 𝓤 H C Λ code.function)
-      (λ κs. (ptr-vals, (slice-vals, (slice-vals, (slice-vals, (ptr-vals, tt)))))) (λ κs. (mut-tells (named 0) (κs .0) T-Session.the-row, (shr-slice-tells (named 1) (κs .1 .0) u8, (shr-slice-tells (named 2) (κs .1 .1 .0) u64, (mut-slice-tells (named 3) (κs .1 .1 .1 .0) u64, (mut-tells (named 4) (κs .1 .1 .1 .1 .0) u64, tt))))))
+      (λ κs. (ptr-vals, (slice-vals, (slice-vals, (slice-vals, (ptr-vals, tt)))))) (λ κs. (shr-tells (named 0) (κs .0) T-Session.the-row, (shr-slice-tells (named 1) (κs .1 .0) u8, (shr-slice-tells (named 2) (κs .1 .1 .0) u64, (mut-slice-tells (named 3) (κs .1 .1 .1 .0) u64, (mut-tells (named 4) (κs .1 .1 .1 .1 .0) u64, tt))))))
       (λ κs qs bounds a g are. via 𝓤 _ (fst∗ 𝓤 _ (emp 𝓤))
       (walk 𝓤 H A W mem run (κs .0) (κs .1 .0) (κs .1 .1 .0) (κs .1 .1 .1 .0) (κs .1 .1 .1 .1 .0) bounds (qs .0) (qs .1 .0) (qs .1 .1 .0) (qs .1 .1 .1 .0) (qs .1 .1 .1 .1 .0) (a .0 .ptr .0) (a .0 .ptr .1) (a .0 .name) (a .0 .now) (a .1 .0 .ptr .0) (a .1 .0 .ptr .1) (a .1 .0 .name) (a .1 .0 .now) (are .1 .0 .0 .1) (a .1 .1 .0 .ptr .0) (a .1 .1 .0 .ptr .1) (a .1 .1 .0 .name) (a .1 .1 .0 .now) (are .1 .1 .0 .0 .1) (a .1 .1 .1 .0 .ptr .0) (a .1 .1 .1 .0 .ptr .1) (a .1 .1 .1 .0 .name) (a .1 .1 .1 .0 .now) (are .1 .1 .1 .0 .0 .1) (a .1 .1 .1 .1 .0 .ptr .0) (a .1 .1 .1 .1 .0 .ptr .1) (a .1 .1 .1 .1 .0 .name) (a .1 .1 .1 .1 .0 .now) C Λ fm known-list-keys′ known-counted′))
 
 meets : {M : Type 1} (𝓤 : URA M) (H : Heap 𝓤) (A : Atoms 𝓤) → Given 𝓤 H A → (mem : Memory → SProp 𝓤) (run : Routine → Fun 𝓤) (𝓣 : Tables 𝓤 H) → Triple 𝓤 (𝓣 .C #list-keys′) (Of-list-keys′ 𝓤 H A mem run) → Triple 𝓤 (𝓣 .C #counted′) (Of-counted′ 𝓤 H A mem run)
     → Meets 𝓤 H A self.signature (WpFn 𝓤 H (𝓣 .C) (𝓣 .Λ) code.function) (self.spec 𝓤 H A mem run)
 meets 𝓤 H A W mem run 𝓣 known-list-keys′ known-counted′ =
-    walk-meets 𝓤 H A self.ended stayed W (goes-gave-ref 𝓤 H A W 5 0 tt (plain (λ _. T-Session.the-row)), (goes-dropped 𝓤 H A W 5 (shrSliceOf {n = 5} (1 ∷ []) tt (plain (λ _. u8))) yes (λ κs x f. refl), (goes-dropped 𝓤 H A W 5 (shrSliceOf {n = 5} (2 ∷ []) tt (plain (λ _. u64))) yes (λ κs x f. refl), (goes-gave-slice 𝓤 H A W 5 3 tt (plain (λ _. u64)), (goes-gave-ref 𝓤 H A W 5 4 tt (plain (λ _. u64)), tt))))) (self.clauses 𝓤 H A mem run)
+    walk-meets 𝓤 H A self.ended stayed W (goes-dropped 𝓤 H A W 5 (shrRefTo {n = 5} (0 ∷ []) tt (plain (λ _. T-Session.the-row))) yes (λ κs x f. refl), (goes-dropped 𝓤 H A W 5 (shrSliceOf {n = 5} (1 ∷ []) tt (plain (λ _. u8))) yes (λ κs x f. refl), (goes-dropped 𝓤 H A W 5 (shrSliceOf {n = 5} (2 ∷ []) tt (plain (λ _. u64))) yes (λ κs x f. refl), (goes-gave-slice 𝓤 H A W 5 3 tt (plain (λ _. u64)), (goes-gave-ref 𝓤 H A W 5 4 tt (plain (λ _. u64)), tt))))) (self.clauses 𝓤 H A mem run)
     (WpFn 𝓤 H (𝓣 .C) (𝓣 .Λ) code.function) (WpFn-mono 𝓤 H (W .laws) 𝓣 code.function) (walks 𝓤 H A W mem run (𝓣 .C) (𝓣 .Λ) (fmOf 𝓤 H (W .laws) 𝓣) known-list-keys′ known-counted′)
 
 pub zkv-list-keys-spec : {M : Type 1} → stated.statement M

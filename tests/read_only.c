@@ -1,0 +1,144 @@
+/* What the header lends a call as const is never written, not even with what stands there: record, image and table lie
+ * in pages of their own, and whichever of them a call is lent as const is read-only while it runs. Every such call is
+ * made in every state of the record: closed, open, staged, in a staging, a commit, a cleaning and a formatting. Built
+ * and run by tests/hosts.sh.
+ *
+ * read_only        exit status 1 and a message at the first call that writes, or answers other than the header says */
+#define _DEFAULT_SOURCE
+#include <signal.h>
+#include <stdio.h>
+#include <stdlib.h>
+#include <string.h>
+#include <sys/mman.h>
+#include <unistd.h>
+
+#include "zitskvoze.h"
+
+enum { CHUNKS = 5, BYTES = CHUNKS * ZKV_CHUNK_BYTES, WORDS = 1024, KEYS = 8, LARGE = 1000 };
+
+static zkv_record *record;
+static uint8_t *image;
+static uint64_t *table;
+static const char *volatile call = "no call";
+
+#define LENT record, image, BYTES, table, WORDS
+/* the call that is made, for the message of the fault that it may be ended by */
+#define MADE(name, ...) (call = #name, name(__VA_ARGS__))
+#define HOLD(what)                                                                      \
+    do {                                                                                \
+        if (!(what)) {                                                                  \
+            fprintf(stderr, "read_only: line %d: not so: %s\n", __LINE__, #what);       \
+            exit(1);                                                                    \
+        }                                                                               \
+    } while (0)
+
+static void say(const char *words)
+{
+    if (write(STDERR_FILENO, words, strlen(words)) < 0) _exit(2);
+}
+
+static void faulted(int number)
+{
+    (void)number;
+    say("read_only: ");
+    say(call);
+    say(" writes to what it is lent as const\n");
+    _exit(1);
+}
+
+static void *pages(size_t bytes)
+{
+    void *made = mmap(NULL, bytes, PROT_READ | PROT_WRITE, MAP_PRIVATE | MAP_ANONYMOUS, -1, 0);
+    HOLD(made != MAP_FAILED);
+    return made;
+}
+
+/* Which of the three the next calls may write. */
+static void lend(int to_record, int to_image, int to_table)
+{
+    HOLD(mprotect(record, sizeof *record, to_record ? PROT_READ | PROT_WRITE : PROT_READ) == 0);
+    HOLD(mprotect(image, BYTES, to_image ? PROT_READ | PROT_WRITE : PROT_READ) == 0);
+    HOLD(mprotect(table, WORDS * 8, to_table ? PROT_READ | PROT_WRITE : PROT_READ) == 0);
+}
+
+/* Every call that only reads. `number` is what the gate answers in this state; behind it (0) a register with the keys 1,
+ * 2 and a large 3 is open, of which 2 was deleted. */
+static void read_all(uint64_t number)
+{
+    uint64_t start = 9, length = 9, count = 9, version = 9, block = 9, named = 9, keys[KEYS] = {0};
+    lend(0, 0, 0);
+    zkv_report report = MADE(zkv_choose, LENT);
+    HOLD(number == 0 ? report.kind == ZKV_CHOSEN : report.kind == ZKV_REFUSED && report.first == number);
+    for (uint64_t key = 1; key <= 4; key++) {
+        uint64_t expected = number != 0 ? number : key == 1 || key == 3 ? 0 : ZKV_KEY_ABSENT;
+        HOLD(MADE(zkv_look_up, LENT, key, &start, &length) == expected);
+        HOLD(length == (expected != 0 ? 0 : key == 3 ? LARGE : 1));
+        HOLD(MADE(zkv_list_key, LENT, key, &version, &length, &block) == expected);
+        HOLD(length == (expected != 0 ? 0 : key == 3 ? LARGE : 1) && block == (expected == 0 && key == 3));
+    }
+    for (size_t room = 0; room <= KEYS; room++) {
+        HOLD(MADE(zkv_list_keys, LENT, keys, room, &count) == number && count == (number == 0 ? 2 : 0));
+    }
+    HOLD(number != 0 || (keys[0] == 1 && keys[1] == 3 && keys[2] == 0));
+    HOLD(MADE(zkv_keys, record) <= 3);
+    for (size_t chunk = 0; chunk <= CHUNKS; chunk++) {
+        uint64_t none = chunk == 0 || chunk == CHUNKS ? ZKV_NOT_CLEANABLE : 0;
+        HOLD(MADE(zkv_chunk, LENT, chunk).refused == (number != 0 ? number : none));
+        report = MADE(zkv_empty_chunk, LENT, chunk);
+        HOLD(report.kind == ZKV_REFUSED && report.first == (number != 0 ? number : ZKV_NOT_CLEANABLE));
+    }
+    /* the image alone, open or not */
+    HOLD(MADE(zkv_free_chunks, image, BYTES) <= CHUNKS && MADE(zkv_lines_used, image, BYTES) <= 64 * CHUNKS);
+    HOLD(MADE(zkv_station, image, BYTES, &named) <= 1 && MADE(zkv_centre, image, BYTES, &named) <= 1);
+    HOLD(MADE(zkv_entry, image, BYTES, 1, 0).found <= 1 && MADE(zkv_fault, image, BYTES).refusal <= ZKV_TOPS_DISAGREE);
+}
+
+/* A call that is begun is lent image and table as const; then all three, for its steps. At each rest behind an action
+ * all that only read are made, which get `number`. */
+static void done(zkv_report begun, uint64_t number)
+{
+    HOLD(begun.kind == ZKV_BEGUN);
+    do {
+        read_all(number);
+        lend(1, 1, 1);
+        begun = MADE(zkv_run, LENT);
+        HOLD(begun.kind == ZKV_FLUSH || begun.kind == ZKV_FENCE || begun.kind == ZKV_END);
+    } while (begun.kind != ZKV_END);
+    lend(1, 0, 0);
+}
+
+#define BEGUN(name, ...) done((lend(1, 0, 0), MADE(name, __VA_ARGS__)), ZKV_UNFINISHED)
+
+int main(void)
+{
+    uint8_t value[LARGE];
+    memset(value, 7, sizeof value);
+    record = pages(sizeof *record), image = pages(BYTES), table = pages(WORDS * 8);
+    HOLD(signal(SIGSEGV, faulted) != SIG_ERR && signal(SIGBUS, faulted) != SIG_ERR);
+    read_all(ZKV_NOT_OPEN);
+    lend(1, 0, 0);
+    done(MADE(zkv_format, LENT, 1, 7, 1, 8), ZKV_NOT_OPEN);
+    read_all(ZKV_NOT_OPEN);
+    lend(1, 0, 1);
+    HOLD(MADE(zkv_open, LENT).kind == ZKV_OPENED);
+    BEGUN(zkv_put, LENT, 1, value, 1);
+    BEGUN(zkv_put, LENT, 2, value, 1);
+    BEGUN(zkv_put, LENT, 3, value, LARGE);
+    BEGUN(zkv_commit, LENT);
+    BEGUN(zkv_delete, LENT, 2);
+    BEGUN(zkv_commit, LENT);
+    BEGUN(zkv_put, LENT, 1, value, 1);
+    BEGUN(zkv_commit, LENT);
+    read_all(0);
+    lend(1, 0, 0);
+    BEGUN(zkv_put, LENT, 4, value, 1);
+    read_all(0);
+    lend(1, 0, 0);
+    HOLD(MADE(zkv_abandon, LENT).kind == ZKV_ABANDONED);
+    size_t chosen = MADE(zkv_choose, LENT).first;
+    BEGUN(zkv_clean, LENT, chosen);
+    BEGUN(zkv_format, LENT, 0, 0, 0, 0);
+    read_all(ZKV_NOT_OPEN);
+    printf("read_only: no call writes to what it is lent as const\n");
+    return 0;
+}
