@@ -35,11 +35,12 @@ module _ (s : Session) (ws table : List ℕ) (items : List Entry) where
 
   in-commit : (rest : List Action) → CommitFits s ws table items rest → KnownAt (Busy (s .setup .image) (s .setup .table) items Committing rest) s ws (s .control .keys)
   in-commit [] f = f .built .indexed .count ∙ accepted-count (s .setup .image) (s .setup .table) ws _ (f .long) (f .accepted)
-  in-commit (a ∷ rest) f = record { front = f .front; back = f .back; accepted = f .accepted; count = f .built .indexed .count }
+  in-commit (a ∷ rest) f = record { front = f .front; back = f .back; accepted = f .accepted; counts = f .batch .counts; count = f .built .indexed .count }
 
   in-cleaning : (m : ℕ) (rest : List Action) → CleanFits (s .control) (s .setup) (s .setup .source) (s .buffer) ws table rest → KnownAt (Busy (s .setup .image) (s .setup .table) [] (Cleaning m) rest) s ws (s .control .keys)
   in-cleaning m [] f = f .built .indexed .count ∙ accepted-count (s .setup .image) (s .setup .table) ws _ (f .long) (f .accepted)
-  in-cleaning m (a ∷ rest) f = record { xs = f .xs; mid = f .mid; ys = f .ys; as′ = f .as′; bs = f .bs; accepted = f .accepted; others = f .cleaned .rest; count = f .built .indexed .count }
+  in-cleaning m (a ∷ rest) f =
+      record { xs = f .xs; mid = f .mid; ys = f .ys; as′ = f .as′; bs = f .bs; accepted = f .accepted; others = f .cleaned .rest; here = f .here; count = f .built .indexed .count }
 
 -- phases 4 and 5 exclude 6
 apart : (c : Control) → (eqb (c .phase) 4 ≡ true → eqb (c .phase) 6 ≡ false) × (eqb (c .phase) 5 ≡ true → eqb (c .phase) 6 ≡ false)

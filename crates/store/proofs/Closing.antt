@@ -51,7 +51,7 @@ accepted s ws table bytes f e =
 
 -- a station at rest, closed and opened again, answers every later list of calls as if it had not been closed
 pub closing : Reopened Proper stateOf Fits 12 limit
-closing = reopened basePower (blockLimit basePower) Proper stateOf Fits (λ s ws table f. f .0) (omega arith) (omega arith) accepted
+closing = reopened basePower (blockLimit basePower) Proper stateOf Fits (λ s ws table f. f .0) accepted
 
 -- the same after every list of calls, by their answers
 pub closing-after : ReopenedAfter Proper stateOf Fits 12 limit

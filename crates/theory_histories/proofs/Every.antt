@@ -45,7 +45,7 @@ module _ (p : ℕ) (low : 12 ≤ p) (high : p ≤ 16) (limit : ℕ) (fits : limi
 
   -- a record that fits is one of its type
   pub every-reopening : ((s : S) (ws table : List ℕ) → Fits s ws table → Proper s) → ReopenedAfter Proper stateOf Fits p limit
-  every-reopening proper = reopened-after p limit Proper stateOf Fits proper low high (laws-hold p low high limit fits)
+  every-reopening proper = reopened-after p limit Proper stateOf Fits proper (laws-hold p low high limit fits)
 
   -- by the host's rule: no commit is begun while no chunk is free
   pub every-room : NeverStuck Proper stateOf Fits p limit

@@ -5,6 +5,7 @@ pub mod Starts
 pub mod Theorem
 pub mod Every
 pub mod Means
+pub mod Bytes
 pub mod Interrupted
 pub mod Twins
 pub mod Ends

@@ -1,31 +1,25 @@
 -- A store or flush that is reported at a place past the lent image changes no byte of it: from the contract alone.
 -- Assumes nothing.
-use mathlib.Core.Path.{_≡_, refl, sym, _∙_, ap}
+use mathlib.Core.Path.{_≡_, _∙_}
 use mathlib.Core.Option.{Option, none, some}
-use mathlib.Core.List.{List, [], _∷_, _++_}
-use Prim.Native.Nat.{ℕ, zero, suc, _+_, _*_, _/_, _≤_, _<_}
+use mathlib.Core.List.{List}
+use Prim.Native.Nat.{ℕ, _+_, _*_, _/_, _≤_}
 use native.Mathlib.Omega.{arith}
-use lib.ListN.{length, take, drop, set, take-append-drop}
+use lib.ListN.{length, set}
 use lib.Seq.{set-out}
-use Rattle.spec.specs.Words.{AreBytes, wordsFrom, wordsOf, bytesOf}
+use Rattle.spec.specs.Words.{AreBytes, wordsOf}
 use Rattle.spec.specs.Medium.{Action, Store, Flush, Fence}
 use Rattle.spec.specs.Reports.{actionOf}
 use Rattle.spec.specs.Machine.{State}
-use Rattle.spec.specs.Contract.{ChangedBy, PastBy, PastImage, oddBytes}
+use Rattle.spec.specs.Contract.{ChangedBy, PastBy, PastImage}
 use Rattle.words.specs.Image.{length-wordsOf}
-use Rattle.words.proofs.Parts.{bytes-wordsFrom}
-
--- bytes are those of their words, and the odd ones behind them
-whole : (xs : List ℕ) → AreBytes xs → bytesOf (wordsOf xs) ++ oddBytes xs ≡ xs
-unfolding wordsOf
-whole xs b = ap (λ (l : List ℕ). l ++ oddBytes xs) (bytes-wordsFrom (length xs / 8) 0 xs (omega arith) b) ∙ take-append-drop (8 * (length xs / 8)) xs
+use Rattle.theory_histories.proofs.Bytes.{same-bytes}
 
 past-by : (a : Option Action) (bytes bytes′ : List ℕ) → ChangedBy a bytes bytes′ → AreBytes bytes → AreBytes bytes′ → PastBy a bytes → bytes′ ≡ bytes
 past-by none bytes bytes′ c b b′ h = c
 past-by (some (Store w v)) bytes bytes′ (words, sized, odd) b b′ h =
     let same : wordsOf bytes′ ≡ wordsOf bytes = words ∙ set-out (wordsOf bytes) w v (let n : length (wordsOf bytes) ≡ length bytes / 8 = length-wordsOf bytes in omega arith) in
-    let middle : bytesOf (wordsOf bytes′) ++ oddBytes bytes′ ≡ bytesOf (wordsOf bytes) ++ oddBytes bytes = rw (same, odd) in
-    sym (whole bytes′ b′) ∙ middle ∙ whole bytes b
+    same-bytes bytes′ bytes b′ b same odd
 past-by (some (Flush l)) bytes bytes′ c b b′ h = c
 past-by (some Fence) bytes bytes′ c b b′ h = c
 

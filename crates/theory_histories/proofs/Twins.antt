@@ -3,15 +3,14 @@
 -- alike, whatever record and table hold. Of `Fits` it is asked that a record that fits is one of its type, and that an
 -- image that fits at rest is accepted.
 -- Assumes nothing.
-use mathlib.Core.Path.{_≡_, refl, sym, _∙_, ap}
+use mathlib.Core.Path.{_≡_, refl, sym, _∙_}
 use mathlib.Core.Bool.{Bool, true, false}
 use mathlib.Core.Option.{some}
 use mathlib.Core.List.{List, [], _∷_, map}
-use Prim.Native.Nat.{ℕ, zero, _+_, _*_, _/_, _≤_}
+use Prim.Native.Nat.{ℕ, _*_}
 use native.Mathlib.Omega.{arith}
-use lib.ListN.{length, take}
-use lib.Seq.{take-all}
-use Rattle.spec.specs.Words.{wordsOf, bytesOf, AreBytes}
+use lib.ListN.{length}
+use Rattle.spec.specs.Words.{wordsOf, AreBytes}
 use Rattle.spec.specs.Places.{base, chunksIn}
 use Rattle.spec.specs.Log.{Entry}
 use Rattle.spec.specs.Opening.{Accepted, opening}
@@ -23,44 +22,27 @@ use Rattle.spec.specs.History.{World, SameLent}
 use Rattle.spec.specs.Reopening.{Same, Alike, Reopens, Reopened, ReopenedAfter}
 use Rattle.spec.specs.declared.Report.{Report}
 use Rattle.spec.specs.declared.Report.the-variants as R
-use Rattle.words.specs.Image.{length-wordsOf}
-use Rattle.words.proofs.Parts.{bytes-wordsFrom}
-use Rattle.theory_crash.proofs.Opening.{opens-ok}
 use Rattle.theory_plans.specs.Standing.{itemOf}
 use Rattle.theory_plans.specs.Laws.{Laws}
 use Rattle.theory_histories.proofs.Kept.{Holds}
 use Rattle.theory_histories.proofs.Invariant as I
 use Rattle.theory_histories.proofs.Invariant.{HeldAt, Inv}
 use Rattle.theory_histories.proofs.Means as M
-
--- IMAGES of whole words with the same words are the same, byte for byte.
-abbrev Whole : List ℕ → Type 0
-Whole xs = length xs ≡ 8 * (length xs / 8)
-
-whole-bytes : (xs : List ℕ) → AreBytes xs → Whole xs → bytesOf (wordsOf xs) ≡ xs
-unfolding wordsOf
-whole-bytes xs small e =
-    bytes-wordsFrom (length xs / 8) 0 xs (omega arith) small ∙ ap (λ (n : ℕ). take n xs) (sym e) ∙ take-all (length xs) xs (omega arith)
-
-same-bytes : (xs ys : List ℕ) → AreBytes xs → AreBytes ys → Whole xs → length ys ≡ length xs → wordsOf xs ≡ wordsOf ys → xs ≡ ys
-same-bytes xs ys small also e l q = sym (whole-bytes xs small e) ∙ ap bytesOf q ∙ whole-bytes ys also (rw l e)
+use Rattle.theory_histories.proofs.Bytes.{same-bytes}
 
 -- The same report on the same image leaves the same image.
-changed-same : (r : Report) (image a b : List ℕ) → AreBytes a → AreBytes b → Whole image → Changed r image a → Changed r image b → a ≡ b
-changed-same (R.Refused n) image a b small also e c d = c ∙ sym d
-changed-same (R.Begun n) image a b small also e c d = c ∙ sym d
-changed-same (R.Store w v) image a b small also e c d =
-    let l = I.same-length (R.Store w v) image a c in
-    let k = I.same-length (R.Store w v) image b d in
-    same-bytes a b small also (rw l e) (k ∙ sym l) (c .0 ∙ sym (d .0))
-changed-same (R.Flush l) image a b small also e c d = c ∙ sym d
-changed-same R.Fence image a b small also e c d = c ∙ sym d
-changed-same (R.End n) image a b small also e c d = c ∙ sym d
-changed-same R.Idle image a b small also e c d = c ∙ sym d
-changed-same R.Opened image a b small also e c d = c ∙ sym d
-changed-same R.Abandoned image a b small also e c d = c ∙ sym d
-changed-same (R.Chosen n) image a b small also e c d = c ∙ sym d
-changed-same (R.Part x n) image a b small also e c d = c ∙ sym d
+changed-same : (r : Report) (image a b : List ℕ) → AreBytes a → AreBytes b → Changed r image a → Changed r image b → a ≡ b
+changed-same (R.Refused n) image a b small also c d = c ∙ sym d
+changed-same (R.Begun n) image a b small also c d = c ∙ sym d
+changed-same (R.Store w v) image a b small also (words, sized, odd) (words′, sized′, odd′) = same-bytes a b small also (words ∙ sym words′) (odd ∙ sym odd′)
+changed-same (R.Flush l) image a b small also c d = c ∙ sym d
+changed-same R.Fence image a b small also c d = c ∙ sym d
+changed-same (R.End n) image a b small also c d = c ∙ sym d
+changed-same R.Idle image a b small also c d = c ∙ sym d
+changed-same R.Opened image a b small also c d = c ∙ sym d
+changed-same R.Abandoned image a b small also c d = c ∙ sym d
+changed-same (R.Chosen n) image a b small also c d = c ∙ sym d
+changed-same (R.Part x n) image a b small also c d = c ∙ sym d
 
 module _ (p limit : ℕ) {S : Type 0} (Proper : S → Type 0) (stateOf : S → State) (Fits : S → List ℕ → List ℕ → Type 0) (proper : (s : S) (ws table : List ℕ) → Fits s ws table → Proper s) where
   ready : (k : Call) (s : S) (ws table : List ℕ) → Fits s ws table → Ready Proper stateOf Fits p limit k s ws table
@@ -97,19 +79,19 @@ module _ (p limit : ℕ) {S : Type 0} (Proper : S → Type 0) (stateOf : S → S
   fits-again (Clean x) s s′ image image′ table table′ r f c = c .exact f .fits
   fits-again Step s s′ image image′ table table′ r f c = c .exact f .fits
 
-  -- WHAT TWO STATIONS SHARE is kept by every call, on images of whole words.
-  alike : (ks : List Call) (s t : S) (image other table beside : List ℕ) → Whole image → Same Proper stateOf Fits p limit s t image other table beside
+  -- WHAT TWO STATIONS SHARE is kept by every call.
+  alike : (ks : List Call) (s t : S) (image other table beside : List ℕ) → Same Proper stateOf Fits p limit s t image other table beside
       → Alike Proper stateOf Fits p limit ks s t image other table beside
-  alike [] s t image other table beside whole w = w
-  alike (k ∷ ks) s t image other table beside whole w = λ s′ t′ image′ other′ table′ beside′ r q small small′ c d.
+  alike [] s t image other table beside w = w
+  alike (k ∷ ks) s t image other table beside w = λ s′ t′ image′ other′ table′ beside′ r q small small′ c d.
       let x : Exact Proper stateOf Fits p limit k s s′ image image′ table table′ r = c .exact (ready k s (wordsOf image) table (w .fits)) in
       let y : Exact Proper stateOf Fits p limit k t t′ other other′ beside beside′ q = d .exact (ready k t (wordsOf other) beside (w .also)) in
       let e : r ≡ q = x .answered ∙ rw (w .state, w .bytes, w .lengths) (sym (y .answered)) in
-      let i : image′ ≡ other′ = changed-same r image image′ other′ small small′ whole (c .image) (rw (e, w .bytes) (d .image)) in (
+      let i : image′ ≡ other′ = changed-same r image image′ other′ small small′ (c .image) (rw (e, w .bytes) (d .image)) in (
         e,
         (
           i,
-          alike ks s′ t′ image′ other′ table′ beside′ (rw (I.same-length r image image′ (c .image)) whole) (record {
+          alike ks s′ t′ image′ other′ table′ beside′ (record {
             state = x .became ∙ rw (w .state, w .bytes, w .lengths) (sym (y .became));
             bytes = i;
             lengths = c .sized ∙ w .lengths ∙ sym (d .sized);
@@ -120,14 +102,13 @@ module _ (p limit : ℕ) {S : Type 0} (Proper : S → Type 0) (stateOf : S → S
       )
 
   -- A STATION AT REST, on an image that opening accepts with a table as long, and the same image opened.
-  reopens : 12 ≤ p → p ≤ 16 → (s : S) (image table : List ℕ) (es : List Entry) → opening p (length image) (wordsOf image) (length table) ≡ Accepted es
+  reopens : (s : S) (image table : List ℕ) (es : List Entry) → opening p (length image) (wordsOf image) (length table) ≡ Accepted es
       → Fits s (wordsOf image) table → stateOf s ≡ Rest (length image) (length table) [] → Reopens Proper stateOf Fits p limit s image table
   unfolding next
-  reopens lo hi s image table es a f rests t t′ lent table′ r q same c =
-      let x : Exact Proper stateOf Fits p limit Open t t′ image image lent table′ r = c .exact q in
-      let even = opens-ok p lo hi (length image) (length table) (wordsOf image) es (length-wordsOf image) a .2 in (
+  reopens s image table es a f rests t t′ lent table′ r q same c =
+      let x : Exact Proper stateOf Fits p limit Open t t′ image image lent table′ r = c .exact q in (
         x .answered ∙ rw (same, a),
-        λ calls. alike calls s t′ image image table table′ (omega arith) (record {
+        λ calls. alike calls s t′ image image table table′ (record {
           state = rests ∙ sym (x .became ∙ rw (same, a));
           bytes = refl;
           lengths = sym same ∙ sym (c .sized);
@@ -136,10 +117,9 @@ module _ (p limit : ℕ) {S : Type 0} (Proper : S → Type 0) (stateOf : S → S
         }),
       )
 
-  module _ (lo : 12 ≤ p) (hi : p ≤ 16) where
-    pub reopened : ((s : S) (ws table : List ℕ) (bytes : ℕ) → Fits s ws table → stateOf s ≡ Rest bytes (length table) [] → (es : List Entry) × (opening p bytes ws (length table) ≡ Accepted es))
-        → Reopened Proper stateOf Fits p limit
-    reopened accepted s image table small f rests = let a = accepted s (wordsOf image) table (length image) f rests in reopens lo hi s image table (a .0) (a .1) f rests
+  pub reopened : ((s : S) (ws table : List ℕ) (bytes : ℕ) → Fits s ws table → stateOf s ≡ Rest bytes (length table) [] → (es : List Entry) × (opening p bytes ws (length table) ≡ Accepted es))
+      → Reopened Proper stateOf Fits p limit
+  reopened accepted s image table small f rests = let a = accepted s (wordsOf image) table (length image) f rests in reopens s image table (a .0) (a .1) f rests
 
   -- By what the calls answered: with no call unfinished and an empty tray the station is at rest, and what stands is
   -- accepted.
@@ -166,8 +146,8 @@ module _ (p limit : ℕ) {S : Type 0} (Proper : S → Type 0) (stateOf : S → S
         go (Busy l t items task rest) h e = absurd (I.false-true (sym e))
         go (Formatting o l t rest) h e = absurd h
 
-  pub reopened-after : 12 ≤ p → p ≤ 16 → Laws p limit → ReopenedAfter Proper stateOf Fits p limit
-  reopened-after lo hi laws = M.as-calls-left p limit laws Proper stateOf Fits (λ b u s image table. b .staged ≡ [] → u ≡ false → Reopens Proper stateOf Fits p limit s image table)
+  pub reopened-after : Laws p limit → ReopenedAfter Proper stateOf Fits p limit
+  reopened-after laws = M.as-calls-left p limit laws Proper stateOf Fits (λ b u s image table. b .staged ≡ [] → u ≡ false → Reopens Proper stateOf Fits p limit s image table)
       λ bytes whole w b s table i same small empty idle.
       let a = at-rest laws bytes whole w b s table i same empty idle in
-      reopens lo hi s (w .image) table (a .1 .0) (a .1 .1) (held laws bytes whole w b s table i same .0) (a .0)
+      reopens s (w .image) table (a .1 .0) (a .1 .1) (held laws bytes whole w b s table i same .0) (a .0)
