@@ -5,7 +5,8 @@
  *
  * With --twin it runs twins along: wherever a register is open with nothing staged or unfinished, a copy of the image
  * is opened with a record and a table of garbage, and every later call is made on it too. Its answers and its image are
- * compared with the station's, call by call; `twin` follows an answer that is unlike, and the exit status is then 1. */
+ * compared with the station's, call by call, and so are the known keys; at some calls also what is asked of a chunk, the
+ * list of the keys, and a run. `twin` follows an answer that is unlike, and the exit status is then 1. */
 #include <inttypes.h>
 #include <stdbool.h>
 #include <stdio.h>
@@ -14,7 +15,7 @@
 
 #include "zitskvoze.h"
 
-enum { IMAGE_MAX = 65536, TABLE_MAX = 8192, VALUE_ROOM = 65536, ARGUMENTS = 4, TWINS = 4 };
+enum { IMAGE_MAX = 65536, TABLE_MAX = 8192, VALUE_ROOM = 65536, ARGUMENTS = 4, TWINS = 4, SOME = 16 };
 
 /* What is lent to every call, and a copy of it from before the call. */
 struct lent {
@@ -100,6 +101,49 @@ static void open_twin(void)
 #endif
 }
 
+static bool same(zkv_report r, zkv_report q)
+{
+    return q.kind == r.kind && q.first == r.first && q.second == r.second;
+}
+
+static bool same_images(const struct lent *l, const struct lent *t)
+{
+    return memcmp(l->image, t->image, bytes) == 0;
+}
+
+static void copy(struct lent *to, const struct lent *from)
+{
+    memcpy(to->image, from->image, bytes);
+    memcpy(to->table, from->table, 8 * words);
+    to->record = from->record;
+}
+
+/* The calls that are no calls of a script, in every state: a chunk's row, the empty chunk from it on, the list of the
+ * keys, and on copies a run. */
+static bool shown_alike(const struct lent *l, const struct lent *t)
+{
+    static uint64_t keys[2][TABLE_MAX / 2];
+    static struct lent ran[2];
+    uint64_t count[2], number[2];
+    size_t chunk = compared / SOME % (bytes / ZKV_CHUNK_BYTES + 1);
+    const struct lent *each[2] = {l, t};
+    zkv_chunk_row row[2];
+    zkv_report empty[2], end[2];
+    for (size_t i = 0; i < 2; i++) {
+        const zkv_record *r = &each[i]->record;
+        const uint8_t *image = each[i]->image;
+        const uint64_t *table = each[i]->table;
+        row[i] = zkv_chunk(r, image, bytes, table, words, chunk);
+        empty[i] = zkv_empty_chunk(r, image, bytes, table, words, chunk);
+        number[i] = zkv_list_keys(r, image, bytes, table, words, keys[i], TABLE_MAX / 2, &count[i]);
+        copy(&ran[i], each[i]);
+        end[i] = zkv_run(&ran[i].record, ran[i].image, bytes, ran[i].table, words);
+    }
+    return memcmp(&row[0], &row[1], sizeof row[0]) == 0 && same(empty[0], empty[1]) && number[0] == number[1] &&
+           count[0] == count[1] && memcmp(keys[0], keys[1], sizeof keys[0]) == 0 && same(end[0], end[1]) &&
+           same_images(&ran[0], &ran[1]) && zkv_keys(&ran[0].record) == zkv_keys(&ran[1].record);
+}
+
 static void follow(struct asked a, zkv_report r)
 {
     for (size_t i = 0; i < TWINS; i++) {
@@ -108,8 +152,9 @@ static void follow(struct asked a, zkv_report r)
         }
         zkv_report q = made(&twin[i], a);
         compared++;
-        unlike = unlike || q.kind != r.kind || q.first != r.first || q.second != r.second ||
-                 memcmp(twin[i].image, now.image, bytes) != 0;
+        unlike = unlike || !same(r, q) || !same_images(&now, &twin[i]) ||
+                 zkv_keys(&now.record) != zkv_keys(&twin[i].record) ||
+                 (compared % SOME == 0 && !shown_alike(&now, &twin[i]));
     }
     memcpy(tried.table, now.table, 8 * words);
     tried.record = now.record;
@@ -121,9 +166,7 @@ static void follow(struct asked a, zkv_report r)
 
 static void remember(void)
 {
-    memcpy(before.image, now.image, bytes);
-    memcpy(before.table, now.table, 8 * words);
-    before.record = now.record;
+    copy(&before, &now);
 }
 
 static bool image_same(void)
