@@ -111,7 +111,8 @@
  *   against the register, and keep a digest of the image elsewhere.
  * - A table too small for the image's keys makes a refused opening slow: up to some 70 times an accepted one, whatever
  *   the table's length. Lend one of ZKV_TABLE_WORDS_MAX words where memory allows.
- * - An opening takes some 64 KB of stack, and so does a cleaning's last step where a key's entries stand twice.
+ * - An opening takes some 64 KB of stack, and so does a cleaning's last step where a key's entries stand twice; zkv_fault
+ *   takes some 115 KB.
  * - The log only grows until it is cleaned: superseded and deleted values take space until then, and known keys include
  *   deleted ones that still have an entry. Clean when time allows, or when 13 comes; it may take several cleanings
  *   until a commit finds space. Commits leave a free chunk to clean into (they take one only where three are free, two
@@ -386,7 +387,8 @@ size_t zkv_entries(const uint8_t *image, size_t bytes, uint64_t key, size_t from
 zkv_key_entry zkv_entry(const uint8_t *image, size_t bytes, uint64_t key, size_t from);
 
 /* Why an opening refuses the image, and where; 0 where it does not, or only because the keys do not fit the table (7).
- * Where no fault of 1 to 4 is found it takes time by the square of the entries: ask it after a refusal, not before. */
+ * It has no key table: where no fault of 1 to 4 is found it passes over the log twice for each 1,300 keys or so, at
+ * 60,000 keys 40 to 70 times an opening's time; longer where keys were chosen so that thousands are of one class. */
 zkv_place zkv_fault(const uint8_t *image, size_t bytes);
 
 /* Beside the proved calls, in plain C over them (host/library.c). Images in files: zitskvoze_file.h. */

@@ -1,6 +1,7 @@
 #!/usr/bin/env python3
-"""What zkv says of an image's inside, info, history and check with the place of a fault, against the model's reading, on random registers
-and on the same with words altered.
+"""What zkv says of an image's inside, info, history and check with the place of a fault, against the model's reading, on random registers,
+on the same with words altered, and on crowded ones with many faults of the same kind; and that finding a fault among 60,000 entries takes
+a bounded multiple of an opening.
 
 tests/inside.py [REGISTERS [SEED [PROGRAM]]]    6 registers, seed 1, host/build/zkv (make -C host)
 
@@ -15,10 +16,11 @@ import struct
 import subprocess
 import sys
 import tempfile
+import time
 
 sys.dont_write_bytecode = True
 from landed import RULES                                                        # noqa: E402
-from register_model import Refused, View, bytes_of                              # noqa: E402
+from register_model import Refused, View, bytes_of, header_words                # noqa: E402
 
 ZKV = os.path.abspath(sys.argv[3]) if len(sys.argv) > 3 else \
     os.path.join(os.path.dirname(os.path.abspath(__file__)), '..', 'host', 'build', 'zkv')
@@ -203,14 +205,17 @@ class Parsed(View):
         for e in self.entries:
             high[e.key] = max(high.get(e.key, 0), e.version)
         self.top_list = [e for e in self.entries if e.version == high[e.key]]
+        self.firsts, self.users = {}, {}                     # the chosen top entry of a key, the keys whose top entries point to a unit
+        for e in self.top_list:
+            self.firsts.setdefault(e.key, e)
+            if e.op == 1 and e.block:
+                self.users.setdefault(e.tail, set()).add(e.key)
 
     def wrong_block(self, e):
         return e.op == 1 and e.block and not self._block_right(e.tail)
 
     def at_odds(self, e):
-        first = next(f for f in self.top_list if f.key == e.key)
-        pointed = e.op == 1 and e.block
-        return not self._agree(first, e) or pointed and any(f.op == 1 and f.block and f.tail == e.tail and f.key != e.key for f in self.top_list)
+        return not self._agree(self.firsts[e.key], e) or e.op == 1 and e.block and len(self.users[e.tail]) > 1
 
     def first(self, test):
         e = next(e for e in self.top_list if test(e))
@@ -258,10 +263,134 @@ def alter(rng, v, words):
         words[at + rng.randrange(e.words_long)] = rng.choice((0, 1, rng.randrange(1 << 64)))
 
 
+# ---- crowded registers: more keys than a table of the call's own holds, many faults, in any order of keys and places
+
+def entry(op, block, version, tail, key, value=()):
+    return [op | block << 2 | version << 4 | tail << 24, key, *value]
+
+
+def image_of(count, entries, rng):
+    """The words of an image of so many chunks: two data chunks of blocks of two units at the end, and the entries behind each other in
+    log chunks, some with padding between them."""
+    words = header_words(count) + [0] * (512 * count - 8)
+    units = []
+    for c in (count - 2, count - 1):
+        words[8 + c] = 2 | 2 << 8
+        for u in range(16 * c, 16 * c + 16, 2):
+            words[32 * u] = 300
+            words[32 * u + 1:32 * u + 38] = (rng.randrange(1 << 64) for _ in range(37))
+            words[32 * u + 38] = rng.randrange(1 << 32)
+            units.append(u)
+    c, at = 1, 0
+    for e in entries(units):
+        skip = rng.randrange(3) if rng.random() < 0.05 else 0
+        if at + skip + len(e) > 512:
+            words[8 + c] = 1 | (at + 7) // 8 << 8
+            c, at, skip = c + 1, 0, 0
+        if c == count - 2:
+            fail('the entries do not fit the image')
+        words[512 * c + at + skip:512 * c + at + skip + len(e)] = e
+        at += skip + len(e)
+    words[8 + c] = 1 | (at + 7) // 8 << 8
+    return words
+
+
+def crowded(rng, many):
+    """Entries of so many keys, some superseded, some standing twice; then faults: top entries that disagree or share a block with those of
+    other keys, and in one of three registers wrong blocks too."""
+    def entries(units):
+        found, keys = [], [rng.randrange(1 << 64) for _ in range(many)]
+        rng.shuffle(units)
+        own, shared = units[:len(units) // 2], units[len(units) // 2:]
+        wrong = rng.random() < 0.33
+
+        def top(key, version):
+            return rng.choice((entry(2, 0, version, 0, key), entry(1, 0, version, 0, key), entry(1, 0, version, 8, key, [rng.randrange(1 << 64)])))
+
+        for key in keys:
+            version = rng.randrange(1, 9)
+            kind = rng.random()
+            e = entry(1, 1, version, own.pop(), key) if kind < 0.01 and own else \
+                entry(1, 1, version, rng.choice(shared), key) if kind < 0.02 else \
+                entry(1, 1, version, rng.randrange(16 * 504), key) if wrong and kind < 0.03 else top(key, version)
+            found.append(e)
+            for _ in range(rng.choice((1, 2)) if rng.random() < 0.02 else 0):           # again: the same, or another
+                other = entry(1, 1, version, rng.choice(shared), key) if rng.random() < 0.5 else top(key, version)
+                found.append(list(e) if rng.random() < 0.7 else other)
+            if rng.random() < 0.1 and version > 1:                                      # superseded: whatever it says
+                found.append(entry(1, 1, version - 1, rng.choice(shared + [0, 8064]), key))
+        rng.shuffle(found)
+        return found
+    return image_of(many // 90 + 8, entries, rng)
+
+
+def large(rng, number):
+    """60,000 entries; the blocks of the last two are wrong (5), or one (6), or right (0)."""
+    def entries(units):
+        found = [entry(1, 0, 1, 16, rng.randrange(1 << 64), (rng.randrange(1 << 64), rng.randrange(1 << 64))) for _ in range(59998)]
+        return found + [entry(1, 1, 1, units[i if number == 0 else 0] if number != 5 else 1, rng.randrange(1 << 64)) for i in range(2)]
+    return image_of(504, entries, rng)
+
+
+def time_of(name, limit=None):
+    """The best of several checks: other work disturbs little."""
+    best = None
+    for _ in range(5):
+        start = time.monotonic()
+        try:
+            subprocess.run([ZKV, 'check', name], capture_output=True, timeout=limit)
+        except subprocess.TimeoutExpired:
+            continue
+        took = time.monotonic() - start
+        best = took if best is None else min(best, took)
+    return best
+
+
+def compare_time(rng, name, told, limit=300):
+    """How many times as long a check takes that looks for a fault among 60,000 entries."""
+    save(name, large(rng, 0))
+    opened, worst = time_of(name), 0
+    for number in (5, 6):
+        words = large(rng, number)
+        save(name, words)
+        took = time_of(name, limit * opened)
+        if took is None:
+            fail(f'a fault of {number} among 60,000 entries takes more than {limit} times an opening, which takes {opened * 1000:.1f} ms')
+        worst = max(worst, took / opened)
+        compare_fault(words, 8 * len(words), name, told)
+    return worst
+
+
+def save(name, words):
+    open(name, 'wb').write(struct.pack(f'<{len(words)}Q', *words))
+
+
+def compare_fault(words, nbytes, name, told):
+    """Whether the model accepts the image; else check is to say why it does not, and where."""
+    save(name, words)
+    try:
+        w, number = View(words, nbytes, TABLE, model=RULES), 0
+    except Refused as r:
+        number = r.number
+    found = json.loads(zkv('check', name, '--json').stdout)
+    if number == 0:
+        compare_info(w, name)
+        if not found['accepted']:
+            fail(f'check says {found}, and the model accepts')
+        return True
+    told[number] = told.get(number, 0) + 1
+    if told[number] <= 2:
+        compare_at_once(name, number)
+    wanted = {'accepted': False, 'refusal': number, 'sentence': found.get('sentence'), **place_of(number, words, nbytes)}
+    if found != wanted:
+        fail(f'check says {found} and the model {wanted}')
+    return False
+
+
 def main():
     registers = int(sys.argv[1]) if len(sys.argv) > 1 else 6
     rng = random.Random(int(sys.argv[2]) if len(sys.argv) > 2 else 1)
-    told, opened = {}, 0
+    told, crowd, opened = {}, {}, 0
     with tempfile.TemporaryDirectory(dir='/dev/shm' if os.access('/dev/shm', os.W_OK) else None) as folder:
         name, altered = os.path.join(folder, 'l.img'), os.path.join(folder, 'd.img')
         for _ in range(registers):
@@ -276,29 +405,17 @@ def main():
             for _ in range(80 if v.entries else 0):
                 changed = list(words)
                 alter(rng, v, changed)
-                open(altered, 'wb').write(struct.pack(f'<{len(changed)}Q', *changed))
-                try:
-                    w, number = View(changed, nbytes, TABLE, model=RULES), 0
-                except Refused as r:
-                    number = r.number
-                found = json.loads(zkv('check', altered, '--json').stdout)
-                if number == 0:
-                    opened += 1
-                    compare_info(w, altered)
-                    if not found['accepted']:
-                        fail(f'check says {found}, and the model accepts')
-                    continue
-                told[number] = told.get(number, 0) + 1
-                if told[number] <= 2:
-                    compare_at_once(altered, number)
-                wanted = {'accepted': False, 'refusal': number, 'sentence': found.get('sentence'), **place_of(number, changed, nbytes)}
-                if found != wanted:
-                    fail(f'check says {found} and the model {wanted}')
+                opened += compare_fault(changed, nbytes, altered, told)
+        for _ in range(5 * registers):
+            words = crowded(rng, rng.choice((300, 2000, 6000)))
+            compare_fault(words, 8 * len(words), altered, crowd)
+        times = compare_time(rng, altered, crowd)
         long = compare_long(rng, name)
-    if set(told) < {2, 3, 4, 5, 6}:
-        fail(f'only the refusals {sorted(told)} were met')
+    if not {2, 3, 4, 5, 6} <= set(told) or not {5, 6} <= set(crowd):
+        fail(f'only the refusals {sorted(told)} and, on crowded registers, {sorted(crowd)} were met')
     print(f'inside: {registers} registers and {opened} altered ones told chunk by chunk, {sum(told.values())} faults placed: '
-          + ', '.join(f'{told[n]} of {n}' for n in sorted(told)) + f'; a history over 32,000 entries in {long:.3f} s')
+          + ', '.join(f'{told[n]} of {n}' for n in sorted(told)) + '; on crowded registers ' + ', '.join(f'{crowd[n]} of {n}' for n in sorted(crowd))
+          + f'; among 60,000 entries in {times:.0f} times an opening; a history over 32,000 entries in {long:.3f} s')
 
 
 main()

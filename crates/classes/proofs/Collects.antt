@@ -81,7 +81,7 @@ module _ (table : List ℕ) (keys low high key own : ℕ) where
 pub marked-none : (key : ℕ) → marked [] key ≡ true
 marked-none key = rw (le-ltb (classOf key / 0x4_0000) 0 (omega arith))
 
-class-over : (low high : ℕ) (xs over : List Entry) → ((e : Entry) → Mem e over → asked false [] low high (e .key) ≡ false) → classIn low high (xs ++ over) ≡ classIn low high xs
+pub class-over : (low high : ℕ) (xs over : List Entry) → ((e : Entry) → Mem e over → asked false [] low high (e .key) ≡ false) → classIn low high (xs ++ over) ≡ classIn low high xs
 class-over low high xs over h =
     filter-append (λ (x : Entry). within low high (x .key)) xs over
     ∙ ap (classIn low high xs ++_) (filter-none (λ (x : Entry). within low high (x .key)) over (in-all _ over (λ e m. not-asked (within low high (e .key)) (ap (both (within low high (e .key))) (sym (marked-none (e .key))) ∙ h e m)))) ∙ append-nil (classIn low high xs)

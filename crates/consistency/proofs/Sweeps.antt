@@ -80,7 +80,7 @@ module _ (p n : ℕ) (ws : List ℕ) (es ys zs : List Entry) (has : ℕ → Bool
 
 -- ## The steps
 
-class-grown : (low high : ℕ) (xs ps qs : List Entry) → xs ++ classIn low high (ps ++ qs) ≡ (xs ++ classIn low high ps) ++ classIn low high qs
+pub class-grown : (low high : ℕ) (xs ps qs : List Entry) → xs ++ classIn low high (ps ++ qs) ≡ (xs ++ classIn low high ps) ++ classIn low high qs
 class-grown low high xs ps qs = ap (xs ++_) (filter-append (λ (e : Entry). within low high (e .key)) ps qs) ∙ sym (append-assoc xs (classIn low high ps) (classIn low high qs))
 
 class-part : (low high : ℕ) (es xs ps : List Entry) → Part xs es → Part ps es → Part (xs ++ classIn low high ps) es

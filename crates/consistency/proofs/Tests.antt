@@ -49,7 +49,7 @@ told-wrong n ws es after r f w = record { blocks = f ∙ sym w; tops = λ t. abs
 
 -- ## One range after the other
 
-class-none : (es : List Entry) → classIn 0 0 es ≡ []
+pub class-none : (es : List Entry) → classIn 0 0 es ≡ []
 class-none es = filter-none (λ (e : Entry). within 0 0 (e .key)) es (in-all _ es (λ e m. ap negate (not-within 0 0 (e .key) (λ l h. omega arith))))
 
 -- two ranges side by side
@@ -60,7 +60,7 @@ class-both low high es h e m = go (mem-cases e (classIn 0 low es) (classIn low h
     go (inl i) = let f = mem-filter (λ (x : Entry). within 0 low (x .key)) e es i in filter-mem (λ (x : Entry). within 0 high (x .key)) e es (f .0) (within-first low high (e .key) h (f .1))
     go (inr i) = let f = mem-filter (λ (x : Entry). within low high (x .key)) e es i in filter-mem (λ (x : Entry). within 0 high (x .key)) e es (f .0) (within-second low high (e .key) h (f .1))
 
-class-either : (low high : ℕ) (es : List Entry) → low ≤ high → Part (classIn 0 high es) (classIn 0 low es ++ classIn low high es)
+pub class-either : (low high : ℕ) (es : List Entry) → low ≤ high → Part (classIn 0 high es) (classIn 0 low es ++ classIn low high es)
 class-either low high es h e m = let f = mem-filter (λ (x : Entry). within 0 high (x .key)) e es m in go (f .0) (within-either low high (e .key) h (f .1))
   where
     go : Mem e es → (within 0 low (e .key) ≡ true) ⊎ (within low high (e .key) ≡ true) → Mem e (classIn 0 low es ++ classIn low high es)

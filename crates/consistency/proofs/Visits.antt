@@ -68,10 +68,10 @@ module _ (n : ℕ) (ws table : List ℕ) (fits : Bool) (low high : ℕ) (h : Hea
       tested : isTop es (entryOf ws h words) ≡ eqb (h .version) (top .version)
       tested = sym (ap (λ (b : Best). eqb (h .version) (b .version)) best ∙ ap (eqb (h .version)) (version-highest (h .key) es))
 
-      is-below : (h .version ≡ top .version → ⊥) → isTop es (entryOf ws h words) ≡ false
+      pub is-below : (h .version ≡ top .version → ⊥) → isTop es (entryOf ws h words) ≡ false
       is-below m = tested ∙ ne-eqb (h .version) (top .version) m
 
-      is-highest : h .version ≡ top .version → isTop es (entryOf ws h words) ≡ true
+      pub is-highest : h .version ≡ top .version → isTop es (entryOf ws h words) ≡ true
       is-highest q = tested ∙ eq-eqb (h .version) (top .version) q
 
       -- the chosen entry of its key, and where it stands
@@ -81,7 +81,7 @@ module _ (n : ℕ) (ws table : List ℕ) (fits : Bool) (low high : ℕ) (h : Hea
           (t .0, t .1, sym (ap (λ (b : Best). b .place) (best ∙ ap bestOf (t .1))))
 
       -- agreement with it
-      agreement : h .version ≡ top .version → (agreeing r : Bool) → AgreedIs ws agreeing h (top .place) r → r ≡ both agreeing (agreeWith (entryOf ws h words) (chosen (h .key) es))
+      pub agreement : h .version ≡ top .version → (agreeing r : Bool) → AgreedIs ws agreeing h (top .place) r → r ≡ both agreeing (agreeWith (entryOf ws h words) (chosen (h .key) es))
       agreement q agreeing r is = go (pick-chosen q) (ℕ-discrete (h .place) (top .place)) agreeing refl
         where
           read : (f : Entry) → Mem f es → StandsIn ws f

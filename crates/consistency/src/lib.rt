@@ -180,7 +180,7 @@ fn marked(buffer: &mut Buffer, apart: bool, e: Head, place: usize) -> bool
 
 // THE PASS
 // Whether the block of an entry with these parts is right, if it points to one.
-fn block_fine(image: &[u8], count: usize, op: u64, placement: u64, field: u64) -> bool
+pub fn block_fine(image: &[u8], count: usize, op: u64, placement: u64, field: u64) -> bool
     ensures { λ r. ⌜ r ≡ pick (points op placement) (blockRight 12 count (wordsOf (now (image .entry))) field) true ⌝ }
 {
     if points(op, placement) {
@@ -190,7 +190,7 @@ fn block_fine(image: &[u8], count: usize, op: u64, placement: u64, field: u64) -
 }
 
 // Whether the top entries agree, with one more; the chosen one of its key stands at word `place`.
-fn agreed(image: &[u8], so: bool, e: Head, place: usize) -> bool
+pub fn agreed(image: &[u8], so: bool, e: Head, place: usize) -> bool
     ensures { λ r. ⌜ AgreedIs (wordsOf (now (image .entry))) so e place r ⌝ }
 {
     if e.place == place {
@@ -365,7 +365,7 @@ fn check_class(
 
 // ALL CLASSES
 // Where a range of so many classes ends.
-fn range_end(low: u64, width: u64) -> u64
+pub fn range_end(low: u64, width: u64) -> u64
     requires { ⌜ (low < 2 ^ 32) × (1 ≤ width) × (width ≤ 2 ^ 32) ⌝ }
     ensures { λ r. ⌜ (low < r) × (r ≤ 2 ^ 32) ⌝ }
 {
@@ -377,13 +377,13 @@ fn range_end(low: u64, width: u64) -> u64
 }
 
 // A table of the call's own has so many words, and holds so many keys.
-const OWN_WORDS: usize = 6144;
+pub const OWN_WORDS: usize = 6144;
 
 const OWN_KEYS: usize = 1536;
 
 // How many classes the next range is to have, where one of so many had so many keys: so many as are likely to have
 // seven eighths of the keys that a table of the call's own holds, and at most eight times as many as before.
-fn next_width(width: u64, keys: usize) -> u64
+pub fn next_width(width: u64, keys: usize) -> u64
     requires { ⌜ (1 ≤ width) × (width ≤ 2 ^ 32) ⌝ }
     ensures { λ r. ⌜ (1 ≤ r) × (r ≤ 2 ^ 32) ⌝ }
 {
@@ -397,7 +397,7 @@ fn next_width(width: u64, keys: usize) -> u64
 }
 
 // Whether a range is done as it is: its keys fit, or it is one class.
-fn is_enough(fits: bool, width: u64) -> bool
+pub fn is_enough(fits: bool, width: u64) -> bool
     ensures { λ r. ⌜ r ≡ either fits (ltb width 2) ⌝ }
 {
     if fits {

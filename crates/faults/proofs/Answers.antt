@@ -14,7 +14,7 @@ use Rattle.spec.specs.Basics.{pick, both, negate, filter, first, all}
 use Rattle.spec.specs.Words.{wordsOf}
 use Rattle.spec.specs.Places.{lengthAllowed, chunksIn, chunkBytes, maxChunks, directoryWord}
 use Rattle.spec.specs.Header.{headerRight}
-use Rattle.spec.specs.Log.{Entry, Parsed, Wrong, Entries, imageEntries}
+use Rattle.spec.specs.Log.{Entry, Entries, imageEntries}
 use Rattle.spec.specs.Contents.{isTop, chosen}
 use Rattle.spec.specs.Opening.{Refused, Accepted, opening, openLog, openChunks, blocksTest, agreeTest, apartTest, fitsTable, fine, agreeWith}
 use Rattle.spec.specs.declared.Refusal.the-variants as N
@@ -23,9 +23,8 @@ use Rattle.theory_log.specs.Contents.{Mem}
 use Rattle.theory_log.proofs.Contents.{mem-filter}
 use Rattle.log.proofs.Stands.{image-low}
 use Rattle.top_faults.specs.declared.Spots.{Spots}
-use Rattle.top_faults.specs.Spots.{spotsIn}
+use Rattle.top_faults.specs.Spots.{Spotted}
 use Rattle.top_faults.specs.Tops.{firstTop, apartFrom, atOne, placeOr}
-use Rattle.top_faults.proofs.Found.{block-found, tops-found}
 use Rattle.faults.specs.declared.Fault.{Fault}
 use Rattle.faults.specs.declared.Fault.the-variants as F
 use Rattle.faults.specs.declared.Stop.the-variants as T
@@ -126,16 +125,17 @@ module _ (n : ℕ) (ws : List ℕ) where
       head [] q = absurd (let z : _≡_ {A = ℕ} 0 1 = cc in omega arith)
       head (x ∷ xs) q = inl (let r : _≡_ {A = Option Entry} (some x) (some e) = q in cc)
 
-  pub stops-nowhere : (s : Spots) (r : Fault) → stopBy 0 (readImage 12 n ws) ≡ T.Nowhere → s ≡ spotsIn 12 n ws → r ≡ spotFault (s .block) (s .tops) → r ≡ logFault 12 n ws (readImage 12 n ws)
-  stops-nowhere s r h is e = go (readImage 12 n ws) (parsed-image 12 n ws) h
+  pub stops-nowhere : n ≤ maxChunks → (s : Spots) (r : Fault) → stopBy 0 (readImage 12 n ws) ≡ T.Nowhere → Spotted n ws s → r ≡ spotFault (s .block) (s .tops) → r ≡ logFault 12 n ws (readImage 12 n ws)
+  stops-nowhere few s r h is e = go (readImage 12 n ws) (parsed-image 12 n ws) h
     where
-      spots : (es : List Entry) → imageEntries 12 n ws ≡ Entries es → (q t : Option Entry) → firstTop es (fine 12 n ws) ≡ q → firstTop es (atOne es) ≡ t → spotFault (placeOr q) (placeOr t) ≡ blockFault q t
-      spots es p (some f) t x y = rw (ne-eqb (f .at) 0 (first-low es p (λ e. both (isTop es e) (negate (fine 12 n ws e))) f x))
-      spots es p none (some f) x y = rw (ne-eqb (f .at) 0 (first-low es p (λ e. both (isTop es e) (negate (atOne es e))) f y))
-      spots es p none none x y = refl
+      spots : (es : List Entry) → imageEntries 12 n ws ≡ Entries es → (q t : Option Entry) → firstTop es (fine 12 n ws) ≡ q → firstTop es (atOne es) ≡ t → s .block ≡ placeOr q → (s .block ≡ 0 → s .tops ≡ placeOr t)
+          → spotFault (s .block) (s .tops) ≡ blockFault q t
+      spots es p (some f) t x y b k = rw (b, ne-eqb (f .at) 0 (first-low es p (λ e. both (isTop es e) (negate (fine 12 n ws e))) f x))
+      spots es p none (some f) x y b k = rw (b, k b, ne-eqb (f .at) 0 (first-low es p (λ e. both (isTop es e) (negate (atOne es e))) f y))
+      spots es p none none x y b k = rw (b, k b)
 
       go : (q : Reading) → parsedOf q ≡ imageEntries 12 n ws → stopBy 0 q ≡ T.Nowhere → r ≡ logFault 12 n ws q
-      go (Whole es) p x = e ∙ rw (is, block-found n ws es (sym p), tops-found n ws es (sym p)) (spots es (sym p) (firstTop es (fine 12 n ws)) (firstTop es (atOne es)) refl refl)
+      go (Whole es) p x = e ∙ spots es (sym p) (firstTop es (fine 12 n ws)) (firstTop es (atOne es)) refl refl (is .block-first es few (sym p)) (is .tops-first es few (sym p))
       go (Upto es v) p x = absurd (let z : _≡_ {A = ℕ} 0 1 = cc in omega arith)
 
 -- ## What it shows of the image

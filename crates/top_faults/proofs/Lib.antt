@@ -1,1 +1,5 @@
-pub mod Found
+pub mod Places
+pub mod Units
+pub mod Adding
+pub mod Sweeps
+pub mod Ends

@@ -1,6 +1,7 @@
 -- `faults::log_fault` meets its contract.
 -- Assumes nothing.
 use mathlib.Core.Path.{sym, _∙_}
+use native.Mathlib.Omega.{arith}
 use Rattle.spec.specs.Words.{wordsOf}
 use Rattle.faults.proofs.Answers.{stops-at, stops-nowhere}
 use borrow.Author.Needs.{needs}
@@ -26,7 +27,12 @@ returns : tie.Need-returns
 returns c = stops-at (c .before .before .before .before .before .args .count) (wordsOf (c .before .before .before .before .before .args .image .now)) _ _ (sym (c .before .before .before .read-log .ensures) ∙ c .before .stop .given .1)
 
 returns-2 : tie.Need-returns-2
-returns-2 c = stops-nowhere (c .before .before .before .before .before .before .args .count) (wordsOf (c .before .before .before .before .before .before .args .image .now)) _ _ (sym (c .before .before .before .before .read-log .ensures) ∙ c .before .before .enum-told .given .1) (c .before .find-spots .ensures) (c .spot-fault .ensures)
+returns-2 c =
+    let spots = c .before in
+    let told = spots .before in
+    let read = told .before .before in
+    let a = read .before .before .args in
+    stops-nowhere (a .count) (wordsOf (a .image .now)) (omega arith) _ _ (sym (read .read-log .ensures) ∙ told .enum-told .given .1) (spots .find-spots .ensures) (c .spot-fault .ensures)
 
 pub log-fault-spec : {M : Type 1} → statement M
 log-fault-spec =

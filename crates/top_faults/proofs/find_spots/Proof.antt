@@ -1,57 +1,135 @@
--- `top_faults::find_spots` meets its contract. The loop's invariant: the pass over the whole log is the pass over
--- what remains, from what is found so far.
+-- `top_faults::find_spots` meets its contract. The loop's invariant: the classes below `low` are done.
 -- Assumes nothing.
-use mathlib.Core.Path.{_≡_, sym, _∙_, ap}
-use Rattle.top_faults.specs.Spots.{nowhere, visit, orNowhere, spotsIn}
-use Rattle.spec.specs.Words.{wordsOf}
-use Rattle.spec.specs.Log.{imageEntries}
-use Rattle.theory_log.specs.Fold.{foldP}
-use Rattle.log.specs.Cursor.{remaining, left}
-use Rattle.log.proofs.Walk.{remaining-start, handed, fold-done, fold-wrong, fold-entry}
 use borrow.Author.Needs.{needs}
+use mathlib.Core.Path.{_≡_, sym, _∙_}
+use Prim.Native.Nat.{ℕ, _+_, _-_, _*_, _^_, _≤_}
+use native.Mathlib.Omega.{arith}
+use lib.ListN.{length, length-replicate}
+use Rattle.spec.specs.Words.{wordsOf}
+use Rattle.index.specs.Index.{zeros}
+use Rattle.index.proofs.Laws.{zeros-at}
+use Rattle.consistency.proofs.Tests.{wide-enough}
+use Rattle.top_faults.specs.Spots.{unitCount}
+use Rattle.top_faults.proofs.Sweeps.{Done, done-none, done-next}
+use Rattle.top_faults.proofs.Ends.{spotted}
 use Rattle.top_faults.proofs.find_spots.Statement.{statement}
 use Rattle.top_faults.proofs.find_spots.Tie as tie
 
 abbrev Inv-loop : tie.InvT-loop
-Inv-loop image count so₀ cursor₀ so cursor = foldP (visit 12 count (wordsOf image)) nowhere (imageEntries 12 count (wordsOf image)) ≡ foldP (visit 12 count (wordsOf image)) so (remaining 12 count (wordsOf image) cursor)
+Inv-loop image count own₀ units₀ s₀ low₀ width₀ own units s low width = (length own ≡ 6144) × (length units ≡ unitCount) × (low ≤ 2 ^ 32) × (1 ≤ width) × (width ≤ 2 ^ 32) × Done count (wordsOf image) units s low
 
 abbrev μ-loop : tie.MeasureT-loop
-μ-loop image count so₀ cursor₀ so cursor = left count (wordsOf image) cursor
-
-first-cursor-requires : tie.Need-first-cursor-requires Inv-loop μ-loop
-first-cursor-requires c κs = search needs
+μ-loop image count own₀ units₀ s₀ low₀ width₀ own units s low width = (2 ^ 32 - low) * 2 ^ 33 + width
 
 loop-holds : tie.Need-loop-holds Inv-loop μ-loop
-loop-holds c = rw (c .first-cursor .ensures, remaining-start 12 (c .before .before .args .count) (wordsOf (c .before .before .args .image .now)))
+loop-holds c =
+    let a = c .before .args in
+    let long : length (zeros unitCount) ≡ unitCount = length-replicate {A = ℕ} unitCount 0 in
+    (length-replicate {A = ℕ} 6144 0, long, omega arith, omega arith, omega arith, done-none (a .count) (wordsOf (a .image .now)) (zeros unitCount) (omega arith) (zeros-at unitCount))
 
-next-in-log-requires : tie.Need-next-in-log-requires Inv-loop μ-loop
-next-in-log-requires c κs = search needs
+range-end-requires : tie.Need-range-end-requires Inv-loop μ-loop
+range-end-requires c κs = search needs
 
-enum-told : tie.Need-enum-told Inv-loop μ-loop
-enum-told c = search needs
+slice-aggregate-collect : tie.Need-slice-aggregate-collect Inv-loop μ-loop
+slice-aggregate-collect c =
+    let at-loop = c .before .before .before in
+    sym (at-loop .loop .inv .0)
 
-returns : tie.Need-returns Inv-loop μ-loop
-unfolding spotsIn
-returns c = sym (ap orNowhere (c .before .before .before .loop .inv ∙ fold-done _ _ _ _ (c .before .before .next-in-log .ensures) (visit _ _ _) _ (c .enum-told .given .1)))
+collect-requires : tie.Need-collect-requires Inv-loop μ-loop
+collect-requires c κs = search needs
 
-enum-told-2 : tie.Need-enum-told-2 Inv-loop μ-loop
-enum-told-2 c = search needs
+is-enough-requires : tie.Need-is-enough-requires Inv-loop μ-loop
+is-enough-requires c κs = search needs
 
-returns-2 : tie.Need-returns-2 Inv-loop μ-loop
-unfolding spotsIn
-returns-2 c = sym (ap orNowhere (c .before .before .before .loop .inv ∙ fold-wrong _ _ _ _ (c .before .before .next-in-log .ensures) (visit _ _ _) _ (c .enum-told2 .given .1)))
+slice-aggregate-sweep : tie.Need-slice-aggregate-sweep Inv-loop μ-loop
+slice-aggregate-sweep c =
+    let at-collect = c .before .before .before .before in
+    let at-loop = at-collect .before .before .before .before in
+    sym (at-collect .collect .ensures .sized ∙ at-loop .loop .inv .0)
 
-enum-known-n : tie.Need-enum-known-n Inv-loop μ-loop
-enum-known-n c = search needs
+slice-aggregate-sweep-2 : tie.Need-slice-aggregate-sweep-2 Inv-loop μ-loop
+slice-aggregate-sweep-2 c =
+    let at-loop = c .before .before .before .before .before .before .before .before .before in
+    sym (at-loop .loop .inv .1)
 
-visit-requires : tie.Need-visit-requires Inv-loop μ-loop
-visit-requires c κs = search needs
+sweep-requires : tie.Need-sweep-requires Inv-loop μ-loop
+sweep-requires c κs = search needs
+
+next-width-requires : tie.Need-next-width-requires Inv-loop μ-loop
+next-width-requires c κs = search needs
 
 loop-less : tie.Need-loop-less Inv-loop μ-loop
-loop-less c = handed _ _ _ _ (c .before .before .before .before .next-in-log .ensures) _ _ _ _ _ _ _ _ (c .before .before .n .given .1) .falls
+loop-less c =
+    let at-next-width = c in
+    let at-range-end = at-next-width .before .before .before .before .before .before .before .before .before .before in
+    let at-loop = at-range-end .before .before in
+    let i = at-loop .loop .inv in
+    let h = at-range-end .range-end .ensures in
+    let w = at-next-width .next-width .ensures in
+    omega arith
 
 loop-again : tie.Need-loop-again Inv-loop μ-loop
-loop-again c = rw (c .visit .ensures) (c .before .before .before .before .before .loop .inv ∙ fold-entry _ _ _ _ (c .before .before .before .before .next-in-log .ensures) (visit _ _ _) _ _ _ _ _ _ _ _ _ (c .before .before .n .given .1))
+loop-again c =
+    let at-next-width = c in
+    let at-sweep = at-next-width .before .before in
+    let at-collect = at-sweep .before .before .before .before .before .before in
+    let at-range-end = at-collect .before .before in
+    let at-loop = at-range-end .before .before in
+    let i = at-loop .loop .inv in
+    let h = at-range-end .range-end .ensures in
+    let w = at-next-width .next-width .ensures in
+    let s = at-sweep .sweep .ensures in (
+      at-collect .collect .ensures .sized ∙ i .0,
+      s .sized ∙ i .1,
+      h .1,
+      w .0,
+      w .1,
+      done-next _ _ _ _ _ (i .5) _ (omega arith) _ _ _ _ (at-collect .collect .ensures) _ (at-sweep .sweep .result) s,
+    )
+
+loop-less-2 : tie.Need-loop-less-2 Inv-loop μ-loop
+loop-less-2 c =
+    let at-if1 = c in
+    let at-is-enough = at-if1 .before in
+    let at-collect = at-is-enough .before .before in
+    let at-loop = at-collect .before .before .before .before in
+    let i = at-loop .loop .inv in
+    let w = wide-enough (at-collect .collect .result .fits) (at-loop .loop .width) (sym (at-is-enough .is-enough .ensures) ∙ at-if1 .if1 .left) in
+    omega arith
+
+loop-again-2 : tie.Need-loop-again-2 Inv-loop μ-loop
+loop-again-2 c =
+    let at-if1 = c in
+    let at-is-enough = at-if1 .before in
+    let at-collect = at-is-enough .before .before in
+    let at-loop = at-collect .before .before .before .before in
+    let i = at-loop .loop .inv in
+    let w = wide-enough (at-collect .collect .result .fits) (at-loop .loop .width) (sym (at-is-enough .is-enough .ensures) ∙ at-if1 .if1 .left) in
+    (at-collect .collect .ensures .sized ∙ i .0, i .1, i .2, omega arith, omega arith, i .5)
+
+returns : tie.Need-returns Inv-loop μ-loop
+returns c =
+    let i = c .before .loop .inv in
+    let l = i .2 in
+    spotted _ _ _ _ _ (i .5) (omega arith)
 
 pub find-spots-spec : {M : Type 1} → statement M
-find-spots-spec = tie.close (tie.spec Inv-loop μ-loop first-cursor-requires loop-holds next-in-log-requires enum-told returns enum-told-2 returns-2 enum-known-n visit-requires loop-less loop-again)
+find-spots-spec =
+    tie.close
+    (tie.spec
+    Inv-loop
+    μ-loop
+    loop-holds
+    range-end-requires
+    slice-aggregate-collect
+    collect-requires
+    is-enough-requires
+    slice-aggregate-sweep
+    slice-aggregate-sweep-2
+    sweep-requires
+    next-width-requires
+    loop-less
+    loop-again
+    loop-less-2
+    loop-again-2
+    returns)
