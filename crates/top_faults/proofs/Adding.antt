@@ -24,7 +24,7 @@ use Rattle.consistency.specs.Heads.{entryOf, points}
 use Rattle.consistency.specs.Pass.{ListedIn, TopIs, Part}
 use Rattle.consistency.proofs.Visits.{is-below, is-highest, agreement}
 use Rattle.top_faults.specs.declared.Spots.{Spots}
-use Rattle.top_faults.specs.Spots.{least, Reaches, StandsAt, unitCount, Uses, UnitIs, blockFails, topFails, Found, ComparedIs, SharedIs, VisitedIs}
+use Rattle.top_faults.specs.Spots.{least, Reaches, StandsAt, unitCount, Uses, UnitIs, blockFails, topFails, OddReached, Found, ComparedIs, SharedIs, VisitedIs}
 use Rattle.top_faults.proofs.Places.{least-own, least-keeps, least-stands}
 use Rattle.top_faults.proofs.Units.{last-or, uses-in, uses-last, Falls, unit-falls, unit-among, Joins, joins}
 
@@ -78,7 +78,7 @@ module _ (n : ℕ) (ws : List ℕ) (es : List Entry) where
         block-stands = inv .block-stands;
         block-least = each (λ g. blockFails n ws es g ≡ true → Reaches (s .block) (g .at)) (inv .block-least) (λ t. absurd (not-both (isTop es e) (both-l (isTop es e) _ t) f));
         tops-stands = inv .tops-stands;
-        tops-least = each (λ g. isTop es g ≡ true → fine 12 n ws g ≡ true → agreeWith g (chosen (g .key) es) ≡ false → Reaches (s .tops) (g .at)) (inv .tops-least) (λ t. absurd (not-both (isTop es e) t f));
+        tops-least = each (OddReached n ws es (s .tops)) (inv .tops-least) (λ t. absurd (not-both (isTop es e) t f));
         units-are = λ u r. unit-kept (s .tops) u (getD units u 0) (λ i. not-both (isTop es e) (i .top) f) (inv .units-are u r);
       }
 
@@ -94,7 +94,7 @@ module _ (n : ℕ) (ws : List ℕ) (es : List Entry) where
           block-least = each (λ g. blockFails n ws es g ≡ true → Reaches (least (s .block) (e .at)) (g .at))
               (λ g m t. least-keeps (s .block) (e .at) some-place (g .at) (inv .block-least g m t)) (λ t. least-own (s .block) (e .at) some-place);
           tops-stands = inv .tops-stands;
-          tops-least = each (λ g. isTop es g ≡ true → fine 12 n ws g ≡ true → agreeWith g (chosen (g .key) es) ≡ false → Reaches (s .tops) (g .at)) (inv .tops-least) (λ t r. absurd (not-both (fine 12 n ws e) r f));
+          tops-least = each (OddReached n ws es (s .tops)) (inv .tops-least) (λ t r. absurd (not-both (fine 12 n ws e) r f));
           units-are = λ u r. unit-kept (s .tops) u (getD units u 0) (wrong-unit u r) (inv .units-are u r);
         }
           where
@@ -136,7 +136,7 @@ module _ (n : ℕ) (ws : List ℕ) (es : List Entry) where
               block-stands = inv .block-stands;
               block-least = each (λ g. blockFails n ws es g ≡ true → Reaches (s .block) (g .at)) (inv .block-least) (λ t. absurd (not-both (negate (fine 12 n ws e)) (both-r (isTop es e) _ t) (rw right)));
               tops-stands = stands;
-              tops-least = each (λ g. isTop es g ≡ true → fine 12 n ws g ≡ true → agreeWith g (chosen (g .key) es) ≡ false → Reaches tops (g .at))
+              tops-least = each (OddReached n ws es tops)
                   (λ g m t r f. falls (g .at) (odd-falls (g .at) (inv .tops-least g m t r f))) (λ t r f. falls (e .at) (odd-own f));
               units-are = are;
             }

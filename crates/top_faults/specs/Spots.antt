@@ -94,6 +94,10 @@ blockFails n ws es e = both (isTop es e) (negate (fine 12 n ws e))
 abbrev pub topFails : List Entry → Entry → Bool
 topFails es e = both (isTop es e) (negate (atOne es e))
 
+-- if it is a top entry with a right block or none that disagrees with the chosen one of its key, its place is reached
+abbrev pub OddReached : ℕ → List ℕ → List Entry → (so : ℕ) → Entry → Type 0
+OddReached n ws es so e = isTop es e ≡ true → fine 12 n ws e ≡ true → agreeWith e (chosen (e .key) es) ≡ false → Reaches so (e .at)
+
 -- AFTER THE ENTRIES xs, part of all entries es: the least place of a wrong block; of the entries with right blocks the
 -- least place of one that disagrees; and the units. An entry that shares its block is found when the other is met.
 pub record Found (n : ℕ) (ws : List ℕ) (es xs : List Entry) (units : List ℕ) (s : Spots) : Type 0 where
@@ -101,7 +105,7 @@ pub record Found (n : ℕ) (ws : List ℕ) (es xs : List Entry) (units : List �
   pub block-stands : StandsAt es (blockFails n ws es) (s .block)
   pub block-least : (e : Entry) → Mem e xs → blockFails n ws es e ≡ true → Reaches (s .block) (e .at)
   pub tops-stands : StandsAt es (topFails es) (s .tops)
-  pub tops-least : (e : Entry) → Mem e xs → isTop es e ≡ true → fine 12 n ws e ≡ true → agreeWith e (chosen (e .key) es) ≡ false → Reaches (s .tops) (e .at)
+  pub tops-least : (e : Entry) → Mem e xs → OddReached n ws es (s .tops) e
   pub units-are : (u : ℕ) → blockRight 12 n ws u ≡ true → UnitIs es xs (s .tops) u (getD units u 0)
 
 -- ## What the functions tell
