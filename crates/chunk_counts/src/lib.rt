@@ -5,6 +5,7 @@ ghost use lib.Dec.{eqb};
 ghost use Rattle.spec.specs.Basics.{both, negate};
 ghost use Rattle.spec.specs.Words.{wordsOf};
 ghost use Rattle.chunk_counts.specs.Counts.{chosenBy, more, pointsInto, countEntry, tallyBy, countBlock, blocksBy};
+use codec::Unit;
 use log::Next;
 
 // ONE ENTRY
@@ -46,7 +47,7 @@ fn points_into(op: u64, placement: u64, field: u64, chunk: usize) -> bool
 {
     if op == 1 {
         if placement == 1 {
-            return field / 16 == chunk as u64;
+            return Unit(field).chunk() == chunk as u64;
         }
     }
     false

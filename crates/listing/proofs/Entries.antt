@@ -69,8 +69,8 @@ module _ (ws : List ℕ) (version word : ℕ) where
   pub by-log : word % 16 ≡ 1 → L.Present version (word / 16777216) false ≡ byEntry ws version word
   by-log k = sym (rw k)
 
-  pub by-block : (n : ℕ) → word % 16 ≡ 5 → n ≡ getD ws (unitWord (word / 16777216)) 0 → L.Present version n true ≡ byEntry ws version word
-  by-block n k e = sym (rw k (ap (λ x. L.Present version x true) (sym e)))
+  pub by-block : (at n : ℕ) → word % 16 ≡ 5 → at ≡ unitWord (word / 16777216) → n ≡ getD ws at 0 → L.Present version n true ≡ byEntry ws version word
+  by-block at n k u e = sym (rw (k, ← u) (ap (λ x. L.Present version x true) (sym e)))
 
   pub by-none : (word % 16 ≡ 1 → ⊥) → (word % 16 ≡ 5 → ⊥) → L.Refused N.KeyAbsent ≡ byEntry ws version word
   by-none a b = sym (rw (ne-eqb (word % 16) 1 a, ne-eqb (word % 16) 5 b))

@@ -4,6 +4,7 @@ ghost use mathlib.Core.Path.{_≡_};
 ghost use Rattle.spec.specs.Words.{wordsOf};
 ghost use Rattle.listing.specs.Listing.{byEntry, byWord};
 ghost use Rattle.listing.specs.Contract.{Taken, Gathering, ListingKeys, ListingKey};
+use codec::Unit;
 use session::Control;
 use session::Gated;
 use session::Setup;
@@ -33,7 +34,7 @@ fn by_entry(image: &[u8], version: u64, word: u64) -> Listed
         };
     }
     if kind == 5 {
-        let length = words::load(image, 32 * field as usize);
+        let length = words::load(image, Unit(field).word_offset());
         return Listed::Present {
             version,
             length,

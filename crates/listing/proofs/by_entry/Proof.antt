@@ -1,4 +1,6 @@
+-- `listing::by_entry` meets its contract: a value in the log, one in a block, or none.
 -- Assumes nothing.
+use native.Mathlib.Omega.{arith}
 use borrow.Author.Needs.{needs}
 use Rattle.spec.specs.Words.{wordsOf}
 use Rattle.listing.proofs.Entries.{by-log, by-block, by-none}
@@ -6,19 +8,25 @@ use Rattle.listing.proofs.by_entry.Statement.{statement}
 use Rattle.listing.proofs.by_entry.Tie as tie
 
 returns : tie.Need-returns
-returns c = by-log (wordsOf (c .before .before .args .image .now)) (c .before .before .args .version) (c .before .before .args .word) (c .if1 .taken)
+returns c = let a = c .before .before .args in by-log (wordsOf (a .image .now)) (a .version) (a .word) (c .if1 .taken)
 
-mul-load : tie.Need-mul-load
-mul-load c = search needs
+word-offset-requires : tie.Need-word-offset-requires
+word-offset-requires c κs = search needs
 
 load-requires : tie.Need-load-requires
 load-requires c κs = search needs
 
 returns-2 : tie.Need-returns-2
-returns-2 c = by-block (wordsOf (c .before .before .before .before .args .image .now)) (c .before .before .before .before .args .version) (c .before .before .before .before .args .word) (c .load .result) (c .before .if2 .taken) (c .load .ensures)
+returns-2 c =
+    let at = c .before .word-offset in
+    let block = c .before .before .if2 in
+    let a = c .before .before .before .before .before .args in
+    by-block (wordsOf (a .image .now)) (a .version) (a .word) (at .result) (c .load .result) (block .taken) (omega arith) (c .load .ensures)
 
 returns-3 : tie.Need-returns-3
-returns-3 c = by-none (wordsOf (c .before .before .before .args .image .now)) (c .before .before .before .args .version) (c .before .before .before .args .word) (c .before .if1 .left) (c .if2 .left)
+returns-3 c =
+    let a = c .before .before .before .args in
+    by-none (wordsOf (a .image .now)) (a .version) (a .word) (c .before .if1 .left) (c .if2 .left)
 
 pub by-entry-spec : {M : Type 1} → statement M
-by-entry-spec = tie.close (tie.spec returns mul-load load-requires returns-2 returns-3)
+by-entry-spec = tie.close (tie.spec returns word-offset-requires load-requires returns-2 returns-3)
