@@ -8,6 +8,7 @@ ghost use Rattle.apply.specs.Blocks.{blockAt, namedBy, Freed, Claimed};
 ghost use Rattle.volatile.specs.Known.{alone};
 ghost use Rattle.apply.specs.Joining.{Superseded, OneJoined, PutJoined, Staged, ShortStaged, PutsJoined, Joining};
 use blocks::Buffer;
+use codec::Unit;
 use index::Info;
 use log::Short;
 use spec::FirstWord;
@@ -20,7 +21,7 @@ fn release(buffer: &mut Buffer, op: u64, placement: u64, field: u64)
     blocks::buffer_length(buffer);
     if op == 1 {
         if placement == 1 {
-            blocks::unset_bit(buffer, field as usize);
+            blocks::unset_bit(buffer, Unit(field));
         }
     }
 }
@@ -65,7 +66,7 @@ fn claim(buffer: &mut Buffer, op: u64, placement: u64, field: u64)
     blocks::buffer_length(buffer);
     if placement == 1 {
         if op == 1 {
-            blocks::set_bit(buffer, field as usize);
+            blocks::set_bit(buffer, Unit(field));
         }
     }
 }

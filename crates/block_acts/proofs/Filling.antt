@@ -11,13 +11,15 @@ use borrow.Author.Tests.{eq-eqb, ne-eqb}
 use lib.Dec.{eqb}
 use lib.ListN.{length, getD, length-append, List·getD-eq-default}
 use Rattle.spec.specs.Basics.{pick}
-use Rattle.spec.specs.Places.{basePower, chunkUnits, firstUnit, unitWord, lineOf, directoryWord}
+use Rattle.spec.specs.Places.{basePower, chunkUnits, firstUnit, unitIn, unitWord, lineOf, directoryWord}
 use Rattle.spec.specs.Medium.{Action, Store, Flush, Fence}
 use Rattle.spec.specs.Directory.{dataWord}
 use Rattle.spec.specs.Actions.{writes, flushes, linesFor, takeOf, blockOf}
 use Rattle.spec.specs.Reports.{asReport}
 use Rattle.spec.specs.declared.Report.{Report}
 use Rattle.spec.specs.declared.Report.the-variants as R
+use Rattle.codec.specs.Units.{unitAt}
+use Rattle.codec.proofs.Units.{unit-of}
 use Rattle.session.specs.declared.Setup.{Setup}
 use Rattle.session.specs.State.{bufferPart, chunkIn}
 use Rattle.session.proofs.Part.{length-part, part-word}
@@ -47,7 +49,7 @@ module _ (u : ℕ) (words : List ℕ) where
   pub length-block : length (blockOf u words) ≡ length words + linesFor (length words)
   length-block = ap length shape ∙ length-append W F ∙ rw (size-W, size-F)
 
-  pub nth-store : (at w : ℕ) → at < length words → w ≡ 32 * u + at → nth (blockOf u words) at ≡ Store w (getD words at 0)
+  pub nth-store : (at w : ℕ) → at < length words → w ≡ unitWord u + at → nth (blockOf u words) at ≡ Store w (getD words at 0)
   nth-store at w h e = rw shape (nth-front W F at (rw size-W h) ∙ nth-writes (unitWord u) words at w h e)
 
   pub nth-flush : (at i line : ℕ) → at ≡ length words + i → i < linesFor (length words) → line ≡ 4 * u + i → nth (blockOf u words) at ≡ Flush line
@@ -69,7 +71,7 @@ module _ (u : ℕ) (b : List ℕ) (n at : ℕ) (en : n ≡ heldCount b) where
   size : length (heldWords b) ≡ n
   size = held-length b ∙ sym en
 
-  pub shows-store : (w : ℕ) → at < n → w ≡ 32 * u + at → R.Store w (getD b (512 + at) 0) ≡ nthReport (blockOf u (heldWords b)) at
+  pub shows-store : (w : ℕ) → at < n → w ≡ unitWord u + at → R.Store w (getD b (512 + at) 0) ≡ nthReport (blockOf u (heldWords b)) at
   shows-store w h e =
       rw (sym (held-word b at (omega arith))) (sym (ap asReport (nth-store u (heldWords b) at w (rw size h) e)))
 
@@ -91,9 +93,9 @@ module _ (c old s at : ℕ) where
   take-past h = sym (ap asReport (List·getD-eq-default (takeOf c old s) Fence h))
 
 -- THE UNIT, as the code reckons it
-pub unit-is : (k : Setup) (u : ℕ) → u ≡ 16 * chunkIn k + k .lines % 16 → u ≡ unitOf k
-unfolding unitOf firstUnit chunkUnits
-unit-is k u e = omega arith
+pub unit-is : (k : Setup) (u : ℕ) → u ≡ unitAt (chunkIn k) (k .lines) → (u ≡ unitOf k) × (u < 8192)
+unfolding unitOf firstUnit unitIn chunkUnits
+unit-is k u e = let q = unit-of (chunkIn k) (k .lines) (omega arith) in (omega arith, omega arith)
 
 -- THE WHOLE
 module _ (k : Setup) (b : List ℕ) where

@@ -18,15 +18,15 @@ module _ (k : Setup) (b v : List ℕ) (held : heldWords b ≡ length v ∷ packe
   pub data-plan : (u : ℕ) → k .chunk ≡ unitChunk 12 u → k .lines ≡ unitIn 12 u → k .fields ≡ 0 → unitChunk 12 u < 512 → blockActions k b ≡ blockOf u (length v ∷ packed v)
   unfolding blockActions unitOf unitChunk unitIn firstUnit chunkUnits
   data-plan u c l z h =
-      let e : chunkIn k * 16 + k .lines % 16 ≡ u = omega arith in
+      let e : unitOf k ≡ u = omega arith in
       rw (eq-eqb (k .fields) 0 z, e, held)
 
   -- into the first block of a free chunk, taken for blocks of s units
   pub free-plan : (c s : ℕ) → k .chunk ≡ c → k .lines ≡ 0 → k .fields ≡ s → 1 ≤ s → s ≤ 16 → c < 512
       → blockActions k b ≡ takeOf c (k .old) s ++ blockOf (firstUnit 12 c) (length v ∷ packed v)
-  unfolding blockActions unitOf firstUnit chunkUnits
+  unfolding blockActions unitOf firstUnit unitIn chunkUnits
   free-plan c s ec el es lo hi h =
       let e : chunkIn k ≡ c = omega arith in
-      let p : c * 16 + k .lines % 16 ≡ c * 16 = omega arith in
+      let p : firstUnit 12 c + unitIn 12 (k .lines) ≡ firstUnit 12 c = omega arith in
       let q : k .fields % 2 ^ 56 ≡ s = omega arith in
       rw (ne-eqb (k .fields) 0 (λ z. omega arith), q, e, p, held)

@@ -4,7 +4,7 @@ use mathlib.Core.Path.{_≡_, refl}
 use mathlib.Core.List.{List, [], _∷_}
 use Prim.Native.Nat.{ℕ}
 use lib.ListN.{length, set, replicate}
-use Rattle.spec.specs.Places.{chunkUnits, firstUnit}
+use Rattle.spec.specs.Places.{chunkUnits, firstUnit, unitIn}
 use Rattle.spec.specs.Medium.{Store, Flush, Fence}
 use Rattle.spec.specs.Actions.{blockOf}
 use Rattle.session.specs.declared.Setup.{Setup}
@@ -34,5 +34,5 @@ whole-count = refl
 free-acts : nth (blockActions (setup 1 0 2) (buffer 257)) 0 ∷ nth (blockActions (setup 1 0 2) (buffer 257)) 1 ∷ nth (blockActions (setup 1 0 2) (buffer 257)) 2
     ∷ nth (blockActions (setup 1 0 2) (buffer 257)) 35 ∷ nth (blockActions (setup 1 0 2) (buffer 257)) 36 ∷ nth (blockActions (setup 1 0 2) (buffer 257)) 40 ∷ nth (blockActions (setup 1 0 2) (buffer 257)) 41 ∷ []
     ≡ Store 9 514 ∷ Flush 1 ∷ Store 512 257 ∷ Store 545 0 ∷ Flush 64 ∷ Flush 68 ∷ Fence ∷ []
-unfolding blockActions heldWords unitOf blockOf firstUnit chunkUnits
+unfolding blockActions heldWords unitOf blockOf firstUnit unitIn chunkUnits
 free-acts = refl

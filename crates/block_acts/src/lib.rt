@@ -41,8 +41,7 @@ pub fn held_words(buffer: &Buffer) -> usize
 pub fn unit_of(setup: Setup) -> Unit
     ensures { λ r. ⌜ (r .0 ≡ unitOf setup) × (r .0 < 8192) ⌝ }
 {
-    let unit = 16 * (setup.chunk % 512) + setup.lines % 16;
-    Unit(unit as u64)
+    Unit::of(setup.chunk % 512, setup.lines)
 }
 
 // How many actions the staging has.

@@ -3,6 +3,7 @@ ghost use mathlib.Core.Path.{_≡_};
 ghost use mathlib.Core.Bool.{true, false};
 ghost use lib.ListN.{length};
 ghost use Rattle.blocks.specs.Bits.{bufferWords, hasBit, BitWritten, BitsCleared};
+use codec::Unit;
 
 // The station record's buffer: so many words. `session` says which of them hold what.
 pub const BUFFER_WORDS: usize = 1664;
@@ -22,9 +23,10 @@ pub fn buffer_length(buffer: &Buffer) -> usize
     count(buffer)
 }
 
-pub fn has_bit(buffer: &Buffer, u: usize) -> bool
-    ensures { λ r. ⌜ r ≡ hasBit (now (buffer .entry)) u ⌝ }
+pub fn has_bit(buffer: &Buffer, unit: Unit) -> bool
+    ensures { λ r. ⌜ r ≡ hasBit (now (buffer .entry)) (unit .0) ⌝ }
 {
+    let u = unit.0 as usize;
     if u < 8064 {
         let word = buffer[1024 + u / 64];
         (word >> (u % 64)) % 2 == 1
@@ -34,10 +36,11 @@ pub fn has_bit(buffer: &Buffer, u: usize) -> bool
 }
 
 // Past the last unit a change does nothing.
-pub fn set_bit(buffer: &mut Buffer, u: usize)
-    ensures { λ _. ⌜ BitWritten (now (buffer .entry)) (now (buffer .exit)) u true ⌝ }
+pub fn set_bit(buffer: &mut Buffer, unit: Unit)
+    ensures { λ _. ⌜ BitWritten (now (buffer .entry)) (now (buffer .exit)) (unit .0) true ⌝ }
 {
     buffer_length(buffer);
+    let u = unit.0 as usize;
     if u < 8064 {
         let at = 1024 + u / 64;
         let word = buffer[at];
@@ -45,10 +48,11 @@ pub fn set_bit(buffer: &mut Buffer, u: usize)
     }
 }
 
-pub fn unset_bit(buffer: &mut Buffer, u: usize)
-    ensures { λ _. ⌜ BitWritten (now (buffer .entry)) (now (buffer .exit)) u false ⌝ }
+pub fn unset_bit(buffer: &mut Buffer, unit: Unit)
+    ensures { λ _. ⌜ BitWritten (now (buffer .entry)) (now (buffer .exit)) (unit .0) false ⌝ }
 {
     buffer_length(buffer);
+    let u = unit.0 as usize;
     if u < 8064 {
         let at = 1024 + u / 64;
         let word = buffer[at];

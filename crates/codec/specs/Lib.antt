@@ -1,2 +1,3 @@
 pub mod Firsts
 pub mod Headers
+pub mod Units

@@ -12,6 +12,7 @@ ghost use Rattle.spec.specs.Log.{firstOf};
 ghost use Rattle.spec.specs.Blocks.{blockSize};
 ghost use Rattle.codec.specs.Headers.{firstGiven, secondGiven};
 ghost use Rattle.codec.specs.Firsts.{headWord};
+ghost use Rattle.codec.specs.Units.{unitAt};
 use spec::FirstWord;
 use spec::Given;
 use spec::Role;
@@ -250,6 +251,14 @@ pub fn first_word(op: u64, placement: u64, version: u64, field: u64) -> u64
 pub struct Unit(pub u64);
 
 impl Unit {
+    // The unit at a place of a chunk, each modulo the numbers that there is room for.
+    pub fn of(chunk: usize, place: usize) -> Unit
+        ensures { λ r. ⌜ r .0 ≡ unitAt chunk place ⌝ }
+    {
+        let unit = 16 * (chunk % 0x1000_0000_0000_0000) + place % 16;
+        Unit(unit as u64)
+    }
+
     // The unit's first byte; a number too large for that gives the largest.
     pub fn byte_offset(self) -> usize
         ensures { λ r. ⌜ r ≡ min (256 * self .0) (2 ^ 64 - 1) ⌝ }

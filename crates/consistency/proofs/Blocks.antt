@@ -26,32 +26,27 @@ every-append [] ys = refl
 every-append (true ∷ xs) ys = every-append xs ys
 every-append (false ∷ xs) ys = refl
 
--- The start.
-module _ (n u s : ℕ) where
-  pub start-chunk : u / 16 < 1 → false ≡ every (startTests 12 n u s)
-  unfolding unitChunk unitIn chunkUnits
-  start-chunk h = rw (lt-leb 1 (u / 16) h)
+-- The start: the unit's chunk, and its place there.
+module _ (n u s chunk place : ℕ) (is-chunk : chunk ≡ unitChunk 12 u) (is-place : place ≡ unitIn 12 u) where
+  pub start-chunk : chunk < 1 → false ≡ every (startTests 12 n u s)
+  start-chunk h = rw (← is-chunk, lt-leb 1 chunk h)
 
-  pub start-past : n ≤ u / 16 → 1 ≤ u / 16 → false ≡ every (startTests 12 n u s)
-  unfolding unitChunk unitIn chunkUnits
-  start-past h l = rw (le-leb 1 (u / 16) l, le-ltb (u / 16) n h)
+  pub start-past : n ≤ chunk → 1 ≤ chunk → false ≡ every (startTests 12 n u s)
+  start-past h l = rw (← is-chunk, le-leb 1 chunk l, le-ltb chunk n h)
 
-  module _ (low : 1 ≤ u / 16) (high : u / 16 < n) where
+  module _ (low : 1 ≤ chunk) (high : chunk < n) where
     pub start-free : s < 1 → false ≡ every (startTests 12 n u s)
-    unfolding unitChunk unitIn chunkUnits
-    start-free h = rw (le-leb 1 (u / 16) low, lt-ltb (u / 16) n high, lt-leb 1 s h)
+    start-free h = rw (← is-chunk, le-leb 1 chunk low, lt-ltb chunk n high, lt-leb 1 s h)
 
-    pub start-within : 1 ≤ s → (u % 16 % s ≡ 0 → ⊥) → false ≡ every (startTests 12 n u s)
-    unfolding unitChunk unitIn chunkUnits
-    start-within h d = rw (le-leb 1 (u / 16) low, lt-ltb (u / 16) n high, le-leb 1 s h, ne-eqb (u % 16 % s) 0 d)
+    pub start-within : 1 ≤ s → (place % s ≡ 0 → ⊥) → false ≡ every (startTests 12 n u s)
+    start-within h d = rw (← is-chunk, ← is-place, le-leb 1 chunk low, lt-ltb chunk n high, le-leb 1 s h, ne-eqb (place % s) 0 d)
 
-    pub start-fits : 1 ≤ s → u % 16 % s ≡ 0 → leb (u % 16 + s) 16 ≡ every (startTests 12 n u s)
-    unfolding unitChunk unitIn chunkUnits
-    start-fits h d = rw (le-leb 1 (u / 16) low, lt-ltb (u / 16) n high, le-leb 1 s h, eq-eqb (u % 16 % s) 0 d) (sym (both-true (leb (u % 16 + s) 16)))
+    pub start-fits : 1 ≤ s → place % s ≡ 0 → leb (place + s) 16 ≡ every (startTests 12 n u s)
+    unfolding chunkUnits
+    start-fits h d = rw (← is-chunk, ← is-place, le-leb 1 chunk low, lt-ltb chunk n high, le-leb 1 s h, eq-eqb (place % s) 0 d) (sym (both-true (leb (place + s) 16)))
 
 -- what a right start says of the block size
 pub start-size : (n u s : ℕ) → every (startTests 12 n u s) ≡ true → 1 ≤ s
-unfolding unitChunk unitIn chunkUnits
 start-size n u s h = leb-true 1 s (every-true (startTests 12 n u s) h .1 .1 .0)
 
 -- The length and the fill.
@@ -93,16 +88,14 @@ pub cut-first : (ws : List ℕ) (at bound : ℕ) → length ws ≤ bound → get
 cut-first ws at bound h = rw (add-zero (min at bound), add-zero at) at (cut ws at 0 bound h)
 
 -- what the code shows: the words are read from the block's first word, which is cut where it is past the image
-module _ (ws : List ℕ) (n u s : ℕ) (short : length ws ≤ 2 ^ 61 - 1) (is-size : s ≡ sizeOf 12 ws (u / 16)) where
+module _ (ws : List ℕ) (n u s : ℕ) (short : length ws ≤ 2 ^ 61 - 1) (is-size : s ≡ sizeOf 12 ws (unitChunk 12 u)) where
   pub shows-start : every (startTests 12 n u s) ≡ false → false ≡ blockRight 12 n ws u
-  unfolding unitChunk chunkUnits
   shows-start h =
       let len = getD ws (unitWord u) 0 in
       block-start 12 n u s len (getD ws (unitWord u + (len + 7) / 8) 0) h ∙ rw is-size
 
   pub shows-block : (at len last : ℕ) (r : Bool) → at ≡ min (unitWord u) (2 ^ 61 - 1) → len ≡ getD ws at 0 → last ≡ getD ws (at + (len + 7) / 8) 0
       → every (startTests 12 n u s) ≡ true → r ≡ every (lengthTests s len last) → r ≡ blockRight 12 n ws u
-  unfolding unitChunk chunkUnits
   shows-block at len last r is-at is-len is-last t h =
       let l : len ≡ getD ws (unitWord u) 0 = is-len ∙ rw is-at (cut-first ws (unitWord u) (2 ^ 61 - 1) short) in
       let m : last ≡ getD ws (unitWord u + (getD ws (unitWord u) 0 + 7) / 8) 0 = is-last ∙ rw (is-at, l) (cut ws (unitWord u) ((getD ws (unitWord u) 0 + 7) / 8) (2 ^ 61 - 1) short) in

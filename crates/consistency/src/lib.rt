@@ -52,12 +52,12 @@ pub struct Checked {
 
 // BLOCKS
 // Whether a unit of an image of `count` chunks starts a block of so many units.
-fn starts(count: usize, unit: u64, size: usize) -> bool
+fn starts(count: usize, unit: Unit, size: usize) -> bool
     requires { ⌜ size ≤ 16 ⌝ }
-    ensures { λ r. ⌜ r ≡ every (startTests 12 count unit size) ⌝ }
+    ensures { λ r. ⌜ r ≡ every (startTests 12 count (unit .0) size) ⌝ }
 {
-    let chunk = (unit / 16) as usize;
-    let place = (unit % 16) as usize;
+    let chunk = unit.chunk() as usize;
+    let place = unit.place() as usize;
     if chunk < 1 {
         return false;
     }
@@ -93,12 +93,12 @@ fn length_right(size: usize, length: u64, last: u64) -> bool
 }
 
 // Whether a unit of an image of `count` chunks starts a block, its length is right and its value zero-filled.
-pub fn block_right(image: &[u8], count: usize, unit: u64) -> bool
-    ensures { λ r. ⌜ r ≡ blockRight 12 count (wordsOf (now (image .entry))) unit ⌝ }
+pub fn block_right(image: &[u8], count: usize, unit: Unit) -> bool
+    ensures { λ r. ⌜ r ≡ blockRight 12 count (wordsOf (now (image .entry))) (unit .0) ⌝ }
 {
-    let size = size_of(image, (unit / 16) as usize);
+    let size = size_of(image, unit.chunk() as usize);
     if starts(count, unit, size) {
-        let at = Unit(unit).word_offset();
+        let at = unit.word_offset();
         let length = load(image, at);
         let last = load(image, at + words_for(0, length));
         return length_right(size, length, last);
@@ -169,7 +169,7 @@ fn marked(buffer: &mut Buffer, apart: bool, e: Head, place: usize) -> bool
         return apart;
     }
     if points(e.op, e.placement) {
-        let unit = e.field as usize;
+        let unit = Unit(e.field);
         if has_bit(buffer, unit) {
             return false;
         }
@@ -184,7 +184,7 @@ pub fn block_fine(image: &[u8], count: usize, op: u64, placement: u64, field: u6
     ensures { λ r. ⌜ r ≡ pick (points op placement) (blockRight 12 count (wordsOf (now (image .entry))) field) true ⌝ }
 {
     if points(op, placement) {
-        return block_right(image, count, field);
+        return block_right(image, count, Unit(field));
     }
     true
 }

@@ -22,6 +22,8 @@ use Rattle.session.specs.Numbers.{placing}
 use Rattle.theory_log.specs.Batch.{block, Right}
 use Rattle.theory_base.proofs.Sizes as Z
 use Rattle.codec.specs.declared.Unit.{Unit as UnitNumber}
+use Rattle.codec.specs.Units.{unitAt}
+use Rattle.codec.proofs.Units.{unit-at}
 use Rattle.session.specs.State.{bufferPart}
 use Rattle.session.specs.Filter.{filterPlace}
 use Rattle.session.proofs.Part.{part-agree}
@@ -103,10 +105,10 @@ unit-small : (u n : ℕ) → unitChunk 12 u < n → n ≤ 504 → (unitChunk 12 
 unfolding unitChunk chunkUnits
 unit-small u n h l = let a : u / 16 < n = h in (omega arith, omega arith)
 
-first-unit : (c u : ℕ) → u ≡ 16 * (c % 2 ^ 56) → c < 504 → (u ≡ firstUnit 12 c) × (unitChunk 12 u ≡ c) × (unitIn 12 u ≡ 0) × (u < 2 ^ 40)
+first-unit : (c u : ℕ) → u ≡ unitAt c 0 → c < 504 → (u ≡ firstUnit 12 c) × (unitChunk 12 u ≡ c) × (unitIn 12 u ≡ 0) × (u < 2 ^ 40)
 unfolding firstUnit unitChunk unitIn chunkUnits
 first-unit c u e h =
-    let a : u ≡ 16 * c = omega arith in
+    let q = unit-at c 0 (omega arith) (omega arith) in
     (omega arith, omega arith, omega arith, omega arith)
 
 module _ (image before after : List ℕ) (k : Setup) (words version key : ℕ) (v : List ℕ) (r : Large) (size : ℕ) (slot : Slot)
@@ -166,7 +168,7 @@ module _ (image before after : List ℕ) (k : Setup) (words version key : ℕ) (
         (sym (data-plan (r .setup) after v (b .held m) (u .0) (ap (λ (y : Setup). y .chunk) (b .setup)) (ap (λ (y : Setup). y .lines) (b .setup)) (ap (λ (y : Setup). y .fields) (b .setup)) (x .0)));
   }
 
-  pub shows-free : (c u old : ℕ) → slot ≡ S.Free c → u ≡ 16 * (c % 2 ^ 56) → old ≡ getD ws (directoryWord c) 0 → BlockBegun before after k words version key v u old size r → LargeStaged image before after k words version key v r
+  pub shows-free : (c u old : ℕ) → slot ≡ S.Free c → u ≡ unitAt c 0 → old ≡ getD ws (directoryWord c) 0 → BlockBegun before after k words version key v u old size r → LargeStaged image before after k words version key v r
   shows-free c u old e eu eo b = record {
     long = b .long;
     bits = b .bits;

@@ -74,7 +74,7 @@ pub fn stage_large(
         Slot::Data(unit) => begin_block(setup, buffer, words, version, key, value, unit, 0, 0),
         Slot::Free(c) => {
             let old = directory_word(image, c);
-            let unit = Unit((16 * (c % 0x100_0000_0000_0000)) as u64);
+            let unit = Unit::of(c, 0);
             begin_block(setup, buffer, words, version, key, value, unit, old, size)
         }
         Slot::Nowhere => Large {

@@ -5,19 +5,21 @@ use mathlib.Core.Logic.{inl, inr}
 use mathlib.Core.Bool.{Bool, true, false}
 use mathlib.Core.Option.{none, some}
 use mathlib.Core.List.{List, [], _∷_}
-use Prim.Native.Nat.{ℕ, zero, suc, _+_, _-_, _*_, _≤_, _<_}
+use Prim.Native.Nat.{ℕ, zero, suc, _+_, _-_, _%_, _≤_, _<_}
 use native.Mathlib.Omega.{arith}
 use native.Mathlib.Decide.{ℕ-discrete}
 use lib.Dec.{eqb, leb}
 use borrow.Author.Tests.{eq-eqb, ne-eqb, eqb-true, le-leb}
 use Rattle.spec.specs.Basics.{both, either, any, isIn}
-use Rattle.spec.specs.Places.{chunkLines, chunkUnits, unitChunk}
+use Rattle.spec.specs.Places.{chunkLines, chunkUnits, firstUnit, unitChunk}
 use Rattle.spec.specs.Medium.{Mem as Among}
 use Rattle.spec.specs.Directory.{isLog, roleAt, linesOf}
 use Rattle.spec.specs.Log.{Entry}
 use Rattle.spec.specs.Contents.{liveBlocks}
 use Rattle.spec.specs.Plans.{hasSpace, freeChunk, logPlace, hasLive}
 use Rattle.theory_base.proofs.Lists.{isIn-mem, mem-isIn, not-both}
+use Rattle.codec.specs.Units.{unitAt}
+use Rattle.codec.proofs.Units.{unit-at}
 use Rattle.blocks.specs.Bits.{hasBit}
 use Rattle.directory.specs.declared.Found.{Found}
 use Rattle.directory.specs.declared.Found.the-variants as F
@@ -66,6 +68,10 @@ bit-next b u v n m e f h = rw (e, f, h)
 pub bit-none : (b : List ℕ) (u m : ℕ) → m ≡ 0 → anyBit b u m ≡ false
 bit-none b u m e = rw e
 
+-- the bit of the unit that the loop's turn i looks at
+pub turn-bit : (b : List ℕ) (c i u : ℕ) (t : Bool) → i < 16 → u ≡ unitAt (c % 512) i → t ≡ hasBit b u → hasBit b (firstUnit 12 (c % 512) + i) ≡ t
+turn-bit b c i u t l e h = sym (h ∙ ap (hasBit b) (e ∙ unit-at (c % 512) i (omega arith) l))
+
 bit-at : (b : List ℕ) (u n v : ℕ) → u ≤ v → v < u + n → hasBit b v ≡ true → anyBit b u n ≡ true
 bit-at b u zero v l h e = absurd (omega arith)
 bit-at b u (suc n) v l h e = go (ℕ-discrete v u) (hasBit b u) refl (λ q. bit-at b (suc u) n v q (omega arith) e)
@@ -105,25 +111,25 @@ same-bool true b f g = sym (f refl)
 same-bool false true f g = g refl
 same-bool false false f g = refl
 
-units : (u c : ℕ) → unitChunk 12 u ≡ c → (16 * c ≤ u) × (u < 16 * c + 16)
-unfolding unitChunk chunkUnits
+units : (u c : ℕ) → unitChunk 12 u ≡ c → (firstUnit 12 c ≤ u) × (u < firstUnit 12 c + 16)
+unfolding unitChunk firstUnit chunkUnits
 units u c e = (omega arith, omega arith)
 
-unit-of : (u c : ℕ) → 16 * c ≤ u → u < 16 * c + 16 → unitChunk 12 u ≡ c
-unfolding unitChunk chunkUnits
+unit-of : (u c : ℕ) → firstUnit 12 c ≤ u → u < firstUnit 12 c + 16 → unitChunk 12 u ≡ c
+unfolding unitChunk firstUnit chunkUnits
 unit-of u c l h = omega arith
 
-pub bits-live : (b : List ℕ) (es : List Entry) → ((u : ℕ) → hasBit b u ≡ isIn u (liveBlocks es)) → (c : ℕ) → anyBit b (16 * c) 16 ≡ hasLive 12 es c
-bits-live b es says c = same-bool (anyBit b (16 * c) 16) (hasLive 12 es c) there back
+pub bits-live : (b : List ℕ) (es : List Entry) → ((u : ℕ) → hasBit b u ≡ isIn u (liveBlocks es)) → (c : ℕ) → anyBit b (firstUnit 12 c) 16 ≡ hasLive 12 es c
+bits-live b es says c = same-bool (anyBit b (firstUnit 12 c) 16) (hasLive 12 es c) there back
   where
-    there : anyBit b (16 * c) 16 ≡ true → hasLive 12 es c ≡ true
+    there : anyBit b (firstUnit 12 c) 16 ≡ true → hasLive 12 es c ≡ true
     there h =
-        let r = bit-found b (16 * c) 16 h in
+        let r = bit-found b (firstUnit 12 c) 16 h in
         any-at (λ u. eqb (unitChunk 12 u) c) (liveBlocks es) (r .0) (isIn-mem (r .0) (liveBlocks es) (sym (says (r .0)) ∙ r .3))
         (eq-eqb (unitChunk 12 (r .0)) c (unit-of (r .0) c (r .1) (r .2)))
 
-    back : hasLive 12 es c ≡ true → anyBit b (16 * c) 16 ≡ true
+    back : hasLive 12 es c ≡ true → anyBit b (firstUnit 12 c) 16 ≡ true
     back h =
         let r = any-found (λ u. eqb (unitChunk 12 u) c) (liveBlocks es) h in
         let e = units (r .0) c (eqb-true (unitChunk 12 (r .0)) c (r .2)) in
-        bit-at b (16 * c) 16 (r .0) (e .0) (e .1) (says (r .0) ∙ mem-isIn (r .0) (liveBlocks es) (r .1))
+        bit-at b (firstUnit 12 c) 16 (r .0) (e .0) (e .1) (says (r .0) ∙ mem-isIn (r .0) (liveBlocks es) (r .1))

@@ -12,7 +12,7 @@ use lib.ListN.{length, getD}
 use borrow.Author.Tests.{le-leb, lt-ltb, le-ltb}
 use Rattle.spec.specs.Basics.{both, isEmpty}
 use Rattle.spec.specs.Words.{wordsOf}
-use Rattle.spec.specs.Places.{chunkBytes, directoryWord, chunksIn}
+use Rattle.spec.specs.Places.{chunkBytes, directoryWord, chunksIn, firstUnit}
 use Rattle.spec.specs.Directory.{isFree, isLog, roleAt, linesOf}
 use Rattle.spec.specs.Log.{Entry, encodeAll}
 use Rattle.spec.specs.Contents.{keptIn}
@@ -187,11 +187,11 @@ module _ (ws table : List ℕ) (n s hint : ℕ) (old lines at end : ℕ) (t : Ta
     }
 
 -- ANOTHER CHUNK
-module _ (ws buffer : List ℕ) (s hint : ℕ) (live : Bool) (ev : live ≡ anyBit buffer (16 * (s % 512)) 16) where
+module _ (ws buffer : List ℕ) (s hint : ℕ) (live : Bool) (ev : live ≡ anyBit buffer (firstUnit 12 (s % 512)) 16) where
   live-is : (c : Control) (table : List ℕ) (es : List Entry) (n : ℕ) → Ok 12 n ws es → Built c buffer table es → s < n → live ≡ hasLive 12 es s
   live-is c table es n ok built high =
       let e : s % 512 ≡ s = let m = ok .most in omega arith in
-      ev ∙ ap (λ (x : ℕ). anyBit buffer (16 * x) 16) e ∙ bits-live buffer es (built .blocks) s
+      ev ∙ ap (λ (x : ℕ). anyBit buffer (firstUnit 12 x) 16) e ∙ bits-live buffer es (built .blocks) s
 
   pub data-live : live ≡ true → DataPlanned ws buffer s hint (P.Refused N.NotCleanable)
   data-live h = record { sound = inr (inr (inr (inr (inl refl)))); keeps = λ table kept. tt; plans = λ c table es n ok built low high used log. plan-live n ws es s low high used log (sym (live-is c table es n ok built high) ∙ h) }

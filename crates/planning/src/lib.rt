@@ -2,12 +2,14 @@
 // many actions it has.
 // Neither record, image nor key table is changed.
 ghost use mathlib.Core.Path.{_≡_};
-ghost use Prim.Native.Nat.{_*_, _%_};
+ghost use Prim.Native.Nat.{_%_};
 ghost use Rattle.spec.specs.Words.{wordsOf};
+ghost use Rattle.spec.specs.Places.{firstUnit};
 ghost use Rattle.spec.specs.Plans.{logPlace};
 ghost use Rattle.space.specs.Found.{placeOf};
 ghost use Rattle.planning.specs.Plans.{anyBit, LogPlanned, DataPlanned, CleanPlanned};
 use blocks::Buffer;
+use codec::Unit;
 use directory::Found;
 use directory::lines_of;
 use gathering::Kept;
@@ -54,12 +56,11 @@ fn copy_place(image: &[u8], count: usize, lines: usize, x: usize) -> Place
 
 // Whether a block of the chunk is in use.
 fn has_live(buffer: &Buffer, chunk: usize) -> bool
-    ensures { λ r. ⌜ r ≡ anyBit (now (buffer .entry)) (16 * (chunk % 512)) 16 ⌝ }
+    ensures { λ r. ⌜ r ≡ anyBit (now (buffer .entry)) (firstUnit 12 (chunk % 512)) 16 ⌝ }
 {
-    let unit = 16 * (chunk % 512);
     let mut i = 0;
     while i < 16 {
-        if blocks::has_bit(buffer, unit + i) {
+        if blocks::has_bit(buffer, Unit::of(chunk % 512, i)) {
             return true;
         }
         i += 1;

@@ -24,7 +24,7 @@ use Prim.Native.Nat.{ℕ, zero, suc, _+_, _*_, _/_, _%_, _^_, min}
 use lib.Dec.{eqb}
 use lib.ListN.{length, getD, drop}
 use Rattle.spec.specs.Basics.{pick}
-use Rattle.spec.specs.Places.{basePower, firstUnit, chunksIn}
+use Rattle.spec.specs.Places.{basePower, firstUnit, unitIn, chunksIn}
 use Rattle.spec.specs.Medium.{Action}
 use Rattle.spec.specs.Log.{Entry, moved, parse}
 use Rattle.spec.specs.Blocks.{blockLimit}
@@ -93,7 +93,7 @@ heldWords b = bufferPart b areaStart (heldCount b)
 
 -- the block's first unit
 unfoldable pub unitOf : Setup → ℕ
-unitOf k = firstUnit basePower (chunkIn k) + k .lines % 16
+unitOf k = firstUnit basePower (chunkIn k) + unitIn basePower (k .lines)
 
 -- the chunk is taken first, if it is free
 abbrev pub takenBy : Setup → List Action

@@ -15,7 +15,7 @@ use lib.ListN.{getD}
 use lib.Pow.{pow-pos, pow-add}
 use Rattle.spec.specs.Basics.{pick, both, isIn}
 use Rattle.spec.specs.Words.{wordsOf}
-use Rattle.spec.specs.Places.{directoryWord}
+use Rattle.spec.specs.Places.{chunkUnits, firstUnit, directoryWord}
 use Rattle.spec.specs.Directory.{roleOf, sizeIn, sizeOf}
 use Rattle.spec.specs.Contents.{pointers}
 use Rattle.blocks.specs.Bits.{hasBit}
@@ -41,19 +41,21 @@ within : (w m i : ℕ) → i < 16 → w / 2 ^ m % 2 ^ 16 / 2 ^ i % 2 ≡ w / 2 ^
 within w m i l = low-bit (w / 2 ^ m) i l ∙ ap (λ (n : ℕ). n % 2) (div-div-eq-div-mul w (2 ^ m) (2 ^ i) ∙ ap (λ (n : ℕ). w / n) (sym (pow-add 2 m i)))
 
 pub bits-in : (b : List ℕ) (c : ℕ) → c < 504 → ChunkBits b c (getD b (1024 + c / 4) 0 / 2 ^ (16 * (c % 4)) % 2 ^ 16)
+unfolding firstUnit chunkUnits
 bits-in b c l = record {
   few = mod-lt (getD b (1024 + c / 4) 0 / 2 ^ (16 * (c % 4))) (omega arith);
   each = λ i h.
-      let word : (16 * c + i) / 64 ≡ c / 4 = omega arith in
-      let place : (16 * c + i) % 64 ≡ 16 * (c % 4) + i = omega arith in
-      bit-in b (16 * c + i) (omega arith) ∙ ap (λ (n : ℕ). eqb (getD b (1024 + n) 0 / 2 ^ ((16 * c + i) % 64) % 2) 1) word
+      let word : (firstUnit 12 c + i) / 64 ≡ c / 4 = omega arith in
+      let place : (firstUnit 12 c + i) % 64 ≡ 16 * (c % 4) + i = omega arith in
+      bit-in b (firstUnit 12 c + i) (omega arith) ∙ ap (λ (n : ℕ). eqb (getD b (1024 + n) 0 / 2 ^ ((firstUnit 12 c + i) % 64) % 2) 1) word
       ∙ ap (λ (n : ℕ). eqb (getD b (1024 + c / 4) 0 / 2 ^ n % 2) 1) place ∙ ap (λ (n : ℕ). eqb n 1) (sym (within (getD b (1024 + c / 4) 0) (16 * (c % 4)) i h));
 }
 
 pub bits-beyond : (b : List ℕ) (c : ℕ) → 504 ≤ c → ChunkBits b c 0
+unfolding firstUnit chunkUnits
 bits-beyond b c l = record {
   few = omega arith;
-  each = λ i h. bit-beyond b (16 * c + i) (omega arith) ∙ ap (λ (n : ℕ). eqb (n % 2) 1) (sym (zero-div (2 ^ i)));
+  each = λ i h. bit-beyond b (firstUnit 12 c + i) (omega arith) ∙ ap (λ (n : ℕ). eqb (n % 2) 1) (sym (zero-div (2 ^ i)));
 }
 
 -- EACH BLOCK IN USE, computed for a block size
@@ -83,18 +85,18 @@ module _ (image : List ℕ) (n s : ℕ) (b : List ℕ) (words : ℕ) where
   used-not-spare : (u : ℕ) → hasBit b u ≡ true → Spare b words u false
   used-not-spare u h es items g = sym (spare-by u es items true (isIn u (pointers items)) (sym h ∙ g .blocks u) refl)
 
-  pass-blocks : (c k : ℕ) → ((j : ℕ) → j < k → hasBit b (16 * c + s * j) ≡ true) → Left image n s b words (fromBlock image n s b words c k 0) → (j : ℕ) → j ≤ k → Left image n s b words (fromBlock image n s b words c k j)
+  pass-blocks : (c k : ℕ) → ((j : ℕ) → j < k → hasBit b (firstUnit 12 c + s * j) ≡ true) → Left image n s b words (fromBlock image n s b words c k 0) → (j : ℕ) → j ≤ k → Left image n s b words (fromBlock image n s b words c k j)
   pass-blocks c k used p zero l = p
   pass-blocks c k used p (suc j) l =
       let z : j + 1 ≡ suc j = omega arith in
       subst (λ (x : ℕ). Left image n s b words (fromBlock image n s b words c k x)) z
-      (left-next image n s b words c k j (16 * c + s * j) (omega arith) refl (used-not-spare (16 * c + s * j) (used j (omega arith))) (pass-blocks c k used p j (omega arith)))
+      (left-next image n s b words c k j (firstUnit 12 c + s * j) (omega arith) refl (used-not-spare (firstUnit 12 c + s * j) (used j (omega arith))) (pass-blocks c k used p j (omega arith)))
 
   at-most-all : (t : Bool) → pick t (16 / s) 0 ≤ 16 / s
   at-most-all true = omega arith
   at-most-all false = omega arith
 
-  pass-chunk : (c : ℕ) → c < n → ((j : ℕ) → j < 16 / s → hasBit b (16 * c + s * j) ≡ true) → Left image n s b words (fromChunk image n s b words c) → Left image n s b words (fromBlock image n s b words c 0 0)
+  pass-chunk : (c : ℕ) → c < n → ((j : ℕ) → j < 16 / s → hasBit b (firstUnit 12 c + s * j) ≡ true) → Left image n s b words (fromChunk image n s b words c) → Left image n s b words (fromBlock image n s b words c 0 0)
   pass-chunk c l used p =
       let k = blockCount (wordsOf image) s c in
       let few : k ≤ 16 / s = at-most-all (eqb (sizeOf 12 (wordsOf image) c) s) in
@@ -116,7 +118,7 @@ module _ (image : List ℕ) (n s : ℕ) (b : List ℕ) (words : ℕ) where
       some : k ≡ pick (eqb (getD (wordsOf image) (directoryWord c) 0) word) most 0 → Looks c k
       some e = let q = counted (wordsOf image) s c word most k ew em e in record { fits = q .fits; few = q .few; some′ = q .some′; begin = left-open image n s b words c k l (q .is) }
 
-      all-used : ChunkBits b c full → (j : ℕ) → j < 16 / s → hasBit b (16 * c + s * j) ≡ true
+      all-used : ChunkBits b c full → (j : ℕ) → j < 16 / s → hasBit b (firstUnit 12 c + s * j) ≡ true
       all-used bits j h = bits .each (s * j) (in-chunk s j h) ∙ eq-eqb (full / 2 ^ (s * j) % 2) 1 (used .used (bits .few) j h)
 
       none : (k ≡ 0) × ChunkBits b c full → Looks c k

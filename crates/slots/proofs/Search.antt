@@ -19,6 +19,8 @@ use Rattle.spec.specs.Directory.{isSize, roleOf, sizeIn, sizeOf, sizeFor}
 use Rattle.spec.specs.declared.Role.the-variants as R
 use Rattle.spec.specs.Log.{Entry}
 use Rattle.spec.specs.Plans.{blocksOf, blocksFrom}
+use Rattle.codec.specs.Units.{unitAt}
+use Rattle.codec.proofs.Units.{unit-at}
 use Rattle.theory_base.proofs.Lists.{pick-same, both-l, both-r}
 use Rattle.theory_log.proofs.Directory.{size-is}
 use Rattle.slots.specs.Blocks.{Says, spare, Spare, firstSpare, InImage}
@@ -103,6 +105,10 @@ counted ws s c word most k ew em ek = by-cases (ℕ-discrete (getD ws (directory
 pub block-ends : (s j k : ℕ) → j < k → s * k ≤ 16 → s * j + s ≤ 16
 block-ends s j k l h = let a : s * suc j ≤ s * k = mul-le-mul-left s l in let b = mul-suc s j in omega arith
 
+-- its unit, as the code makes it
+pub block-unit : (s c j k u : ℕ) → c < 2 ^ 60 → j < k → s * k ≤ 16 → 1 ≤ s → u ≡ unitAt c (s * j) → u ≡ firstUnit 12 c + s * j
+block-unit s c j k u h l f o e = let q = block-ends s j k l f in e ∙ unit-at c (s * j) h (omega arith)
+
 module _ (image : List ℕ) (n s : ℕ) (b : List ℕ) (words : ℕ) where
   abbrev ws : List ℕ
   ws = wordsOf image
@@ -116,7 +122,7 @@ module _ (image : List ℕ) (n s : ℕ) (b : List ℕ) (words : ℕ) where
   fromChunk c = blocksFrom 12 ws s (upFrom c (n - c))
 
   abbrev pub fromBlock : ℕ → ℕ → ℕ → List ℕ
-  fromBlock c k j = blocksOf 12 s (16 * c + s * j) (k - j) ++ fromChunk (suc c)
+  fromBlock c k j = blocksOf 12 s (firstUnit 12 c + s * j) (k - j) ++ fromChunk (suc c)
 
   pub left-start : Left (fromChunk 1)
   left-start es items g = refl
@@ -126,10 +132,10 @@ module _ (image : List ℕ) (n s : ℕ) (b : List ℕ) (words : ℕ) where
   open-chunk c k l e =
       let m : n - c ≡ suc (n - suc c) = omega arith in
       let z : k - 0 ≡ k = omega arith in
-      let f : 16 * c + s * 0 ≡ c * 16 = let q = mul-zero s in omega arith in
+      let f : firstUnit 12 c + s * 0 ≡ firstUnit 12 c = let q = mul-zero s in omega arith in
       rw (m, z, f, e) (go (eqb (sizeOf 12 ws c) s))
     where
-      go : (t : Bool) → pick t (blocksOf 12 s (c * 16) (16 / s)) [] ++ fromChunk (suc c) ≡ blocksOf 12 s (c * 16) (pick t (16 / s) 0) ++ fromChunk (suc c)
+      go : (t : Bool) → pick t (blocksOf 12 s (firstUnit 12 c) (16 / s)) [] ++ fromChunk (suc c) ≡ blocksOf 12 s (firstUnit 12 c) (pick t (16 / s) 0) ++ fromChunk (suc c)
       go true = refl
       go false = refl
 
@@ -137,22 +143,22 @@ module _ (image : List ℕ) (n s : ℕ) (b : List ℕ) (words : ℕ) where
   left-open c k l e p es items g = p es items g ∙ ap (λ (us : List ℕ). first (filter (spare es items) us)) (open-chunk c k l e)
 
   -- one block more
-  next-block : (c k j : ℕ) → j < k → fromBlock c k j ≡ (16 * c + s * j) ∷ fromBlock c k (suc j)
+  next-block : (c k j : ℕ) → j < k → fromBlock c k j ≡ (firstUnit 12 c + s * j) ∷ fromBlock c k (suc j)
   next-block c k j l =
       let m : k - j ≡ suc (k - suc j) = omega arith in
-      let f : 16 * c + s * suc j ≡ 16 * c + s * j + s = let q = mul-suc s j in omega arith in
+      let f : firstUnit 12 c + s * suc j ≡ firstUnit 12 c + s * j + s = let q = mul-suc s j in omega arith in
       rw (m, f)
 
-  pub left-next : (c k j u : ℕ) → j < k → u ≡ 16 * c + s * j → Spare b words u false → Left (fromBlock c k j) → Left (fromBlock c k (j + 1))
+  pub left-next : (c k j u : ℕ) → j < k → u ≡ firstUnit 12 c + s * j → Spare b words u false → Left (fromBlock c k j) → Left (fromBlock c k (j + 1))
   left-next c k j u l e t p es items g =
-      let q : false ≡ spare es items (16 * c + s * j) = t es items g ∙ ap (spare es items) e in
+      let q : false ≡ spare es items (firstUnit 12 c + s * j) = t es items g ∙ ap (spare es items) e in
       let z : j + 1 ≡ suc j = omega arith in
-      rw z (p es items g ∙ ap (λ (us : List ℕ). first (filter (spare es items) us)) (next-block c k j l) ∙ ap (λ (x : Bool). first (pick x ((16 * c + s * j) ∷ filter (spare es items) (fromBlock c k (suc j))) (filter (spare es items) (fromBlock c k (suc j))))) (sym q))
+      rw z (p es items g ∙ ap (λ (us : List ℕ). first (filter (spare es items) us)) (next-block c k j l) ∙ ap (λ (x : Bool). first (pick x ((firstUnit 12 c + s * j) ∷ filter (spare es items) (fromBlock c k (suc j))) (filter (spare es items) (fromBlock c k (suc j))))) (sym q))
 
-  pub left-here : (c k j u : ℕ) → j < k → u ≡ 16 * c + s * j → Spare b words u true → Left (fromBlock c k j) → (es items : List Entry) → Says b words es items → firstSpare n ws es items s ≡ some u
+  pub left-here : (c k j u : ℕ) → j < k → u ≡ firstUnit 12 c + s * j → Spare b words u true → Left (fromBlock c k j) → (es items : List Entry) → Says b words es items → firstSpare n ws es items s ≡ some u
   left-here c k j u l e t p es items g =
-      let q : true ≡ spare es items (16 * c + s * j) = t es items g ∙ ap (spare es items) e in
-      p es items g ∙ ap (λ (us : List ℕ). first (filter (spare es items) us)) (next-block c k j l) ∙ ap (λ (x : Bool). first (pick x ((16 * c + s * j) ∷ filter (spare es items) (fromBlock c k (suc j))) (filter (spare es items) (fromBlock c k (suc j))))) (sym q) ∙ ap some (sym e)
+      let q : true ≡ spare es items (firstUnit 12 c + s * j) = t es items g ∙ ap (spare es items) e in
+      p es items g ∙ ap (λ (us : List ℕ). first (filter (spare es items) us)) (next-block c k j l) ∙ ap (λ (x : Bool). first (pick x ((firstUnit 12 c + s * j) ∷ filter (spare es items) (fromBlock c k (suc j))) (filter (spare es items) (fromBlock c k (suc j))))) (sym q) ∙ ap some (sym e)
 
   -- no block more in the chunk, and no chunk more
   pub left-close : (c k j : ℕ) → k ≤ j → Left (fromBlock c k j) → Left (fromChunk (c + 1))
@@ -167,9 +173,9 @@ module _ (image : List ℕ) (n s : ℕ) (b : List ℕ) (words : ℕ) where
       rw m at (p es items g)
 
 -- WHAT HOLDS OF THE BLOCK ANYWAY
-pub in-image : (image : List ℕ) (n count s c j k u : ℕ) → n ≡ min count (length image / 4096) → 1 ≤ c → c < n → j < k → s * k ≤ 16 → u ≡ 16 * c + s * j → 1 ≤ s → sizeOf 12 (wordsOf image) c ≡ s
+pub in-image : (image : List ℕ) (n count s c j k u : ℕ) → n ≡ min count (length image / 4096) → 1 ≤ c → c < n → j < k → s * k ≤ 16 → u ≡ firstUnit 12 c + s * j → 1 ≤ s → sizeOf 12 (wordsOf image) c ≡ s
     → InImage image count s u
-unfolding unitChunk chunkUnits
+unfolding unitChunk firstUnit chunkUnits
 in-image image n count s c j k u en lc hc hj hk eu hs es =
     let e = block-ends s j k hj hk in
     let x : unitChunk 12 u ≡ c = omega arith in

@@ -11,7 +11,7 @@ use lib.Dec.{eqb}
 use lib.ListN.{length, getD}
 use Rattle.spec.specs.Basics.{pick, both, negate, filter, first, isIn, upFrom}
 use Rattle.spec.specs.Words.{wordsOf}
-use Rattle.spec.specs.Places.{unitChunk, directoryWord}
+use Rattle.spec.specs.Places.{firstUnit, unitChunk, unitWord, directoryWord}
 use Rattle.spec.specs.Directory.{sizeOf, roleAt, isFree}
 use Rattle.spec.specs.Log.{Entry, wordsFor}
 use Rattle.spec.specs.Contents.{pointers, liveBlocks}
@@ -61,7 +61,7 @@ pub record EachUsed (s full : ℕ) : Type 0 where
 -- the bits of chunk c
 pub record ChunkBits (buffer : List ℕ) (c bits : ℕ) : Type 0 where
   pub few : bits < 2 ^ 16
-  pub each : (i : ℕ) → i < 16 → hasBit buffer (16 * c + i) ≡ eqb (bits / 2 ^ i % 2) 1
+  pub each : (i : ℕ) → i < 16 → hasBit buffer (firstUnit 12 c + i) ≡ eqb (bits / 2 ^ i % 2) 1
 
 -- so many blocks of chunk c are to be looked at: those of a chunk with that directory word, or none where its bits are
 -- these
@@ -80,7 +80,7 @@ pub record InImage (image : List ℕ) (n s u : ℕ) : Type 0 where
   pub some′ : 1 ≤ s
   pub low : 1 ≤ unitChunk 12 u
   pub high : unitChunk 12 u < n
-  pub ends : 256 * (u + s) ≤ length image
+  pub ends : 8 * unitWord (u + s) ≤ length image
   pub size : sizeOf 12 (wordsOf image) (unitChunk 12 u) ≡ s
 
 pub record BlockFound (image : List ℕ) (count size : ℕ) (buffer : List ℕ) (words : ℕ) (r : Block) : Type 0 where

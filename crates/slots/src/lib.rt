@@ -44,21 +44,21 @@ pub struct Met {
 }
 
 // STAGED BLOCKS
-// Whether an entry with these parts is a put with its value in the block at unit u.
-fn points_to(op: u64, placement: u64, field: u64, u: usize) -> bool
-    ensures { λ r. ⌜ r ≡ both (both (eqb op 1) (eqb placement 1)) (eqb field u) ⌝ }
+// Whether an entry with these parts is a put with its value in the block at a unit.
+fn points_to(op: u64, placement: u64, field: u64, unit: Unit) -> bool
+    ensures { λ r. ⌜ r ≡ both (both (eqb op 1) (eqb placement 1)) (eqb field (unit .0)) ⌝ }
 {
     if op == 1 {
         if placement == 1 {
-            return field as usize == u;
+            return field == unit.0;
         }
     }
     false
 }
 
-fn met_at(buffer: &Buffer, at: usize, u: usize) -> Met
+fn met_at(buffer: &Buffer, at: usize, unit: Unit) -> Met
     requires { ⌜ at < 512 ⌝ }
-    ensures { λ r. ⌜ (r ≡ metBy u (firstOf (getD (now (buffer .entry)) at 0))) × (1 ≤ r .size) × (r .size < 2 ^ 62) ⌝ }
+    ensures { λ r. ⌜ (r ≡ metBy (unit .0) (firstOf (getD (now (buffer .entry)) at 0))) × (1 ≤ r .size) × (r .size < 2 ^ 62) ⌝ }
 {
     let f = first_of(buffer[at]);
     match f {
@@ -76,21 +76,21 @@ fn met_at(buffer: &Buffer, at: usize, u: usize) -> Met
             version: _,
             field,
         } => {
-            let here = points_to(op, placement, field, u);
+            let here = points_to(op, placement, field, unit);
             let size = 2 + words_for(placement, field);
             Met { here, size }
         }
     }
 }
 
-// Whether a staged item points to the block at unit u: a pass over the staged entries.
-pub fn is_staged(buffer: &Buffer, words: usize, u: usize) -> bool
-    ensures { λ r. ⌜ StagedBlock (now (buffer .entry)) words u r ⌝ }
+// Whether a staged item points to the block at a unit: a pass over the staged entries.
+pub fn is_staged(buffer: &Buffer, words: usize, unit: Unit) -> bool
+    ensures { λ r. ⌜ StagedBlock (now (buffer .entry)) words (unit .0) r ⌝ }
 {
     let end = lesser(words, 512);
     let mut at = 0;
     while at < end {
-        let met = met_at(buffer, at, u);
+        let met = met_at(buffer, at, unit);
         if met.here {
             return true;
         }
@@ -99,14 +99,14 @@ pub fn is_staged(buffer: &Buffer, words: usize, u: usize) -> bool
     false
 }
 
-// Whether the block at unit u is neither live nor staged.
-pub fn is_spare(buffer: &Buffer, words: usize, u: usize) -> bool
-    ensures { λ r. ⌜ Spare (now (buffer .entry)) words u r ⌝ }
+// Whether the block at a unit is neither live nor staged.
+pub fn is_spare(buffer: &Buffer, words: usize, unit: Unit) -> bool
+    ensures { λ r. ⌜ Spare (now (buffer .entry)) words (unit .0) r ⌝ }
 {
-    if has_bit(buffer, u) {
+    if has_bit(buffer, unit) {
         return false;
     }
-    if is_staged(buffer, words, u) {
+    if is_staged(buffer, words, unit) {
         return false;
     }
     true
@@ -179,9 +179,9 @@ pub fn find_block(image: &[u8], count: usize, size: usize, buffer: &Buffer, word
     'chunks: for c in 1..chunks {
         let blocks = blocks_in(image, buffer, c, word, most, full);
         for j in 0..blocks {
-            let u = 16 * c + size * j;
-            if is_spare(buffer, words, u) {
-                found = Block::At(Unit(u as u64));
+            let unit = Unit::of(c, size * j);
+            if is_spare(buffer, words, unit) {
+                found = Block::At(unit);
                 break 'chunks;
             }
         }

@@ -11,6 +11,7 @@ use native.Mathlib.Decide.{decLt, ℕ-discrete}
 use lib.Dec.{eqb}
 use lib.ListN.{length, getD}
 use borrow.Author.Tests.{eq-eqb, ne-eqb}
+use Rattle.spec.specs.Places.{unitWord}
 use Rattle.spec.specs.Actions.{linesFor, takeOf, blockOf}
 use Rattle.spec.specs.Machine.{Step}
 use Rattle.spec.specs.Contract.{Changed}
@@ -49,7 +50,7 @@ module _ (k : Setup) (b : List ℕ) where
       (λ z. let t = take-two k z in B.whole-fill k b r (unitOf k) n i z (omega arith) refl q)
 
   -- a store of word i of those held
-  fills-store : (n i w : ℕ) → n ≡ takeCount k + i → i < heldCount b → w ≡ 32 * unitOf k + i → R.Store w (getD b (areaStart + i) 0) ≡ nthReport (blockActions k b) n
+  fills-store : (n i w : ℕ) → n ≡ takeCount k + i → i < heldCount b → w ≡ unitWord (unitOf k) + i → R.Store w (getD b (areaStart + i) 0) ≡ nthReport (blockActions k b) n
   fills-store n i w e l ew = fills _ n i e (B.shows-store (unitOf k) b (heldCount b) i refl w l ew)
 
   -- behind them no action is a store
@@ -112,7 +113,7 @@ module _ (c : Control) (k : Setup) (b bytes : List ℕ) where
       }
 
   -- the words held, from the next one on
-  module _ (first held start from : ℕ) (ef : first ≡ takeCount k) (eh : held ≡ heldCount b) (es : start ≡ 32 * unitOf k) (em : c .next ≡ first + from) where
+  module _ (first held start from : ℕ) (ef : first ≡ takeCount k) (eh : held ≡ heldCount b) (es : start ≡ unitWord (unitOf k)) (em : c .next ≡ first + from) where
     stepped : (table : List ℕ) → InStaging c k (length bytes) (length table) → (j : ℕ) → j < held → (bytes₁ bytes₂ : List ℕ) → length bytes₁ ≡ length bytes → Saved bytes₁ bytes₂ (start + j) (areaWord b j)
         → Does Step (memoryOf (toNext (first + j) c) k b bytes₁ table) (memoryOf (toNext (first + suc j) c) k b bytes₂ table) (R.Store (start + j) (areaWord b j))
     stepped table h j l bytes₁ bytes₂ el saved =

@@ -21,12 +21,12 @@ shr-result c = search needs
 returns : tie.Need-returns
 returns c =
     let start = c .before .before .args in
-    sym (bit-in (start .buffer .now) (start .u) (omega arith))
+    sym (bit-in (start .buffer .now) (start .unit .0) (omega arith))
 
 returns-2 : tie.Need-returns-2
 returns-2 c =
     let start = c .before .args in
-    sym (bit-beyond (start .buffer .now) (start .u) (omega arith))
+    sym (bit-beyond (start .buffer .now) (start .unit .0) (omega arith))
 
 pub has-bit-spec : {M : Type 1} → statement M
 has-bit-spec =

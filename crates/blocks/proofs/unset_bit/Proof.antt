@@ -30,12 +30,12 @@ element-write-buffer c = search needs
 returns : tie.Need-returns
 returns c =
     let start = c .before .before .before .before .args in
-    unset-shows (start .buffer .now) (start .u) (omega arith) (omega arith)
+    unset-shows (start .buffer .now) (start .unit .0) (omega arith) (omega arith)
 
 returns-2 : tie.Need-returns-2
 returns-2 c =
     let start = c .before .before .before .args in
-    beyond-kept (start .buffer .now) (start .u) false (omega arith) (omega arith)
+    beyond-kept (start .buffer .now) (start .unit .0) false (omega arith) (omega arith)
 
 pub unset-bit-spec : {M : Type 1} → statement M
 unset-bit-spec =

@@ -1,13 +1,17 @@
 -- `consistency::block_right` meets its contract: the start is looked at, then the length and the fill.
 -- Assumes nothing.
-use mathlib.Core.Path.{sym, _∙_}
+use mathlib.Core.Path.{sym, _∙_, ap}
 use native.Mathlib.Omega.{arith}
 use Rattle.spec.specs.Words.{wordsOf}
+use Rattle.spec.specs.Directory.{sizeOf}
 use Rattle.words.specs.Image.{length-wordsOf}
 use Rattle.consistency.proofs.Blocks.{start-size, shows-start, shows-block}
 use borrow.Author.Needs.{needs}
 use Rattle.consistency.proofs.block_right.Statement.{statement}
 use Rattle.consistency.proofs.block_right.Tie as tie
+
+chunk-requires : tie.Need-chunk-requires
+chunk-requires c κs = search needs
 
 size-of-requires : tie.Need-size-of-requires
 size-of-requires c κs = search needs
@@ -32,31 +36,38 @@ load-requires-2 c κs = search needs
 
 length-right-requires : tie.Need-length-right-requires
 length-right-requires c κs =
-    let a = c .before .before .before .before .before .before .before .before .args in
-    let size = c .before .before .before .before .before .before .size-of in
-    (start-size (a .count) (a .unit) (size .result) (sym (c .before .before .before .before .before .starts .ensures) ∙ c .before .before .before .before .if1 .taken), size .ensures .1)
+    let begins = c .before .before .before .before in
+    let sized = begins .before .before in
+    let a = sized .before .before .before .args in
+    (start-size (a .count) (a .unit .0) (sized .size-of .result) (sym (begins .before .starts .ensures) ∙ begins .if1 .taken), sized .size-of .ensures .1)
 
 returns : tie.Need-returns
 returns c =
-    let a = c .before .before .before .before .before .before .before .before .before .args in
-    let size = c .before .before .before .before .before .before .before .size-of in
-    let at = c .before .before .before .before .word-offset in
-    let len = c .before .before .before .load in
-    let last = c .before .load2 in
+    let last = c .before in
+    let at = last .before .before .before in
+    let begins = at .before in
+    let sized = begins .before .before in
+    let a = sized .before .before .before .args in
+    let size = sized .size-of in
+    let len = last .before .before .load in
     let l = length-wordsOf (a .image .now) in
-    shows-block (wordsOf (a .image .now)) (a .count) (a .unit) (size .result) (omega arith) (size .ensures .0) (at .result) (len .result) (last .result) (c .length-right .result) (at .ensures) (len .ensures) (rw (c .before .before .words-for .ensures .0) at (last .ensures)) (sym (c .before .before .before .before .before .before .starts .ensures) ∙ c .before .before .before .before .before .if1 .taken) (c .length-right .ensures)
+    shows-block (wordsOf (a .image .now)) (a .count) (a .unit .0) (size .result) (omega arith) (size .ensures .0 ∙ ap (sizeOf 12 (wordsOf (a .image .now))) (sized .before .chunk .ensures))
+    (at .word-offset .result) (len .result) (last .load2 .result) (c .length-right .result) (at .word-offset .ensures) (len .ensures)
+    (rw (last .before .words-for .ensures .0) at (last .load2 .ensures)) (sym (begins .before .starts .ensures) ∙ begins .if1 .taken) (c .length-right .ensures)
 
 returns-2 : tie.Need-returns-2
 returns-2 c =
-    let a = c .before .before .before .before .args in
-    let size = c .before .before .size-of in
+    let sized = c .before .before in
+    let a = sized .before .before .before .args in
+    let size = sized .size-of in
     let l = length-wordsOf (a .image .now) in
-    shows-start (wordsOf (a .image .now)) (a .count) (a .unit) (size .result) (omega arith) (size .ensures .0) (sym (c .before .starts .ensures) ∙ c .if1 .left)
+    shows-start (wordsOf (a .image .now)) (a .count) (a .unit .0) (size .result) (omega arith) (size .ensures .0 ∙ ap (sizeOf 12 (wordsOf (a .image .now))) (sized .before .chunk .ensures)) (sym (c .before .starts .ensures) ∙ c .if1 .left)
 
 pub block-right-spec : {M : Type 1} → statement M
 block-right-spec =
     tie.close
     (tie.spec
+    chunk-requires
     size-of-requires
     starts-requires
     word-offset-requires

@@ -24,8 +24,8 @@ enum-known-slot-2 c = search needs
 directory-word-requires : tie.Need-directory-word-requires
 directory-word-requires c κs = search needs
 
-mul-t20 : tie.Need-mul-t20
-mul-t20 c = search needs
+of-requires : tie.Need-of-requires
+of-requires c κs = search needs
 
 begin-block-requires-2 : tie.Need-begin-block-requires-2
 begin-block-requires-2 c κs = search needs
@@ -40,8 +40,13 @@ returns c =
 
 returns-2 : tie.Need-returns-2
 returns-2 c =
-    let a = c .before .before .before .before .before .before .before .before .before .before .before .before .args in
-    shows-free (a .image .now) (a .buffer .now) _ (a .setup) (a .words) (a .version) (a .key) (a .value .now) _ _ (c .before .before .before .before .before .before .slot-for .result) (c .before .before .before .before .before .before .before .before .before .block-size .ensures) (c .before .before .before .before .before .before .slot-for .ensures) _ _ _ (c .before .before .before .before .slot2 .given .1) refl (c .before .before .directory-word .ensures) (c .begin-block2 .ensures)
+    let makes = c .before .before in
+    let reads = makes .before in
+    let free = reads .before .before in
+    let found = free .before .before in
+    let sized = found .before .before .before in
+    let a = sized .before .before .before .args in
+    shows-free (a .image .now) (a .buffer .now) _ (a .setup) (a .words) (a .version) (a .key) (a .value .now) _ _ (found .slot-for .result) (sized .block-size .ensures) (found .slot-for .ensures) _ _ _ (free .slot2 .given .1) (makes .of .ensures) (reads .directory-word .ensures) (c .begin-block2 .ensures)
 
 returns-3 : tie.Need-returns-3
 returns-3 c =
@@ -58,7 +63,7 @@ stage-large-spec =
     begin-block-requires
     enum-known-slot-2
     directory-word-requires
-    mul-t20
+    of-requires
     begin-block-requires-2
     enum-told
     returns

@@ -6,7 +6,7 @@ use Prim.Native.Nat.{_-_, _≤_}
 use native.Mathlib.Omega.{arith}
 use borrow.Author.Needs.{needs}
 use Rattle.slots.specs.declared.Block.the-variants.{Nothing}
-use Rattle.slots.proofs.Search.{Left, fromChunk, fromBlock, left-start, left-next, left-here, left-close, left-end, block-ends, in-image}
+use Rattle.slots.proofs.Search.{Left, fromChunk, fromBlock, left-start, left-next, left-here, left-close, left-end, block-ends, block-unit, in-image}
 use Rattle.slots.proofs.Full.{looked}
 use Rattle.slots.proofs.Answer.{found-nothing, found-here}
 use Rattle.slots.proofs.find_block.Statement.{statement}
@@ -51,24 +51,21 @@ loop-holds c =
     let q = looked (a .image .now) (c .before .before .before .before .before .before .lesser .result) (a .size) (a .buffer .now) (a .words) (c .before .before .chunks .c) _ _ _ (c .blocks-in .result) (omega arith) (c .before .before .before .before .before .data-word .ensures) (c .before .before .before .before .blocks-of .ensures) (c .before .before .before .full-bits .ensures) (c .blocks-in .ensures) in
     (omega arith, at .inv .1, q .begin (at .inv .2))
 
-mul-u : tie.Need-mul-u Inv-loop μ-loop Inv-chunks μ-chunks
-mul-u c = omega arith
-
-mul-u-2 : tie.Need-mul-u-2 Inv-loop μ-loop Inv-chunks μ-chunks
-mul-u-2 c =
-    let a = c .before .before .before .before .before .before .before .before .before .before .args in
-    let q = looked (a .image .now) (c .before .before .before .before .before .before .before .before .lesser .result) (a .size) (a .buffer .now) (a .words) (c .before .before .before .before .chunks .c) _ _ _ (c .before .before .blocks-in .result) (omega arith) (c .before .before .before .before .before .before .before .data-word .ensures) (c .before .before .before .before .before .before .blocks-of .ensures) (c .before .before .before .before .before .full-bits .ensures) (c .before .before .blocks-in .ensures) in
-    let j = c .before .loop .j in
-    let e = block-ends (a .size) j (c .before .before .blocks-in .result) (c .loop-test .taken) (q .fits) in
+mul-of : tie.Need-mul-of Inv-loop μ-loop Inv-chunks μ-chunks
+mul-of c =
+    let turn = c .before in
+    let counts = turn .before in
+    let chunk = counts .before .before in
+    let fulls = chunk .before in
+    let word = fulls .before .before in
+    let n = word .before .lesser in
+    let a = word .before .before .before .args in
+    let q = looked (a .image .now) (n .result) (a .size) (a .buffer .now) (a .words) (chunk .chunks .c) _ _ _ (counts .blocks-in .result) (omega arith) (word .data-word .ensures) (fulls .before .blocks-of .ensures) (fulls .full-bits .ensures) (counts .blocks-in .ensures) in
+    let e = block-ends (a .size) (turn .loop .j) (counts .blocks-in .result) (c .loop-test .taken) (q .fits) in
     omega arith
 
-add-u : tie.Need-add-u Inv-loop μ-loop Inv-chunks μ-chunks
-add-u c =
-    let a = c .before .before .before .before .before .before .before .before .before .before .args in
-    let q = looked (a .image .now) (c .before .before .before .before .before .before .before .before .lesser .result) (a .size) (a .buffer .now) (a .words) (c .before .before .before .before .chunks .c) _ _ _ (c .before .before .blocks-in .result) (omega arith) (c .before .before .before .before .before .before .before .data-word .ensures) (c .before .before .before .before .before .before .blocks-of .ensures) (c .before .before .before .before .before .full-bits .ensures) (c .before .before .blocks-in .ensures) in
-    let j = c .before .loop .j in
-    let e = block-ends (a .size) j (c .before .before .blocks-in .result) (c .loop-test .taken) (q .fits) in
-    omega arith
+of-requires : tie.Need-of-requires Inv-loop μ-loop Inv-chunks μ-chunks
+of-requires c κs = search needs
 
 is-spare-requires : tie.Need-is-spare-requires Inv-loop μ-loop Inv-chunks μ-chunks
 is-spare-requires c κs = search needs
@@ -81,15 +78,26 @@ loop-less c = omega arith
 
 loop-again : tie.Need-loop-again Inv-loop μ-loop Inv-chunks μ-chunks
 loop-again c =
-    let a = c .before .before .before .before .before .before .before .before .before .before .before .before .args in
-    let n = c .before .before .before .before .before .before .before .before .before .before .lesser .result in
-    let ch = c .before .before .before .before .before .before .chunks in
-    let k = c .before .before .before .before .blocks-in in
-    let at = c .before .before .before .loop in (
+    let looks = c .before in
+    let makes = looks .before in
+    let turn = makes .before .before in
+    let at = turn .loop in
+    let counts = turn .before in
+    let chunk = counts .before .before in
+    let fulls = chunk .before in
+    let word = fulls .before .before in
+    let n = word .before .lesser in
+    let a = word .before .before .before .args in
+    let q = looked (a .image .now) (n .result) (a .size) (a .buffer .now) (a .words) (chunk .chunks .c) _ _ _ (counts .blocks-in .result) (omega arith) (word .data-word .ensures) (fulls .before .blocks-of .ensures) (fulls .full-bits .ensures) (counts .blocks-in .ensures) in
+    let some = q .some′ (omega arith) in
+    let most = n .ensures in
+    let below = counts .before .chunks-test .taken in
+    let long = word .before .before .before .good in
+    let u = block-unit (a .size) (chunk .chunks .c) (at .j) (counts .blocks-in .result) _ (omega arith) (omega arith) (q .fits) (some .1) (makes .of .ensures) in (
       omega arith,
       at .inv .1,
-      left-next (a .image .now) n (a .size) (a .buffer .now) (a .words) (ch .c) (k .result) (at .j) _ (omega arith) refl
-          (λ es items g. sym (c .if1 .left) ∙ c .before .is-spare .ensures es items g) (at .inv .2),
+      left-next (a .image .now) (n .result) (a .size) (a .buffer .now) (a .words) (chunk .chunks .c) (counts .blocks-in .result) (at .j) _ (omega arith) u
+          (λ es items g. sym (c .if1 .left) ∙ looks .is-spare .ensures es items g) (at .inv .2),
     )
 
 add-c : tie.Need-add-c Inv-loop μ-loop Inv-chunks μ-chunks
@@ -117,17 +125,26 @@ returns c =
 
 returns-2 : tie.Need-returns-2 Inv-loop μ-loop Inv-chunks μ-chunks
 returns-2 c =
-    let a = c .before .before .before .before .before .before .before .before .before .before .before .before .args in
-    let n = c .before .before .before .before .before .before .before .before .before .before .lesser in
-    let ch = c .before .before .before .before .before .before .chunks in
-    let k = c .before .before .before .before .blocks-in in
-    let q = looked (a .image .now) (c .before .before .before .before .before .before .before .before .before .before .lesser .result) (a .size) (a .buffer .now) (a .words) (c .before .before .before .before .before .before .chunks .c) _ _ _ (c .before .before .before .before .blocks-in .result) (omega arith) (c .before .before .before .before .before .before .before .before .before .data-word .ensures) (c .before .before .before .before .before .before .before .before .blocks-of .ensures) (c .before .before .before .before .before .before .before .full-bits .ensures) (c .before .before .before .before .blocks-in .ensures) in
-    let at = c .before .before .before .loop in
+    let looks = c .before in
+    let makes = looks .before in
+    let turn = makes .before .before in
+    let at = turn .loop in
+    let counts = turn .before in
+    let chunk = counts .before .before in
+    let fulls = chunk .before in
+    let word = fulls .before .before in
+    let n = word .before .lesser in
+    let a = word .before .before .before .args in
+    let q = looked (a .image .now) (n .result) (a .size) (a .buffer .now) (a .words) (chunk .chunks .c) _ _ _ (counts .blocks-in .result) (omega arith) (word .data-word .ensures) (fulls .before .blocks-of .ensures) (fulls .full-bits .ensures) (counts .blocks-in .ensures) in
     let some = q .some′ (omega arith) in
+    let most = n .ensures in
+    let below = counts .before .chunks-test .taken in
+    let long = word .before .before .before .good in
+    let u = block-unit (a .size) (chunk .chunks .c) (at .j) (counts .blocks-in .result) _ (omega arith) (omega arith) (q .fits) (some .1) (makes .of .ensures) in
     found-here (a .image .now) (n .result) (a .count) (a .size) (a .buffer .now) (a .words) _ (n .ensures)
-    (left-here (a .image .now) (n .result) (a .size) (a .buffer .now) (a .words) (ch .c) (k .result) (at .j) _ (omega arith) refl
-    (λ es items g. sym (c .if1 .taken) ∙ c .before .is-spare .ensures es items g) (at .inv .2))
-    (in-image (a .image .now) (n .result) (a .count) (a .size) (ch .c) (at .j) (k .result) _ (n .ensures) (ch .inv .0) (omega arith) (omega arith) (q .fits) refl (some .1) (some .0))
+    (left-here (a .image .now) (n .result) (a .size) (a .buffer .now) (a .words) (chunk .chunks .c) (counts .blocks-in .result) (at .j) _ (omega arith) u
+    (λ es items g. sym (c .if1 .taken) ∙ looks .is-spare .ensures es items g) (at .inv .2))
+    (in-image (a .image .now) (n .result) (a .count) (a .size) (chunk .chunks .c) (at .j) (counts .blocks-in .result) _ (n .ensures) (chunk .chunks .inv .0) (omega arith) (omega arith) (q .fits) u (some .1) (some .0))
 
 pub find-block-spec : {M : Type 1} → statement M
 find-block-spec =
@@ -144,9 +161,8 @@ find-block-spec =
     chunks-holds
     blocks-in-requires
     loop-holds
-    mul-u
-    mul-u-2
-    add-u
+    mul-of
+    of-requires
     is-spare-requires
     add-j
     loop-less

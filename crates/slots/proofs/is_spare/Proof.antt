@@ -15,7 +15,7 @@ has-bit-requires c κs = search needs
 returns : tie.Need-returns
 returns c es items g =
     let a = c .before .before .args in
-    sym (spare-by (a .u) es items true (isIn (a .u) (pointers items)) (sym (c .if1 .taken) ∙ c .before .has-bit .ensures ∙ g .blocks (a .u)) refl)
+    sym (spare-by (a .unit .0) es items true (isIn (a .unit .0) (pointers items)) (sym (c .if1 .taken) ∙ c .before .has-bit .ensures ∙ g .blocks (a .unit .0)) refl)
 
 is-staged-requires : tie.Need-is-staged-requires
 is-staged-requires c κs = search needs
@@ -23,13 +23,13 @@ is-staged-requires c κs = search needs
 returns-2 : tie.Need-returns-2
 returns-2 c es items g =
     let a = c .before .before .before .before .args in
-    sym (spare-by (a .u) es items false true (sym (c .before .before .if1 .left) ∙ c .before .before .before .has-bit .ensures ∙ g .blocks (a .u))
+    sym (spare-by (a .unit .0) es items false true (sym (c .before .before .if1 .left) ∙ c .before .before .before .has-bit .ensures ∙ g .blocks (a .unit .0))
     (sym (c .if2 .taken) ∙ c .before .is-staged .ensures items (g .staged)))
 
 returns-3 : tie.Need-returns-3
 returns-3 c es items g =
     let a = c .before .before .before .before .args in
-    sym (spare-by (a .u) es items false false (sym (c .before .before .if1 .left) ∙ c .before .before .before .has-bit .ensures ∙ g .blocks (a .u))
+    sym (spare-by (a .unit .0) es items false false (sym (c .before .before .if1 .left) ∙ c .before .before .before .has-bit .ensures ∙ g .blocks (a .unit .0))
     (sym (c .if2 .left) ∙ c .before .is-staged .ensures items (g .staged)))
 
 pub is-spare-spec : {M : Type 1} → statement M

@@ -10,16 +10,16 @@ use Rattle.slots.proofs.is_staged.Statement.{statement}
 use Rattle.slots.proofs.is_staged.Tie as tie
 
 abbrev Inv-loop : tie.InvT-loop
-Inv-loop buffer words u end at₀ at = Passing buffer words u at
+Inv-loop buffer words unit end at₀ at = Passing buffer words (unit .0) at
 
 abbrev μ-loop : tie.MeasureT-loop
-μ-loop buffer words u end at₀ at = end - at
+μ-loop buffer words unit end at₀ at = end - at
 
 lesser-requires : tie.Need-lesser-requires Inv-loop μ-loop
 lesser-requires c κs = search needs
 
 loop-holds : tie.Need-loop-holds Inv-loop μ-loop
-loop-holds c = let a = c .before .args in pass-start (a .buffer .now) (a .words) (a .u)
+loop-holds c = let a = c .before .args in pass-start (a .buffer .now) (a .words) (a .unit .0)
 
 met-at-requires : tie.Need-met-at-requires Inv-loop μ-loop
 met-at-requires c κs = search needs
@@ -29,7 +29,7 @@ returns c items s =
     let a = c .before .before .before .before .before .args in
     let at = c .before .before .before .loop in
     let m = c .before .met-at in
-    pass-stop (a .buffer .now) (a .words) (a .u) (at .at) (m .result) (omega arith) (m .ensures .0) (at .inv) (c .if1 .taken) items s
+    pass-stop (a .buffer .now) (a .words) (a .unit .0) (at .at) (m .result) (omega arith) (m .ensures .0) (at .inv) (c .if1 .taken) items s
 
 add-at : tie.Need-add-at Inv-loop μ-loop
 add-at c = search needs
@@ -42,13 +42,13 @@ loop-again c =
     let a = c .before .before .before .before .before .before .args in
     let at = c .before .before .before .before .loop in
     let m = c .before .before .met-at in
-    pass-next (a .buffer .now) (a .words) (a .u) (at .at) (m .result) (omega arith) (m .ensures .0) (at .inv) (c .before .if1 .left)
+    pass-next (a .buffer .now) (a .words) (a .unit .0) (at .at) (m .result) (omega arith) (m .ensures .0) (at .inv) (c .before .if1 .left)
 
 returns-2 : tie.Need-returns-2 Inv-loop μ-loop
 returns-2 c items s =
     let a = c .before .before .before .args in
     let at = c .before .loop in
-    pass-end (a .buffer .now) (a .words) (a .u) (at .at) (omega arith) (at .inv) items s
+    pass-end (a .buffer .now) (a .words) (a .unit .0) (at .at) (omega arith) (at .inv) items s
 
 pub is-staged-spec : {M : Type 1} → statement M
 is-staged-spec =

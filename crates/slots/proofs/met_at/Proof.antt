@@ -37,18 +37,18 @@ add-size c = search needs
 returns : tie.Need-returns
 returns c =
     let a = c .before .before .before .before .args in
-    (sym (ap (metBy (a .u)) (sym (c .before .before .first-of .ensures) ∙ c .enum-told .given .1)), omega arith, omega arith)
+    (sym (ap (metBy (a .unit .0)) (sym (c .before .before .first-of .ensures) ∙ c .enum-told .given .1)), omega arith, omega arith)
 
 returns-2 : tie.Need-returns-2
 returns-2 c =
     let a = c .before .before .before .before .args in
-    (sym (ap (metBy (a .u)) (sym (c .before .before .first-of .ensures) ∙ c .enum-told2 .given .1)), omega arith, omega arith)
+    (sym (ap (metBy (a .unit .0)) (sym (c .before .before .first-of .ensures) ∙ c .enum-told2 .given .1)), omega arith, omega arith)
 
 returns-3 : tie.Need-returns-3
 returns-3 c =
     let a = c .before .before .before .before .before .before .before .args in
     let said = sym (c .before .before .before .before .before .first-of .ensures) ∙ c .before .before .before .f .given .1 in
-    (rw (c .before .points-to .ensures, c .words-for .ensures .0) (sym (ap (metBy (a .u)) said)), omega arith, omega arith)
+    (rw (c .before .points-to .ensures, c .words-for .ensures .0) (sym (ap (metBy (a .unit .0)) said)), omega arith, omega arith)
 
 pub met-at-spec : {M : Type 1} → statement M
 met-at-spec =

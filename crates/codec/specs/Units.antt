@@ -1,0 +1,8 @@
+-- The unit at a place of a chunk, as the code makes it of any two numbers.
+-- Assumes nothing.
+use Prim.Native.Nat.{ℕ, _+_, _%_, _^_}
+use Rattle.spec.specs.Places.{firstUnit, unitIn}
+
+-- chunk and place, each modulo the numbers that there is room for
+unfoldable pub unitAt : (c i : ℕ) → ℕ
+unitAt c i = firstUnit 12 (c % 2 ^ 60) + unitIn 12 i
