@@ -388,7 +388,7 @@ zkv_key_entry zkv_entry(const uint8_t *image, size_t bytes, uint64_t key, size_t
 
 /* Why an opening refuses the image, and where; 0 where it does not, or only because the keys do not fit the table (7).
  * It has no key table: where no fault of 1 to 4 is found it passes over the log twice for each 1,300 keys or so, at
- * 60,000 keys 40 to 70 times an opening's time; longer where keys were chosen so that thousands are of one class. */
+ * 60,000 keys 20 to 45 times an opening's time; longer where keys were chosen so that thousands are of one class. */
 zkv_place zkv_fault(const uint8_t *image, size_t bytes);
 
 /* Beside the proved calls, in plain C over them (host/library.c). Images in files: zitskvoze_file.h. */
