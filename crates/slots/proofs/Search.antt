@@ -19,8 +19,6 @@ use Rattle.spec.specs.Directory.{isSize, roleOf, sizeIn, sizeOf, sizeFor}
 use Rattle.spec.specs.declared.Role.the-variants as R
 use Rattle.spec.specs.Log.{Entry}
 use Rattle.spec.specs.Plans.{blocksOf, blocksFrom}
-use Rattle.codec.specs.Units.{unitAt}
-use Rattle.codec.proofs.Units.{unit-at}
 use Rattle.theory_base.proofs.Lists.{pick-same, both-l, both-r}
 use Rattle.theory_log.proofs.Directory.{size-is}
 use Rattle.slots.specs.Blocks.{Says, spare, Spare, firstSpare, InImage}
@@ -105,9 +103,10 @@ counted ws s c word most k ew em ek = by-cases (ℕ-discrete (getD ws (directory
 pub block-ends : (s j k : ℕ) → j < k → s * k ≤ 16 → s * j + s ≤ 16
 block-ends s j k l h = let a : s * suc j ≤ s * k = mul-le-mul-left s l in let b = mul-suc s j in omega arith
 
--- its unit, as the code makes it
-pub block-unit : (s c j k u : ℕ) → c < 2 ^ 60 → j < k → s * k ≤ 16 → 1 ≤ s → u ≡ unitAt c (s * j) → u ≡ firstUnit 12 c + s * j
-block-unit s c j k u h l f o e = let q = block-ends s j k l f in e ∙ unit-at c (s * j) h (omega arith)
+-- its unit, as the search makes it
+pub block-unit : (s c j : ℕ) → 16 * c + s * j ≡ firstUnit 12 c + s * j
+unfolding firstUnit chunkUnits
+block-unit s c j = omega arith
 
 module _ (image : List ℕ) (n s : ℕ) (b : List ℕ) (words : ℕ) where
   abbrev ws : List ℕ

@@ -179,7 +179,9 @@ pub fn find_block(image: &[u8], count: usize, size: usize, buffer: &Buffer, word
     'chunks: for c in 1..chunks {
         let blocks = blocks_in(image, buffer, c, word, most, full);
         for j in 0..blocks {
-            let unit = Unit::of(c, size * j);
+            // By the number itself: `Unit::of` here costs two instructions for each chunk that is passed over.
+            let u = 16 * c + size * j;
+            let unit = Unit(u as u64);
             if is_spare(buffer, words, unit) {
                 found = Block::At(unit);
                 break 'chunks;

@@ -51,8 +51,11 @@ loop-holds c =
     let q = looked (a .image .now) (c .before .before .before .before .before .before .lesser .result) (a .size) (a .buffer .now) (a .words) (c .before .before .chunks .c) _ _ _ (c .blocks-in .result) (omega arith) (c .before .before .before .before .before .data-word .ensures) (c .before .before .before .before .blocks-of .ensures) (c .before .before .before .full-bits .ensures) (c .blocks-in .ensures) in
     (omega arith, at .inv .1, q .begin (at .inv .2))
 
-mul-of : tie.Need-mul-of Inv-loop μ-loop Inv-chunks μ-chunks
-mul-of c =
+mul-u : tie.Need-mul-u Inv-loop μ-loop Inv-chunks μ-chunks
+mul-u c = omega arith
+
+mul-u-2 : tie.Need-mul-u-2 Inv-loop μ-loop Inv-chunks μ-chunks
+mul-u-2 c =
     let turn = c .before in
     let counts = turn .before in
     let chunk = counts .before .before in
@@ -64,8 +67,18 @@ mul-of c =
     let e = block-ends (a .size) (turn .loop .j) (counts .blocks-in .result) (c .loop-test .taken) (q .fits) in
     omega arith
 
-of-requires : tie.Need-of-requires Inv-loop μ-loop Inv-chunks μ-chunks
-of-requires c κs = search needs
+add-u : tie.Need-add-u Inv-loop μ-loop Inv-chunks μ-chunks
+add-u c =
+    let turn = c .before in
+    let counts = turn .before in
+    let chunk = counts .before .before in
+    let fulls = chunk .before in
+    let word = fulls .before .before in
+    let n = word .before .lesser in
+    let a = word .before .before .before .args in
+    let q = looked (a .image .now) (n .result) (a .size) (a .buffer .now) (a .words) (chunk .chunks .c) _ _ _ (counts .blocks-in .result) (omega arith) (word .data-word .ensures) (fulls .before .blocks-of .ensures) (fulls .full-bits .ensures) (counts .blocks-in .ensures) in
+    let e = block-ends (a .size) (turn .loop .j) (counts .blocks-in .result) (c .loop-test .taken) (q .fits) in
+    omega arith
 
 is-spare-requires : tie.Need-is-spare-requires Inv-loop μ-loop Inv-chunks μ-chunks
 is-spare-requires c κs = search needs
@@ -79,8 +92,7 @@ loop-less c = omega arith
 loop-again : tie.Need-loop-again Inv-loop μ-loop Inv-chunks μ-chunks
 loop-again c =
     let looks = c .before in
-    let makes = looks .before in
-    let turn = makes .before .before in
+    let turn = looks .before .before in
     let at = turn .loop in
     let counts = turn .before in
     let chunk = counts .before .before in
@@ -88,12 +100,7 @@ loop-again c =
     let word = fulls .before .before in
     let n = word .before .lesser in
     let a = word .before .before .before .args in
-    let q = looked (a .image .now) (n .result) (a .size) (a .buffer .now) (a .words) (chunk .chunks .c) _ _ _ (counts .blocks-in .result) (omega arith) (word .data-word .ensures) (fulls .before .blocks-of .ensures) (fulls .full-bits .ensures) (counts .blocks-in .ensures) in
-    let some = q .some′ (omega arith) in
-    let most = n .ensures in
-    let below = counts .before .chunks-test .taken in
-    let long = word .before .before .before .good in
-    let u = block-unit (a .size) (chunk .chunks .c) (at .j) (counts .blocks-in .result) _ (omega arith) (omega arith) (q .fits) (some .1) (makes .of .ensures) in (
+    let u = block-unit (a .size) (chunk .chunks .c) (at .j) in (
       omega arith,
       at .inv .1,
       left-next (a .image .now) (n .result) (a .size) (a .buffer .now) (a .words) (chunk .chunks .c) (counts .blocks-in .result) (at .j) _ (omega arith) u
@@ -126,8 +133,7 @@ returns c =
 returns-2 : tie.Need-returns-2 Inv-loop μ-loop Inv-chunks μ-chunks
 returns-2 c =
     let looks = c .before in
-    let makes = looks .before in
-    let turn = makes .before .before in
+    let turn = looks .before .before in
     let at = turn .loop in
     let counts = turn .before in
     let chunk = counts .before .before in
@@ -137,10 +143,7 @@ returns-2 c =
     let a = word .before .before .before .args in
     let q = looked (a .image .now) (n .result) (a .size) (a .buffer .now) (a .words) (chunk .chunks .c) _ _ _ (counts .blocks-in .result) (omega arith) (word .data-word .ensures) (fulls .before .blocks-of .ensures) (fulls .full-bits .ensures) (counts .blocks-in .ensures) in
     let some = q .some′ (omega arith) in
-    let most = n .ensures in
-    let below = counts .before .chunks-test .taken in
-    let long = word .before .before .before .good in
-    let u = block-unit (a .size) (chunk .chunks .c) (at .j) (counts .blocks-in .result) _ (omega arith) (omega arith) (q .fits) (some .1) (makes .of .ensures) in
+    let u = block-unit (a .size) (chunk .chunks .c) (at .j) in
     found-here (a .image .now) (n .result) (a .count) (a .size) (a .buffer .now) (a .words) _ (n .ensures)
     (left-here (a .image .now) (n .result) (a .size) (a .buffer .now) (a .words) (chunk .chunks .c) (counts .blocks-in .result) (at .j) _ (omega arith) u
     (λ es items g. sym (c .if1 .taken) ∙ looks .is-spare .ensures es items g) (at .inv .2))
@@ -161,8 +164,9 @@ find-block-spec =
     chunks-holds
     blocks-in-requires
     loop-holds
-    mul-of
-    of-requires
+    mul-u
+    mul-u-2
+    add-u
     is-spare-requires
     add-j
     loop-less
