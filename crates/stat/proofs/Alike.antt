@@ -16,7 +16,7 @@ use Rattle.spec.specs.Places.{basePower, base}
 use Rattle.spec.specs.Medium.{Action}
 use Rattle.spec.specs.Log.{Entry, Entries, Parsed, placed}
 use Rattle.spec.specs.Contents.{highest, known, keysOf, isKept}
-use Rattle.spec.specs.Opening.{Opening, Accepted}
+use Rattle.spec.specs.Opening.{Opening, Accepted, opening}
 use Rattle.spec.specs.Reports.{runWords}
 use Rattle.spec.specs.Plans.{Staging, Committing, Cleaning}
 use Rattle.spec.specs.Machine.{State, Closed, Rest, Busy, Formatting}
@@ -29,7 +29,7 @@ use Rattle.theory_log.specs.Contents.{Mem, CountsOn}
 use Rattle.theory_log.proofs.Contents.{larger-r, mem-l, mem-r, mem-cases, mem-filter, below-highest}
 use Rattle.theory_log.proofs.Clean.{mem-placed}
 use Rattle.theory_log.proofs.Keys.{mem-known, known-mem, keys-equal}
-use Rattle.stat.specs.Counts.{Before, Uncleaned, KnownAt, Known}
+use Rattle.stat.specs.Counts.{Before, sourceStart, Uncleaned, KnownAt, Known}
 
 -- KEYS OF TWO LISTS: known in the one where they are in the other
 same-known : (xs ys : List Entry) → ((e : Entry) → Mem e xs → known (e .key) ys ≡ true) → ((e : Entry) → Mem e ys → known (e .key) xs ≡ true) → length (keysOf xs) ≡ length (keysOf ys)
@@ -139,10 +139,13 @@ standing-once ws c d l k xs ys e f x y = parsed-once _ xs ys x (rw (e, f) y)
     parsed-once : (p : Parsed) (xs ys : List Entry) → p ≡ Entries xs → p ≡ Entries ys → xs ≡ ys
     parsed-once p xs ys x y = let e : Entries xs ≡ Entries ys = sym x ∙ y in cc
 
-clean-alike : (s u : Session) (b t : ℕ) (ws : List ℕ) (rest : List Action) (n m : ℕ) → SameSource s u → Uncleaned s b t ws rest n → Uncleaned u b t ws rest m → n ≡ m
-clean-alike s u b t ws rest n m (chunk, lines) x y =
-    let cleaned = standing-once (runWords rest ws) (s .setup .source .chunk) (u .setup .source .chunk) (s .setup .source .lines) (u .setup .source .lines) (x .mid) (y .mid) chunk lines (x .here) (y .here) in
-    let same = accepted-once _ _ _ (x .accepted) (y .accepted) in
+pub clean-alike : (s u : Session) (b t : ℕ) (ws vs : List ℕ) (rest acts : List Action) (n m : ℕ) → SameSource s u → runWords rest ws ≡ runWords acts vs
+    → Uncleaned s b t ws rest n → Uncleaned u b t vs acts m → n ≡ m
+clean-alike s u b t ws vs rest acts n m (chunk, lines) forward x y =
+    let there = subst (λ (l : List ℕ). opening basePower b l t ≡ Accepted (after (y .xs) (y .mid) (y .ys) (y .as′) (y .bs) (batchPlace (u .setup)))) (sym forward) (y .accepted) in
+    let stand = subst (λ (l : List ℕ). Stand l (sourceStart u) (sourceStart u + 8 * u .setup .source .lines) (y .mid)) (sym forward) (y .here) in
+    let cleaned = standing-once (runWords rest ws) (s .setup .source .chunk) (u .setup .source .chunk) (s .setup .source .lines) (u .setup .source .lines) (x .mid) (y .mid) chunk lines (x .here) stand in
+    let same = accepted-once _ _ _ (x .accepted) there in
     x .count
     ∙ same-known (before (x .xs) (x .mid) (x .ys)) (before (y .xs) (y .mid) (y .ys))
     (stays-cleaned (x .xs) (x .ys) (x .as′) (x .bs) (x .mid) (y .xs) (y .ys) (y .as′) (y .bs) (y .mid) (batchPlace (s .setup)) (batchPlace (u .setup)) (x .others) (y .others) cleaned same)
@@ -166,7 +169,7 @@ known-alike (Busy b t items Staging rest) s u ws n m h x y = x ∙ sym y
 known-alike (Busy b t items Committing []) s u ws n m h x y = x ∙ sym y
 known-alike (Busy b t items Committing (a ∷ rest)) s u ws n m h x y = commit-alike s u b t ws items (a ∷ rest) n m x y
 known-alike (Busy b t items (Cleaning k) []) s u ws n m h x y = x ∙ sym y
-known-alike (Busy b t items (Cleaning k) (a ∷ rest)) s u ws n m h x y = clean-alike s u b t ws (a ∷ rest) n m h x y
+known-alike (Busy b t items (Cleaning k) (a ∷ rest)) s u ws n m h x y = clean-alike s u b t ws ws (a ∷ rest) (a ∷ rest) n m h refl x y
 known-alike (Formatting o b t rest) s u ws n m h x y = x ∙ sym y
 
 pub keys-alike : (s u : Session) (image other table beside : List ℕ) (n m : ℕ) → Same Proper stateOf Fits 12 limit s u image other table beside → CleanAlike (stateOf s) s u → Known s n → Known u m → n ≡ m

@@ -1,2 +1,4 @@
 pub mod Counted
 pub mod Alike
+pub mod Stays
+pub mod Calls

@@ -2,3 +2,4 @@ pub mod Demand
 pub mod Fixed
 pub mod Meaning
 pub mod Closing
+pub mod Counting

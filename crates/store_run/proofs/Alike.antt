@@ -10,7 +10,6 @@ use lib.ListN.{length}
 use Rattle.spec.specs.Words.{AreBytes, wordsOf}
 use Rattle.spec.specs.Machine.{State, Step, answer, next}
 use Rattle.spec.specs.Contract.{oddBytes, Changed, Exact}
-use Rattle.spec.specs.Reopening.{Same}
 use Rattle.spec.specs.declared.Report.{Report}
 use Rattle.spec.specs.declared.Report.the-variants as R
 use Rattle.theory_histories.proofs.Bytes.{same-bytes}
@@ -18,9 +17,7 @@ use Rattle.session.specs.State.{stateOf, limit}
 use Rattle.session.specs.Fits.{Proper, Fits}
 use Rattle.session.specs.Promise.{Memory, Does}
 use Rattle.fast_path.specs.Run.{Ran, isStore, RunsOn}
-
-abbrev SameIn : (m l : Memory) → Type 0
-SameIn m l = Same Proper stateOf Fits 12 limit (m .session) (l .session) (m .image) (l .image) (m .table) (l .table)
+use Rattle.stat.proofs.Calls.{SameIn}
 
 -- What two stations have in common between the steps of a run, of whose images nothing says there that they are bytes:
 -- the words, and the bytes that belong to none.

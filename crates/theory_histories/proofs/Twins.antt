@@ -80,7 +80,7 @@ module _ (p limit : ℕ) {S : Type 0} (Proper : S → Type 0) (stateOf : S → S
   fits-again Step s s′ image image′ table table′ r f c = c .exact f .fits
 
   -- WHAT TWO STATIONS SHARE is kept by every call.
-  alike : (ks : List Call) (s t : S) (image other table beside : List ℕ) → Same Proper stateOf Fits p limit s t image other table beside
+  pub alike : (ks : List Call) (s t : S) (image other table beside : List ℕ) → Same Proper stateOf Fits p limit s t image other table beside
       → Alike Proper stateOf Fits p limit ks s t image other table beside
   alike [] s t image other table beside w = w
   alike (k ∷ ks) s t image other table beside w = λ s′ t′ image′ other′ table′ beside′ r q small small′ c d.
