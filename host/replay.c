@@ -5,8 +5,8 @@
  *
  * With --twin it runs twins along: wherever a register is open with nothing staged or unfinished, a copy of the image
  * is opened with a record and a table of garbage, and every later call is made on it too. Its answers and its image are
- * compared with the station's, call by call, and so are the known keys; at some calls also what is asked of a chunk, the
- * list of the keys, and a run. `twin` follows an answer that is unlike, and the exit status is then 1. */
+ * compared with the station's, call by call, and so are the known keys; at some calls also what is asked of a chunk,
+ * the list of the keys, and a run. `twin` follows an answer that is unlike, and the exit status is then 1. */
 #include <inttypes.h>
 #include <stdbool.h>
 #include <stdio.h>

@@ -61,8 +61,8 @@ static void lend(int to_record, int to_image, int to_table)
     HOLD(mprotect(table, WORDS * 8, to_table ? PROT_READ | PROT_WRITE : PROT_READ) == 0);
 }
 
-/* Every call that only reads. `number` is what the gate answers in this state; behind it (0) a register with the keys 1,
- * 2 and a large 3 is open, of which 2 was deleted. */
+/* Every call that only reads. `number` is what the gate answers in this state; behind it (0) a register with the keys
+ * 1, 2 and a large 3 is open, of which 2 was deleted. */
 static void read_all(uint64_t number)
 {
     uint64_t start = 9, length = 9, count = 9, version = 9, block = 9, named = 9, keys[KEYS] = {0};

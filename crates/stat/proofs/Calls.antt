@@ -1,5 +1,6 @@
 -- THE KNOWN KEYS OF TWO STATIONS stay alike by every call, in an unfinished call too: what a call leaves in a cleaning
--- with actions left it found there, or it is the begin. A refusal leaves the record, a begin the table, a step the setup.
+-- with actions left it found there, or it is the begin. A refusal leaves the record, a begin the table, a step the
+-- setup.
 -- Assumes nothing.
 use mathlib.Core.Path.{_≡_, refl, sym, _∙_, ap, subst}
 use mathlib.Core.Logic.{inl, inr}

@@ -1,6 +1,6 @@
--- IN A CLEANING the known keys are those at its begin, until its last fence: a begin leaves the table, and a step leaves
--- the record's setup, which has the chunk that is cleaned. So two stations that clean the same chunk, the same before,
--- count alike in it.
+-- IN A CLEANING the known keys are those at its begin, until its last fence: a begin leaves the table, and a step
+-- leaves the record's setup, which has the chunk that is cleaned. So two stations that clean the same chunk, the same
+-- before, count alike in it.
 -- Assumes nothing.
 use mathlib.Core.Path.{_≡_, refl, sym, _∙_, ap, subst}
 use mathlib.Core.Logic.{_⊎_, inl, inr}

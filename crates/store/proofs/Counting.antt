@@ -1,5 +1,5 @@
--- CLOSING CHANGES NOTHING of the known keys, in an unfinished call too: a station reopened and one that was never closed
--- get the same calls, of any kind, and answer the same count behind each.
+-- CLOSING CHANGES NOTHING of the known keys, in an unfinished call too: a station reopened and one that was never
+-- closed get the same calls, of any kind, and answer the same count behind each.
 -- Assumes nothing.
 use mathlib.Core.Path.{_≡_, sym, _∙_}
 use mathlib.Core.List.{List, [], _∷_}
@@ -19,8 +19,8 @@ use Rattle.stat.proofs.Stays.{countIn}
 use Rattle.stat.proofs.Calls.{StepKeeps, SameIn, unless-cleaning, twins-count}
 use Rattle.store.proofs.Closing.{closing}
 
--- Whatever the calls answer, as their contracts allow, a step among them leaving the setup (`store_step.Kept`): the same
--- count behind each. (An image is bytes.)
+-- Whatever the calls answer, as their contracts allow, a step among them leaving the setup (`store_step.Kept`): the
+-- same count behind each. (An image is bytes.)
 abbrev pub CountAlike : List Call → (m l : Memory) → Type 0
 CountAlike [] m l = countIn m ≡ countIn l
 CountAlike (k ∷ ks) m l =
@@ -36,8 +36,8 @@ count-alike (k ∷ ks) m l w n = λ m′ l′ r q small also d d′ h h′.
     let n′ : countIn m′ ≡ countIn l′ = twins-count k m l m′ l′ r q w n w′ d d′ h h′ in
     (n′, count-alike ks m′ l′ w′ n′)
 
--- a register is open, record and table fit the image, nothing is staged or unfinished; the same image is opened with any
--- record, and any table of the same length
+-- a register is open, record and table fit the image, nothing is staged or unfinished; the same image is opened with
+-- any record, and any table of the same length
 pub closing-counts : (s : Session) (image table : List ℕ) → AreBytes image → Fits s (wordsOf image) table → stateOf s ≡ Rest (length image) (length table) []
     → (t t′ : Session) (lent table′ : List ℕ) (r : Report) → Proper t → length lent ≡ length table → Does Open (memory t image lent) (memory t′ image table′) r
     → (countIn (memory s image table) ≡ countIn (memory t′ image table′)) × ((calls : List Call) → CountAlike calls (memory s image table) (memory t′ image table′))
