@@ -52,8 +52,8 @@ module _ (u : ℕ) (words : List ℕ) where
   pub nth-store : (at w : ℕ) → at < length words → w ≡ unitWord u + at → nth (blockOf u words) at ≡ Store w (getD words at 0)
   nth-store at w h e = rw shape (nth-front W F at (rw size-W h) ∙ nth-writes (unitWord u) words at w h e)
 
-  pub nth-flush : (at i line : ℕ) → at ≡ length words + i → i < linesFor (length words) → line ≡ 4 * u + i → nth (blockOf u words) at ≡ Flush line
-  nth-flush at i line e h q = rw shape (nth-back W F at i (length words) size-W e ∙ nth-flushes (lineOf (unitWord u)) (linesFor (length words)) i line h (omega arith))
+  pub nth-flush : (at i line : ℕ) → at ≡ length words + i → i < linesFor (length words) → line ≡ lineOf (unitWord u) + i → nth (blockOf u words) at ≡ Flush line
+  nth-flush at i line e h q = rw shape (nth-back W F at i (length words) size-W e ∙ nth-flushes (lineOf (unitWord u)) (linesFor (length words)) i line h q)
 
   pub nth-past : (at : ℕ) → length words + linesFor (length words) ≤ at → nth (blockOf u words) at ≡ Fence
   nth-past at h = List·getD-eq-default (blockOf u words) Fence (rw length-block h)
@@ -75,7 +75,7 @@ module _ (u : ℕ) (b : List ℕ) (n at : ℕ) (en : n ≡ heldCount b) where
   shows-store w h e =
       rw (sym (held-word b at (omega arith))) (sym (ap asReport (nth-store u (heldWords b) at w (rw size h) e)))
 
-  pub shows-flush : (line : ℕ) → n ≤ at → at < n + linesFor n → line ≡ 4 * u + (at - n) → R.Flush line ≡ nthReport (blockOf u (heldWords b)) at
+  pub shows-flush : (line : ℕ) → n ≤ at → at < n + linesFor n → line ≡ lineOf (unitWord u) + (at - n) → R.Flush line ≡ nthReport (blockOf u (heldWords b)) at
   shows-flush line l h e = sym (ap asReport (nth-flush u (heldWords b) at (at - n) line (rw size (omega arith)) (rw size (omega arith)) e))
 
   pub shows-past : n + linesFor n ≤ at → R.Fence ≡ nthReport (blockOf u (heldWords b)) at

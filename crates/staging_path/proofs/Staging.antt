@@ -11,7 +11,7 @@ use native.Mathlib.Decide.{decLt, ℕ-discrete}
 use lib.Dec.{eqb}
 use lib.ListN.{length, getD}
 use borrow.Author.Tests.{eq-eqb, ne-eqb}
-use Rattle.spec.specs.Places.{unitWord}
+use Rattle.spec.specs.Places.{unitWord, lineOf}
 use Rattle.spec.specs.Actions.{linesFor, takeOf, blockOf}
 use Rattle.spec.specs.Machine.{Step}
 use Rattle.spec.specs.Contract.{Changed}
@@ -166,7 +166,7 @@ module _ (c : Control) (k : Setup) (b bytes : List ℕ) where
         (λ z. let t = take-none k z in let q = B.count-plain k b held eh z in omega arith)
         (λ z. let t = take-two k z in let q = B.count-taking k b held eh z in omega arith)
 
-    pub flush-acts : (line : ℕ) → c .next < first + held + linesFor held → line ≡ 4 * unitOf k + (c .next - (first + held))
+    pub flush-acts : (line : ℕ) → c .next < first + held + linesFor held → line ≡ lineOf (unitWord (unitOf k)) + (c .next - (first + held))
         → RunsOn (memoryOf c k b bytes table) (memoryOf (toNext (c .next + 1) c) k b bytes table) (R.Flush line)
     flush-acts line l el =
         let a = all in

@@ -84,9 +84,9 @@ module _ (p : ℕ) (lo : 12 ≤ p) (hi : p ≤ 16) where
   unfolding firstLine chunkLines base chunkWords
   lines-base c = each (λ q. 8 * (c * 2 ^ (q - 6)) ≡ c * 2 ^ (q - 3)) (omega arith) (omega arith) (omega arith) (omega arith) (omega arith) p lo hi
 
-  pub units-base : (c : ℕ) → 32 * firstUnit p c ≡ base p c
+  pub units-base : (c : ℕ) → unitWord (firstUnit p c) ≡ base p c
   unfolding firstUnit chunkUnits base chunkWords
-  units-base c = each (λ q. 32 * (c * 2 ^ (q - 8)) ≡ c * 2 ^ (q - 3)) (omega arith) (omega arith) (omega arith) (omega arith) (omega arith) p lo hi
+  units-base c = each (λ q. unitWord (c * 2 ^ (q - 8)) ≡ c * 2 ^ (q - 3)) (omega arith) (omega arith) (omega arith) (omega arith) (omega arith) p lo hi
 
   -- A word is in one chunk only.
   pub one-chunk : (c d a : ℕ) → base p c ≤ a → a < base p c + chunkWords p → base p d ≤ a → a < base p d + chunkWords p → c ≡ d
@@ -120,9 +120,9 @@ module _ (p : ℕ) (lo : 12 ≤ p) (hi : p ≤ 16) where
   unfolding unitIn chunkUnits
   unit-in u = each (λ q. u % 2 ^ (q - 8) < 2 ^ (q - 8)) (omega arith) (omega arith) (omega arith) (omega arith) (omega arith) p lo hi
 
-  pub unit-place : (u : ℕ) → 32 * u ≡ base p (unitChunk p u) + 32 * unitIn p u
+  pub unit-place : (u : ℕ) → unitWord u ≡ base p (unitChunk p u) + unitWord (unitIn p u)
   unfolding base chunkWords unitChunk unitIn chunkUnits
-  unit-place u = each (λ q. 32 * u ≡ u / 2 ^ (q - 8) * 2 ^ (q - 3) + 32 * (u % 2 ^ (q - 8))) (omega arith) (omega arith) (omega arith) (omega arith) (omega arith) p lo hi
+  unit-place u = each (λ q. unitWord u ≡ u / 2 ^ (q - 8) * 2 ^ (q - 3) + unitWord (u % 2 ^ (q - 8))) (omega arith) (omega arith) (omega arith) (omega arith) (omega arith) p lo hi
 
   pub unit-split : (u : ℕ) → u ≡ firstUnit p (unitChunk p u) + unitIn p u
   unit-split u = let a = unit-place u in let b = units-base (unitChunk p u) in omega arith
@@ -135,7 +135,7 @@ module _ (p : ℕ) (lo : 12 ≤ p) (hi : p ≤ 16) where
       let b = units-base c in
       let d = unit-in u in
       let e = units-words in
-      let q : unitChunk p u ≡ c = one-chunk (unitChunk p u) c (32 * u) (omega arith) (omega arith) (omega arith) (omega arith) in
+      let q : unitChunk p u ≡ c = one-chunk (unitChunk p u) c (unitWord u) (omega arith) (omega arith) (omega arith) (omega arith) in
       let r : base p (unitChunk p u) ≡ base p c = ap (base p) q in
       (q, omega arith)
 
@@ -144,9 +144,9 @@ module _ (p : ℕ) (lo : 12 ≤ p) (hi : p ≤ 16) where
       let a = unit-place u in
       let b = unit-in u in
       let c = units-words in
-      chunk-of-word (unitChunk p u) (32 * u) (omega arith) (omega arith)
+      chunk-of-word (unitChunk p u) (unitWord u) (omega arith) (omega arith)
 
-  pub block-in : (u s a : ℕ) → unitIn p u + s ≤ chunkUnits p → 32 * u ≤ a → a < 32 * u + 32 * s → (base p (unitChunk p u) ≤ a) × (a < base p (unitChunk p u) + chunkWords p)
+  pub block-in : (u s a : ℕ) → unitIn p u + s ≤ chunkUnits p → unitWord u ≤ a → a < unitWord u + 32 * s → (base p (unitChunk p u) ≤ a) × (a < base p (unitChunk p u) + chunkWords p)
   block-in u s a h l q = let e = unit-place u in let f = units-words in (omega arith, omega arith)
 
   -- Lengths: an image of n chunks has base p n words.
