@@ -64,8 +64,8 @@ module _ (n : ℕ) (ws : List ℕ) (es : List Entry) where
           go (inr q) = subst P (sym q) new
 
       -- a unit to which it does not point
-      unit-kept : (tops u number : ℕ) → (Uses es (xs ++ e ∷ []) u e → ⊥) → UnitIs es xs tops u number → UnitIs es (xs ++ e ∷ []) tops u number
-      unit-kept tops u number n i = unit-among es xs tops u number i (xs ++ e ∷ []) (λ g j. go g j (uses-last es u xs e g j))
+      unit-kept : (tops u user : ℕ) → (Uses es (xs ++ e ∷ []) u e → ⊥) → UnitIs es xs tops u user → UnitIs es (xs ++ e ∷ []) tops u user
+      unit-kept tops u user n i = unit-among es xs tops u user i (xs ++ e ∷ []) (λ g j. go g j (uses-last es u xs e g j))
         where
           go : (g : Entry) → Uses es (xs ++ e ∷ []) u g → Uses es xs u g ⊎ (g ≡ e) → Uses es xs u g
           go g j (inl k) = k
@@ -210,7 +210,7 @@ module _ (n : ℕ) (ws table : List ℕ) (fits : Bool) (low high : ℕ) (h : Hea
           inside : h .field < length before
           inside = let b = block-bit n ws e (l .few) right t in let r = inv .room in omega arith
 
-          joined-so : Joins es (xs ++ e ∷ []) compared (h .field) (record { unit = getD after (h .field) 0; tops = tops })
+          joined-so : Joins es (xs ++ e ∷ []) compared (h .field) (record { user = getD after (h .field) 0; tops = tops })
           joined-so =
               subst (Joins es (xs ++ e ∷ []) compared (h .field)) (shares .own t inside)
               (joins n ws es (l .entries) xs compared (h .field) (getD before (h .field) 0) (unit-before (h .field) own-right) compared-stands e (record { member = member; top = is-top; points = t; unit = refl }))

@@ -51,15 +51,15 @@ module _ (n : ℕ) (ws : List ℕ) (es : List Entry) (h : imageEntries 12 n ws �
 
     -- two keys' entries that point to one unit: the place found is not behind either
     alone : (e f : Entry) → Top es e → Top es f → (Reaches (s .tops) (e .at) → ⊥) → sharing e f ≡ true → e .key ≡ f .key
-    alone e f te tf behind q = go (ℕ-discrete number 0)
+    alone e f te tf behind q = go (ℕ-discrete user 0)
       where
         points : pointed e ≡ true
         points = both-l (pointed e) _ q
 
-        number : ℕ
-        number = getD units (e .field) 0
+        user : ℕ
+        user = getD units (e .field) 0
 
-        unit : UnitIs es es (s .tops) (e .field) number
+        unit : UnitIs es es (s .tops) (e .field) user
         unit = inv .units-are (e .field) (rw points at (right e te))
 
         own : Uses es es (e .field) e
@@ -70,13 +70,13 @@ module _ (n : ℕ) (ws : List ℕ) (es : List Entry) (h : imageEntries 12 n ws �
             let r = both-r (pointed e) (both (pointed f) (eqb (e .field) (f .field))) q in
             record { member = tf .0; top = top-is es f tf; points = both-l (pointed f) _ r; unit = sym (eqb-true (e .field) (f .field) (both-r (pointed f) _ r)) }
 
-        one : (number ≡ 0 → ⊥) → Dec (number ≡ 1) → e .key ≡ f .key
+        one : (user ≡ 0 → ⊥) → Dec (user ≡ 1) → e .key ≡ f .key
         one a (yes z) = absurd (behind (unit .shared z e own))
         one a (no b) = let k = unit .one a b in k .same e own ∙ sym (k .same f other)
 
-        go : Dec (number ≡ 0) → e .key ≡ f .key
+        go : Dec (user ≡ 0) → e .key ≡ f .key
         go (yes z) = absurd (unit .none z e own)
-        go (no a) = one a (ℕ-discrete number 1)
+        go (no a) = one a (ℕ-discrete user 1)
 
     apart : (e : Entry) → Top es e → (Reaches (s .tops) (e .at) → ⊥) → apartFrom es e ≡ true
     apart e t behind =

@@ -1,4 +1,4 @@
--- What the number of a unit says with one more top entry that points to the unit.
+-- What the user of a unit says with one more top entry that points to the unit.
 -- Assumes nothing.
 use mathlib.Core.Path.{_≡_, refl, sym, _∙_, ap, subst}
 use mathlib.Core.Logic.{_⊎_, inl, inr}
@@ -65,18 +65,18 @@ module _ (es : List Entry) (u : ℕ) where
           let t = top-each es (λ g. pick (sharing e g) (eqb (e .key) (g .key)) true) q f (is-top es f (uf .member) (uf .top)) in
           absurd (n (eqb-true (e .key) (f .key) (pick-e (sharing e f) (eqb (e .key) (f .key)) t (shares e f ue uf))))
 
--- ## The number, with one more
+-- ## The user, with one more
 
 -- a place may fall
 abbrev pub Falls : (so so′ : ℕ) → Type 0
 Falls so so′ = (x : ℕ) → Reaches so x → Reaches so′ x
 
-module _ (es xs : List Entry) (tops u number : ℕ) (inv : UnitIs es xs tops u number) where
-  pub unit-falls : (tops′ : ℕ) → Falls tops tops′ → UnitIs es xs tops′ u number
+module _ (es xs : List Entry) (tops u user : ℕ) (inv : UnitIs es xs tops u user) where
+  pub unit-falls : (tops′ : ℕ) → Falls tops tops′ → UnitIs es xs tops′ u user
   unit-falls tops′ falls = record { none = inv .none; one = inv .one; several = inv .several; shared = λ q e i. falls (e .at) (inv .shared q e i) }
 
   -- of other entries, where those that point to the unit are among the old ones
-  pub unit-among : (ys : List Entry) → ((e : Entry) → Uses es ys u e → Uses es xs u e) → UnitIs es ys tops u number
+  pub unit-among : (ys : List Entry) → ((e : Entry) → Uses es ys u e → Uses es xs u e) → UnitIs es ys tops u user
   unit-among ys part = record {
     none = λ q e i. inv .none q e (part e i);
     one = λ a b. let f = inv .one a b in record { one = f .one; uses = f .uses; place = f .place; same = λ e i. f .same e (part e i); behind = λ e i. f .behind e (part e i) };
@@ -85,7 +85,7 @@ module _ (es xs : List Entry) (tops u number : ℕ) (inv : UnitIs es xs tops u n
   }
 
 pub record Joins (es xs : List Entry) (tops u : ℕ) (j : Joined) : Type 0 where
-  pub unit-is : UnitIs es xs (j .tops) u (j .unit)
+  pub unit-is : UnitIs es xs (j .tops) u (j .user)
   pub falls : Falls tops (j .tops)
   pub stands : StandsAt es (topFails es) (j .tops)
 
@@ -100,7 +100,7 @@ module _ (n : ℕ) (ws : List ℕ) (es : List Entry) (h : imageEntries 12 n ws �
       let i : min (e .at) (length ws) ≡ e .at = omega arith in
       rw i (s .key)
 
-  module _ (xs : List Entry) (tops u number : ℕ) (inv : UnitIs es xs tops u number) (before : StandsAt es (topFails es) tops) (e : Entry) (uses : Uses es es u e) where
+  module _ (xs : List Entry) (tops u user : ℕ) (inv : UnitIs es xs tops u user) (before : StandsAt es (topFails es) tops) (e : Entry) (uses : Uses es es u e) where
     place-low : 2 ≤ e .at
     place-low = low e (uses .member)
 
@@ -108,7 +108,7 @@ module _ (n : ℕ) (ws : List ℕ) (es : List Entry) (h : imageEntries 12 n ws �
     some-place z = let l = place-low in omega arith
 
     abbrev After : ℕ → ℕ → Type 0
-    After unit tops′ = Joins es (xs ++ e ∷ []) tops u (record { unit = unit; tops = tops′ })
+    After user tops′ = Joins es (xs ++ e ∷ []) tops u (record { user = user; tops = tops′ })
 
     -- what holds of the old ones and of the new one
     each : (P : Entry → Type 0) → ((g : Entry) → Uses es xs u g → P g) → P e → (g : Entry) → Uses es (xs ++ e ∷ []) u g → P g
@@ -130,10 +130,10 @@ module _ (n : ℕ) (ws : List ℕ) (es : List Entry) (h : imageEntries 12 n ws �
       stands = before;
     }
 
-    joins-none : number ≡ 0 → After (e .at) tops
+    joins-none : user ≡ 0 → After (e .at) tops
     joins-none z = only (e .at) place-low e uses refl (each (λ g. (g .key ≡ e .key) × (e .at ≤ g .at)) (λ g i. absurd (inv .none z g i)) (refl, omega arith))
 
-    joins-several : number ≡ 1 → After number (least tops (e .at))
+    joins-several : user ≡ 1 → After user (least tops (e .at))
     joins-several z = record {
       unit-is = record {
         none = λ q. absurd (omega arith);
@@ -145,83 +145,83 @@ module _ (n : ℕ) (ws : List ℕ) (es : List Entry) (h : imageEntries 12 n ws �
       stands = let o = inv .several z (e .key) in least-stands es (topFails es) tops e (uses .member) (shares-fails es u e (o .other) uses (o .uses) (λ q. o .differs (sym q))) before;
     }
 
-    module _ (f : OneKey es xs u number) where
-      other-low : 2 ≤ number
+    module _ (f : OneKey es xs u user) where
+      other-low : 2 ≤ user
       other-low = let l = low (f .one) (f .uses .member) in let p = f .place in omega arith
 
-      one-key : keyAt ws number ≡ f .one .key
+      one-key : keyAt ws user ≡ f .one .key
       one-key = ap (keyAt ws) (sym (f .place)) ∙ key-at (f .one) (f .uses .member)
 
-      joins-same : keyAt ws number ≡ e .key → After (min number (e .at)) tops
-      joins-same k = go (decLe number (e .at))
+      joins-same : keyAt ws user ≡ e .key → After (min user (e .at)) tops
+      joins-same k = go (decLe user (e .at))
         where
           key : e .key ≡ f .one .key
           key = sym k ∙ one-key
 
-          go : Dec (number ≤ e .at) → After (min number (e .at)) tops
+          go : Dec (user ≤ e .at) → After (min user (e .at)) tops
           go (yes l) =
-              let i : min number (e .at) ≡ number = omega arith in
-              rw i (only number other-low (f .one) (f .uses) (f .place) (each (λ g. (g .key ≡ f .one .key) × (number ≤ g .at)) (λ g j. (f .same g j, f .behind g j)) (key, l)))
+              let i : min user (e .at) ≡ user = omega arith in
+              rw i (only user other-low (f .one) (f .uses) (f .place) (each (λ g. (g .key ≡ f .one .key) × (user ≤ g .at)) (λ g j. (f .same g j, f .behind g j)) (key, l)))
           go (no l) =
-              let i : min number (e .at) ≡ e .at = omega arith in
+              let i : min user (e .at) ≡ e .at = omega arith in
               rw i (only (e .at) place-low e uses refl (each (λ g. (g .key ≡ e .key) × (e .at ≤ g .at)) (λ g j. (f .same g j ∙ sym key, let b = f .behind g j in omega arith)) (refl, omega arith)))
 
-      module _ (k : keyAt ws number ≡ e .key → ⊥) where
+      module _ (k : keyAt ws user ≡ e .key → ⊥) where
         differ : e .key ≡ f .one .key → ⊥
         differ q = k (one-key ∙ sym q)
 
-        number-low : number ≡ 0 → ⊥
-        number-low z = let l = other-low in omega arith
+        user-low : user ≡ 0 → ⊥
+        user-low z = let l = other-low in omega arith
 
-        falls-twice : Falls tops (least (least tops number) (e .at))
-        falls-twice x r = least-keeps (least tops number) (e .at) some-place x (least-keeps tops number number-low x r)
+        falls-twice : Falls tops (least (least tops user) (e .at))
+        falls-twice x r = least-keeps (least tops user) (e .at) some-place x (least-keeps tops user user-low x r)
 
         other-of : (j : ℕ) → Dec (f .one .key ≡ j) → OtherUses es u j
         other-of j (yes q) = record { other = e; uses = uses; differs = λ z. differ (z ∙ sym q) }
         other-of j (no q) = record { other = f .one; uses = f .uses; differs = q }
 
-        joins-other : After 1 (least (least tops number) (e .at))
+        joins-other : After 1 (least (least tops user) (e .at))
         joins-other = record {
           unit-is = record {
             none = λ q. absurd (omega arith);
             one = λ a b. absurd (b refl);
             several = λ q j. other-of j (ℕ-discrete (f .one .key) j);
             shared = λ q.
-                each (λ g. Reaches (least (least tops number) (e .at)) (g .at))
-                (λ g i. least-keeps (least tops number) (e .at) some-place (g .at) (let r = least-own tops number number-low in let b = f .behind g i in let c = r .1 in (r .0, omega arith)))
-                (least-own (least tops number) (e .at) some-place);
+                each (λ g. Reaches (least (least tops user) (e .at)) (g .at))
+                (λ g i. least-keeps (least tops user) (e .at) some-place (g .at) (let r = least-own tops user user-low in let b = f .behind g i in let c = r .1 in (r .0, omega arith)))
+                (least-own (least tops user) (e .at) some-place);
           };
           falls = falls-twice;
           stands =
-              least-stands es (topFails es) (least tops number) e (uses .member) (shares-fails es u e (f .one) uses (f .uses) differ)
+              least-stands es (topFails es) (least tops user) e (uses .member) (shares-fails es u e (f .one) uses (f .uses) differ)
               (subst (λ at. StandsAt es (topFails es) (least tops at)) (f .place) (least-stands es (topFails es) tops (f .one) (f .uses .member) (shares-fails es u (f .one) e (f .uses) uses (λ q. differ (sym q))) before));
         }
 
-    pub joins : Joins es (xs ++ e ∷ []) tops u (joined ws number tops (e .key) (e .at))
-    joins = go (ℕ-discrete number 0)
+    pub joins : Joins es (xs ++ e ∷ []) tops u (joined ws user tops (e .key) (e .at))
+    joins = go (ℕ-discrete user 0)
       where
-        named : (a : number ≡ 0 → ⊥) (b : number ≡ 1 → ⊥) → Dec (keyAt ws number ≡ e .key) → Joins es (xs ++ e ∷ []) tops u (joined ws number tops (e .key) (e .at))
-        named a b (yes k) = rw (ne-eqb number 0 a, ne-eqb number 1 b, eq-eqb (keyAt ws number) (e .key) k) (joins-same (inv .one a b) k)
-        named a b (no k) = rw (ne-eqb number 0 a, ne-eqb number 1 b, ne-eqb (keyAt ws number) (e .key) k) (joins-other (inv .one a b) k)
+        named : (a : user ≡ 0 → ⊥) (b : user ≡ 1 → ⊥) → Dec (keyAt ws user ≡ e .key) → Joins es (xs ++ e ∷ []) tops u (joined ws user tops (e .key) (e .at))
+        named a b (yes k) = rw (ne-eqb user 0 a, ne-eqb user 1 b, eq-eqb (keyAt ws user) (e .key) k) (joins-same (inv .one a b) k)
+        named a b (no k) = rw (ne-eqb user 0 a, ne-eqb user 1 b, ne-eqb (keyAt ws user) (e .key) k) (joins-other (inv .one a b) k)
 
-        used : (a : number ≡ 0 → ⊥) → Dec (number ≡ 1) → Joins es (xs ++ e ∷ []) tops u (joined ws number tops (e .key) (e .at))
-        used a (yes z) = rw (ne-eqb number 0 a, eq-eqb number 1 z) (joins-several z)
-        used a (no b) = named a b (ℕ-discrete (keyAt ws number) (e .key))
+        used : (a : user ≡ 0 → ⊥) → Dec (user ≡ 1) → Joins es (xs ++ e ∷ []) tops u (joined ws user tops (e .key) (e .at))
+        used a (yes z) = rw (ne-eqb user 0 a, eq-eqb user 1 z) (joins-several z)
+        used a (no b) = named a b (ℕ-discrete (keyAt ws user) (e .key))
 
-        go : Dec (number ≡ 0) → Joins es (xs ++ e ∷ []) tops u (joined ws number tops (e .key) (e .at))
-        go (yes z) = rw (eq-eqb number 0 z) (joins-none z)
-        go (no a) = used a (ℕ-discrete number 1)
+        go : Dec (user ≡ 0) → Joins es (xs ++ e ∷ []) tops u (joined ws user tops (e .key) (e .at))
+        go (yes z) = rw (eq-eqb user 0 z) (joins-none z)
+        go (no a) = used a (ℕ-discrete user 1)
 
 -- ## What the code shows
 
 module _ (ws : List ℕ) (h : Head) (tops : ℕ) (units : List ℕ) where
   pub shared-stored : h .field < length units → (j : Joined) → j ≡ joined ws (getD units (h .field) 0) tops (h .key) (h .place) → points (h .op) (h .placement) ≡ true
-      → SharedIs ws h tops units (set units (h .field) (j .unit)) (j .tops)
+      → SharedIs ws h tops units (set units (h .field) (j .user)) (j .tops)
   shared-stored l j is t = record {
-    sized = length-set units (h .field) (j .unit);
+    sized = length-set units (h .field) (j .user);
     other = λ f. absurd (not-both (points (h .op) (h .placement)) t f);
-    own = λ p m. sym is ∙ rw (getD-set-same units (h .field) (j .unit) 0 l);
-    others = λ u n. getD-set-other units (h .field) u (j .unit) 0 n;
+    own = λ p m. sym is ∙ rw (getD-set-same units (h .field) (j .user) 0 l);
+    others = λ u n. getD-set-other units (h .field) u (j .user) 0 n;
   }
 
   pub shared-past : length units ≤ h .field → points (h .op) (h .placement) ≡ true → SharedIs ws h tops units units tops

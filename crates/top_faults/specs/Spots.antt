@@ -41,7 +41,7 @@ StandsAt es test so = (so ≡ 0 → ⊥) → (e : Entry) × Mem e es × (test e 
 abbrev pub unitCount : ℕ
 unitCount = 16 * maxChunks
 
--- the number of a unit to which top entries of several keys point
+-- the user of a unit to which top entries of several keys point
 abbrev pub severalKeys : ℕ
 severalKeys = 1
 
@@ -49,13 +49,13 @@ severalKeys = 1
 abbrev pub keyAt : List ℕ → ℕ → ℕ
 keyAt ws at = getD ws (min at (length ws) + 1) 0
 
--- a unit's number and the least place of a top entry at odds with others, with one more that points to the unit
-abbrev pub joined : List ℕ → (unit tops key at : ℕ) → Joined
-joined ws unit tops key at =
-    pick (eqb unit 0) (record { unit = at; tops = tops })
-    (pick (eqb unit severalKeys) (record { unit = unit; tops = least tops at })
-    (pick (eqb (keyAt ws unit) key) (record { unit = min unit at; tops = tops })
-    (record { unit = severalKeys; tops = least (least tops unit) at })))
+-- a unit's user and the least place of a top entry at odds with others, with one more that points to the unit
+abbrev pub joined : List ℕ → (user tops key at : ℕ) → Joined
+joined ws user tops key at =
+    pick (eqb user 0) (record { user = at; tops = tops })
+    (pick (eqb user severalKeys) (record { user = user; tops = least tops at })
+    (pick (eqb (keyAt ws user) key) (record { user = min user at; tops = tops })
+    (record { user = severalKeys; tops = least (least tops user) at })))
 
 -- an entry of the list xs that points to unit u, and is a top entry of es
 pub record Uses (es xs : List Entry) (u : ℕ) (e : Entry) : Type 0 where
@@ -78,12 +78,12 @@ pub record OneKey (es xs : List Entry) (u at : ℕ) : Type 0 where
   pub same : (e : Entry) → Uses es xs u e → e .key ≡ one .key
   pub behind : (e : Entry) → Uses es xs u e → at ≤ e .at
 
--- what the number of unit u says after the entries xs
-pub record UnitIs (es xs : List Entry) (tops u number : ℕ) : Type 0 where
-  pub none : number ≡ 0 → (e : Entry) → Uses es xs u e → ⊥
-  pub one : (number ≡ 0 → ⊥) → (number ≡ severalKeys → ⊥) → OneKey es xs u number
-  pub several : number ≡ severalKeys → (k : ℕ) → OtherUses es u k
-  pub shared : number ≡ severalKeys → (e : Entry) → Uses es xs u e → Reaches tops (e .at)
+-- what the user of unit u says after the entries xs
+pub record UnitIs (es xs : List Entry) (tops u user : ℕ) : Type 0 where
+  pub none : user ≡ 0 → (e : Entry) → Uses es xs u e → ⊥
+  pub one : (user ≡ 0 → ⊥) → (user ≡ severalKeys → ⊥) → OneKey es xs u user
+  pub several : user ≡ severalKeys → (k : ℕ) → OtherUses es u k
+  pub shared : user ≡ severalKeys → (e : Entry) → Uses es xs u e → Reaches tops (e .at)
 
 -- ## What is found
 
@@ -120,7 +120,7 @@ pub record ComparedIs (ws : List ℕ) (h : Head) (place tops r : ℕ) : Type 0 w
 pub record SharedIs (ws : List ℕ) (h : Head) (tops : ℕ) (before after : List ℕ) (r : ℕ) : Type 0 where
   pub sized : length after ≡ length before
   pub other : points (h .op) (h .placement) ≡ false → (after ≡ before) × (r ≡ tops)
-  pub own : points (h .op) (h .placement) ≡ true → h .field < length before → joined ws (getD before (h .field) 0) tops (h .key) (h .place) ≡ record { unit = getD after (h .field) 0; tops = r }
+  pub own : points (h .op) (h .placement) ≡ true → h .field < length before → joined ws (getD before (h .field) 0) tops (h .key) (h .place) ≡ record { user = getD after (h .field) 0; tops = r }
   pub others : (u : ℕ) → (u ≡ h .field → ⊥) → getD after u 0 ≡ getD before u 0
 
 -- with one more entry, if its key's class is within the range

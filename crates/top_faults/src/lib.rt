@@ -53,41 +53,41 @@ fn compared(image: &[u8], tops: usize, e: Head, place: usize) -> usize
 // An image has so many units at most.
 const UNITS: usize = 8064;
 
-// The number of a unit to which top entries of several keys point. It is no place: entries stand behind the directory.
+// The user of a unit to which top entries of several keys point. It is no place: entries stand behind the directory.
 const SEVERAL: usize = 1;
 
-// What is known of a unit, and the least place of a top entry at odds with others. The unit's number is 0 where no top
-// entry points to it; where those of one key do, the least place of them; where those of several do, SEVERAL.
+// The user of a unit, and the least place of a top entry at odds with others. The user is 0 where no top entry points to
+// the unit; where those of one key do, the least place of them; where those of several do, SEVERAL.
 pub struct Joined {
-    pub unit: u64,
+    pub user: u64,
     pub tops: usize,
 }
 
 // The same with one more top entry that points to the unit: it is of this key and stands at word `at`.
-fn join(image: &[u8], unit: u64, tops: usize, key: u64, at: usize) -> Joined
-    ensures { λ r. ⌜ r ≡ joined (wordsOf (now (image .entry))) unit tops key at ⌝ }
+fn join(image: &[u8], user: u64, tops: usize, key: u64, at: usize) -> Joined
+    ensures { λ r. ⌜ r ≡ joined (wordsOf (now (image .entry))) user tops key at ⌝ }
 {
-    let one = unit as usize;
+    let one = user as usize;
     if one == 0 {
         return Joined {
-            unit: at as u64,
+            user: at as u64,
             tops,
         };
     }
     if one == SEVERAL {
         return Joined {
-            unit,
+            user,
             tops: least(tops, at),
         };
     }
     if load(image, lesser(one, image.len() / 8) + 1) == key {
         return Joined {
-            unit: lesser(one, at) as u64,
+            user: lesser(one, at) as u64,
             tops,
         };
     }
     Joined {
-        unit: SEVERAL as u64,
+        user: SEVERAL as u64,
         tops: least(least(tops, one), at),
     }
 }
@@ -101,7 +101,7 @@ fn shared(image: &[u8], units: &mut [u64], tops: usize, e: Head) -> usize
         if unit < units.len() {
             let before = units[unit];
             let j = join(image, before, tops, e.key, e.place);
-            units[unit] = j.unit;
+            units[unit] = j.user;
             return j.tops;
         }
     }
