@@ -65,7 +65,7 @@ static void lend(int to_record, int to_image, int to_table)
  * 1, 2 and a large 3 is open, of which 2 was deleted. */
 static void read_all(uint64_t number)
 {
-    uint64_t start = 9, length = 9, count = 9, version = 9, block = 9, named = 9, keys[KEYS] = {0};
+    uint64_t start = 9, length = 9, count = 9, version = 9, block = 9, named = 9, keys[KEYS] = {0}, entries[2 * ZKV_ENTRY_WORDS];
     lend(0, 0, 0);
     zkv_report report = MADE(zkv_choose, LENT);
     HOLD(number == 0 ? report.kind == ZKV_CHOSEN : report.kind == ZKV_REFUSED && report.first == number);
@@ -91,6 +91,9 @@ static void read_all(uint64_t number)
     HOLD(MADE(zkv_free_chunks, image, BYTES) <= CHUNKS && MADE(zkv_lines_used, image, BYTES) <= 64 * CHUNKS);
     HOLD(MADE(zkv_station, image, BYTES, &named) <= 1 && MADE(zkv_centre, image, BYTES, &named) <= 1);
     HOLD(MADE(zkv_entry, image, BYTES, 1, 0).found <= 1 && MADE(zkv_fault, image, BYTES).refusal <= ZKV_TOPS_DISAGREE);
+    for (size_t room = 0; room <= 2 * ZKV_ENTRY_WORDS; room++) {
+        HOLD(MADE(zkv_entries, image, BYTES, 1, 0, entries, room) <= 3);
+    }
 }
 
 /* A call that is begun is lent image and table as const; then all three, for its steps. At each rest behind an action
