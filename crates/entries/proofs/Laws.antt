@@ -1,5 +1,5 @@
--- Laws of the entries of a key, for hosts: the first is the one that `inspect::entry_from` answers, and those behind any
--- one are the entries from the word behind its place on.
+-- Laws of the entries of a key, for hosts: the first is the one that `inspect::entry_from` answers, and those behind
+-- any one are the entries from the word behind its place on.
 -- Assumes nothing.
 use mathlib.Core.Path.{_≡_, refl, _∙_, ap}
 use mathlib.Core.Bool.{Bool, true, false}

@@ -81,7 +81,7 @@ no-step (Formatting o b t acts) bytes table a h = go (both (eqb b bytes) (eqb t 
     go true e = no-report 0 acts a e
     go false e = never-refused a N.ImageLength e
 
--- a formatting that is begun: the length is allowed and nothing is unfinished, so its count and state are the definition's
+-- a formatting that is begun: the length is allowed and nothing is unfinished, so count and state are the definition's
 format-count : (p : ℕ) (x y : Given) (σ : State) (bytes a : ℕ) → R.Begun a ≡ formatAnswer p x y σ bytes → R.Begun a ≡ R.Begun (length (formatOf (chunksIn p bytes) x y))
 format-count p x y σ bytes a h = go (lengthAllowed p bytes) (isUnfinished σ) h
   where

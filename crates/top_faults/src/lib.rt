@@ -56,8 +56,8 @@ const UNITS: usize = 8064;
 // The user of a unit to which top entries of several keys point. It is no place: entries stand behind the directory.
 const SEVERAL: usize = 1;
 
-// The user of a unit, and the least place of a top entry at odds with others. The user is 0 where no top entry points to
-// the unit; where those of one key do, the least place of them; where those of several do, SEVERAL.
+// The user of a unit, and the least place of a top entry at odds with others. The user is 0 where no top entry points
+// to the unit; where those of one key do, the least place of them; where those of several do, SEVERAL.
 pub struct Joined {
     pub user: u64,
     pub tops: usize,
