@@ -136,6 +136,18 @@ for how in put 'put --no-clean' load; do
     [ "$("$zkv" check stuck)" = accepted ] || fail "after a cleaning that was cut, and 32 labels by $how: refused"
 done
 
+# A register that a host without that rule left stuck: nothing goes in it any more, and a copy has every label.
+"$cut_clean" lost stuck || fail "no image of a stuck register"
+"$zkv" digest lost > sum
+cp lost before
+for command in 'put lost 40 label' 'delete lost 41' 'clean lost 1'; do
+    [ "$(status "$zkv" $command)" -eq 3 ] || fail "a stuck register: zkv $command does not end with 3: $(cat err)"
+    cmp -s lost before || fail "a stuck register: zkv $command changed it"
+done
+"$zkv" copy lost larger 8 > /dev/null || fail "the labels of a stuck register cannot be copied"
+"$zkv" check larger --against "$(cat sum)" > /dev/null || fail "the copy of a stuck register has other labels"
+"$zkv" put larger 40 label || fail "a put into the copy of a stuck register is refused"
+
 # As many keys as can be known, some of them deleted: a put and a load of new keys clean the deleted ones away.
 "$zkv" format keys 504
 seq 65536 | sed 's/$/\t/' | "$zkv" load keys - > /dev/null || fail "a load of 65,536 keys"

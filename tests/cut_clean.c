@@ -2,12 +2,15 @@
  * chunk is free, and the labels of one stand twice. What clean.sh does with it would be stuck for good in a host that
  * commits first.
  *
- * cut_clean FILE       4 chunks; labels 1 to 64 of a line each; 1 deleted, 2 to 32 printed anew, 65 to 96 put; then the
- *                      chunk that zkv_choose names is cleaned, up to its last three actions
+ * cut_clean FILE [stuck]   4 chunks; labels 1 to 64 of a line each; 1 deleted, 2 to 32 printed anew, 65 to 96 put; then
+ *                      the chunk that zkv_choose names is cleaned, up to its last three actions. With `stuck` the image
+ *                      is opened and 97 to 128 are put, as by a host that does not ask for a free chunk first
  * Exit status: 0 the image is in FILE; 1 it is not. */
 #include <inttypes.h>
+#include <stdbool.h>
 #include <stdio.h>
 #include <stdlib.h>
+#include <string.h>
 
 #include "zitskvoze.h"
 
@@ -47,29 +50,46 @@ static void put(uint64_t key, const char *word)
     steps("commit", zkv_commit(LENT), 0);
 }
 
-int main(int count, char **argument)
+static void puts_of(uint64_t first, uint64_t last)
 {
-    steps("format", zkv_format(LENT, 0, 0, 0, 0), 0);
-    zkv_report r = zkv_open(LENT);
-    if (count != 2 || r.kind != ZKV_OPENED) {
-        fail("open", r);
-    }
-    for (uint64_t key = 1; key <= 64; key++) {
+    for (uint64_t key = first; key <= last; key++) {
         put(key, "label");
     }
+}
+
+static void opening(void)
+{
+    zkv_report r = zkv_open(LENT);
+    if (r.kind != ZKV_OPENED) {
+        fail("open", r);
+    }
+}
+
+int main(int count, char **argument)
+{
+    bool stuck = count == 3 && strcmp(argument[2], "stuck") == 0;
+    if (count != 2 && !stuck) {
+        fputs("usage: cut_clean FILE [stuck]\n", stderr);
+        return 1;
+    }
+    steps("format", zkv_format(LENT, 0, 0, 0, 0), 0);
+    opening();
+    puts_of(1, 64);
     steps("delete", zkv_delete(LENT, 1), 0);
     steps("commit", zkv_commit(LENT), 0);
     for (uint64_t key = 2; key <= 32; key++) {
         put(key, "print");
     }
-    for (uint64_t key = 65; key <= 96; key++) {
-        put(key, "label");
-    }
-    r = zkv_choose(LENT);
+    puts_of(65, 96);
+    zkv_report r = zkv_choose(LENT);
     if (r.kind != ZKV_CHOSEN || zkv_free_chunks(image, sizeof image) != 1) {
         fail("choose", r);
     }
     steps("clean", zkv_clean(LENT, r.first), FREEING);
+    if (stuck) {
+        opening();
+        puts_of(97, 128);
+    }
     FILE *to = fopen(argument[1], "wb");
     if (to == NULL || fwrite(image, 1, sizeof image, to) != sizeof image || fclose(to) != 0) {
         perror(argument[1]);
