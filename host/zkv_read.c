@@ -22,6 +22,9 @@ static int label_of(const char *file, const char *given_key, const struct option
     if (status == DONE) {
         status = label_of_key(&s, key, l);
     }
+    if (status == DONE && l->length > sizeof value) {
+        status = trouble(file, "was changed by another program while it was read");
+    }
     if (status == DONE) {
         memcpy(value, l->value, l->length);
         l->value = value;

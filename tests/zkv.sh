@@ -135,6 +135,36 @@ else
     echo "zkv: not tried, as no disk can be mounted here: holes on a full disk"
 fi
 
+# A program that takes no lock changes a label's length again and again, to one that no label can have: a get reads the
+# whole label, or ends with a message and prints nothing.
+fresh
+head -c 1000 /dev/zero | tr '\0' x > long
+ends 0 put l.img 6 long
+python3 -c '
+import mmap, struct, sys
+with open(sys.argv[1], "r+b") as f:
+    m, right, wrong = mmap.mmap(f.fileno(), 0), struct.pack("<Q", 1000), struct.pack("<Q", 30000)
+    at = m.find(right + 8 * b"x")
+    while True:
+        m[at:at + 8] = wrong
+        m[at:at + 8] = right
+' l.img &
+changing=$!
+sleep 0.3
+odd=0
+for _ in $(seq 100); do
+    status=0
+    timeout 20 "$zkv" get l.img 6 > out 2> err || status=$?
+    case $status in
+    0) cmp -s out long ;;
+    2 | 3) [ ! -s out ] ;;
+    *) false ;;
+    esac || odd=$((odd + 1))
+done
+hold "a get beside a program that changes the label's length ends as it should ($odd of 100 do not)" [ "$odd" -eq 0 ]
+kill "$changing"
+wait "$changing" 2> /dev/null
+
 # 4. A failed or killed format leaves no file under the name, and a message says what an existing file holds.
 rm -f f.img
 "$zkv" format f.img 16 --pause 20000 2> /dev/null &
