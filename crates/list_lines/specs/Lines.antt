@@ -1,11 +1,13 @@
--- The lines that `list` prints, as bytes.
+-- The lines that `list` and `sheet` print, as bytes. paged: as the sheet has them, in columns and in pages.
 -- Assumes nothing.
 use mathlib.Core.Bool.{Bool, true, false}
 use mathlib.Core.List.{List, [], _∷_, _++_}
-use Prim.Native.Nat.{ℕ}
+use Prim.Native.Nat.{ℕ, _%_}
+use lib.Dec.{eqb}
+use Rattle.spec.specs.Basics.{pick}
 use Rattle.spec.specs.Reports.{number}
 use Rattle.spec.specs.declared.Refusal.{Refusal}
-use Rattle.text.specs.Text.{decimal}
+use Rattle.text.specs.Text.{decimal, rightIn}
 
 -- `refused N`, `keys N`, and the end of a line: L for a value in the log, B for one in a block
 abbrev pub refusedText : Refusal → List ℕ
@@ -18,6 +20,51 @@ abbrev pub placeText : Bool → List ℕ
 placeText true = 32 ∷ 66 ∷ 10 ∷ []
 placeText false = 32 ∷ 76 ∷ 10 ∷ []
 
--- key, version, length, L or B
-abbrev pub lineText : (key version bytes : ℕ) → Bool → List ℕ
-lineText key version bytes block = decimal key ++ ((32 ∷ []) ++ (decimal version ++ ((32 ∷ []) ++ (decimal bytes ++ placeText block))))
+-- the sheet's columns, and the rows of a page
+abbrev pub keyColumns : ℕ
+keyColumns = 20
+
+abbrev pub versionColumns : ℕ
+versionColumns = 7
+
+abbrev pub lengthColumns : ℕ
+lengthColumns = 5
+
+abbrev pub pageRows : ℕ
+pageRows = 50
+
+-- a number: as it is, or right-aligned in its columns
+abbrev pub columnText : Bool → ℕ → ℕ → List ℕ
+columnText false width n = decimal n
+columnText true width n = rightIn width (decimal n)
+
+-- A LINE: key, version, length, L or B, with a blank between them
+abbrev pub lineText : Bool → (key version bytes : ℕ) → Bool → List ℕ
+lineText paged key version bytes block =
+    columnText paged keyColumns key ++ ((32 ∷ []) ++ (columnText paged versionColumns version ++ ((32 ∷ []) ++ (columnText paged lengthColumns bytes ++ placeText block))))
+
+-- THE HEADING: KEY, VERSION, BYTES and P, aligned likewise
+unfoldable pub headingText : List ℕ
+headingText =
+    rightIn keyColumns (75 ∷ 69 ∷ 89 ∷ []) ++ ((32 ∷ []) ++ (rightIn versionColumns (86 ∷ 69 ∷ 82 ∷ 83 ∷ 73 ∷ 79 ∷ 78 ∷ []) ++ ((32 ∷ []) ++ (rightIn lengthColumns (66 ∷ 89 ∷ 84 ∷ 69 ∷ 83 ∷ []) ++ (32 ∷ 80 ∷ 10 ∷ [])))))
+
+-- A NEW PAGE, with a form feed and the heading, begins before a row that has others before it, all on full pages
+abbrev pub pageText : ℕ → List ℕ
+pageText row = pick (eqb row 0) [] (pick (eqb (row % pageRows) 0) (12 ∷ headingText) [])
+
+-- what stands first, and what is printed of a key with so many rows before it
+abbrev pub headText : Bool → ℕ → List ℕ
+headText false keys = countText keys
+headText true keys = headingText
+
+abbrev pub breakText : Bool → ℕ → List ℕ
+breakText false row = []
+breakText true row = pageText row
+
+abbrev pub entryText : Bool → ℕ → (key version bytes : ℕ) → Bool → List ℕ
+entryText paged row key version bytes block = breakText paged row ++ lineText paged key version bytes block
+
+-- the most bytes of what is printed of a key, whatever the numbers
+abbrev pub entryMost : Bool → ℕ
+entryMost false = 65
+entryMost true = 103

@@ -4,11 +4,13 @@ use mathlib.Core.Path.{_≡_, refl, sym, _∙_, ap}
 use mathlib.Core.Bool.{Bool, true, false}
 use mathlib.Core.List.{List, [], _∷_, _++_, append-assoc}
 use Prim.Native.Nat.{ℕ, zero, suc, _+_, _-_, _*_, _/_, _%_, _^_, _<_, _≤_}
+use mathlib.Core.Logic.{by-cases}
+use native.Mathlib.Decide.{ℕ-discrete}
 use native.Mathlib.Nat.{mod-eq-of-lt, pow-suc}
 use native.Mathlib.Omega.{arith}
 use lib.Dec.{eqb}
 use lib.ListN.{length, take, drop, set, length-set, length-append, length-drop}
-use lib.Seq.{take-all, drop-cons, drop-set-lt, getD-set-same}
+use lib.Seq.{take-all, take-set-le, take-take, drop-cons, drop-set-lt, getD-set-same}
 use borrow.Author.Tests.{eq-eqb, ne-eqb, eqb-true, le-leb}
 use Rattle.spec.specs.Basics.{pick}
 use Rattle.script.specs.Spelled.{isDigit, withDigit, spelled}
@@ -16,15 +18,16 @@ use Rattle.text.specs.Text.{lastDigits, decimal, Digits}
 
 -- ## One digit after the other
 
--- the digits from place `from` on are written, and those of `rest` are to come
-pub record Spelling (number : ℕ) (out : List ℕ) (from rest : ℕ) : Type 0 where
+-- the digits from place `from` on are written, and those of `rest` are to come; out₀ is the bytes at the begin
+pub record Spelling (out₀ : List ℕ) (number : ℕ) (out : List ℕ) (from rest : ℕ) : Type 0 where
   pub sized : length out ≡ 20
   pub start : from ≤ 20
   pub some : 1 ≤ from
   pub small : rest < 10 ^ from
   pub spells : lastDigits from rest ++ drop from out ≡ decimal number
+  pub before : take from out ≡ take from out₀
 
-pub spelling-start : (number : ℕ) (out : List ℕ) → length out ≡ 20 → number < 0x1_0000_0000_0000_0000 → Spelling number out 20 number
+pub spelling-start : (number : ℕ) (out : List ℕ) → length out ≡ 20 → number < 0x1_0000_0000_0000_0000 → Spelling out number out 20 number
 unfolding decimal
 spelling-start number out l b = record {
   sized = l;
@@ -32,6 +35,7 @@ spelling-start number out l b = record {
   some = omega arith;
   small = omega arith;
   spells = ap (λ (d : List ℕ). lastDigits 20 number ++ d) (none out l) ∙ nothing (lastDigits 20 number);
+  before = refl;
 }
   where
     nothing : (xs : List ℕ) → xs ++ [] ≡ xs
@@ -45,8 +49,8 @@ spelling-start number out l b = record {
     none : (xs : List ℕ) → length xs ≡ 20 → drop 20 xs ≡ []
     none xs e = empty (drop 20 xs) (let d = length-drop 20 xs in omega arith)
 
-module _ (number : ℕ) (out : List ℕ) (from f rest : ℕ) (e : from ≡ suc f) (h₀ : Spelling number out from rest) where
-  h : Spelling number out (suc f) rest
+module _ (out₀ : List ℕ) (number : ℕ) (out : List ℕ) (from f rest : ℕ) (e : from ≡ suc f) (h₀ : Spelling out₀ number out from rest) where
+  h : Spelling out₀ number out (suc f) rest
   h = rw e at h₀
 
   abbrev next : List ℕ
@@ -63,23 +67,28 @@ module _ (number : ℕ) (out : List ℕ) (from f rest : ℕ) (e : from ≡ suc f
       ap (λ (l : List ℕ). xs ++ l) put-digit ∙ sym (append-assoc xs ((48 + rest % 10) ∷ []) (drop (suc f) out))
       ∙ ap (λ (l : List ℕ). l ++ ((48 + rest % 10) ∷ []) ++ drop (suc f) out) (sym e) ∙ h .spells
 
-  pub spelled-all : rest / 10 ≡ 0 → Digits next number f
+  stays : take f next ≡ take f out₀
+  stays = take-set-le f out f (48 + rest % 10) (omega arith) ∙ sym (take-take f (suc f) out (omega arith)) ∙ ap (take f) (h .before) ∙ take-take f (suc f) out₀ (omega arith)
+
+  pub spelled-all : rest / 10 ≡ 0 → Digits out₀ next number f
   spelled-all z = record {
     sized = length-set out f (48 + rest % 10) ∙ h .sized;
     start = omega (arith, h .start);
     spelled = front [] (rw (eq-eqb (rest / 10) 0 z));
+    before = stays;
   }
 
   tenth : rest / 10 < 10 ^ f
   tenth = let s : rest < 10 ^ f * 10 = rw pow-suc at (h .small) in omega arith
 
-  pub spelling-on : (rest / 10 ≡ 0 → ⊥) → Spelling number next f (rest / 10)
+  pub spelling-on : (rest / 10 ≡ 0 → ⊥) → Spelling out₀ number next f (rest / 10)
   spelling-on n = record {
     sized = length-set out f (48 + rest % 10) ∙ h .sized;
     start = omega (arith, h .start);
     some = more f tenth;
     small = tenth;
     spells = front (lastDigits f (rest / 10)) (rw (ne-eqb (rest / 10) 0 n));
+    before = stays;
   }
     where
       more : (d : ℕ) → rest / 10 < 10 ^ d → 1 ≤ d
@@ -150,6 +159,19 @@ pub decimal-length : (n : ℕ) → length (decimal n) ≤ 20
 unfolding decimal
 decimal-length n = last-length 20 n
 
--- the part of the lent bytes that has the digits
-pub digits-part : (out : List ℕ) (number from : ℕ) → Digits out number from → take (20 - from) (drop from out) ≡ decimal number
-digits-part out number from h = take-all (20 - from) (drop from out) (let d = length-drop from out in let s = h .sized in omega arith) ∙ h .spelled
+-- a number below a power of ten has no more digits than that
+last-short : (d m n : ℕ) → n < 10 ^ suc m → length (lastDigits d n) ≤ suc m
+last-short zero m n l = omega arith
+last-short (suc d) m n l = by-cases (ℕ-discrete (n / 10) 0) (λ z. rw (eq-eqb (n / 10) 0 z) (omega arith)) (λ z. more m z l (λ i. last-short d i (n / 10)))
+  where
+    more : (m : ℕ) → (n / 10 ≡ 0 → ⊥) → n < 10 ^ suc m → ((i : ℕ) → n / 10 < 10 ^ suc i → length (lastDigits d (n / 10)) ≤ suc i) → length (lastDigits (suc d) n) ≤ suc m
+    more zero z q h = absurd (z (omega arith))
+    more (suc i) z q h =
+        let s : n < 10 ^ suc i * 10 = rw pow-suc at q in
+        let r = h i (omega arith) in
+        let a = length-append (lastDigits d (n / 10)) ((48 + n % 10) ∷ []) in
+        rw (ne-eqb (n / 10) 0 z) (omega arith)
+
+pub decimal-short : (m n : ℕ) → n < 10 ^ suc m → length (decimal n) ≤ suc m
+unfolding decimal
+decimal-short m n l = last-short 20 m n l

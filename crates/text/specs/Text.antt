@@ -3,9 +3,9 @@
 use mathlib.Core.Path.{_≡_}
 use mathlib.Core.Bool.{Bool}
 use mathlib.Core.List.{List, [], _∷_, _++_}
-use Prim.Native.Nat.{ℕ, zero, suc, _+_, _/_, _%_, _≤_}
+use Prim.Native.Nat.{ℕ, zero, suc, _+_, _-_, _/_, _%_, _≤_}
 use lib.Dec.{eqb, leb}
-use lib.ListN.{length, take, drop}
+use lib.ListN.{length, take, drop, replicate}
 use Rattle.spec.specs.Basics.{pick}
 
 -- the last digits of a number, so many at most: those of its tenth, if that is not 0, and then its last one
@@ -17,6 +17,10 @@ lastDigits (suc d) n = pick (eqb (n / 10) 0) [] (lastDigits d (n / 10)) ++ ((48 
 unfoldable pub decimal : ℕ → List ℕ
 decimal n = lastDigits 20 n
 
+-- A TEXT RIGHT-ALIGNED in so many columns: blanks, then the text, which stays whole where the columns do not hold it
+unfoldable pub rightIn : ℕ → List ℕ → List ℕ
+rightIn width xs = replicate (width - length xs) 32 ++ xs
+
 -- bytes behind the first `at` of t, where t has room for them, and how far the text goes then
 abbrev pub hasRoom : List ℕ → ℕ → List ℕ → Bool
 hasRoom t at xs = leb (at + length xs) (length t)
@@ -27,11 +31,12 @@ withBytes t at xs = pick (hasRoom t at xs) (take at t ++ xs ++ drop (at + length
 unfoldable pub behind : List ℕ → ℕ → List ℕ → ℕ
 behind t at xs = pick (hasRoom t at xs) (at + length xs) at
 
--- the digits stand at the end of the lent bytes
-pub record Digits (out : List ℕ) (number from : ℕ) : Type 0 where
-  pub sized : length out ≡ 20
+-- the digits stand at the end of the lent bytes; those before them stay
+pub record Digits (out out′ : List ℕ) (number from : ℕ) : Type 0 where
+  pub sized : length out′ ≡ 20
   pub start : from ≤ 20
-  pub spelled : drop from out ≡ decimal number
+  pub spelled : drop from out′ ≡ decimal number
+  pub before : take from out′ ≡ take from out
 
 -- the text so far, and one that goes on behind it, where there is room
 pub record Reads (t : List ℕ) (at : ℕ) (xs : List ℕ) : Type 0 where

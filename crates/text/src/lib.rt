@@ -1,12 +1,13 @@
 // Numbers and words as text: bytes and the decimal digits of a number, put behind a text in lent bytes.
 ghost use mathlib.Core.Path.{_≡_};
+ghost use Prim.Native.Nat.{_≤_};
 ghost use lib.ListN.{length};
-ghost use Rattle.text.specs.Text.{decimal, withBytes, behind, Digits};
+ghost use Rattle.text.specs.Text.{decimal, rightIn, withBytes, behind, Digits};
 
-// The decimal digits of a number, at the end of the lent bytes; where they start.
+// The decimal digits of a number, at the end of the lent bytes; where they start. The bytes before them stay.
 fn digits(out: &mut [u8], number: u64) -> usize
     requires { ⌜ length (now out) ≡ 20 ⌝ }
-    ensures { λ r. ⌜ Digits (now (out .exit)) number r ⌝ }
+    ensures { λ r. ⌜ Digits (now (out .entry)) (now (out .exit)) number r ⌝ }
 {
     let mut from: usize = 20;
     let mut rest = number;
@@ -40,11 +41,22 @@ pub fn put_bytes(text: &mut [u8], at: usize, bytes: &[u8]) -> usize
     at + n
 }
 
+// The decimal digits of a number behind a text, right-aligned in so many columns.
+pub fn put_right(text: &mut [u8], at: usize, number: u64, width: usize) -> usize
+    requires { ⌜ width ≤ 20 ⌝ }
+    ensures { λ r. ⌜ (r ≡ behind (now (text .entry)) at (rightIn width (decimal number))) × (now (text .exit) ≡ withBytes (now (text .entry)) at (rightIn width (decimal number))) ⌝ }
+{
+    let mut spelled: [u8; 20] = [32; 20];
+    let from = digits(&mut spelled, number);
+    if from < 20 - width {
+        return put_bytes(text, at, &spelled[from..]);
+    }
+    put_bytes(text, at, &spelled[20 - width..])
+}
+
 // The decimal digits of a number behind a text.
 pub fn put_decimal(text: &mut [u8], at: usize, number: u64) -> usize
     ensures { λ r. ⌜ (r ≡ behind (now (text .entry)) at (decimal number)) × (now (text .exit) ≡ withBytes (now (text .entry)) at (decimal number)) ⌝ }
 {
-    let mut spelled: [u8; 20] = [0; 20];
-    let from = digits(&mut spelled, number);
-    put_bytes(text, at, &spelled[from..])
+    put_right(text, at, number, 0)
 }

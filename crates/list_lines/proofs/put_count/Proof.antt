@@ -1,7 +1,5 @@
 -- Assumes nothing.
 use borrow.Author.Needs.{needs}
-use mathlib.Core.List.{[], _∷_}
-use Rattle.text.specs.Text.{decimal}
 use Rattle.text.proofs.Texts.{put-writes}
 use Rattle.list_lines.proofs.Pieces.{writes-three}
 use Rattle.list_lines.proofs.put_count.Statement.{statement}
@@ -27,10 +25,13 @@ same-length c = search needs
 
 returns : tie.Need-returns
 returns c =
-    let a = put-writes (c .before .before .before .before .before .before .before .before .before .before .before .before .before .before .before .args .out .now) (c .before .before .before .before .before .before .before .before .before .before .before .put-bytes .last .0) 0 (c .before .before .before .before .before .before .before .before .before .before .before .put-bytes .result) (107 ∷ 101 ∷ 121 ∷ 115 ∷ 32 ∷ []) (c .before .before .before .before .before .before .before .before .before .before .before .put-bytes .ensures .0) (c .before .before .before .before .before .before .before .before .before .before .before .put-bytes .ensures .1) in
-    let b = put-writes (c .before .before .before .before .before .before .before .before .before .before .before .put-bytes .last .0) (c .before .before .before .before .before .before .before .put-decimal .last .0) (c .before .before .before .before .before .before .before .before .before .before .before .put-bytes .result) (c .before .before .before .before .before .before .before .put-decimal .result) (decimal (c .before .before .before .before .before .before .before .before .before .before .before .before .before .before .before .args .count)) (c .before .before .before .before .before .before .before .put-decimal .ensures .0) (c .before .before .before .before .before .before .before .put-decimal .ensures .1) in
-    let d = put-writes (c .before .before .before .before .before .before .before .put-decimal .last .0) (c .before .before .put-bytes2 .last .0) (c .before .before .before .before .before .before .before .put-decimal .result) (c .before .before .put-bytes2 .result) (10 ∷ []) (c .before .before .put-bytes2 .ensures .0) (c .before .before .put-bytes2 .ensures .1) in
-    writes-three (c .before .before .before .before .before .before .before .before .before .before .before .before .before .before .before .args .out .now) (c .before .before .before .before .before .before .before .before .before .before .before .put-bytes .last .0) (c .before .before .before .before .before .before .before .put-decimal .last .0) (c .before .before .put-bytes2 .last .0) 0 (c .before .before .before .before .before .before .before .before .before .before .before .put-bytes .result) (c .before .before .before .before .before .before .before .put-decimal .result) (c .before .before .put-bytes2 .result) (107 ∷ 101 ∷ 121 ∷ 115 ∷ 32 ∷ []) (decimal (c .before .before .before .before .before .before .before .before .before .before .before .before .before .before .before .args .count)) (10 ∷ []) a b d
+    let last = c .before .before in
+    let middle = last .before .before .before .before .before in
+    let first = middle .before .before .before .before in
+    writes-three _ _ _ _ _ _ _ _ _ _ _
+    (put-writes _ _ _ _ _ (first .put-bytes .ensures .0) (first .put-bytes .ensures .1))
+    (put-writes _ _ _ _ _ (middle .put-decimal .ensures .0) (middle .put-decimal .ensures .1))
+    (put-writes _ _ _ _ _ (last .put-bytes2 .ensures .0) (last .put-bytes2 .ensures .1))
 
 pub put-count-spec : {M : Type 1} → statement M
 put-count-spec =

@@ -1,6 +1,5 @@
 -- Assumes nothing.
 use borrow.Author.Needs.{needs}
-use mathlib.Core.List.{[], _∷_}
 use Rattle.text.proofs.Texts.{put-writes}
 use Rattle.list_lines.proofs.put_place.Statement.{statement}
 use Rattle.list_lines.proofs.put_place.Tie as tie
@@ -16,8 +15,8 @@ same-length c = search needs
 
 returns : tie.Need-returns
 returns c =
-    let w = put-writes (c .before .before .before .before .before .before .before .args .out .now) (c .before .before .put-bytes .last .0) (c .before .before .before .before .before .before .before .args .at) (c .before .before .put-bytes .result) (32 ∷ 66 ∷ 10 ∷ []) (c .before .before .put-bytes .ensures .0) (c .before .before .put-bytes .ensures .1) in
-    rw (c .before .before .before .before .before .if1 .taken) w
+    let put = c .before .before in
+    rw (put .before .before .before .if1 .taken) (put-writes _ _ _ _ _ (put .put-bytes .ensures .0) (put .put-bytes .ensures .1))
 
 slice-aggregate-put-bytes-2 : tie.Need-slice-aggregate-put-bytes-2
 slice-aggregate-put-bytes-2 c = search needs
@@ -30,8 +29,8 @@ same-length-2 c = search needs
 
 returns-2 : tie.Need-returns-2
 returns-2 c =
-    let w = put-writes (c .before .before .before .before .before .before .before .args .out .now) (c .before .before .put-bytes2 .last .0) (c .before .before .before .before .before .before .before .args .at) (c .before .before .put-bytes2 .result) (32 ∷ 76 ∷ 10 ∷ []) (c .before .before .put-bytes2 .ensures .0) (c .before .before .put-bytes2 .ensures .1) in
-    rw (c .before .before .before .before .before .if1 .left) w
+    let put = c .before .before in
+    rw (put .before .before .before .if1 .left) (put-writes _ _ _ _ _ (put .put-bytes2 .ensures .0) (put .put-bytes2 .ensures .1))
 
 pub put-place-spec : {M : Type 1} → statement M
 put-place-spec =

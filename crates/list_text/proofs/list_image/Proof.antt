@@ -29,7 +29,7 @@ same-length-2 : tie.Need-same-length-2
 same-length-2 c = search needs
 
 returns : tie.Need-returns
-returns c = image-refused _ _ _ _ _ _ _ _ _ _ _ _ _ (c .before .before .before .before .before .before .before .before .before .before .before .open-core .ensures) _ _ (c .before .before .before .before .before .report .given .1) (c .before .before .put-refusal .ensures)
+returns c = image-refused _ _ _ _ _ _ _ _ _ _ _ _ _ _ (c .before .before .before .before .before .before .before .before .before .before .before .open-core .ensures) _ _ (c .before .before .before .before .before .report .given .1) (c .before .before .put-refusal .ensures)
 
 same-length-3 : tie.Need-same-length-3
 same-length-3 c = search needs
@@ -41,7 +41,7 @@ same-length-5 : tie.Need-same-length-5
 same-length-5 c = search needs
 
 returns-2 : tie.Need-returns-2
-returns-2 c = image-opened _ _ _ _ _ _ _ _ _ _ _ _ _ (c .before .before .before .before .before .before .before .before .before .before .before .before .before .open-core .ensures) _ (c .before .before .before .before .before .before .before .before .match .keys2) (c .before .before .before .before .put-register .ensures)
+returns-2 c = image-opened _ _ _ _ _ _ _ _ _ _ _ _ _ _ (c .before .before .before .before .before .before .before .before .before .before .before .before .before .open-core .ensures) _ (c .before .before .before .before .before .before .before .before .match .keys2) (c .before .before .before .before .put-register .ensures)
 
 pub list-image-spec : {M : Type 1} → statement M
 list-image-spec =

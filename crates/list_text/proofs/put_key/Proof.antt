@@ -13,17 +13,17 @@ enum-told c = search needs
 enum-known-listed : tie.Need-enum-known-listed
 enum-known-listed c = search needs
 
-put-line-requires : tie.Need-put-line-requires
-put-line-requires c κs = search needs
+put-entry-requires : tie.Need-put-entry-requires
+put-entry-requires c κs = search needs
 
 returns : tie.Need-returns
-returns c = key-none _ _ _ _ _ _ _ _ (c .before .before .list-key .ensures) _ (c .enum-told .given .1)
+returns c = key-none _ _ _ _ _ _ _ _ _ _ (c .before .before .list-key .ensures) _ (c .enum-told .given .1)
 
 same-length : tie.Need-same-length
 same-length c = search needs
 
 returns-2 : tie.Need-returns-2
-returns-2 c = key-line _ _ _ _ _ _ _ _ (c .before .before .before .before .before .before .before .list-key .ensures) _ _ _ _ _ (c .before .before .before .before .before .listed .given .1) (c .before .before .put-line .ensures)
+returns-2 c = key-line _ _ _ _ _ _ _ _ _ _ (c .before .before .before .before .before .before .before .list-key .ensures) _ _ _ _ _ (c .before .before .before .before .before .listed .given .1) (c .before .before .put-entry .ensures)
 
 pub put-key-spec : {M : Type 1} → statement M
 put-key-spec =
@@ -32,7 +32,7 @@ put-key-spec =
     list-key-requires
     enum-told
     enum-known-listed
-    put-line-requires
+    put-entry-requires
     returns
     same-length
     returns-2)

@@ -9,19 +9,19 @@ use Rattle.list_text.proofs.put_keys.Statement.{statement}
 use Rattle.list_text.proofs.put_keys.Tie as tie
 
 abbrev Inv-loop : tie.InvT-loop
-Inv-loop control setup image table keys count out₀ at end₀ i₀ out end i = (length out ≡ length out₀) × (i ≤ length keys) × Lining control setup image table keys count out₀ at out end i
+Inv-loop control setup image table keys count paged out₀ at end₀ i₀ out end i = (length out ≡ length out₀) × (i ≤ length keys) × Lining control setup image table keys count paged out₀ at out end i
 
 abbrev μ-loop : tie.MeasureT-loop
-μ-loop control setup image table keys count out₀ at end₀ i₀ out end i = length keys - i
+μ-loop control setup image table keys count paged out₀ at end₀ i₀ out end i = length keys - i
 
 loop-holds : tie.Need-loop-holds Inv-loop μ-loop
-loop-holds c = (refl, omega arith, lining-start _ _ _ _ _ _ _ _)
+loop-holds c = (refl, omega arith, lining-start _ _ _ _ _ _ _ _ _)
 
 same-length : tie.Need-same-length Inv-loop μ-loop
 same-length c = c .before .before .loop .inv .0
 
 returns : tie.Need-returns Inv-loop μ-loop
-returns c = lined-count _ _ _ _ _ _ _ _ _ _ (c .before .before .loop .i) (c .before .before .loop .inv .2) (c .if1 .taken)
+returns c = lined-count _ _ _ _ _ _ _ _ _ _ _ (c .before .before .loop .i) (c .before .before .loop .inv .2) (c .if1 .taken)
 
 mul-put-key : tie.Need-mul-put-key Inv-loop μ-loop
 mul-put-key c = search needs
@@ -40,14 +40,14 @@ loop-less c = search needs
 
 loop-again : tie.Need-loop-again Inv-loop μ-loop
 loop-again c =
-    let s = lining-on _ _ _ _ _ _ _ _ _ _ _ _ (c .before .before .before .before .before .before .before .loop .i) (omega arith) (c .before .before .before .before .before .if1 .left) (c .before .before .before .before .before .before .before .loop .inv .2) (c .before .before .put-key .ensures) in
+    let s = lining-on _ _ _ _ _ _ _ _ _ _ _ _ _ (c .before .before .before .before .before .before .before .loop .i) (omega arith) (c .before .before .before .before .before .if1 .left) (c .before .before .before .before .before .before .before .loop .inv .2) (c .before .before .put-key .ensures) in
     (s .sized, omega arith, s)
 
 same-length-2 : tie.Need-same-length-2 Inv-loop μ-loop
 same-length-2 c = c .before .loop .inv .0
 
 returns-2 : tie.Need-returns-2 Inv-loop μ-loop
-returns-2 c = lined-all _ _ _ _ _ _ _ _ _ _ (c .before .loop .i) (c .before .loop .inv .2) (c .loop-test .left)
+returns-2 c = lined-all _ _ _ _ _ _ _ _ _ _ _ (c .before .loop .i) (c .before .loop .inv .2) (c .loop-test .left)
 
 pub put-keys-spec : {M : Type 1} → statement M
 put-keys-spec =

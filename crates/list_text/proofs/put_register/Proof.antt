@@ -16,8 +16,8 @@ put-refusal-requires c κs = search needs
 enum-known-counted-2 : tie.Need-enum-known-counted-2
 enum-known-counted-2 c = search needs
 
-put-count-requires : tie.Need-put-count-requires
-put-count-requires c κs = search needs
+put-head-requires : tie.Need-put-head-requires
+put-head-requires c κs = search needs
 
 put-keys-requires : tie.Need-put-keys-requires
 put-keys-requires c κs = search needs
@@ -29,7 +29,7 @@ same-length-2 : tie.Need-same-length-2
 same-length-2 c = search needs
 
 returns : tie.Need-returns
-returns c = register-closed _ _ _ _ _ _ _ _ _ _ _ (rw (c .before .before .before .before .before .counted .given .1) at (c .before .before .before .before .before .before .before .before .before .list-keys .ensures)) (c .before .before .put-refusal .ensures)
+returns c = register-closed _ _ _ _ _ _ _ _ _ _ _ _ (rw (c .before .before .before .before .before .counted .given .1) at (c .before .before .before .before .before .before .before .before .before .list-keys .ensures)) (c .before .before .put-refusal .ensures)
 
 same-length-3 : tie.Need-same-length-3
 same-length-3 c = search needs
@@ -38,7 +38,7 @@ same-length-4 : tie.Need-same-length-4
 same-length-4 c = search needs
 
 returns-2 : tie.Need-returns-2
-returns-2 c = register-lines _ _ _ _ _ _ _ _ _ _ _ _ (rw (c .before .before .before .before .before .before .before .before .before .before .counted2 .given .1) at (c .before .before .before .before .before .before .before .before .before .before .before .before .before .before .list-keys .ensures)) (c .before .before .before .before .before .before .before .put-count .ensures) (c .before .before .put-keys .ensures)
+returns-2 c = register-lines _ _ _ _ _ _ _ _ _ _ _ _ _ (rw (c .before .before .before .before .before .before .before .before .before .before .counted2 .given .1) at (c .before .before .before .before .before .before .before .before .before .before .before .before .before .before .list-keys .ensures)) (c .before .before .before .before .before .before .before .put-head .ensures) (c .before .before .put-keys .ensures)
 
 pub put-register-spec : {M : Type 1} → statement M
 put-register-spec =
@@ -48,7 +48,7 @@ put-register-spec =
     enum-known-counted
     put-refusal-requires
     enum-known-counted-2
-    put-count-requires
+    put-head-requires
     put-keys-requires
     same-length
     same-length-2

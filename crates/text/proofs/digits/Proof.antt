@@ -9,7 +9,7 @@ use Rattle.text.proofs.digits.Statement.{statement}
 use Rattle.text.proofs.digits.Tie as tie
 
 abbrev Inv-loop : tie.InvT-loop
-Inv-loop out₀ number from₀ rest₀ out from rest = (length out ≡ length out₀) × Spelling number out from rest
+Inv-loop out₀ number from₀ rest₀ out from rest = (length out ≡ length out₀) × Spelling out₀ number out from rest
 
 abbrev μ-loop : tie.MeasureT-loop
 μ-loop out₀ number from₀ rest₀ out from rest = rest
@@ -33,14 +33,14 @@ same-length : tie.Need-same-length Inv-loop μ-loop
 same-length c = simp length-set (c .before .loop .inv .0)
 
 returns : tie.Need-returns Inv-loop μ-loop
-returns c = spelled-all (c .before .before .args .number) (c .before .loop .out) (c .before .loop .from) (c .before .loop .from - 1) (c .before .loop .rest) (omega (arith, c .before .loop .inv .1 .some)) (c .before .loop .inv .1) (c .if1 .taken)
+returns c = spelled-all (c .before .before .args .out .now) (c .before .before .args .number) (c .before .loop .out) (c .before .loop .from) (c .before .loop .from - 1) (c .before .loop .rest) (omega (arith, c .before .loop .inv .1 .some)) (c .before .loop .inv .1) (c .if1 .taken)
 
 loop-less : tie.Need-loop-less Inv-loop μ-loop
 loop-less c = omega (arith, c .if1 .left)
 
 loop-again : tie.Need-loop-again Inv-loop μ-loop
 loop-again c =
-    let s = spelling-on (c .before .before .args .number) (c .before .loop .out) (c .before .loop .from) (c .before .loop .from - 1) (c .before .loop .rest) (omega (arith, c .before .loop .inv .1 .some)) (c .before .loop .inv .1) (c .if1 .left) in
+    let s = spelling-on (c .before .before .args .out .now) (c .before .before .args .number) (c .before .loop .out) (c .before .loop .from) (c .before .loop .from - 1) (c .before .loop .rest) (omega (arith, c .before .loop .inv .1 .some)) (c .before .loop .inv .1) (c .if1 .left) in
     (s .sized ∙ sym (c .before .before .pre), s)
 
 pub digits-spec : {M : Type 1} → statement M

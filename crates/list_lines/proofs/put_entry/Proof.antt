@@ -1,0 +1,22 @@
+-- Assumes nothing.
+use borrow.Author.Needs.{needs}
+use Rattle.text.proofs.Texts.{writes-on}
+use Rattle.list_lines.proofs.put_entry.Statement.{statement}
+use Rattle.list_lines.proofs.put_entry.Tie as tie
+
+put-break-requires : tie.Need-put-break-requires
+put-break-requires c κs = search needs
+
+put-line-requires : tie.Need-put-line-requires
+put-line-requires c κs = search needs
+
+same-length : tie.Need-same-length
+same-length c = search needs
+
+returns : tie.Need-returns
+returns c =
+    let line = c .before .before in
+    writes-on _ _ _ _ _ _ _ _ (line .before .before .before .before .put-break .ensures) (line .put-line .ensures)
+
+pub put-entry-spec : {M : Type 1} → statement M
+put-entry-spec = tie.close (tie.spec put-break-requires put-line-requires same-length returns)
