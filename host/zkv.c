@@ -1,9 +1,9 @@
 /* zkv: a label register in a file, from the command line. See host/zkv.1 for what each command does.
  *
  * Here: the command line. The commands are in zkv_write.c (format, put, delete, clean), zkv_load.c, zkv_copy.c,
- * zkv_read.c (get, scan, check), zkv_stat.c, zkv_info.c (info, history) and zkv_list.c (list, dump, digest); what they
- * share in zkv_register.c and zkv_labels.c. The file under the image is the library's (zitskvoze_file.h). All that is
- * said of the image's inside comes from the library's calls. */
+ * zkv_read.c (get, scan, check), zkv_stat.c, zkv_info.c (info, history) and zkv_list.c (list, sheet, dump, digest);
+ * what they share in zkv_register.c and zkv_labels.c. The file under the image is the library's (zitskvoze_file.h).
+ * All that is said of the image's inside comes from the library's calls. */
 #define _GNU_SOURCE
 #include <errno.h>
 #include <inttypes.h>
@@ -53,6 +53,7 @@ static const struct command {
     {"delete", 1, 0, NO_CLEAN | PAUSE | WAIT, command_delete, "FILE KEY [--no-clean] [--pause MICROSECONDS] [--wait SECONDS]"},
     {"clean", 0, 1, PAUSE | WAIT, command_clean, "FILE [CHUNK] [--pause MICROSECONDS] [--wait SECONDS]"},
     {"list", 0, 0, JSON | WAIT, command_list, "FILE [--json] [--wait SECONDS]"},
+    {"sheet", 0, 0, WAIT, command_sheet, "FILE [--wait SECONDS]"},
     {"stat", 0, 0, JSON | WAIT, command_stat, "FILE [--json] [--wait SECONDS]"},
     {"info", 0, 0, SVG | WAIT, command_info, "FILE [--svg OUT|-] [--wait SECONDS]"},
     {"history", 1, 0, WAIT, command_history, "FILE KEY [--wait SECONDS]"},

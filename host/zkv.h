@@ -73,10 +73,11 @@ int read_value(const char *from, bool empty_meant, const uint8_t **value, size_t
 enum { DIGEST_ROOM = 65 };      /* 64 digits and the end */
 enum { VALUE_ROOM = 65537 };    /* more than any value's limit, so that the library sees what is too long */
 
-/* zkv_labels.c: how many keys are present; the label of a key; the labels by rising key, until `take` answers no DONE;
- * their digest; and what `print` prints, printed once it is whole. */
+/* zkv_labels.c: how many keys are present; the label of a key; the keys, rising, and the labels by rising key, until
+ * `take` answers no DONE; the labels' digest; and what `print` prints, printed once it is whole. */
 uint64_t labels_in(struct station *s);
 int label_of_key(struct station *s, uint64_t key, struct label *l);
+int each_key(struct station *s, int (*take)(struct station *s, uint64_t key, void *to), void *to);
 int each_label(struct station *s, int (*take)(struct station *s, const struct label *l, void *to), void *to);
 int digest_of(struct station *s, char digest[DIGEST_ROOM]);
 int print_whole(struct station *s, int (*print)(struct station *s, FILE *to));
@@ -113,6 +114,7 @@ int command_info(const char *file, char **word, const struct options *o);
 int command_history(const char *file, char **word, const struct options *o);
 /* zkv_list.c: */
 int command_list(const char *file, char **word, const struct options *o);
+int command_sheet(const char *file, char **word, const struct options *o);
 int command_dump(const char *file, char **word, const struct options *o);
 int command_digest(const char *file, char **word, const struct options *o);
 

@@ -1,4 +1,5 @@
-/* zkv: the labels of an open register, one by one; their digest; and text that is printed only once it is whole. */
+/* zkv: the keys and the labels of an open register, one by one; the labels' digest; and text that is printed only once
+ * it is whole. */
 #define _GNU_SOURCE
 #include <inttypes.h>
 #include <stdio.h>
@@ -40,19 +41,35 @@ int label_of_key(struct station *s, uint64_t key, struct label *l)
     return number == 0 ? DONE : refused(s->file.name, number, "key %" PRIu64 ": ", key);
 }
 
-int each_label(struct station *s, int (*take)(struct station *s, const struct label *l, void *to), void *to)
+int each_key(struct station *s, int (*take)(struct station *s, uint64_t key, void *to), void *to)
 {
     uint64_t *keys, count;
     int status = keys_of(s, &keys, &count);
     for (uint64_t i = 0; status == DONE && i < count; i++) {
-        struct label l;
-        status = label_of_key(s, keys[i], &l);
-        if (status == DONE) {
-            status = take(s, &l, to);
-        }
+        status = take(s, keys[i], to);
     }
     free(keys);
     return status;
+}
+
+/* What takes the labels, behind what takes the keys. */
+struct taker {
+    int (*take)(struct station *s, const struct label *l, void *to);
+    void *to;
+};
+
+static int take_label(struct station *s, uint64_t key, void *taker)
+{
+    const struct taker *t = taker;
+    struct label l;
+    int status = label_of_key(s, key, &l);
+    return status == DONE ? t->take(s, &l, t->to) : status;
+}
+
+int each_label(struct station *s, int (*take)(struct station *s, const struct label *l, void *to), void *to)
+{
+    struct taker t = {take, to};
+    return each_key(s, take_label, &t);
 }
 
 int print_whole(struct station *s, int (*print)(struct station *s, FILE *to))

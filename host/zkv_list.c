@@ -1,4 +1,4 @@
-/* zkv: the commands that print every label, list, dump and digest. */
+/* zkv: the commands that print every label, list, sheet, dump and digest. */
 #define _GNU_SOURCE
 #include <inttypes.h>
 #include <stdio.h>
@@ -16,15 +16,32 @@ static bool printable(const struct label *l)
     return l->length > 0;
 }
 
+/* What is listed of a key beside its value. */
+struct listed {
+    uint64_t version, length, block;
+};
+
+static int listed_of(struct station *s, uint64_t key, struct listed *k)
+{
+    uint64_t number = zkv_list_key(LENT(s), key, &k->version, &k->length, &k->block);
+    return number == 0 ? DONE : refused(s->file.name, number, "key %" PRIu64 ": ", key);
+}
+
+static char place_of(const struct listed *k)
+{
+    return k->block ? 'B' : 'L';
+}
+
 /* ---- list */
 
 static int list_label(struct station *s, const struct label *l, void *to)
 {
-    uint64_t version, length, block, number = zkv_list_key(LENT(s), l->key, &version, &length, &block);
-    if (number != 0) {
-        return refused(s->file.name, number, "key %" PRIu64 ": ", l->key);
+    struct listed k;
+    int status = listed_of(s, l->key, &k);
+    if (status != DONE) {
+        return status;
     }
-    fprintf(to, "%" PRIu64 " %" PRIu64 " %" PRIu64 " %c", l->key, version, length, block ? 'B' : 'L');
+    fprintf(to, "%" PRIu64 " %" PRIu64 " %" PRIu64 " %c", l->key, k.version, k.length, place_of(&k));
     if (printable(l)) {
         fprintf(to, " %.*s", (int)l->length, (const char *)l->value);
     }
@@ -48,12 +65,13 @@ static int list_label_json(struct station *s, const struct label *l, void *list)
 {
     struct json_list *j = list;
     FILE *to = j->to;
-    uint64_t version, length, block, number = zkv_list_key(LENT(s), l->key, &version, &length, &block);
-    if (number != 0) {
-        return refused(s->file.name, number, "key %" PRIu64 ": ", l->key);
+    struct listed k;
+    int status = listed_of(s, l->key, &k);
+    if (status != DONE) {
+        return status;
     }
     fprintf(to, "%s\n{\"key\":\"%" PRIu64 "\",\"version\":%" PRIu64 ",\"bytes\":%" PRIu64 ",\"place\":\"%s\",\"hex\":\"", j->begun ? "," : "",
-            l->key, version, length, block ? "block" : "log");
+            l->key, k.version, k.length, k.block ? "block" : "log");
     for (uint64_t i = 0; i < l->length; i++) {
         fprintf(to, "%02x", l->value[i]);
     }
@@ -82,6 +100,53 @@ int command_list(const char *file, char **word, const struct options *o)
     (void)word;
     int status = need_register(&s, file, ZKV_FILE_READ, o);
     return status == DONE ? print_whole(&s, o->json ? list_json : list_text) : status;
+}
+
+/* ---- sheet: pages for a printer, as the program `sheet` prints them of an image of at most 65,536 bytes */
+
+enum { PAGE_ROWS = 50 };        /* of a page, beside its heading */
+
+struct sheet {
+    FILE *to;
+    uint64_t rows;              /* that stand on it */
+};
+
+static void sheet_heading(FILE *to)
+{
+    fprintf(to, "%20s %7s %5s %c\n", "KEY", "VERSION", "BYTES", 'P');
+}
+
+/* A page begins only for a row that stands on it, so that no form feed is the last byte. */
+static int sheet_row(struct station *s, uint64_t key, void *to)
+{
+    struct sheet *sheet = to;
+    struct listed k;
+    int status = listed_of(s, key, &k);
+    if (status != DONE) {
+        return status;
+    }
+    if (sheet->rows > 0 && sheet->rows % PAGE_ROWS == 0) {
+        fputc('\f', sheet->to);
+        sheet_heading(sheet->to);
+    }
+    fprintf(sheet->to, "%20" PRIu64 " %7" PRIu64 " %5" PRIu64 " %c\n", key, k.version, k.length, place_of(&k));
+    sheet->rows++;
+    return DONE;
+}
+
+static int sheet_text(struct station *s, FILE *to)
+{
+    struct sheet sheet = {to, 0};
+    sheet_heading(to);
+    return each_key(s, sheet_row, &sheet);
+}
+
+int command_sheet(const char *file, char **word, const struct options *o)
+{
+    static struct station s;
+    (void)word;
+    int status = need_register(&s, file, ZKV_FILE_READ, o);
+    return status == DONE ? print_whole(&s, sheet_text) : status;
 }
 
 /* ---- dump: a line a label, the form that load reads */

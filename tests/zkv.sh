@@ -1,8 +1,8 @@
 #!/usr/bin/env bash
 # The program zkv in bad company: closed descriptors, files exchanged or cut under it, full disks, locks held by others,
 # readers that do not read, signals, FIFOs, links, limits, empty and endless input, wrong lists and usage, a disk that
-# breaks; what its exit statuses and messages say; scans, lists, digests, loads and copies; what chunks and keys hold,
-# and where a fault is.
+# breaks; what its exit statuses and messages say; scans, lists, sheets, digests, loads and copies; what chunks and keys
+# hold, and where a fault is.
 #
 # tests/zkv.sh [PROGRAM]        host/build/zkv; says every check that does not hold, and ends with 1 if there is one;
 #                               needs host/build/cut_clean (make -C host)
@@ -49,7 +49,7 @@ fresh
 cp l.img before
 for closed in '' '0<&-' '1>&-' '2>&-' '0<&- 1>&-' '0<&- 2>&-' '1>&- 2>&-' '0<&- 1>&- 2>&-'; do
     for command in 'delete l.img 77' 'put l.img 77 -' 'put l.img 77 nofile' 'format l.img 16' 'get l.img 4711' 'get l.img 77' 'scan l.img 77 value' \
-        'dump l.img' 'load l.img -' 'load l.img nofile' 'digest l.img' 'check l.img --json' 'copy l.img l.img' 'copy l.img c.img 5'; do
+        'dump l.img' 'sheet l.img' 'load l.img -' 'load l.img nofile' 'digest l.img' 'check l.img --json' 'copy l.img l.img' 'copy l.img c.img 5'; do
         ( eval "exec $closed"; exec "$zkv" $command ) > /dev/null 2>&1 < /dev/null
         untouched l.img before
         cp before l.img
@@ -196,7 +196,7 @@ kill -9 "$format"
 wait "$format" 2> /dev/null
 untouched l.img before
 cp before other.img
-"$zkv" format l.img 16 --force --pause 2000 2> err &
+"$zkv" format l.img 16 --force --pause 5000 2> err &
 format=$!
 until_locked l.img
 mv other.img l.img
@@ -242,7 +242,7 @@ rm -f s.img
 # 5. FIFOs and folders.
 mkfifo fifo
 for command in 'check fifo' 'get fifo 1' 'stat fifo' 'scan fifo 1 value' 'put fifo 1 value' 'format fifo 4' 'dump fifo' 'digest fifo' \
-    'load fifo list' 'copy fifo new.img'; do
+    'sheet fifo' 'load fifo list' 'copy fifo new.img'; do
     ends 2 $command
     says 'fifo: is no regular file'
 done
@@ -256,7 +256,7 @@ for command in 'put l.img 5 --version' 'put l.img 5 --help' 'delete l.img 4711 -
     'put l.img 5 value --force' 'get l.img 4711 --pause 5' 'put l.img 5' 'put l.img 5 value more' 'put' 'pat l.img 5 value' \
     'put l.img 5 value --pause' 'put l.img 5 value --pause x' 'put l.img 5 value --wait -1' 'format l.img' 'stat l.img --station 4' \
     'get l.img 4711 --json' 'check l.img --against' 'check l.img --against 12' 'list l.img --against 12' 'load l.img' 'copy l.img' \
-    'copy l.img c.img 16 more' 'dump l.img more' 'digest l.img --json' 'copy l.img c.img --force'; do
+    'copy l.img c.img 16 more' 'dump l.img more' 'digest l.img --json' 'copy l.img c.img --force' 'sheet' 'sheet l.img 5' 'sheet l.img --json'; do
     ends 2 $command
     hold "zkv $command says what is wrong, not '$(head -n 1 err)'" grep -Eq '^zkv: [a-z-]+: .' err
     hold "zkv $command shows how it is used" grep -q '^usage: zkv' err
@@ -271,7 +271,7 @@ ends 2 format l.img 1x6
 says 'l.img: 1x6 is no number of chunks'
 untouched l.img before
 ends 0 --version
-for command in '--help' '-h' 'help' 'put --help' 'help put' 'list --help'; do
+for command in '--help' '-h' 'help' 'put --help' 'help put' 'list --help' 'sheet --help' 'help sheet'; do
     ends 0 $command
     hold "zkv $command prints how it is used: $(head -n 1 out)" grep -q '^usage: zkv' out
     hold "zkv $command prints it to standard output: $(cat err)" [ ! -s err ]
@@ -280,6 +280,12 @@ ends 0 put --help
 hold "zkv put --help is of put alone: $(cat out)" [ "$(grep -c zkv out)" -eq 1 ]
 ends 2 help pat
 says 'zkv: pat: there is no such command'
+# The manual page has a line and an entry for each command that the usage has.
+named=$("$zkv" help | sed -n 's/^.* zkv \([a-z]*\) FILE.*/\1/p')
+hold "the usage has its commands: $named" [ "$(echo "$named" | grep -cx -e format -e list -e sheet -e copy)" -eq 4 ]
+for command in $named; do
+    hold "the manual page has zkv $command" [ "$(grep -c -e "^.fBzkv $command.fR .fIFILE" -e "^.fB$command.fR .fIFILE" "$host/zkv.1")" -eq 2 ]
+done
 cp value ./--force
 ends 0 put l.img 6 -- --force
 ends 0 get l.img 6
@@ -351,6 +357,9 @@ flock l.img sleep 3 &
 sleep 0.2
 ends 2 put l.img 5 value --wait 0
 says 'l.img: is locked by another program; waited 0 s'
+ends 2 sheet l.img --wait 0
+says 'l.img: is locked by another program; waited 0 s'
+prints ''
 ends 2 put l.img 5 value --wait 1
 says 'waited 1 s'
 wait
@@ -372,7 +381,7 @@ fresh
 mkfifo pipe
 exec 7<> pipe
 dd if=/dev/zero of=pipe bs=4096 oflag=nonblock 2> /dev/null
-for command in 'get l.img 4711' 'list l.img' 'list l.img --json' 'dump l.img' 'digest l.img' 'scan l.img 4711 value' 'stat l.img' \
+for command in 'get l.img 4711' 'list l.img' 'list l.img --json' 'sheet l.img' 'dump l.img' 'digest l.img' 'scan l.img 4711 value' 'stat l.img' \
     'info l.img' 'info l.img --svg -' 'history l.img 4711' 'check l.img' 'check l.img --json'; do
     "$zkv" $command > pipe 2> /dev/null &
     reader=$!
@@ -399,12 +408,15 @@ ends 3 put l.img 77 longer
 says 'key 77: 65537 bytes or more: refused 9'
 ends 2 get nofile 77
 says 'zkv: nofile: cannot be opened: No such file'
+ends 2 sheet nofile
+says 'zkv: nofile: cannot be opened: No such file'
 ends 2 put l.img 77 nofile
 says 'zkv: nofile: No such file'
 printf '\1' | dd of=l.img bs=1 seek=65 conv=notrunc 2> /dev/null
-for command in 'get l.img 4711' 'put l.img 5 value' 'delete l.img 4711' 'stat l.img' 'scan l.img 4711 value'; do
+for command in 'get l.img 4711' 'put l.img 5 value' 'delete l.img 4711' 'stat l.img' 'scan l.img 4711 value' 'sheet l.img'; do
     ends 3 $command
     says 'zkv: l.img: 65536 bytes: refused 3: a directory word is wrong'
+    prints ''
 done
 ends 3 check l.img
 prints 'refused 3: a directory word is wrong
@@ -415,6 +427,8 @@ ends 3 check letter
 prints "refused 1: the image's length is not 4 to 504 times 4,096 bytes, or a lent length is unlike that at the opening
 the file has 8 bytes"
 ends 3 get letter 1
+says 'zkv: letter: 8 bytes: refused 1'
+ends 3 sheet letter
 says 'zkv: letter: 8 bytes: refused 1'
 rm -f small.img
 "$zkv" format small.img 4
@@ -494,6 +508,36 @@ ends 0 list l.img
 hold "a large value is listed as in a block: $(sed -n 3p out | cut -c 1-20)" grep -qx "5 1 1000 B $(cat large)" out
 ends 0 get l.img 5
 hold 'a large value comes back to the byte' cmp -s out large
+
+# Sheets: what is listed beside a value, in columns, 50 labels to a page; a form feed between pages and none at the end.
+ends 0 sheet l.img
+prints '                 KEY VERSION BYTES P
+                   0       1     0 L
+                   5       1  1000 B
+                  12       1     3 L
+                4711       1     9 L
+18446744073709551615       1     5 L'
+rm -f none.img
+ends 0 format none.img 4
+ends 0 sheet none.img
+prints '                 KEY VERSION BYTES P'
+# paged: the sheet of the keys that standard input has, each with a label of many.img.
+paged() {
+    awk '(NR - 1) % 50 == 0 { printf "%s                 KEY VERSION BYTES P\n", (NR > 1 ? "\f" : "") }
+        { printf "%20d       1 %5d L\n", $1, 6 + length($1) }'
+}
+ends 0 sheet many.img
+hold "a hundred labels have two pages" cmp -s out <(seq 3 3 300 | paged)
+hold "a hundred labels have one form feed" [ "$(tr -dc '\f' < out | wc -c)" -eq 1 ]
+printf 'label 303' | "$zkv" put many.img 303 -
+ends 0 sheet many.img
+hold "one more has a page of its own" cmp -s out <(seq 3 3 303 | paged)
+ends 0 delete many.img 303
+ends 0 sheet many.img
+hold "deleted again, it has none" cmp -s out <(seq 3 3 300 | paged)
+ends 0 delete many.img 3
+ends 0 sheet many.img
+hold "without the first, all others move up" cmp -s out <(seq 6 3 300 | paged)
 
 # JSON, digests, and checks against them.
 fresh
@@ -622,7 +666,7 @@ ends 0 get l.img 5
 prints 'A\\'
 ends 0 dump l.img
 prints $'5\tA\\\\\\\\\n4711\t'
-for command in 'dump l.img' 'digest l.img' 'list l.img --json' 'stat l.img --json'; do
+for command in 'dump l.img' 'digest l.img' 'list l.img --json' 'sheet l.img' 'stat l.img --json'; do
     status=0
     "$zkv" $command > /dev/full 2> err || status=$?
     hold "zkv $command on a full device ends with 2, not $status" [ "$status" -eq 2 ]
@@ -636,9 +680,17 @@ prints $'labels 20\nbatches 2'
 status=$( (trap '' PIPE; "$zkv" dump wide.img 2> err; echo $? > status) | true; cat status)
 hold "a dump into a closed pipe ends with 2, not $status" [ "$status" -eq 2 ]
 says 'standard output: Broken pipe'
+rm -f pages.img
+ends 0 format pages.img 40
+seq 3000 | sed 's/$/\tx/' > list                # a sheet longer than what a pipe holds
+ends 0 load pages.img list
+status=$( (trap '' PIPE; "$zkv" sheet pages.img 2> err; echo $? > status) | head -n 1 > first; cat status)
+hold "a sheet into a pipe that is closed behind its first line ends with 2, not $status" [ "$status" -eq 2 ]
+says 'standard output: Broken pipe'
+hold "the first line is the heading: $(cat first)" [ "$(cat first)" = '                 KEY VERSION BYTES P' ]
 chmod 400 l.img
 cp l.img before
-for command in 'dump l.img' 'digest l.img' 'copy l.img read.img' 'list l.img --json'; do
+for command in 'dump l.img' 'digest l.img' 'copy l.img read.img' 'list l.img --json' 'sheet l.img'; do
     ends 0 $command
 done
 untouched l.img before
