@@ -10,7 +10,7 @@ sys.dont_write_bytecode = True
 sys.path[:0] = [os.path.join(os.path.dirname(os.path.abspath(__file__)), 'model')]
 import register_model                                                           # noqa: E402
 
-CARDS = {1, 4, 6, 8, 14}
+CARDS = {1, 4, 5, 6, 8, 14}
 
 REFUSALS = range(1, 18 if 9 in CARDS else 17)           # the numbers that a call may refuse with
 
@@ -29,6 +29,10 @@ class View(register_model.View):
 
 def list_output(words, nbytes):
     return register_model.list_output(words, nbytes, RULES)
+
+
+def sheet_output(words, nbytes):
+    return register_model.sheet_output(words, nbytes, RULES)
 
 
 if __name__ == '__main__':
