@@ -5,13 +5,13 @@ use mathlib.Core.Logic.{by-cases, inl, inr}
 use mathlib.Core.Bool.{Bool, true, false}
 use mathlib.Core.Option.{Option, none, some}
 use mathlib.Core.List.{List, [], _∷_, _++_, append-assoc}
-use Prim.Native.Nat.{ℕ, zero, suc, _+_, _*_, _%_, _<_, _≤_}
+use Prim.Native.Nat.{ℕ, zero, suc, _+_, _%_, _<_, _≤_}
 use native.Mathlib.Omega.{arith}
 use native.Mathlib.Decide.{ℕ-discrete, decLt}
 use lib.Dec.{eqb}
 use lib.ListN.{length, take, drop, getD, length-drop, take-append-drop}
 use lib.Seq.{length-take-le}
-use borrow.Author.Tests.{ne-eqb, eqb-true}
+use borrow.Author.Tests.{ne-eqb}
 use Rattle.spec.specs.Basics.{pick, both}
 use Rattle.spec.specs.Words.{wordsOf}
 use Rattle.spec.specs.Medium.{Mem}
@@ -31,7 +31,6 @@ use Rattle.theory_crash.specs.Accepted.{Ok}
 use Rattle.theory_crash.proofs.Blocks.{block-fits}
 use Rattle.theory_crash.proofs.Opening.{opens-ok}
 use Rattle.log.proofs.Stands.{image-right}
-use Rattle.text.specs.Text.{decimal}
 use Rattle.text.proofs.Decimals.{decimal-length, decimal-short}
 use Rattle.listing.specs.declared.Listed.{Listed}
 use Rattle.listing.specs.declared.Listed.the-variants as L

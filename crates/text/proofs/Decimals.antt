@@ -10,7 +10,7 @@ use native.Mathlib.Nat.{mod-eq-of-lt, pow-suc}
 use native.Mathlib.Omega.{arith}
 use lib.Dec.{eqb}
 use lib.ListN.{length, take, drop, set, length-set, length-append, length-drop}
-use lib.Seq.{take-all, take-set-le, take-take, drop-cons, drop-set-lt, getD-set-same}
+use lib.Seq.{take-set-le, take-take, drop-cons, drop-set-lt, getD-set-same}
 use borrow.Author.Tests.{eq-eqb, ne-eqb, eqb-true, le-leb}
 use Rattle.spec.specs.Basics.{pick}
 use Rattle.script.specs.Spelled.{isDigit, withDigit, spelled}

@@ -1,6 +1,7 @@
 -- Assumes nothing.
 use borrow.Author.Needs.{needs}
 use Rattle.text.proofs.Texts.{writes-on}
+use Rattle.list_lines.specs.Lines.{lineText}
 use Rattle.list_lines.proofs.put_entry.Statement.{statement}
 use Rattle.list_lines.proofs.put_entry.Tie as tie
 
@@ -16,7 +17,9 @@ same-length c = search needs
 returns : tie.Need-returns
 returns c =
     let line = c .before .before in
-    writes-on _ _ _ _ _ _ _ _ (line .before .before .before .before .put-break .ensures) (line .put-line .ensures)
+    let break = line .before .before .before .before in
+    let a = break .before .before .before .args in
+    writes-on _ _ _ _ _ _ _ (lineText (a .paged) (a .key) (a .version) (a .length) (a .block)) (break .put-break .ensures) (line .put-line .ensures)
 
 pub put-entry-spec : {M : Type 1} → statement M
 put-entry-spec = tie.close (tie.spec put-break-requires put-line-requires same-length returns)

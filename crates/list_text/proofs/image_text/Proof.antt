@@ -19,7 +19,10 @@ same-length : tie.Need-same-length
 same-length c = search needs
 
 returns : tie.Need-returns
-returns c = program-text _ _ _ _ _ _ _ _ (c .before .before .before .before .list-image .ensures) (length-replicate {A = ℕ} _ 0) (length-replicate {A = ℕ} _ 0) (length-replicate {A = ℕ} _ 0) (c .before .before .before .before .before .before .before .before .before .before .before .pre)
+returns c =
+    let printed = c .before .before .before .before in
+    let entered = printed .before .before .before .before .before .before .before in
+    program-text _ _ _ _ _ _ _ _ (printed .list-image .ensures) (length-replicate {A = ℕ} _ 0) (length-replicate {A = ℕ} _ 0) (length-replicate {A = ℕ} _ 0) (entered .pre)
 
 pub image-text-spec : {M : Type 1} → statement M
 image-text-spec =

@@ -29,7 +29,10 @@ same-length-2 : tie.Need-same-length-2
 same-length-2 c = search needs
 
 returns : tie.Need-returns
-returns c = image-refused _ _ _ _ _ _ _ _ _ _ _ _ _ _ (c .before .before .before .before .before .before .before .before .before .before .before .open-core .ensures) _ _ (c .before .before .before .before .before .report .given .1) (c .before .before .put-refusal .ensures)
+returns c =
+    let put = c .before .before in
+    let reported = put .before .before .before in
+    image-refused _ _ _ _ _ _ _ _ _ _ _ _ _ _ (reported .before .before .before .before .before .before .open-core .ensures) _ _ (reported .report .given .1) (put .put-refusal .ensures)
 
 same-length-3 : tie.Need-same-length-3
 same-length-3 c = search needs
@@ -41,7 +44,10 @@ same-length-5 : tie.Need-same-length-5
 same-length-5 c = search needs
 
 returns-2 : tie.Need-returns-2
-returns-2 c = image-opened _ _ _ _ _ _ _ _ _ _ _ _ _ _ (c .before .before .before .before .before .before .before .before .before .before .before .before .before .open-core .ensures) _ (c .before .before .before .before .before .before .before .before .match .keys2) (c .before .before .before .before .put-register .ensures)
+returns-2 c =
+    let put = c .before .before .before .before in
+    let matched = put .before .before .before .before in
+    image-opened _ _ _ _ _ _ _ _ _ _ _ _ _ _ (matched .before .before .before .before .before .open-core .ensures) _ (matched .match .keys2) (put .put-register .ensures)
 
 pub list-image-spec : {M : Type 1} → statement M
 list-image-spec =

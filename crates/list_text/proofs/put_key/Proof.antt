@@ -23,7 +23,10 @@ same-length : tie.Need-same-length
 same-length c = search needs
 
 returns-2 : tie.Need-returns-2
-returns-2 c = key-line _ _ _ _ _ _ _ _ _ _ (c .before .before .before .before .before .before .before .list-key .ensures) _ _ _ _ _ (c .before .before .before .before .before .listed .given .1) (c .before .before .put-entry .ensures)
+returns-2 c =
+    let put = c .before .before in
+    let found = put .before .before .before in
+    key-line _ _ _ _ _ _ _ _ _ _ (found .before .before .list-key .ensures) _ _ _ _ _ (found .listed .given .1) (put .put-entry .ensures)
 
 pub put-key-spec : {M : Type 1} → statement M
 put-key-spec =

@@ -40,7 +40,10 @@ loop-less c = search needs
 
 loop-again : tie.Need-loop-again Inv-loop μ-loop
 loop-again c =
-    let s = lining-on _ _ _ _ _ _ _ _ _ _ _ _ _ (c .before .before .before .before .before .before .before .loop .i) (omega arith) (c .before .before .before .before .before .if1 .left) (c .before .before .before .before .before .before .before .loop .inv .2) (c .before .before .put-key .ensures) in
+    let put = c .before .before in
+    let tested = put .before .before .before in
+    let turn = tested .before .before in
+    let s = lining-on _ _ _ _ _ _ _ _ _ _ _ _ _ (turn .loop .i) (omega arith) (tested .if1 .left) (turn .loop .inv .2) (put .put-key .ensures) in
     (s .sized, omega arith, s)
 
 same-length-2 : tie.Need-same-length-2 Inv-loop μ-loop

@@ -29,7 +29,10 @@ same-length-2 : tie.Need-same-length-2
 same-length-2 c = search needs
 
 returns : tie.Need-returns
-returns c = register-closed _ _ _ _ _ _ _ _ _ _ _ _ (rw (c .before .before .before .before .before .counted .given .1) at (c .before .before .before .before .before .before .before .before .before .list-keys .ensures)) (c .before .before .put-refusal .ensures)
+returns c =
+    let put = c .before .before in
+    let counted = put .before .before .before in
+    register-closed _ _ _ _ _ _ _ _ _ _ _ _ (rw (counted .counted .given .1) at (counted .before .before .before .before .list-keys .ensures)) (put .put-refusal .ensures)
 
 same-length-3 : tie.Need-same-length-3
 same-length-3 c = search needs
@@ -38,7 +41,11 @@ same-length-4 : tie.Need-same-length-4
 same-length-4 c = search needs
 
 returns-2 : tie.Need-returns-2
-returns-2 c = register-lines _ _ _ _ _ _ _ _ _ _ _ _ _ (rw (c .before .before .before .before .before .before .before .before .before .before .counted2 .given .1) at (c .before .before .before .before .before .before .before .before .before .before .before .before .before .before .list-keys .ensures)) (c .before .before .before .before .before .before .before .put-head .ensures) (c .before .before .put-keys .ensures)
+returns-2 c =
+    let put = c .before .before in
+    let head = put .before .before .before .before .before in
+    let counted = head .before .before .before in
+    register-lines _ _ _ _ _ _ _ _ _ _ _ _ _ (rw (counted .counted2 .given .1) at (counted .before .before .before .before .list-keys .ensures)) (head .put-head .ensures) (put .put-keys .ensures)
 
 pub put-register-spec : {M : Type 1} → statement M
 put-register-spec =
