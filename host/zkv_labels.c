@@ -72,11 +72,34 @@ int each_label(struct station *s, int (*take)(struct station *s, const struct la
     return each_key(s, take_label, &t);
 }
 
+/* A text in memory, as it grows. (A stream of open_memstream does not tell where memory ran out, and ends whole.) */
+struct text {
+    char *bytes;
+    size_t length, room;
+};
+
+/* The stream's writer: it takes all or, without memory, nothing, which is the stream's error. */
+static ssize_t add_to_text(void *cookie, const char *bytes, size_t length)
+{
+    struct text *t = cookie;
+    if (length > t->room - t->length) {
+        size_t room = 2 * t->room + length;
+        char *grown = realloc(t->bytes, room);
+        if (grown == NULL) {
+            return 0;
+        }
+        t->bytes = grown;
+        t->room = room;
+    }
+    memcpy(t->bytes + t->length, bytes, length);
+    t->length += length;
+    return (ssize_t)length;
+}
+
 int print_whole(struct station *s, int (*print)(struct station *s, FILE *to))
 {
-    char *text = NULL;
-    size_t bytes = 0;
-    FILE *to = open_memstream(&text, &bytes);
+    struct text text = {NULL, 0, 0};
+    FILE *to = fopencookie(&text, "w", (cookie_io_functions_t){.write = add_to_text});
     if (to == NULL) {
         return trouble(s->file.name, "no memory for the text");
     }
@@ -85,10 +108,10 @@ int print_whole(struct station *s, int (*print)(struct station *s, FILE *to))
     if ((fclose(to) != 0 || !whole) && status == DONE) {
         status = trouble(s->file.name, "no memory for the text");
     }
-    if (status == DONE) {
-        fwrite(text, 1, bytes, stdout);
+    if (status == DONE && text.length > 0) {
+        fwrite(text.bytes, 1, text.length, stdout);
     }
-    free(text);
+    free(text.bytes);
     return status;
 }
 

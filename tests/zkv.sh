@@ -688,6 +688,24 @@ status=$( (trap '' PIPE; "$zkv" sheet pages.img 2> err; echo $? > status) | head
 hold "a sheet into a pipe that is closed behind its first line ends with 2, not $status" [ "$status" -eq 2 ]
 says 'standard output: Broken pipe'
 hold "the first line is the heading: $(cat first)" [ "$(cat first)" = '                 KEY VERSION BYTES P' ]
+# Memory that runs out: a text is printed whole or not at all. The limits go up to one that is enough.
+rm -f pages.img
+ends 0 format pages.img 504
+seq 60000 | sed 's/$/\t\\x01\\x02\\x03\\x04\\x05\\x06\\x07\\x08/' > list
+ends 0 load pages.img list
+for command in 'sheet pages.img' 'list pages.img --json' 'dump pages.img'; do
+    "$zkv" $command > whole
+    short=0 status=
+    for limit in $(seq 6000 600 60000); do
+        status=0
+        ( ulimit -v "$limit"; exec "$zkv" $command > out 2> err ) 2> /dev/null || status=$?
+        [ "$status" -ne 0 ] || break
+        hold "zkv $command with $limit KB of memory prints nothing" [ ! -s out ]
+        ! grep -q 'pages.img: no memory for the text' err || short=1
+    done
+    hold "zkv $command ends with 0 only where all is printed" cmp -s out whole
+    hold "zkv $command with little memory says so" [ "$status$short" -eq 01 ]
+done
 chmod 400 l.img
 cp l.img before
 for command in 'dump l.img' 'digest l.img' 'copy l.img read.img' 'list l.img --json' 'sheet l.img'; do
