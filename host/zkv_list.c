@@ -102,9 +102,9 @@ int command_list(const char *file, char **word, const struct options *o)
     return status == DONE ? print_whole(&s, o->json ? list_json : list_text) : status;
 }
 
-/* ---- sheet: pages for a printer, as the program `sheet` prints them of an image of at most 65,536 bytes */
+/* ---- sheet: pages for a printer, as the program `sheet` prints them of at most 65,536 bytes and 2,048 keys */
 
-enum { PAGE_ROWS = 50 };        /* of a page, beside its heading */
+enum { PAGE_ROWS = 50, KEY_COLUMNS = 20, VERSION_COLUMNS = 7, LENGTH_COLUMNS = 5 };     /* rows beside the heading */
 
 struct sheet {
     FILE *to;
@@ -113,7 +113,7 @@ struct sheet {
 
 static void sheet_heading(FILE *to)
 {
-    fprintf(to, "%20s %7s %5s %c\n", "KEY", "VERSION", "BYTES", 'P');
+    fprintf(to, "%*s %*s %*s %c\n", KEY_COLUMNS, "KEY", VERSION_COLUMNS, "VERSION", LENGTH_COLUMNS, "BYTES", 'P');
 }
 
 /* A page begins only for a row that stands on it, so that no form feed is the last byte. */
@@ -129,7 +129,8 @@ static int sheet_row(struct station *s, uint64_t key, void *to)
         fputc('\f', sheet->to);
         sheet_heading(sheet->to);
     }
-    fprintf(sheet->to, "%20" PRIu64 " %7" PRIu64 " %5" PRIu64 " %c\n", key, k.version, k.length, place_of(&k));
+    fprintf(sheet->to, "%*" PRIu64 " %*" PRIu64 " %*" PRIu64 " %c\n", KEY_COLUMNS, key, VERSION_COLUMNS, k.version, LENGTH_COLUMNS, k.length,
+            place_of(&k));
     sheet->rows++;
     return DONE;
 }

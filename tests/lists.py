@@ -22,6 +22,8 @@ images, which `sheet` refuses with 1 and with 7, is compared with the model's en
 """
 import os
 import re
+import resource
+import signal
 import subprocess
 import sys
 import tempfile
@@ -322,8 +324,8 @@ def not_found():
 # ---- the programs list and sheet
 
 def printed(program, data):
-    done = subprocess.run([program], input=data, stdout=subprocess.PIPE, timeout=60)
-    return done.stdout if done.returncode == 0 else b'status %d\n' % done.returncode
+    done = subprocess.run([program], input=data, capture_output=True, timeout=60)
+    return done.stdout if done.returncode == 0 and done.stderr == b'' else b'status %d: %s\n' % (done.returncode, done.stderr)
 
 
 def finds(program, output):
@@ -340,13 +342,21 @@ def finds(program, output):
     return True
 
 
+def at_most(nbytes):
+    """A file takes no more bytes, as on a disk that is full then."""
+    signal.signal(signal.SIGXFSZ, signal.SIG_IGN)
+    resource.setrlimit(resource.RLIMIT_FSIZE, (nbytes, nbytes))
+
+
 def says_what_is_lost(name, program):
-    """Where standard output takes nothing, standard error says so; where it takes all, nothing is said."""
-    data = image(small())
-    with open('/dev/full', 'wb') as full:
-        lost = subprocess.run([program], input=data, stdout=full, stderr=subprocess.PIPE, timeout=60)
-    whole = subprocess.run([program], input=data, stdout=subprocess.DEVNULL, stderr=subprocess.PIPE, timeout=60)
-    return lost.stderr == f'{name}: not all of it could be printed\n'.encode() and whole.stderr == b''
+    """Where standard output takes nothing, or a part, standard error says so; where it takes all, nothing is said."""
+    data, said = image(many(100)), f'{name}: not all of it could be printed\n'.encode()
+    with open('/dev/full', 'wb') as full, tempfile.TemporaryFile() as part, tempfile.TemporaryFile() as whole:
+        nothing = subprocess.run([program], input=data, stdout=full, stderr=subprocess.PIPE, timeout=60)
+        some = subprocess.run([program], input=data, stdout=part, stderr=subprocess.PIPE, preexec_fn=lambda: at_most(1000), timeout=60)
+        all_ = subprocess.run([program], input=data, stdout=whole, stderr=subprocess.PIPE, timeout=60)
+        lengths = part.seek(0, os.SEEK_END), whole.seek(0, os.SEEK_END)
+    return nothing.stderr == some.stderr == said and all_.stderr == b'' and lengths[0] == 1000 < lengths[1]
 
 
 # ---- zkv sheet

@@ -43,7 +43,7 @@ abbrev pub lineText : Bool → (key version bytes : ℕ) → Bool → List ℕ
 lineText paged key version bytes block =
     columnText paged keyColumns key ++ ((32 ∷ []) ++ (columnText paged versionColumns version ++ ((32 ∷ []) ++ (columnText paged lengthColumns bytes ++ placeText block))))
 
--- THE HEADING: KEY, VERSION, BYTES and P, aligned likewise
+-- THE HEADING: KEY, VERSION, BYTES and P in the same columns
 unfoldable pub headingText : List ℕ
 headingText =
     rightIn keyColumns (75 ∷ 69 ∷ 89 ∷ []) ++ ((32 ∷ []) ++ (rightIn versionColumns (86 ∷ 69 ∷ 82 ∷ 83 ∷ 73 ∷ 79 ∷ 78 ∷ []) ++ ((32 ∷ []) ++ (rightIn lengthColumns (66 ∷ 89 ∷ 84 ∷ 69 ∷ 83 ∷ []) ++ (32 ∷ 80 ∷ 10 ∷ [])))))

@@ -1,6 +1,6 @@
 // The lines that the programs `list` and `sheet` print: a refusal, what stands first, and what is printed of a key.
 ghost use Prim.Native.Nat.{_≤_};
-ghost use Rattle.text.specs.Text.{Writes};
+ghost use Rattle.text.specs.Text.{mostDigits, Writes};
 ghost use Rattle.list_lines.specs.Lines.{refusedText, countText, placeText, columnText, lineText, headingText, pageText, breakText, headText, entryText};
 use spec::Refusal;
 
@@ -41,7 +41,7 @@ fn put_place(out: &mut [u8], at: usize, block: bool) -> usize
 
 // A number, on the sheet right-aligned in its columns.
 fn put_column(out: &mut [u8], at: usize, paged: bool, width: usize, number: u64) -> usize
-    requires { ⌜ width ≤ 20 ⌝ }
+    requires { ⌜ width ≤ mostDigits ⌝ }
     ensures { λ r. ⌜ Writes (now (out .entry)) (now (out .exit)) at r (columnText paged width number) ⌝ }
 {
     if paged {

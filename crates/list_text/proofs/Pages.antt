@@ -39,7 +39,7 @@ use Rattle.listing.proofs.Entries.{listed-present}
 use Rattle.listing.proofs.Slots.{keys-present}
 use Rattle.list_lines.specs.Lines.{pageRows, lineText, headingText, pageText}
 use Rattle.list_lines.proofs.Pieces.{row-length}
-use Rattle.list_text.specs.Print.{listedText, linesText, imageText, sheetText}
+use Rattle.list_text.specs.Print.{listedText, linesText, imageText}
 use Rattle.list_text.specs.Pages.{rowOf, rowsText, pageOf, Pages, One, More}
 use Rattle.list_text.proofs.Prints.{lines-append}
 
@@ -50,14 +50,14 @@ none-within row l = go (ℕ-discrete row 0)
   where
     go : Dec (row ≡ 0) → pageText row ≡ []
     go (yes e) = rw e
-    go (no e) = let m : row % 50 ≡ row = omega arith in rw (ne-eqb row 0 e, m, ne-eqb row 0 e)
+    go (no e) = let m : row % pageRows ≡ row = omega arith in rw (ne-eqb row 0 e, m, ne-eqb row 0 e)
 
 row-within : (row key : ℕ) (l : Listed) → row < pageRows → listedText true row key l ≡ rowOf key l
 row-within row key (L.Refused n) h = refl
 row-within row key (L.Present v n b) h = ap (λ (x : List ℕ). x ++ lineText true key v n b) (none-within row h)
 
 same-break : (row : ℕ) → 1 ≤ row → pageText (pageRows + row) ≡ pageText row
-same-break row h = let m : (50 + row) % 50 ≡ row % 50 = omega arith in rw (ne-eqb (50 + row) 0 (λ e. omega arith), ne-eqb row 0 (λ e. omega arith), m)
+same-break row h = let m : (pageRows + row) % pageRows ≡ row % pageRows = omega arith in rw (ne-eqb (pageRows + row) 0 (λ e. omega arith), ne-eqb row 0 (λ e. omega arith), m)
 
 same-row : (row key : ℕ) (l : Listed) → 1 ≤ row → listedText true (pageRows + row) key l ≡ listedText true row key l
 same-row row key (L.Refused n) h = refl
@@ -71,14 +71,14 @@ module _ (ws : List ℕ) (es : List Entry) where
   same-lines : (row : ℕ) (ks : List ℕ) → 1 ≤ row → linesText true ws es (pageRows + row) ks ≡ linesText true ws es row ks
   same-lines row [] h = refl
   same-lines row (k ∷ ks) h =
-      let e : suc (50 + row) ≡ 50 + suc row = omega arith in
+      let e : suc (pageRows + row) ≡ pageRows + suc row = omega arith in
       ap₂ (λ (x y : List ℕ). x ++ y) (same-row row k (listedOf ws es k) h) (ap (λ (j : ℕ). linesText true ws es j ks) e ∙ same-lines (suc row) ks (omega arith))
 
   -- behind a full page, a key that is present begins the next, which is as the first page of the rest would be
   next-page : (k : ℕ) (ks : List ℕ) → isPresent (listedOf ws es k) ≡ true → linesText true ws es pageRows (k ∷ ks) ≡ 12 ∷ (headingText ++ linesText true ws es 0 (k ∷ ks))
   next-page k ks h = go (listedOf ws es k) h
     where
-      go : (l : Listed) → isPresent l ≡ true → listedText true 50 k l ++ linesText true ws es 51 ks ≡ 12 ∷ (headingText ++ (listedText true 0 k l ++ linesText true ws es 1 ks))
+      go : (l : Listed) → isPresent l ≡ true → listedText true pageRows k l ++ linesText true ws es (suc pageRows) ks ≡ 12 ∷ (headingText ++ (listedText true 0 k l ++ linesText true ws es 1 ks))
       go (L.Refused n) q = absurd (let z : _≡_ {A = ℕ} 0 1 = cc in omega arith)
       go (L.Present v n b) q =
           ap (λ (x : List ℕ). (12 ∷ (headingText ++ lineText true k v n b)) ++ x) (same-lines 1 ks (omega arith)) ∙ ap (λ (x : List ℕ). 12 ∷ x) (append-assoc headingText (lineText true k v n b) (linesText true ws es 1 ks))
@@ -103,30 +103,30 @@ module _ (ws : List ℕ) (es : List Entry) where
 
   more : (ks : List ℕ) → pageRows < length ks → (k : ℕ) (rest : List ℕ) → drop pageRows ks ≡ k ∷ rest → isPresent (listedOf ws es k) ≡ true
       → Pages ws es (k ∷ rest) (headingText ++ linesText true ws es 0 (k ∷ rest)) → Pages ws es ks (headingText ++ linesText true ws es 0 ks)
-  more ks m k rest e q behind = More ws es ks _ (take 50 ks) k rest _ full cut behind text
+  more ks m k rest e q behind = More ws es ks _ (take pageRows ks) k rest _ full cut behind text
     where
-      full : length (take 50 ks) ≡ 50
-      full = length-take-le 50 ks (omega arith)
+      full : length (take pageRows ks) ≡ pageRows
+      full = length-take-le pageRows ks (omega arith)
 
-      cut : ks ≡ take 50 ks ++ k ∷ rest
-      cut = sym (take-append-drop 50 ks) ∙ ap (λ (x : List ℕ). take 50 ks ++ x) e
+      cut : ks ≡ take pageRows ks ++ k ∷ rest
+      cut = sym (take-append-drop pageRows ks) ∙ ap (λ (x : List ℕ). take pageRows ks ++ x) e
 
-      lines : linesText true ws es 0 ks ≡ rowsText ws es (take 50 ks) ++ (12 ∷ (headingText ++ linesText true ws es 0 (k ∷ rest)))
+      lines : linesText true ws es 0 ks ≡ rowsText ws es (take pageRows ks) ++ (12 ∷ (headingText ++ linesText true ws es 0 (k ∷ rest)))
       lines =
-          ap (linesText true ws es 0) cut ∙ lines-append true ws es 0 (take 50 ks) (k ∷ rest)
-          ∙ ap₂ (λ (x y : List ℕ). x ++ y) (lines-within 0 (take 50 ks) (omega (arith, full))) (ap (λ (i : ℕ). linesText true ws es i (k ∷ rest)) (let z : 0 + length (take 50 ks) ≡ 50 = omega (arith, full) in z) ∙ next-page k rest q)
+          ap (linesText true ws es 0) cut ∙ lines-append true ws es 0 (take pageRows ks) (k ∷ rest)
+          ∙ ap₂ (λ (x y : List ℕ). x ++ y) (lines-within 0 (take pageRows ks) (omega (arith, full))) (ap (λ (i : ℕ). linesText true ws es i (k ∷ rest)) (let z : 0 + length (take pageRows ks) ≡ pageRows = omega (arith, full) in z) ∙ next-page k rest q)
 
-      text : headingText ++ linesText true ws es 0 ks ≡ pageOf ws es (take 50 ks) ++ (12 ∷ (headingText ++ linesText true ws es 0 (k ∷ rest)))
-      text = ap (λ (x : List ℕ). headingText ++ x) lines ∙ sym (append-assoc headingText (rowsText ws es (take 50 ks)) (12 ∷ (headingText ++ linesText true ws es 0 (k ∷ rest))))
+      text : headingText ++ linesText true ws es 0 ks ≡ pageOf ws es (take pageRows ks) ++ (12 ∷ (headingText ++ linesText true ws es 0 (k ∷ rest)))
+      text = ap (λ (x : List ℕ). headingText ++ x) lines ∙ sym (append-assoc headingText (rowsText ws es (take pageRows ks)) (12 ∷ (headingText ++ linesText true ws es 0 (k ∷ rest))))
 
   pages : (n : ℕ) (ks : List ℕ) → length ks ≤ n → AllPresent ks → Pages ws es ks (headingText ++ linesText true ws es 0 ks)
   pages zero ks l h = one ks (omega arith)
-  pages (suc n) ks l h = by-cases (decLt 50 (length ks)) (λ m. go m (drop 50 ks) refl (all-drop 50 ks h) (pages n)) (λ m. one ks (omega arith))
+  pages (suc n) ks l h = by-cases (decLt pageRows (length ks)) (λ m. go m (drop pageRows ks) refl (all-drop pageRows ks h) (pages n)) (λ m. one ks (omega arith))
     where
-      go : 50 < length ks → (rest : List ℕ) → drop 50 ks ≡ rest → AllPresent rest
+      go : pageRows < length ks → (rest : List ℕ) → drop pageRows ks ≡ rest → AllPresent rest
           → ((xs : List ℕ) → length xs ≤ n → AllPresent xs → Pages ws es xs (headingText ++ linesText true ws es 0 xs)) → Pages ws es ks (headingText ++ linesText true ws es 0 ks)
-      go m [] e q again = absurd (let d = length-drop 50 ks in let z : length (drop 50 ks) ≡ 0 = ap length e in omega arith)
-      go m (k ∷ rest) e q again = more ks m k rest e (q .0) (again (k ∷ rest) (let d = length-drop 50 ks in let z : length (drop 50 ks) ≡ length (k ∷ rest) = ap length e in omega arith) q)
+      go m [] e q again = absurd (let d = length-drop pageRows ks in let z : length (drop pageRows ks) ≡ 0 = ap length e in omega arith)
+      go m (k ∷ rest) e q again = more ks m k rest e (q .0) (again (k ∷ rest) (let d = length-drop pageRows ks in let z : length (drop pageRows ks) ≡ length (k ∷ rest) = ap length e in omega arith) q)
 
 -- ## The columns
 
@@ -200,11 +200,11 @@ module _ (bytes : List ℕ) (words : ℕ) (es : List Entry) (accepted : opening 
   listed k m = listed-present ws es k ∙ keys-present ws es k m
 
   -- THE SHEET IN PAGES
-  pub sheet-pages : Pages ws es (presentKeys ws es) (sheetText bytes words)
+  pub sheet-pages : Pages ws es (presentKeys ws es) (imageText true bytes words)
   unfolding imageText
   sheet-pages = rw accepted (pages ws es (length (presentKeys ws es)) (presentKeys ws es) (omega arith) (all-members ws es (presentKeys ws es) listed))
 
   -- EACH ROW has 36 columns and a newline
   pub sheet-columns : (k : ℕ) → Mem k (presentKeys ws es) → length (rowOf k (listedOf ws es k)) ≡ 37
   sheet-columns k m =
-      row-columns 12 (omega arith) (omega arith) (chunksIn 12 (length bytes)) ws es (opens-ok 12 (omega arith) (omega arith) (length bytes) words ws es (length-wordsOf bytes) accepted .0) k (listed k m)
+      row-columns basePower (omega arith) (omega arith) (chunksIn basePower (length bytes)) ws es (opens-ok basePower (omega arith) (omega arith) (length bytes) words ws es (length-wordsOf bytes) accepted .0) k (listed k m)

@@ -50,9 +50,6 @@ use Rattle.session.specs.Promise.{Does, memory}
 -- ## A key
 
 module _ (c : Control) (k : Setup) (key : ℕ) (paged : Bool) (row : ℕ) (bytes table out : List ℕ) (at : ℕ) (found : Listed) (h : ListingKey c k key bytes table found) where
-  abbrev ws : List ℕ
-  ws = wordsOf bytes
-
   same : Opened c k bytes table → found ≡ listedOf (wordsOf bytes) (entriesOf bytes) key
   same o = h .listed (o .0) (o .1) (o .2)
 

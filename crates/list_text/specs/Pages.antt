@@ -24,8 +24,8 @@ rowsText ws es (k ∷ ks) = rowOf k (listedOf ws es k) ++ rowsText ws es ks
 abbrev pub pageOf : List ℕ → List Entry → List ℕ → List ℕ
 pageOf ws es keys = headingText ++ rowsText ws es keys
 
--- THE PAGES of keys are a text: one page, if it holds them; or a full page and, where a key is left, a form feed and the
--- pages of the rest
+-- THE PAGES of keys are a text: one page, if it holds them; or a full page and, where a key is left, a form feed and
+-- the pages of the rest
 pub data Pages : List ℕ → List Entry → List ℕ → List ℕ → Type 0 where
   One : (ws : List ℕ) (es : List Entry) (keys text : List ℕ) → length keys ≤ pageRows → text ≡ pageOf ws es keys → Pages ws es keys text
   More : (ws : List ℕ) (es : List Entry) (keys text page : List ℕ) (k : ℕ) (rest more : List ℕ) → length page ≡ pageRows → keys ≡ page ++ k ∷ rest → Pages ws es (k ∷ rest) more

@@ -1,8 +1,8 @@
 -- What `list` and `sheet` print of an image: `keys N` and a line for each present key by rising key, or pages of a
--- heading and up to 50 rows; on a refusal `refused N`. paged: as the sheet has it.
+-- heading and up to 50 rows; on a refusal `refused N`. THE LIST is not paged, THE SHEET is.
 -- Assumes nothing.
 use mathlib.Core.Path.{_≡_}
-use mathlib.Core.Bool.{Bool, true, false}
+use mathlib.Core.Bool.{Bool}
 use mathlib.Core.Option.{none}
 use mathlib.Core.List.{List, [], _∷_, _++_}
 use Prim.Native.Nat.{ℕ, suc, _+_, _*_, _≤_}
@@ -46,13 +46,6 @@ openedText paged ws (Accepted es) = registerText paged ws es
 
 unfoldable pub imageText : Bool → List ℕ → ℕ → List ℕ
 imageText paged bytes words = openedText paged (wordsOf bytes) (opening basePower (length bytes) (wordsOf bytes) words)
-
--- THE LIST and THE SHEET
-abbrev pub listText : List ℕ → ℕ → List ℕ
-listText bytes words = imageText false bytes words
-
-abbrev pub sheetText : List ℕ → ℕ → List ℕ
-sheetText bytes words = imageText true bytes words
 
 -- the most bytes of a text with so many keys
 abbrev pub mostText : Bool → ℕ → ℕ

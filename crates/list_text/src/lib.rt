@@ -86,8 +86,8 @@ fn put_register(
     }
 }
 
-// The text of an image, as a list or in pages, with lent memory for its key table, the record's buffer and the keys; how
-// long it is.
+// The text of an image, as a list or in pages, with lent memory for its key table, the record's buffer and the keys;
+// how long it is.
 fn list_image(
     image: &[u8],
     table: &mut [u64],
@@ -138,17 +138,9 @@ fn read_image(image: &mut [u8]) -> usize
     io::read_full(0, image)
 }
 
-// A program of the kit has no exit status: what could not be printed is said on standard error.
-fn say_lost(paged: bool) {
-    if paged {
-        io::write_all(2, b"sheet: not all of it could be printed\n");
-        return;
-    }
-    io::write_all(2, b"list: not all of it could be printed\n");
-}
-
-// THE PROGRAMS `list` and `sheet`: the text of the image on standard input, printed.
-pub fn print(paged: bool) {
+// Prints the text of the image on standard input. A program of the kit has no exit status: where not all could be
+// printed, standard error says so, under the program's name.
+fn print(paged: bool, name: &[u8]) {
     let mut image: [u8; READ_BYTES] = [0; READ_BYTES];
     let mut out: [u8; TEXT_BYTES] = [0; TEXT_BYTES];
     let n = read_image(&mut image);
@@ -156,5 +148,15 @@ pub fn print(paged: bool) {
     if io::write_all(1, &out[..end]) {
         return;
     }
-    say_lost(paged);
+    io::write_all(2, name);
+    io::write_all(2, b": not all of it could be printed\n");
+}
+
+// THE PROGRAMS.
+pub fn print_list() {
+    print(false, b"list");
+}
+
+pub fn print_sheet() {
+    print(true, b"sheet");
 }

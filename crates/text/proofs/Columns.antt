@@ -39,7 +39,7 @@ pub right-none : (xs : List ℕ) → rightIn 0 xs ≡ xs
 unfolding rightIn
 right-none xs = ap (λ (k : ℕ). blanks k ++ xs) (let e : 0 - length xs ≡ 0 = omega arith in e)
 
--- how long: as many columns, or the text where they do not hold it
+-- how long, where the columns hold the text; and of digits in any case
 pub right-length : (width : ℕ) (xs : List ℕ) → length xs ≤ width → length (rightIn width xs) ≡ width
 unfolding rightIn
 right-length width xs l = length-append (blanks (width - length xs)) xs ∙ (let b = length-replicate {A = ℕ} (width - length xs) 32 in omega arith)

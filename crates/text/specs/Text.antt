@@ -14,8 +14,11 @@ lastDigits zero n = []
 lastDigits (suc d) n = pick (eqb (n / 10) 0) [] (lastDigits d (n / 10)) ++ ((48 + n % 10) ∷ [])
 
 -- THE DECIMAL DIGITS of a number of 64 bits, which has 20 at most
+abbrev pub mostDigits : ℕ
+mostDigits = 20
+
 unfoldable pub decimal : ℕ → List ℕ
-decimal n = lastDigits 20 n
+decimal n = lastDigits mostDigits n
 
 -- A TEXT RIGHT-ALIGNED in so many columns: blanks, then the text, which stays whole where the columns do not hold it
 unfoldable pub rightIn : ℕ → List ℕ → List ℕ
@@ -33,8 +36,8 @@ behind t at xs = pick (hasRoom t at xs) (at + length xs) at
 
 -- the digits stand at the end of the lent bytes; those before them stay
 pub record Digits (out out′ : List ℕ) (number from : ℕ) : Type 0 where
-  pub sized : length out′ ≡ 20
-  pub start : from ≤ 20
+  pub sized : length out′ ≡ mostDigits
+  pub start : from ≤ mostDigits
   pub spelled : drop from out′ ≡ decimal number
   pub before : take from out′ ≡ take from out
 

@@ -2,14 +2,17 @@
 ghost use mathlib.Core.Path.{_≡_};
 ghost use Prim.Native.Nat.{_≤_};
 ghost use lib.ListN.{length};
-ghost use Rattle.text.specs.Text.{decimal, rightIn, withBytes, behind, Digits};
+ghost use Rattle.text.specs.Text.{mostDigits, decimal, rightIn, withBytes, behind, Digits};
+
+// A number of 64 bits has so many decimal digits at most.
+const MOST_DIGITS: usize = 20;
 
 // The decimal digits of a number, at the end of the lent bytes; where they start. The bytes before them stay.
 fn digits(out: &mut [u8], number: u64) -> usize
-    requires { ⌜ length (now out) ≡ 20 ⌝ }
+    requires { ⌜ length (now out) ≡ mostDigits ⌝ }
     ensures { λ r. ⌜ Digits (now (out .entry)) (now (out .exit)) number r ⌝ }
 {
-    let mut from: usize = 20;
+    let mut from: usize = MOST_DIGITS;
     let mut rest = number;
     loop {
         from -= 1;
@@ -43,15 +46,15 @@ pub fn put_bytes(text: &mut [u8], at: usize, bytes: &[u8]) -> usize
 
 // The decimal digits of a number behind a text, right-aligned in so many columns.
 pub fn put_right(text: &mut [u8], at: usize, number: u64, width: usize) -> usize
-    requires { ⌜ width ≤ 20 ⌝ }
+    requires { ⌜ width ≤ mostDigits ⌝ }
     ensures { λ r. ⌜ (r ≡ behind (now (text .entry)) at (rightIn width (decimal number))) × (now (text .exit) ≡ withBytes (now (text .entry)) at (rightIn width (decimal number))) ⌝ }
 {
-    let mut spelled: [u8; 20] = [32; 20];
+    let mut spelled: [u8; MOST_DIGITS] = [32; MOST_DIGITS];
     let from = digits(&mut spelled, number);
-    if from < 20 - width {
+    if from < MOST_DIGITS - width {
         return put_bytes(text, at, &spelled[from..]);
     }
-    put_bytes(text, at, &spelled[20 - width..])
+    put_bytes(text, at, &spelled[MOST_DIGITS - width..])
 }
 
 // The decimal digits of a number behind a text.

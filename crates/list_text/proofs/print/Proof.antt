@@ -35,8 +35,14 @@ write-all-requires c κs = search needs
 returns : tie.Need-returns
 returns c = search needs
 
-say-lost-requires : tie.Need-say-lost-requires
-say-lost-requires c κs = search needs
+write-all-requires-2 : tie.Need-write-all-requires-2
+write-all-requires-2 c κs = search needs
+
+slice-aggregate-write-all-2 : tie.Need-slice-aggregate-write-all-2
+slice-aggregate-write-all-2 c = search needs
+
+write-all-requires-3 : tie.Need-write-all-requires-3
+write-all-requires-3 c κs = search needs
 
 returns-2 : tie.Need-returns-2
 returns-2 c = search needs
@@ -55,5 +61,7 @@ print-spec =
     slice-aggregate-write-all
     write-all-requires
     returns
-    say-lost-requires
+    write-all-requires-2
+    slice-aggregate-write-all-2
+    write-all-requires-3
     returns-2)
