@@ -3,17 +3,17 @@
 use mathlib.Core.Path.{_≡_, refl, ap}
 use mathlib.Core.Bool.{Bool, true, false}
 use mathlib.Core.List.{List, [], _∷_, _++_}
-use Prim.Native.Nat.{ℕ, _+_, _%_, _≤_}
+use Prim.Native.Nat.{ℕ, suc, _+_, _%_, _≤_}
 use native.Mathlib.Omega.{arith}
 use lib.Dec.{eqb}
 use lib.ListN.{length, length-append}
 use borrow.Author.Tests.{eq-eqb, ne-eqb}
 use Rattle.spec.specs.Basics.{pick}
-use Rattle.text.specs.Text.{decimal, rightIn, withBytes, behind, Writes}
+use Rattle.text.specs.Text.{mostDigits, decimal, rightIn, withBytes, behind, Writes}
 use Rattle.text.proofs.Decimals.{decimal-length}
 use Rattle.text.proofs.Texts.{put-writes, writes-none, writes-on}
 use Rattle.text.proofs.Columns.{right-length, column-length}
-use Rattle.list_lines.specs.Lines.{placeText, keyColumns, versionColumns, lengthColumns, pageRows, columnText, lineText, headingText, pageText, breakText, headText, entryText, entryMost}
+use Rattle.list_lines.specs.Lines.{placeText, keyColumns, versionColumns, lengthColumns, rowColumns, pageRows, columnText, lineText, headingText, pageText, breakText, headText, entryText, entryMost}
 
 -- ## Three pieces
 
@@ -58,7 +58,7 @@ place-length : (b : Bool) → length (placeText b) ≡ 3
 place-length true = refl
 place-length false = refl
 
-column-most : (paged : Bool) (width n : ℕ) → width ≤ 20 → length (columnText paged width n) ≤ 20
+column-most : (paged : Bool) (width n : ℕ) → width ≤ mostDigits → length (columnText paged width n) ≤ mostDigits
 column-most false width n l = decimal-length n
 column-most true width n l = column-length width n l
 
@@ -83,7 +83,7 @@ number-length xs n =
     let c = decimal-length n in
     omega arith
 
-pub heading-length : length headingText ≡ 37
+heading-length : length headingText ≡ suc rowColumns
 heading-length = ap length heading-is
 
 page-length : (row : ℕ) → length (pageText row) ≤ 38
@@ -113,7 +113,7 @@ head-length false n = let l = number-length (107 ∷ 101 ∷ 121 ∷ 115 ∷ 32 
 head-length true n = let h = heading-length in omega arith
 
 -- 36 COLUMNS and a newline, where the numbers fit theirs
-pub row-length : (key v n : ℕ) (b : Bool) → length (decimal key) ≤ keyColumns → length (decimal v) ≤ versionColumns → length (decimal n) ≤ lengthColumns → length (lineText true key v n b) ≡ 37
+pub row-length : (key v n : ℕ) (b : Bool) → length (decimal key) ≤ keyColumns → length (decimal v) ≤ versionColumns → length (decimal n) ≤ lengthColumns → length (lineText true key v n b) ≡ suc rowColumns
 row-length key v n b x y z =
     let l = line-length true key v n b in
     let p = right-length keyColumns (decimal key) x in

@@ -20,7 +20,7 @@ abbrev pub placeText : Bool → List ℕ
 placeText true = 32 ∷ 66 ∷ 10 ∷ []
 placeText false = 32 ∷ 76 ∷ 10 ∷ []
 
--- the sheet's columns, and the rows of a page
+-- the sheet's columns, those of a whole row, and the rows of a page
 abbrev pub keyColumns : ℕ
 keyColumns = 20
 
@@ -29,6 +29,9 @@ versionColumns = 7
 
 abbrev pub lengthColumns : ℕ
 lengthColumns = 5
+
+abbrev pub rowColumns : ℕ
+rowColumns = 36
 
 abbrev pub pageRows : ℕ
 pageRows = 50

@@ -37,7 +37,7 @@ use Rattle.listing.specs.declared.Listed.the-variants as L
 use Rattle.listing.specs.Listing.{presentKeys, listedOr, listedOf, isPresent}
 use Rattle.listing.proofs.Entries.{listed-present}
 use Rattle.listing.proofs.Slots.{keys-present}
-use Rattle.list_lines.specs.Lines.{pageRows, lineText, headingText, pageText}
+use Rattle.list_lines.specs.Lines.{rowColumns, pageRows, lineText, headingText, pageText}
 use Rattle.list_lines.proofs.Pieces.{row-length}
 use Rattle.list_text.specs.Print.{listedText, linesText, imageText}
 use Rattle.list_text.specs.Pages.{rowOf, rowsText, pageOf, Pages, One, More}
@@ -181,10 +181,10 @@ module _ (p : ℕ) (lo : 12 ≤ p) (hi : p ≤ 16) (n : ℕ) (ws : List ℕ) (es
           go false b2 u r = absurd (let z : _≡_ {A = ℕ} 0 1 = cc in omega arith)
 
   -- 36 columns and a newline
-  row-columns : (k : ℕ) → isPresent (listedOf ws es k) ≡ true → length (rowOf k (listedOf ws es k)) ≡ 37
+  row-columns : (k : ℕ) → isPresent (listedOf ws es k) ≡ true → length (rowOf k (listedOf ws es k)) ≡ suc rowColumns
   row-columns k h = go (listedOf ws es k) h (listed-small k)
     where
-      go : (l : Listed) → isPresent l ≡ true → ((v m : ℕ) (b : Bool) → l ≡ L.Present v m b → (v < 10000000) × (m < 100000)) → length (rowOf k l) ≡ 37
+      go : (l : Listed) → isPresent l ≡ true → ((v m : ℕ) (b : Bool) → l ≡ L.Present v m b → (v < 10000000) × (m < 100000)) → length (rowOf k l) ≡ suc rowColumns
       go (L.Refused r) q small = absurd (let z : _≡_ {A = ℕ} 0 1 = cc in omega arith)
       go (L.Present v m b) q small =
           let s = small v m b refl in
@@ -205,6 +205,6 @@ module _ (bytes : List ℕ) (words : ℕ) (es : List Entry) (accepted : opening 
   sheet-pages = rw accepted (pages ws es (length (presentKeys ws es)) (presentKeys ws es) (omega arith) (all-members ws es (presentKeys ws es) listed))
 
   -- EACH ROW has 36 columns and a newline
-  pub sheet-columns : (k : ℕ) → Mem k (presentKeys ws es) → length (rowOf k (listedOf ws es k)) ≡ 37
+  pub sheet-columns : (k : ℕ) → Mem k (presentKeys ws es) → length (rowOf k (listedOf ws es k)) ≡ suc rowColumns
   sheet-columns k m =
       row-columns basePower (omega arith) (omega arith) (chunksIn basePower (length bytes)) ws es (opens-ok basePower (omega arith) (omega arith) (length bytes) words ws es (length-wordsOf bytes) accepted .0) k (listed k m)

@@ -14,27 +14,27 @@ use lib.Seq.{take-set-le, take-take, drop-cons, drop-set-lt, getD-set-same}
 use borrow.Author.Tests.{eq-eqb, ne-eqb, eqb-true, le-leb}
 use Rattle.spec.specs.Basics.{pick}
 use Rattle.script.specs.Spelled.{isDigit, withDigit, spelled}
-use Rattle.text.specs.Text.{lastDigits, decimal, Digits}
+use Rattle.text.specs.Text.{lastDigits, mostDigits, decimal, Digits}
 
 -- ## One digit after the other
 
 -- the digits from place `from` on are written, and those of `rest` are to come; out₀ is the bytes at the begin
 pub record Spelling (out₀ : List ℕ) (number : ℕ) (out : List ℕ) (from rest : ℕ) : Type 0 where
-  pub sized : length out ≡ 20
-  pub start : from ≤ 20
+  pub sized : length out ≡ mostDigits
+  pub start : from ≤ mostDigits
   pub some : 1 ≤ from
   pub small : rest < 10 ^ from
   pub spells : lastDigits from rest ++ drop from out ≡ decimal number
   pub before : take from out ≡ take from out₀
 
-pub spelling-start : (number : ℕ) (out : List ℕ) → length out ≡ 20 → number < 0x1_0000_0000_0000_0000 → Spelling out number out 20 number
+pub spelling-start : (number : ℕ) (out : List ℕ) → length out ≡ mostDigits → number < 0x1_0000_0000_0000_0000 → Spelling out number out mostDigits number
 unfolding decimal
 spelling-start number out l b = record {
   sized = l;
   start = omega arith;
   some = omega arith;
   small = omega arith;
-  spells = ap (λ (d : List ℕ). lastDigits 20 number ++ d) (none out l) ∙ nothing (lastDigits 20 number);
+  spells = ap (λ (d : List ℕ). lastDigits mostDigits number ++ d) (none out l) ∙ nothing (lastDigits mostDigits number);
   before = refl;
 }
   where
@@ -46,8 +46,8 @@ spelling-start number out l b = record {
     empty [] e = refl
     empty (x ∷ xs) e = absurd (omega arith)
 
-    none : (xs : List ℕ) → length xs ≡ 20 → drop 20 xs ≡ []
-    none xs e = empty (drop 20 xs) (let d = length-drop 20 xs in omega arith)
+    none : (xs : List ℕ) → length xs ≡ mostDigits → drop mostDigits xs ≡ []
+    none xs e = empty (drop mostDigits xs) (let d = length-drop mostDigits xs in omega arith)
 
 module _ (out₀ : List ℕ) (number : ℕ) (out : List ℕ) (from f rest : ℕ) (e : from ≡ suc f) (h₀ : Spelling out₀ number out from rest) where
   h : Spelling out₀ number out (suc f) rest
@@ -140,7 +140,7 @@ last-read (suc d) n l b =
 -- THE LAW: what the digits spell is the number
 pub decimal-read : (n : ℕ) → n < 2 ^ 64 → spelled (decimal n) 0 ≡ n
 unfolding decimal
-decimal-read n b = last-read 20 n (omega arith) b
+decimal-read n b = last-read mostDigits n (omega arith) b
 
 -- ## How many
 
@@ -155,9 +155,9 @@ last-length (suc d) n =
     go true h = omega arith
     go false h = h
 
-pub decimal-length : (n : ℕ) → length (decimal n) ≤ 20
+pub decimal-length : (n : ℕ) → length (decimal n) ≤ mostDigits
 unfolding decimal
-decimal-length n = last-length 20 n
+decimal-length n = last-length mostDigits n
 
 -- a number below a power of ten has no more digits than that
 last-short : (d m n : ℕ) → n < 10 ^ suc m → length (lastDigits d n) ≤ suc m
@@ -174,4 +174,4 @@ last-short (suc d) m n l = by-cases (ℕ-discrete (n / 10) 0) (λ z. rw (eq-eqb 
 
 pub decimal-short : (m n : ℕ) → n < 10 ^ suc m → length (decimal n) ≤ suc m
 unfolding decimal
-decimal-short m n l = last-short 20 m n l
+decimal-short m n l = last-short mostDigits m n l

@@ -2,6 +2,7 @@
 use borrow.Author.Needs.{needs}
 use Prim.Native.Nat.{_-_}
 use native.Mathlib.Omega.{arith}
+use Rattle.text.specs.Text.{mostDigits}
 use Rattle.text.proofs.Columns.{column}
 use Rattle.text.proofs.put_right.Statement.{statement}
 use Rattle.text.proofs.put_right.Tie as tie
@@ -63,7 +64,7 @@ returns-2 c =
     let tested = put .before .before .before .before in
     let spelled = tested .before .before in
     let width = spelled .before .before .before .args .width in
-    let e = column _ _ _ width (20 - width) (spelled .digits .ensures) (let l = tested .if1 .left in omega arith) (let l = tested .if1 .left in omega arith) in
+    let e = column _ _ _ width (mostDigits - width) (spelled .digits .ensures) (let l = tested .if1 .left in omega arith) (let l = tested .if1 .left in omega arith) in
     (rw e at (put .put-bytes2 .ensures .0), rw e at (put .put-bytes2 .ensures .1))
 
 pub put-right-spec : {M : Type 1} → statement M
