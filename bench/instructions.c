@@ -77,6 +77,35 @@ static int looks_counted(size_t length)
     return sum != 0 ? LOOKS : 0;
 }
 
+// The same with versions: look-ups that hand them out, and puts for the version that stands, which is 1.
+static int versions_counted(size_t length)
+{
+    uint64_t start, size, version, sum = 0;
+    for (uint64_t k = 0; k < LOOKS; k++) {
+        batch(k, 1, length);
+    }
+    CALLGRIND_START_INSTRUMENTATION;
+    for (uint64_t k = 0; k < LOOKS; k++) {
+        sum += zkv_look_up_version(LENT, k * 0x9E3779B97F4A7C15u, &start, &size, &version) + start + size + version;
+    }
+    CALLGRIND_STOP_INSTRUMENTATION;
+    return sum != 0 ? LOOKS : 0;
+}
+
+static int named_counted(size_t length)
+{
+    for (uint64_t k = 0; k < KEYS; k++) {
+        batch(k, 1, length);
+    }
+    CALLGRIND_START_INSTRUMENTATION;
+    for (uint64_t i = 0; i < KEYS; i++) {
+        finish(zkv_put_at(LENT, 37 * i % KEYS * 0x9E3779B97F4A7C15u, value, length, 1).kind);
+        finish(zkv_commit(LENT).kind);
+    }
+    CALLGRIND_STOP_INSTRUMENTATION;
+    return KEYS;
+}
+
 static int opening_counted(void)
 {
     for (uint64_t k = 0; k < ENTRIES / 16; k++) {
@@ -104,6 +133,10 @@ int main(int count, char **words)
         operations = puts_counted(16, 16);
     } else if (strncmp(row, "look", 4) == 0) {
         operations = looks_counted((size_t)atoi(row + 4));
+    } else if (strncmp(row, "version", 7) == 0) {
+        operations = versions_counted((size_t)atoi(row + 7));
+    } else if (strncmp(row, "named", 5) == 0) {
+        operations = named_counted((size_t)atoi(row + 5));
     } else if (strcmp(row, "open") == 0) {
         operations = opening_counted();
     }

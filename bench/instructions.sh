@@ -31,6 +31,8 @@ put4088 put of 4,088 bytes, in a block
 batch16 batch of 16 puts of 16 bytes
 look16 look-up of a value in the log
 look4088 look-up of a value in a block
+version16 look-up of a value in the log with its version
+named16 put of 16 bytes for a version named, with its commit
 open opening, an entry
 END
 [ "${1:-}" != --keep ] || cp "$now" "$kept"

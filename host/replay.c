@@ -30,13 +30,16 @@ static uint8_t value[VALUE_ROOM];
 static bool cleaning;              /* the call begun last is a cleaning, and has not ended */
 
 /* A call with its arguments, to be made on the station and on its twins. */
-enum call { FORMAT, OPEN, PUT, DELETE, COMMIT, ABANDON, CHOOSE, CLEAN, STEP, LOOK };
+enum call { FORMAT, OPEN, PUT, PUT_AT, DELETE, DELETE_AT, COMMIT, ABANDON, CHOOSE, CLEAN, STEP, LOOK, LOOK_VERSION };
 
 struct asked {
     enum call call;
     uint64_t first, second;        /* key, value's length; chunk; station, centre */
     bool given[2];                 /* station, centre */
+    uint64_t version;              /* that a put or a delete is for */
 };
+
+static uint64_t looked;            /* the version that the look-up made last handed out */
 
 /* What it answers; of a look-up the number, and where the part is. */
 static zkv_report made(struct lent *l, struct asked a)
@@ -50,8 +53,12 @@ static zkv_report made(struct lent *l, struct asked a)
         return zkv_open(r, l->image, bytes, l->table, words);
     case PUT:
         return zkv_put(r, l->image, bytes, l->table, words, a.first, value, a.second);
+    case PUT_AT:
+        return zkv_put_at(r, l->image, bytes, l->table, words, a.first, value, a.second, a.version);
     case DELETE:
         return zkv_delete(r, l->image, bytes, l->table, words, a.first);
+    case DELETE_AT:
+        return zkv_delete_at(r, l->image, bytes, l->table, words, a.first, a.version);
     case COMMIT:
         return zkv_commit(r, l->image, bytes, l->table, words);
     case ABANDON:
@@ -64,6 +71,10 @@ static zkv_report made(struct lent *l, struct asked a)
         return zkv_step(r, l->image, bytes, l->table, words);
     case LOOK:
         found.kind = zkv_look_up(r, l->image, bytes, l->table, words, a.first, &found.first, &found.second);
+        return found;
+    case LOOK_VERSION:
+        looked = 1;
+        found.kind = zkv_look_up_version(r, l->image, bytes, l->table, words, a.first, &found.first, &found.second, &looked);
         return found;
     }
     abort();
@@ -150,9 +161,10 @@ static void follow(struct asked a, zkv_report r)
         if (!running[i]) {
             continue;
         }
+        uint64_t version = looked;
         zkv_report q = made(&twin[i], a);
         compared++;
-        unlike = unlike || !same(r, q) || !same_images(&now, &twin[i]) ||
+        unlike = unlike || !same(r, q) || looked != version || !same_images(&now, &twin[i]) ||
                  zkv_keys(&now.record) != zkv_keys(&twin[i].record) ||
                  (compared % SOME == 0 && !shown_alike(&now, &twin[i]));
     }
@@ -306,13 +318,13 @@ static void run(uint64_t most)
     answer(r);
 }
 
-static void look(uint64_t key)
+static void look(uint64_t key, bool with_version)
 {
-    zkv_report r = ask((struct asked){.call = LOOK, .first = key});
+    zkv_report r = ask((struct asked){.call = with_version ? LOOK_VERSION : LOOK, .first = key});
     uint64_t number = r.kind, start = r.first, length = r.second, sum = 0;
     if (number != 0) {
         printf("refused %" PRIu64 "\n", number);
-        if (!all_same() || start != 0 || length != 0) {
+        if (!all_same() || start != 0 || length != 0 || (with_version && looked != 0)) {
             puts("changed");
         }
         tell_twins();
@@ -325,7 +337,11 @@ static void look(uint64_t key)
     for (uint64_t i = 0; i < length; i++) {
         sum += (i + 1) * now.image[start + i];
     }
-    printf("value %" PRIu64 " %" PRIu64 " %" PRIu64 "\n", start, length, sum);
+    printf("value %" PRIu64 " %" PRIu64 " %" PRIu64, start, length, sum);
+    if (with_version) {
+        printf(" %" PRIu64, looked);
+    }
+    puts("");
     tell_twins();
 }
 
@@ -359,6 +375,14 @@ static bool number_of(const char *s, uint64_t *n)
     }
     *n = x;
     return true;
+}
+
+/* The value of a put: so many bytes, counted up from the first. */
+static void count_up(uint64_t length, uint64_t first)
+{
+    for (uint64_t i = 0; i < length; i++) {
+        value[i] = (uint8_t)(first + i);
+    }
 }
 
 /* Plays one line. Answers whether it is a command. */
@@ -431,12 +455,15 @@ static bool play(char *line)
         }
         tell_twins();
     } else if (COMMAND("put", 3) && n[1] <= VALUE_ROOM) {
-        for (uint64_t i = 0; i < n[1]; i++) {
-            value[i] = (uint8_t)(n[2] + i);
-        }
+        count_up(n[1], n[2]);
         answer(ask((struct asked){.call = PUT, .first = n[0], .second = n[1]}));
+    } else if (COMMAND("putat", 4) && n[2] <= VALUE_ROOM) {
+        count_up(n[2], n[3]);
+        answer(ask((struct asked){.call = PUT_AT, .first = n[0], .second = n[2], .version = n[1]}));
     } else if (COMMAND("delete", 1)) {
         answer(ask((struct asked){.call = DELETE, .first = n[0]}));
+    } else if (COMMAND("deleteat", 2)) {
+        answer(ask((struct asked){.call = DELETE_AT, .first = n[0], .version = n[1]}));
     } else if (COMMAND("commit", 0)) {
         answer(ask((struct asked){.call = COMMIT}));
     } else if (COMMAND("abandon", 0)) {
@@ -448,7 +475,9 @@ static bool play(char *line)
         cleaning = cleaning || r.kind == ZKV_BEGUN;
         answer(r);
     } else if (COMMAND("look", 1)) {
-        look(n[0]);
+        look(n[0], false);
+    } else if (COMMAND("lookv", 1)) {
+        look(n[0], true);
     } else if (COMMAND("step", 0)) {
         answer(step());
     } else if (COMMAND("run", 0)) {

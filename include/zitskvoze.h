@@ -25,12 +25,12 @@
  *
  * BEGUN CALLS AND STEPS
  *
- * A call that writes is begun (zkv_format, zkv_put, zkv_delete, zkv_commit, zkv_clean answer ZKV_BEGUN with a number of
- * actions a) and then stepped: exactly a + 1 calls of zkv_step, the last of which answers ZKV_END. Until then every
- * other call but an opening is refused with 8. A staging has 0 actions, so one step, but for a value of more than 256
- * bytes, which is written to a block of its own now: a store for the length and for each 8 bytes, a flush for each
- * line, and two actions more where a free chunk is taken. A commit of b lines has 9 b + 4 actions; a cleaning that
- * copies b lines has 9 b + 7, and 3 where it copies none; a formatting has 582.
+ * A call that writes is begun (zkv_format, zkv_put, zkv_put_at, zkv_delete, zkv_delete_at, zkv_commit, zkv_clean answer
+ * ZKV_BEGUN with a number of actions a) and then stepped: exactly a + 1 calls of zkv_step, the last of which answers
+ * ZKV_END. Until then every other call but an opening is refused with 8. A staging has 0 actions, so one step, but for
+ * a value of more than 256 bytes, which is written to a block of its own now: a store for the length and for each 8
+ * bytes, a flush for each line, and two actions more where a free chunk is taken. A commit of b lines has 9 b + 4
+ * actions; a cleaning that copies b lines has 9 b + 7, and 3 where it copies none; a formatting has 582.
  *
  * What a step answers, and what the host does before the next step:
  * - ZKV_STORE, first = word, second = value: nothing. The word at byte 8 * first of the image is already stored.
@@ -77,12 +77,18 @@
  * next power cut. zkv_make_room looks and does it: a host that calls it after each opening has kept the rule, and its
  * register is never stuck. An image that was made in another way may be stuck, or full, already.
  *
+ * Two windows that change one value: zkv_look_up_version hands out the version with the value, and zkv_put_at or
+ * zkv_delete_at stages for that version. It gets 17 where another has staged or committed an item of the key since:
+ * abandon or commit what is staged, look the key up again, change what it says now, and stage for the new version. A
+ * value that must not be there yet is put for version 0.
+ *
  * REFUSALS
  *
  * What was refused did not happen: a host looks at every answer. A refusal leaves image, table and record as they were;
  * but a refused opening zeroes the table and closes the record. The numbers are the enum zkv_refusal, in the order of
  * the rules; zkv_sentence gives the words. Where several apply, the answer of an opening is the lowest; of zkv_format 1
- * before 8; of the other calls the first in the order 2, 1, 8, 15, 9, 11, 12, 10, 7, 14, 16, 13.
+ * before 8; of the other calls the first in the order 2, 1, 8, 15, 9, 11, 17, 12, 10, 7, 14, 16,
+ * 13.
  *
  * CAVEATS, AND WHAT TO DO
  *
@@ -181,7 +187,8 @@ enum zkv_refusal {
     ZKV_NO_SPACE = 13,
     ZKV_NOTHING_STAGED = 14,
     ZKV_BATCH_STAGED = 15,
-    ZKV_NOT_CLEANABLE = 16
+    ZKV_NOT_CLEANABLE = 16,
+    ZKV_OTHER_VERSION = 17
 };
 
 /* The sentence of a refusal's number. It is in the archive too, for hosts in other languages. */
@@ -220,6 +227,8 @@ inline const char *zkv_sentence(uint64_t number)
         return "a batch is staged";
     case ZKV_NOT_CLEANABLE:
         return "the chunk cannot be cleaned, or none is worth it";
+    case ZKV_OTHER_VERSION:
+        return "the key's version is not the one named";
     default:
         return "no refusal has this number";
     }
@@ -297,10 +306,20 @@ zkv_report zkv_open(zkv_record *record, const uint8_t *image, size_t bytes, uint
 zkv_report zkv_put(zkv_record *record, const uint8_t *image, size_t bytes, const uint64_t *table, size_t words,
                    uint64_t key, const uint8_t *value, size_t length);
 
+/* The same for the version named: it is staged only if that is the key's highest version, staged items counted (0 for a
+ * key that is neither known nor staged; a deleted key that still has an entry has its delete's version). ZKV_BEGUN as
+ * zkv_put, or refused: 2, 1, 8, 9, 17, 12, 10, 7, 13. */
+zkv_report zkv_put_at(zkv_record *record, const uint8_t *image, size_t bytes, const uint64_t *table, size_t words,
+                      uint64_t key, const uint8_t *value, size_t length, uint64_t version);
+
 /* Begins staging a delete of a present key (staged items counted). One step ends it.
  * ZKV_BEGUN 0, or refused: 2, 1, 8, 11, 12, 10, 7. */
 zkv_report zkv_delete(zkv_record *record, const uint8_t *image, size_t bytes, const uint64_t *table, size_t words,
                       uint64_t key);
+
+/* The same for the version named, as zkv_put_at. ZKV_BEGUN 0, or refused: 2, 1, 8, 11, 17, 12, 10, 7. */
+zkv_report zkv_delete_at(zkv_record *record, const uint8_t *image, size_t bytes, const uint64_t *table, size_t words,
+                         uint64_t key, uint64_t version);
 
 /* Begins the commit of the staged items, in the order of their staging. ZKV_BEGUN 9 b + 4 for b lines, or refused:
  * 2, 1, 8, 14, 13. After 13 the items stay staged, and every later commit carries them: forget them by zkv_abandon, or
@@ -336,6 +355,11 @@ zkv_report zkv_run(zkv_record *record, uint8_t *image, size_t bytes, uint64_t *t
  * are unseen. An empty value is a part of length 0 and not a refusal. */
 uint64_t zkv_look_up(const zkv_record *record, const uint8_t *image, size_t bytes, const uint64_t *table, size_t words,
                      uint64_t key, uint64_t *start, uint64_t *length);
+
+/* The same, with the value's version in *version, 0 on a refusal: what zkv_put_at and zkv_delete_at are told. With an
+ * item of the key staged they want the version that this item gets, one above, and for each further item one more. */
+uint64_t zkv_look_up_version(const zkv_record *record, const uint8_t *image, size_t bytes, const uint64_t *table,
+                             size_t words, uint64_t key, uint64_t *start, uint64_t *length, uint64_t *version);
 
 /* Lists the present keys: 0, with the keys in rising order in `keys`, as far as its `room` words reach, and in *count
  * how many there are (ZKV_KEYS_MAX at most); the words behind them stay. Or the refusal's number 2, 1 or 8, with 0 in

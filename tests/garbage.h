@@ -43,10 +43,10 @@ static const char *kind_of_case = "", *call = "";
 static uint64_t case_number;
 
 /* How often each call was accepted and refused; each must have been both. */
-enum { FORMAT, OPEN, PUT, DELETE, COMMIT, ABANDON, CHOOSE, CLEAN, STEP, RUN, LOOK_UP, LIST, CALLS };
+enum { FORMAT, OPEN, PUT, PUT_AT, DELETE, DELETE_AT, COMMIT, ABANDON, CHOOSE, CLEAN, STEP, RUN, LOOK_UP, LOOK_UP_VERSION, LIST, CALLS };
 
-static const char *const call_name[CALLS] = {"format", "open", "put", "delete", "commit", "abandon",
-                                            "choose", "clean", "step", "run", "look_up", "list_keys"};
+static const char *const call_name[CALLS] = {"format", "open", "put", "put_at", "delete", "delete_at", "commit", "abandon",
+                                            "choose", "clean", "step", "run", "look_up", "look_up_version", "list_keys"};
 static uint64_t tally[CALLS][2];
 
 __attribute__((noreturn, format(printf, 1, 2))) static void fault(const char *format, ...)
@@ -214,7 +214,7 @@ static void record_kept(void)
 /* A refusal is one of the call's numbers, given as bits. */
 static void refused(uint64_t number, uint64_t numbers)
 {
-    if (number > 16 || !(numbers >> number & 1)) {
+    if (number > 17 || !(numbers >> number & 1)) {
         fault("refused with %" PRIu64, number);
     }
     image_kept();
@@ -408,25 +408,44 @@ static uint64_t some_key(void)
     return one_in(4) ? draw() : below(12);
 }
 
+/* Of a version that a key may have mostly, else any number. */
+static uint64_t some_version(void)
+{
+    return one_in(12) ? draw() : one_in(12) ? below(1 << 20) : below(3);
+}
+
 static void put_call(void)
 {
     static const size_t lengths[] = {0, 1, 7, 8, 9, 255, 256, 257, 4088, 4089, VALUE_MAX};
-    call = "zkv_put";
+    bool named = one_in(3);
+    call = named ? "zkv_put_at" : "zkv_put";
     place(&value, one_in(2) ? lengths[below(sizeof lengths / sizeof *lengths)] : below(300));
     wild(value.at, value.bytes);
     remember();
-    begun(PUT,
-          zkv_put(the_record(), image.at, image.bytes, the_table(), table_words(), some_key(), value.at, value.bytes), BLOCK_ACTIONS_MAX,
-          N(1) | N(2) | N(7) | N(8) | N(9) | N(10) | N(12) | N(13));
+    if (named) {
+        begun(PUT_AT,
+              zkv_put_at(the_record(), image.at, image.bytes, the_table(), table_words(), some_key(), value.at, value.bytes, some_version()),
+              BLOCK_ACTIONS_MAX, N(1) | N(2) | N(7) | N(8) | N(9) | N(10) | N(12) | N(13) | N(17));
+    } else {
+        begun(PUT,
+              zkv_put(the_record(), image.at, image.bytes, the_table(), table_words(), some_key(), value.at, value.bytes), BLOCK_ACTIONS_MAX,
+              N(1) | N(2) | N(7) | N(8) | N(9) | N(10) | N(12) | N(13));
+    }
     around(&value);
 }
 
 static void delete_call(void)
 {
-    call = "zkv_delete";
+    bool named = one_in(2);
+    call = named ? "zkv_delete_at" : "zkv_delete";
     remember();
-    begun(DELETE, zkv_delete(the_record(), image.at, image.bytes, the_table(), table_words(), some_key()), 0,
-          N(1) | N(2) | N(7) | N(8) | N(10) | N(11) | N(12));
+    if (named) {
+        begun(DELETE_AT, zkv_delete_at(the_record(), image.at, image.bytes, the_table(), table_words(), some_key(), some_version()), 0,
+              N(1) | N(2) | N(7) | N(8) | N(10) | N(11) | N(12) | N(17));
+    } else {
+        begun(DELETE, zkv_delete(the_record(), image.at, image.bytes, the_table(), table_words(), some_key()), 0,
+              N(1) | N(2) | N(7) | N(8) | N(10) | N(11) | N(12));
+    }
 }
 
 static void commit_call(void)
@@ -489,12 +508,14 @@ static void clean_call(uint64_t chunk)
 
 static void look_up_call(void)
 {
-    call = "zkv_look_up";
-    uint64_t *s = (uint64_t *)(void *)start.at, *l = (uint64_t *)(void *)length.at;
+    bool with_version = one_in(2);
+    call = with_version ? "zkv_look_up_version" : "zkv_look_up";
+    uint64_t *s = (uint64_t *)(void *)start.at, *l = (uint64_t *)(void *)length.at, v = 1;
     *s = *l = 1;
     remember();
-    uint64_t number = zkv_look_up(the_record(), image.at, image.bytes, the_table(), table_words(), some_key(), s, l);
-    tally[LOOK_UP][number != 0]++;
+    uint64_t number = with_version ? zkv_look_up_version(the_record(), image.at, image.bytes, the_table(), table_words(), some_key(), s, l, &v)
+                                   : zkv_look_up(the_record(), image.at, image.bytes, the_table(), table_words(), some_key(), s, l);
+    tally[with_version ? LOOK_UP_VERSION : LOOK_UP][number != 0]++;
     image_kept();
     table_kept();
     record_kept();
@@ -502,8 +523,8 @@ static void look_up_call(void)
         if (*s > image.bytes || *l > image.bytes - *s) {
             fault("a part outside the image");
         }
-    } else if (*s != 0 || *l != 0) {
-        fault("a refusal with a part that is not empty");
+    } else if (*s != 0 || *l != 0 || (with_version && v != 0)) {
+        fault("a refusal with a part that is not empty, or with a version");
     } else {
         refused(number, N(1) | N(2) | N(8) | N(11));
     }

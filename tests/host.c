@@ -61,6 +61,12 @@ static void write_labels(void)
     HOLD(zkv_list_keys(LENT, keys, 2, &count) == 0 && count == 2 && keys[0] == 5 && keys[1] == 4711);
     HOLD(zkv_list_key(LENT, 4711, &version, &length, &block) == 0 && version == 1 && length == 9 && block == 0);
     HOLD(ends(zkv_delete(LENT, 5)) && ends(zkv_commit(LENT)) && zkv_look_up(LENT, 5, &start, &length) == ZKV_KEY_ABSENT);
+    HOLD(zkv_look_up_version(LENT, 4711, &start, &length, &version) == 0 && length == 9 && version == 1);
+    HOLD(zkv_look_up_version(LENT, 5, &start, &length, &version) == ZKV_KEY_ABSENT && version == 0);
+    HOLD(zkv_put_at(LENT, 4711, label, 9, 0).first == ZKV_OTHER_VERSION && zkv_put_at(LENT, 5, label, 1, 0).first == ZKV_OTHER_VERSION);
+    HOLD(zkv_delete_at(LENT, 4711, 2).first == ZKV_OTHER_VERSION && zkv_delete_at(LENT, 5, 2).first == ZKV_KEY_ABSENT);
+    HOLD(ends(zkv_put_at(LENT, 4711, label, 9, 1)) && zkv_put_at(LENT, 4711, label, 9, 1).first == ZKV_OTHER_VERSION);
+    HOLD(ends(zkv_delete_at(LENT, 4711, 2)) && ends(zkv_put_at(LENT, 6, label, 9, 0)) && zkv_abandon(LENT).kind == ZKV_ABANDONED);
     HOLD(zkv_keys(&record) == 2 && zkv_free_chunks(file.image, file.bytes) == 2 && zkv_lines_used(file.image, file.bytes) == 2);
 }
 

@@ -22,7 +22,7 @@ from landed import CARDS                                                        
 import replay_model                                                             # noqa: E402
 from register_model import Image, Refused                                       # noqa: E402
 
-CALLS = ('format', 'open', 'put', 'delete', 'commit', 'abandon', 'choose', 'clean', 'look', 'step', 'run')
+CALLS = ('format', 'open', 'put', 'putat', 'delete', 'deleteat', 'commit', 'abandon', 'choose', 'clean', 'look', 'lookv', 'step', 'run')
 
 
 class Model(replay_model.Player):

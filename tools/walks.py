@@ -19,7 +19,7 @@ LATE = 'e-report .0 .within (e-late .0 (is-true r-late held))'
 LATE_STEP = f'(r-report, (({LATE} .0, e-report .1), e))'
 LATE_RUN = f'(r-report, ((((0, {LATE} .0), {LATE} .1), e-report .1), e))'
 SHORT = '(r-report, (e-report .within (e-short .0 (is-true r-short held)), e))'
-LONG = 'subst (Told (Does (Put x-key x-value) (memory x-s x-image x-table) (memory z-s x-image x-table))) (sym e) (e-answer .0, (e-answer .1 .0 .within (e-short .1 (is-false r-short failed)), e-answer .1 .1))'
+LONG = 'subst (Told (Does (Put Absent x-key x-value) (memory x-s x-image x-table) (memory z-s x-image x-table))) (sym e) (e-answer .0, (e-answer .1 .0 .within (e-short .1 (is-false r-short failed)), e-answer .1 .1))'
 RUNS = 'subst (Told (SetupKept RunsOn (memory x-s x-image x-table) (memory z-s z-image z-table))) (sym e) e-answer'
 STEPS = 'subst (Told (SetupKept (Does Step) (memory x-s x-image x-table) (memory z-s z-image z-table))) (sym e) e-answer'
 KEPT = '(e, refl)'
@@ -33,8 +33,10 @@ WALKS = [
     ('thin', 'store_run', 'run_rest', [KEPT], []),
     ('thin', 'store_run', 'run_staging', [KEPT], []),
     ('thin', 'store_stage', 'stage_delete', ['e'], []),
+    ('thin', 'store_stage', 'stage_delete_at', ['e'], []),
     ('thin', 'store_stage', 'stage_long', ['e'], []),
     ('thin', 'store_stage', 'stage_put', ['e'], []),
+    ('thin', 'store_stage', 'stage_put_at', ['e'], []),
     ('thin', 'store_stage', 'stage_short', ['e'], []),
     ('thin', 'store_step', 'step', [KEPT], []),
     ('thin', 'store_step', 'step_fast', [KEPT], []),
@@ -46,7 +48,7 @@ WALKS = [
     ('read', 'store_read', 'find', ['record { called = e .called (h .buffer); located = e .located; is-report = e .is-report; inside = e .inside }'], []),
     ('read', 'store_read', 'list_key', ['record { listed = e }'], []),
     ('read', 'store_read', 'list_keys', ['record { listed = e }'], []),
-    ('read', 'store_read', 'look_up', ['record { located = e .located; called = e .called (h .buffer); inside = e .inside; is-part = e .is-part; is-number = e .is-number }'], []),
+    ('read', 'store_read', 'look_up', ['record { located = e .located; called = e .called (h .buffer); inside = e .inside; is-part = e .is-part; is-number = e .is-number; is-version = e .is-version }'], []),
     ('calls', 'late_answers', 'run_any', [TOLD], []),
     ('calls', 'late_answers', 'run_other', [RUNS], ['use mathlib.Core.Path.{sym, subst}']),
     ('calls', 'late_answers', 'run_cleaning', [RUNS, RUNS], []),
@@ -60,16 +62,19 @@ WALKS = [
     ('calls', 'capi', 'zkv_clean', [TOLD], []),
     ('calls', 'capi', 'zkv_commit', [TOLD], []),
     ('calls', 'capi', 'zkv_delete', [TOLD], []),
+    ('calls', 'capi_versions', 'zkv_delete_at', [TOLD], []),
     ('calls', 'capi_read', 'zkv_empty_chunk', [TOLD], []),
     ('calls', 'capi', 'zkv_format', ['(r-report, ((rw (e-a, e-b) at e-report), e))'], []),
     ('calls', 'capi_read', 'zkv_keys', ['e'], []),
     ('calls', 'capi_read', 'zkv_list_key', [LISTED], []),
     ('calls', 'capi_read', 'zkv_list_keys', [LISTED], []),
     ('calls', 'capi_read', 'zkv_look_up', [TOLD], []),
+    ('calls', 'capi_versions', 'zkv_look_up_version', [TOLD], []),
     ('calls', 'capi', 'zkv_open', [TOLD], []),
     ('calls', 'put_answers', 'put_long', [TOLD], []),
     ('calls', 'put_answers', 'answer_put', [SHORT, LONG], []),
     ('calls', 'capi', 'zkv_put', ['e'], []),
+    ('calls', 'capi_versions', 'zkv_put_at', [TOLD], []),
     ('calls', 'run_answers', 'answer_run', [STAGING, RUNS], []),
     ('calls', 'capi', 'zkv_run', ['e'], []),
     ('calls', 'step_answers', 'answer_step', [FAST, STEPS], []),

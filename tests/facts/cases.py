@@ -4,7 +4,7 @@ import random
 from landed import RULES, Station, View
 from register_model import Book, Image, Item, MAX_VERSION, Medium, Refused, SIZES, WORD, block_size, capacity, first_word, format_actions, header_words, words_of
 
-from facts.codes import (Fact, actions_code, actions_text, call_text, entries_code, given_text, held_code, items_text, listed, of_entry, of_item, opening_code,
+from facts.codes import (Fact, actions_code, actions_text, call_text, entries_code, given_text, held_code, items_text, listed, named_in, of_entry, of_item, opening_code,
                          poked_text, refused, report_code, report_text, sum_of, words_text)
 from facts.images import (CHUNKS, LARGE, LENGTHS, accepted, crowded, cut_short, foreign, fresh, has_block_twins, has_live, has_twins, large_length, old_versions, ours,
                           pattern, pick_keys, put_words, some_damages, spare_sizes)
@@ -69,17 +69,17 @@ class Machine:
                 st.open(image, self.table)
                 return 'opened',
             if c[0] == 'put':
-                return 'begun', st.stage(image, c[1], pattern(c[2], c[3]))
+                return 'begun', st.stage(image, c[1], pattern(c[2], c[3]), named_in(c))
             if c[0] == 'delete':
-                return 'begun', st.stage(image, c[1], None)
+                return 'begun', st.stage(image, c[1], None, named_in(c))
             if c[0] == 'commit':
                 return 'begun', st.commit(image)
             if c[0] == 'abandon':
                 st.abandon(image)
                 return 'abandoned',
             if c[0] == 'look':
-                value = st.look_up(image, c[1])
-                return 'part', st.look_up_start(image, c[1]), len(value)
+                start, value, version = st.look(image, c[1])
+                return 'part', start, len(value), version
             if c[0] == 'choose':
                 return 'chosen', st.choose(image)
             if c[0] == 'clean':
@@ -159,8 +159,14 @@ class Machine:
 
 def any_call(rng, keys, count):
     k = rng.choice(keys)
-    return rng.choice([('put', k, 1, 3), ('delete', k), ('commit',), ('abandon',), ('look', k), ('choose',), ('clean', rng.randrange(count + 1)),
-                       ('format', None, 4), ('step',)])
+    return rng.choice([('put', k, 1, 3), ('delete', k), ('put', k, 1, 3, 1), ('delete', k, 1), ('commit',), ('abandon',), ('look', k), ('choose',),
+                       ('clean', rng.randrange(count + 1)), ('format', None, 4), ('step',)])
+
+
+def some_version(rng, m, k):
+    """None, or a version to name: mostly the one that stands, staged items counted."""
+    highest = m.st._highest(m.st.view(m.image()), k)
+    return rng.choice([None, None, highest, highest, max(0, highest - 1), highest + 1, 0])
 
 
 def begun(rng, m, keys, count):
@@ -177,9 +183,12 @@ def some_calls(rng, m, keys, count, turns, large):
     for _ in range(turns):
         x, k = rng.random(), rng.choice(keys)
         if x < .45:
-            m.do('put', k, rng.randrange(256), rng.choice([large_length(rng), 4089]) if large and rng.random() < .6 else rng.choice(LENGTHS + [257]))
+            v = some_version(rng, m, k)
+            c = 'put', k, rng.randrange(256), rng.choice([large_length(rng), 4089]) if large and rng.random() < .6 else rng.choice(LENGTHS + [257])
+            m.do(*c, *[] if v is None else [v])
         elif x < .6:
-            m.do('delete', k)
+            v = some_version(rng, m, k)
+            m.do('delete', k, *[] if v is None else [v])
         elif x < .8:
             m.do('commit')
         elif x < .85:
@@ -454,7 +463,7 @@ def meaning_facts(rng, sheet, v, keys, table):
         at = e.chunk * 512 + e.offset if e else 0
         start = (e.tail * 32 + 1) * 8 if e and e.block else (at + 2) * 8
         code = [e.version if e else 0, len(v.tops.get(k, [])), int(e is not None), at] + held_code(value)
-        parts.append((f'key {k}', code + report_code(('refused', 11) if value is None else ('part', start, len(value)))))
+        parts.append((f'key {k}', code + report_code(('refused', 11) if value is None else ('part', start, len(value), e.version))))
     sheet.add_parts('keys', f'keyCodes {listed(asked)} words {entries}', parts)
     some = rng.sample(asked, 2)
     sheet.add_parts('contents', f'each (λ k. heldCode (contents 12 {n} words k)) {listed(some)}', [(f'key {k}', held_code(v.look_up(k))) for k in some])
@@ -539,7 +548,8 @@ def call_facts(rng, sheet, ws, keys, table, n):
             st.format(ws, None, 3)
             del st.pending.actions[:rng.choice([582, 581, 579, 575])]
         k = rng.choice(keys + [UNKNOWN])
-        c = rng.choice([('put', k, 1, rng.choice([0, 3, 256, 257])), ('delete', k), ('commit',), ('abandon',), ('look', k), ('choose',),
+        n, named = rng.choice([0, 3, 256, 257]), rng.choice([0, 1, 2, 3])
+        c = rng.choice([('put', k, 1, n), ('put', k, 1, n, named), ('delete', k), ('delete', k, named), ('commit',), ('abandon',), ('look', k), ('choose',),
                         ('clean', rng.randrange(count + 2)), ('format', 9, None), ('step',), ('step',)])
         m = Machine(ws, table, rng.choice(LIMITS), st)
         if c[0] != 'format':
@@ -652,6 +662,11 @@ def example_sheet():
     calls('refusal-14', [0, 14], ('commit',))
     calls('refusal-15', [0, 15], ('clean', 1), one, [log])
     calls('refusal-16', [0, 16], ('clean', 0))
+    calls('refusal-17', [0, 17], put + (1,))
+    calls('refusal-17-delete', [0, 17], ('delete', 7, 2), one)
+    calls('named-0', [1, 0], put + (0,))
+    calls('named-staged', [1, 0], put + (1,), one)
+    calls('named-0-deleted', [0, 17], put + (0,), pokes=[log, (512, first_word(2, 0, 1, 0)), (513, 7)])
     calls('4080-bytes-delete', [1, 0], ('delete', 7), full)
     calls('4080-bytes-put', [0, 10], ('put', 7, 1, 256), full)
     m = Machine(empty, 64, 4088)
@@ -680,6 +695,8 @@ def order_sheet():
     s = Sheet('order', 'The order of refusals', ws)
     batches = {'none': [], 'delete': [Item(there, 2, 2)], 'full': [Item(there, 1, v, b'') for v in range(2, 18)]}
     calls = [('put', k, 1, n) for k in (spent, worn, there, new) for n in (3, 257, 4089)] + [('delete', k) for k in (spent, worn, gone, there, new)]
+    calls += [('put', k, 1, n, v) for k in (spent, there, new) for n in (3, 4089) for v in (0, 1, MAX_VERSION)]
+    calls += [('delete', k, v) for k in (spent, gone, there, new) for v in (0, 1, MAX_VERSION)]
     calls += [('commit',), ('abandon',), ('clean', 0), ('clean', 1), ('look', gone), ('format', None, None)]
     for name, items in batches.items():
         for c in calls:
@@ -804,13 +821,13 @@ def book_sheet(seed, count):
 
 def book_event(rng, keys, b, text):
     """One event more, in the model's book and in the text."""
-    k, f, n, x, no = rng.choice(keys), rng.randrange(256), rng.randrange(5), rng.random(), ('refused', rng.randrange(1, 17))
+    k, f, n, x, no = rng.choice(keys), rng.randrange(256), rng.randrange(5), rng.random(), ('refused', rng.randrange(1, 18))
     taken = rng.random() < .75
     if x < .78:
         if x < .3:
-            c, r, does = ('put', k, f, n), ('begun', rng.randrange(20)), lambda: b.staged(k, pattern(f, n))
+            c, r, does = rng.choice([('put', k, f, n), ('put', k, f, n, 1)]), ('begun', rng.randrange(20)), lambda: b.staged(k, pattern(f, n))
         elif x < .42:
-            c, r, does = ('delete', k), ('begun', 0), lambda: b.staged(k, None)
+            c, r, does = rng.choice([('delete', k), ('delete', k, 1)]), ('begun', 0), lambda: b.staged(k, None)
         elif x < .55:
             c, r, does = ('commit',), ('begun', 13), b.committed
         elif x < .6:
@@ -827,6 +844,6 @@ def book_event(rng, keys, b, text):
     if x < .92:
         assert b.opened(b.done(b.register, b.batch or []) if taken else b.register)
         return f'(noteOpen {"true" if taken else "false"} {text})'
-    c, r = rng.choice([(('look', k), ('part', 4112, 5)), (('look', k), no), (('choose',), ('chosen', 2)), (('choose',), no),
+    c, r = rng.choice([(('look', k), ('part', 4112, 5, 1)), (('look', k), no), (('choose',), ('chosen', 2)), (('choose',), no),
                        (('clean', 1), ('begun', 3)), (('clean', 1), no), (('format', None, 3), no), (('open',), no)])
     return f'(note {call_text(c)} {report_text(r)} {text})'

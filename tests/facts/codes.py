@@ -111,7 +111,7 @@ reportTag R.Idle = 6
 reportTag R.Opened = 7
 reportTag R.Abandoned = 8
 reportTag (R.Chosen c) = 9
-reportTag (R.Part a n) = 10
+reportTag (R.Part a n v) = 10
 
 abbrev pub reportCode : Report → List ℕ
 reportCode r = reportTag r ∷ numbersOf r
@@ -164,7 +164,7 @@ refusalCode k R.Idle = 2
 refusalCode k R.Opened = 2
 refusalCode k R.Abandoned = 2
 refusalCode k (R.Chosen c) = 2
-refusalCode k (R.Part a n) = 2
+refusalCode k (R.Part a n v) = 2
 
 abbrev pub barredCode : Option Report → List ℕ
 barredCode none = 0 ∷ []
@@ -278,7 +278,7 @@ use Rattle.spec.specs.declared.Report.the-variants as R
 '''
 
 REFUSALS = ['ImageLength', 'NotOpen', 'DirectoryWrong', 'EntryWrong', 'BlockWrong', 'TopsDisagree', 'TableFull', 'Unfinished',
-            'TooLong', 'BatchFull', 'KeyAbsent', 'VersionSpent', 'NoSpace', 'NothingStaged', 'BatchStaged', 'NotCleanable']
+            'TooLong', 'BatchFull', 'KeyAbsent', 'VersionSpent', 'NoSpace', 'NothingStaged', 'BatchStaged', 'NotCleanable', 'OtherVersion']
 
 REPORTS = ['refused', 'begun', 'store', 'flush', 'fence', 'end', 'idle', 'opened', 'abandoned', 'chosen', 'part']
 
@@ -390,10 +390,18 @@ def report_text(r):
     return '(' + ' '.join(['R.' + r[0].capitalize()] + [str(x) for x in r[1:]]) + ')'
 
 
+def named_in(c):
+    """The version that a put (key, first byte, length) or a delete (key) is for, behind its other numbers; None where it names none."""
+    own = {'put': 4, 'delete': 2}[c[0]]
+    return c[own] if len(c) > own else None
+
+
 def call_text(c):
     if c[0] == 'format':
         return f'(Format {given_text(c[1])} {given_text(c[2])})'
     if c[0] == 'put':
-        return f'(Put {c[1]} (pattern {c[2]} {c[3]}))'
+        return f'(Put {given_text(named_in(c))} {c[1]} (pattern {c[2]} {c[3]}))'
+    if c[0] == 'delete':
+        return f'(Delete {given_text(named_in(c))} {c[1]})'
     name = 'LookUp' if c[0] == 'look' else c[0].capitalize()
     return '(' + ' '.join([name] + [str(x) for x in c[1:]]) + ')'

@@ -11,8 +11,9 @@ use borrow.Author.Tests.{leb-true, ltb-true, le-leb, lt-leb, lt-ltb, le-ltb}
 use Rattle.spec.specs.Basics.{pick, both, negate}
 use Rattle.spec.specs.Log.{Entry}
 use Rattle.spec.specs.Contents.{highest, capacity}
-use Rattle.spec.specs.Plans.{Plan, Refuse, need, nextVersion, fitsBatch, fitsKeys, maxItems}
+use Rattle.spec.specs.Plans.{isNamed, fitsVersion, Plan, Refuse, need, nextVersion, fitsBatch, fitsKeys, maxItems}
 use Rattle.session.specs.declared.Control.{Control}
+use Rattle.spec.specs.declared.Given.{Given}
 use Rattle.spec.specs.declared.Refusal.{Refusal}
 use Rattle.spec.specs.declared.Refusal.the-variants as N
 use Rattle.theory_base.proofs.Lists.{both-l, both-r}
@@ -24,7 +25,7 @@ use Rattle.batch.proofs.Count.{isOld, freshWith, fits-keys}
 use Rattle.batch.proofs.Fits.{fits-batch}
 use Rattle.admitting.specs.declared.Admission.{Admission}
 use Rattle.admitting.specs.declared.Admission.the-variants as A
-use Rattle.admitting.specs.Admitting.{newKeys, admitOf}
+use Rattle.admitting.specs.Admitting.{admitNamed, newKeys, admitOf}
 
 -- an admission as a plan
 abbrev pub planBy : Admission → Plan → Plan
@@ -149,3 +150,50 @@ module _ (c : Control) (b : List ℕ) (n : ℕ) (ws : List ℕ) (es items : List
       go true true false = refl
       go true false t = refl
       go false w t = refl
+
+-- ## With a version named
+
+module _ (named : Given) (c : Control) (most version more room : ℕ) where
+  pub named-admitted : (fresh : ℕ) → admitNamed named c most version more room ≡ A.Admitted fresh → Admitting c most version more room fresh
+  unfolding admitNamed
+  named-admitted fresh h = go (isNamed named version) h
+    where
+      go : (t : Bool) → pick t (admitOf c most version more room) (A.Refused N.OtherVersion) ≡ A.Admitted fresh → Admitting c most version more room fresh
+      go true e = admitted c most version more room fresh e
+      go false e = absurd (let o : _≡_ {A = ℕ} 0 1 = cc in omega arith)
+
+  pub named-turned : {T : Type 0} (n : Refusal) → admitNamed named c most version more room ≡ A.Refused n → (n ≡ N.OtherVersion) ⊎ ((n ≡ N.VersionSpent) ⊎ ((n ≡ N.BatchFull) ⊎ ((n ≡ N.TableFull) ⊎ T)))
+  unfolding admitNamed
+  named-turned {T} n h = go (isNamed named version) h
+    where
+      go : (t : Bool) → pick t (admitOf c most version more room) (A.Refused N.OtherVersion) ≡ A.Refused n → (n ≡ N.OtherVersion) ⊎ ((n ≡ N.VersionSpent) ⊎ ((n ≡ N.BatchFull) ⊎ ((n ≡ N.TableFull) ⊎ T)))
+      go true e = inr (turned c most version more room n e)
+      go false e = inl cc
+
+  -- what the code shows
+  pub named-yes : (a : Admission) → isNamed named version ≡ true → a ≡ admitOf c most version more room → a ≡ admitNamed named c most version more room
+  unfolding admitNamed
+  named-yes a h e = e ∙ sym (rw h)
+
+  pub named-no : isNamed named version ≡ false → A.Refused N.OtherVersion ≡ admitNamed named c most version more room
+  unfolding admitNamed
+  named-no h = sym (rw h)
+
+  pub named-room : (words : ℕ) (a : Admission) → room ≡ tableRoom words → a ≡ admitNamed named c most version more room → a ≡ admitNamed named c most version more (capacity words)
+  named-room words a r e = e ∙ ap (admitNamed named c most version more) (r ∙ sym (capacity-same words))
+
+module _ (named : Given) (c : Control) (b : List ℕ) (n : ℕ) (ws : List ℕ) (es items : List Entry) (fits : BatchFits c b n ws es items) (most key version more table : ℕ)
+    (highest-is : version ≡ highest key (es ++ items)) (old-is : isOld key es items ≡ negate (eqb version 0)) where
+  pub plan-named : (q : Plan)
+      → need (fitsVersion named key es items) N.OtherVersion
+      (need (leb (nextVersion key es items) most) N.VersionSpent (need (fitsBatch items more) N.BatchFull (need (fitsKeys table es items key) N.TableFull q)))
+      ≡ planBy (admitNamed named c most version more (capacity table)) q
+  unfolding admitNamed
+  plan-named q =
+      ap (λ (h : ℕ). need (isNamed named h) N.OtherVersion (need (leb (nextVersion key es items) most) N.VersionSpent (need (fitsBatch items more) N.BatchFull (need (fitsKeys table es items key) N.TableFull q)))) (sym highest-is)
+      ∙ go (isNamed named version)
+    where
+      go : (t : Bool) → need t N.OtherVersion (need (leb (nextVersion key es items) most) N.VersionSpent (need (fitsBatch items more) N.BatchFull (need (fitsKeys table es items key) N.TableFull q)))
+          ≡ planBy (pick t (admitOf c most version more (capacity table)) (A.Refused N.OtherVersion)) q
+      go true = plan-admits c b n ws es items fits most key version more table highest-is old-is q
+      go false = refl

@@ -8,10 +8,11 @@ use lib.Dec.{eqb, leb, ltb}
 use lib.ListN.{getD}
 use Rattle.spec.specs.Basics.{pick, both}
 use Rattle.spec.specs.Log.{Entry, firstOf}
-use Rattle.spec.specs.Plans.{maxItems}
+use Rattle.spec.specs.Plans.{isNamed, maxItems}
 use Rattle.session.specs.declared.Control.{Control}
 use Rattle.spec.specs.declared.FirstWord.{FirstWord}
 use Rattle.spec.specs.declared.FirstWord.the-variants as F
+use Rattle.spec.specs.declared.Given.{Given}
 use Rattle.spec.specs.declared.Refusal.the-variants as N
 use Rattle.index.specs.Index.{get}
 use Rattle.index.specs.Packed.{unpackOf}
@@ -59,3 +60,7 @@ admitOf c most version more room =
     (pick (leb (c .keys + (c .fresh + newKeys version)) room) (A.Admitted (c .fresh + newKeys version)) (A.Refused N.TableFull))
     (A.Refused N.BatchFull))
     (A.Refused N.VersionSpent)
+
+-- 17 before them, where a version is named
+unfoldable pub admitNamed : Given → Control → ℕ → ℕ → ℕ → ℕ → Admission
+admitNamed named c most version more room = pick (isNamed named version) (admitOf c most version more room) (A.Refused N.OtherVersion)

@@ -3,10 +3,12 @@ ghost use mathlib.Core.Path.{_≡_};
 ghost use lib.ListN.{getD};
 ghost use Rattle.spec.specs.Words.{wordsOf};
 ghost use Rattle.spec.specs.Log.{firstOf};
-ghost use Rattle.admitting.specs.Admitting.{NewestOf, VersionOf, putIn, presentBy, newKeys, admitOf};
+ghost use Rattle.spec.specs.Plans.{isNamed};
+ghost use Rattle.admitting.specs.Admitting.{admitNamed, NewestOf, VersionOf, putIn, presentBy, newKeys, admitOf};
 use blocks::Buffer;
 use session::Control;
 use spec::FirstWord;
+use spec::Given;
 use spec::Refusal;
 
 // What is known of a key: the highest version, staged items counted, 0 where it has none; whether it is staged, and
@@ -103,7 +105,7 @@ fn new_keys(version: u64) -> usize
 
 // 12, 10, 7 for an item of `more` words whose version is at most `most`, where a table holds `room` keys; `version` is
 // the key's highest so far.
-pub fn admit(control: Control, most: u64, version: u64, more: usize, room: usize) -> Admission
+fn admit_any(control: Control, most: u64, version: u64, more: usize, room: usize) -> Admission
     ensures { λ r. ⌜ r ≡ admitOf control most version more room ⌝ }
 {
     if most <= version {
@@ -133,4 +135,31 @@ pub fn admit(control: Control, most: u64, version: u64, more: usize, room: usize
         return Admission::Refused(Refusal::TableFull);
     }
     Admission::Admitted(fresh + new)
+}
+
+// 17: whether a key's highest version is the one that a staging names, if it names one.
+fn is_named(named: Given, version: u64) -> bool
+    ensures { λ r. ⌜ r ≡ isNamed named version ⌝ }
+{
+    match named {
+        Given::Number(n) => n == version,
+        Given::Absent => true,
+    }
+}
+
+// 17, 12, 10, 7.
+pub fn admit(
+    control: Control,
+    named: Given,
+    most: u64,
+    version: u64,
+    more: usize,
+    room: usize,
+) -> Admission
+    ensures { λ r. ⌜ r ≡ admitNamed named control most version more room ⌝ }
+{
+    if is_named(named, version) {
+        return admit_any(control, most, version, more, room);
+    }
+    Admission::Refused(Refusal::OtherVersion)
 }

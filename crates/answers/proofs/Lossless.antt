@@ -1,4 +1,5 @@
--- Nothing of a report is lost in its three numbers: the report can be read back from them.
+-- Nothing of a report is lost in its three numbers but for a part's version, which a look-up tells apart from them: the
+-- report can be read back from numbers and version.
 -- Assumes nothing.
 use mathlib.Core.Path.{_≡_, refl, sym, ap, _∙_}
 use mathlib.Core.List.{List, [], _∷_}
@@ -9,7 +10,7 @@ use Rattle.spec.specs.declared.Refusal.the-variants as N
 use Rattle.spec.specs.declared.Report.{Report}
 use Rattle.spec.specs.declared.Report.the-variants as R
 use Rattle.answers.specs.declared.Answer.{Answer}
-use Rattle.answers.specs.Answers.{answerOf}
+use Rattle.answers.specs.Answers.{answerOf, versionIn}
 
 abbrev nth : {A : Type 0} → A → List A → ℕ → A
 nth d [] i = d
@@ -19,7 +20,7 @@ nth d (x ∷ xs) (suc i) = nth d xs i
 -- the refusal of a number
 abbrev refusalOf : ℕ → Refusal
 refusalOf n =
-    nth N.NotCleanable
+    nth N.OtherVersion
     (N.ImageLength
     ∷ N.NotOpen
     ∷ N.DirectoryWrong
@@ -35,12 +36,13 @@ refusalOf n =
     ∷ N.NoSpace
     ∷ N.NothingStaged
     ∷ N.BatchStaged
+    ∷ N.NotCleanable
     ∷ [])
     (n - 1)
 
--- the report of a kind and two values
-abbrev reportOf : Answer → Report
-reportOf a =
+-- the report of a kind, two values and a version
+abbrev reportOf : Answer → ℕ → Report
+reportOf a version =
     nth R.Idle
     (R.Refused (refusalOf (a .first))
     ∷ R.Begun (a .first)
@@ -52,7 +54,7 @@ reportOf a =
     ∷ R.Opened
     ∷ R.Abandoned
     ∷ R.Chosen (a .first)
-    ∷ R.Part (a .first) (a .second)
+    ∷ R.Part (a .first) (a .second) version
     ∷ [])
     (a .kind)
 
@@ -73,8 +75,9 @@ refusal-read N.NoSpace = refl
 refusal-read N.NothingStaged = refl
 refusal-read N.BatchStaged = refl
 refusal-read N.NotCleanable = refl
+refusal-read N.OtherVersion = refl
 
-pub report-read : (r : Report) → reportOf (answerOf r) ≡ r
+pub report-read : (r : Report) → reportOf (answerOf r) (versionIn r) ≡ r
 report-read (R.Refused n) = ap R.Refused (refusal-read n)
 report-read (R.Begun a) = refl
 report-read (R.Store w v) = refl
@@ -85,8 +88,8 @@ report-read R.Idle = refl
 report-read R.Opened = refl
 report-read R.Abandoned = refl
 report-read (R.Chosen c) = refl
-report-read (R.Part a n) = refl
+report-read (R.Part a n v) = refl
 
--- Two reports with the same numbers are the same.
-pub answer-injective : (r r′ : Report) → answerOf r ≡ answerOf r′ → r ≡ r′
-answer-injective r r′ e = sym (report-read r) ∙ ap reportOf e ∙ report-read r′
+-- Two reports with the same numbers and version are the same.
+pub answer-injective : (r r′ : Report) → answerOf r ≡ answerOf r′ → versionIn r ≡ versionIn r′ → r ≡ r′
+answer-injective r r′ e v = sym (report-read r) ∙ ap (λ (a : Answer). reportOf a (versionIn r)) e ∙ ap (reportOf (answerOf r′)) v ∙ report-read r′

@@ -20,7 +20,8 @@ use Rattle.answers.specs.declared.Answer.{Answer}
 abbrev pub answer : ℕ → ℕ → ℕ → Answer
 answer kind first second = record { kind = kind; first = first; second = second }
 
--- A report's kind, and its values as the rules give them (`Reports.numbersOf`), 0 where it has none.
+-- A report's kind, and its values as the rules give them (`Reports.numbersOf`), 0 where it has none; a part's
+-- version is told by `VersionShown` alone.
 abbrev pub kindIn : Report → ℕ
 kindIn (R.Refused n) = 0
 kindIn (R.Begun a) = 1
@@ -32,7 +33,7 @@ kindIn R.Idle = 6
 kindIn R.Opened = 7
 kindIn R.Abandoned = 8
 kindIn (R.Chosen c) = 9
-kindIn (R.Part a n) = 10
+kindIn (R.Part a n v) = 10
 
 abbrev pub answerOf : Report → Answer
 answerOf r = answer (kindIn r) (getD (numbersOf r) 0 0) (getD (numbersOf r) 1 0)
@@ -73,6 +74,26 @@ ShownBy r number start length = (number ≡ numberIn r) × ((start ≡ startIn r
 -- The numbers are those of a report of which P holds.
 abbrev pub Shown : (Report → Type 0) → ℕ → ℕ → ℕ → Type 0
 Shown P number start length = (r : Report) × (P r × ShownBy r number start length)
+
+-- The same with the version of the value, 0 where there is none.
+abbrev pub versionIn : Report → ℕ
+versionIn (R.Refused n) = 0
+versionIn (R.Begun a) = 0
+versionIn (R.Store w v) = 0
+versionIn (R.Flush l) = 0
+versionIn R.Fence = 0
+versionIn (R.End n) = 0
+versionIn R.Idle = 0
+versionIn R.Opened = 0
+versionIn R.Abandoned = 0
+versionIn (R.Chosen c) = 0
+versionIn (R.Part a n v) = v
+
+abbrev pub VersionShown : Report → ℕ → ℕ → ℕ → ℕ → Type 0
+VersionShown r number start length version = ShownBy r number start length × (version ≡ versionIn r)
+
+abbrev pub ShownWith : (Report → Type 0) → ℕ → ℕ → ℕ → ℕ → Type 0
+ShownWith P number start length version = (r : Report) × (P r × VersionShown r number start length version)
 
 -- A listing's numbers: 0 or the refusal's number, and how many keys are present, 0 on a refusal.
 abbrev pub CountedBy : Counted → ℕ → ℕ → Type 0

@@ -1,7 +1,7 @@
 // Reports, counts and what is listed of a key in plain numbers, for hosts in C: an exported function neither takes nor
 // returns an enum.
 ghost use mathlib.Core.Path.{_≡_};
-ghost use Rattle.answers.specs.Answers.{answerOf, isGiven, ShownBy, CountedBy, bit, ListedBy};
+ghost use Rattle.answers.specs.Answers.{answerOf, isGiven, ShownBy, VersionShown, CountedBy, bit, ListedBy};
 use listing::Counted;
 use listing::Listed;
 use spec::Refusal;
@@ -15,8 +15,8 @@ pub struct Answer {
     pub second: u64,
 }
 
-// The numbers of a report; a refusal has that of the rules' table. Two different reports have different numbers
-// (proofs/Lossless.antt).
+// The numbers of a report; a refusal has that of the rules' table. Two different reports have different numbers,
+// but for a part's version, for which there is `shown_with` (proofs/Lossless.antt).
 pub fn told(report: Report) -> Answer
     ensures { λ r. ⌜ r ≡ answerOf report ⌝ }
 {
@@ -71,7 +71,11 @@ pub fn told(report: Report) -> Answer
             first: chunk as u64,
             second: 0,
         },
-        Report::Part { start, length } => Answer {
+        Report::Part {
+            start,
+            length,
+            version: _,
+        } => Answer {
             kind: 10,
             first: start as u64,
             second: length as u64,
@@ -119,6 +123,7 @@ pub fn shown(report: Report, start: &mut u64, length: &mut u64) -> u64
         Report::Part {
             start: a,
             length: n,
+            version: _,
         } => {
             *length = n as u64;
             *start = a as u64;
@@ -127,6 +132,44 @@ pub fn shown(report: Report, start: &mut u64, length: &mut u64) -> u64
         _ => {
             *start = 0;
             *length = 0;
+            0
+        }
+    }
+}
+
+// The same, with the value's version, 0 where there is none.
+pub fn shown_with(report: Report, start: &mut u64, length: &mut u64, version: &mut u64) -> u64
+    ensures { λ r. ⌜ VersionShown report r (now (start .exit)) (now (length .exit)) (now (version .exit)) ⌝ }
+{
+    match report {
+        Report::Refused(n) => match n {
+            Refusal::KeyAbsent => {
+                *version = 0;
+                *length = 0;
+                *start = 0;
+                11
+            }
+            _ => {
+                *start = 0;
+                *length = 0;
+                *version = 0;
+                session::number(n)
+            }
+        },
+        Report::Part {
+            start: at,
+            length: n,
+            version: v,
+        } => {
+            *version = v;
+            *length = n as u64;
+            *start = at as u64;
+            0
+        }
+        _ => {
+            *start = 0;
+            *length = 0;
+            *version = 0;
             0
         }
     }

@@ -1,7 +1,9 @@
 // The public calls that change a register, for a host in C: each stands for the call whose contract it cites, with
 // plain numbers in and out. A slice is a pointer and a count, the record a pointer, an `Answer` a struct of three
-// 64-bit numbers. None has a `requires`. The calls that only read are in `capi_read`.
+// 64-bit numbers. None has a `requires`. The calls that only read are in `capi_read`, those for a version
+// named in `capi_versions`.
 ghost use Rattle.spec.specs.Machine.{Format, Open, Put, Delete, Commit, Abandon, Clean, Step};
+ghost use Rattle.spec.specs.declared.Given.the-variants.{Absent};
 ghost use Rattle.formatting.specs.Begun.{given};
 ghost use Rattle.fast_path.specs.Run.{RunsOn};
 ghost use Rattle.answers.specs.Answers.{Told, isGiven};
@@ -47,7 +49,7 @@ pub extern "C" fn zkv_put(
     key: u64,
     value: &[u8],
 ) -> Answer
-    ensures { λ r. ⌜ Told (Does (Put key (now (value .entry))) (memory (now (s .entry)) (now (image .entry)) (now (table .entry))) (memory (now (s .exit)) (now (image .entry)) (now (table .entry)))) r ⌝ }
+    ensures { λ r. ⌜ Told (Does (Put Absent key (now (value .entry))) (memory (now (s .entry)) (now (image .entry)) (now (table .entry))) (memory (now (s .exit)) (now (image .entry)) (now (table .entry)))) r ⌝ }
 {
     put_answers::answer_put(s, image, table, key, value)
 }
@@ -55,7 +57,7 @@ pub extern "C" fn zkv_put(
 // Begins staging a delete (`store_stage::stage_delete`).
 #[no_mangle]
 pub extern "C" fn zkv_delete(s: &mut Session, image: &[u8], table: &[u64], key: u64) -> Answer
-    ensures { λ r. ⌜ Told (Does (Delete key) (memory (now (s .entry)) (now (image .entry)) (now (table .entry))) (memory (now (s .exit)) (now (image .entry)) (now (table .entry)))) r ⌝ }
+    ensures { λ r. ⌜ Told (Does (Delete Absent key) (memory (now (s .entry)) (now (image .entry)) (now (table .entry))) (memory (now (s .exit)) (now (image .entry)) (now (table .entry)))) r ⌝ }
 {
     let report = store_stage::stage_delete(s, image, table, key);
     answers::told(report)

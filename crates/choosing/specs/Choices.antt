@@ -98,7 +98,7 @@ ChosenIn n R.Idle = ⊥
 ChosenIn n R.Opened = ⊥
 ChosenIn n R.Abandoned = ⊥
 ChosenIn n (R.Chosen c) = (1 ≤ c) × (c < n)
-ChosenIn n (R.Part a m) = ⊥
+ChosenIn n (R.Part a m v) = ⊥
 
 pub record Choosing (c : Control) (k : Setup) (b bytes table : List ℕ) (r : Report) : Type 0 where
   pub called : Does Choose (memory (sessionOf c k b) bytes table) (memory (sessionOf c k b) bytes table) r

@@ -61,7 +61,7 @@ rows =
     -- 2: no register open; a formatting begun without one
     ask (LookUp 7) Closed image 16384 64 is Refused 2
     ∷ ask (LookUp 7) (Formatting false 16384 64 []) image 16384 64 is Refused 2
-    ∷ on [] [] (LookUp 7) is Words (4112 ∷ 5 ∷ [])
+    ∷ on [] [] (LookUp 7) is Words (4112 ∷ 5 ∷ 1 ∷ [])
     -- 1: a lent length unlike that at opening, or at a formatting's begin; an idle step looks at no length
     ∷ ask (LookUp 7) (Rest 16384 64 []) image 20480 64 is Refused 1
     ∷ ask (LookUp 7) (Rest 16384 64 []) image 16384 63 is Refused 1
@@ -81,51 +81,72 @@ rows =
     ∷ ask (Format G.Absent G.Absent) (Formatting false 16384 64 []) image 16384 64 is Refused 8
     ∷ ask Open committing image 16384 64 is Accepted
     -- 9: value too long
-    ∷ onEmpty [] [] (Put 7 (large 4089)) is Refused 9
-    ∷ onEmpty [] [] (Put 7 (large 4088)) is Begun 578
+    ∷ onEmpty [] [] (Put G.Absent 7 (large 4089)) is Refused 9
+    ∷ onEmpty [] [] (Put G.Absent 7 (large 4088)) is Begun 578
     -- 10: a 17th item
-    ∷ onEmpty (puts 16) [] (Put 17 []) is Refused 10
-    ∷ onEmpty (puts 15) [] (Put 17 []) is Begun 0
-    ∷ onEmpty (puts 16) [] (Delete 7) is Refused 10
-    ∷ onEmpty (puts 15) [] (Delete 7) is Begun 0
+    ∷ onEmpty (puts 16) [] (Put G.Absent 17 []) is Refused 10
+    ∷ onEmpty (puts 15) [] (Put G.Absent 17 []) is Begun 0
+    ∷ onEmpty (puts 16) [] (Delete G.Absent 7) is Refused 10
+    ∷ onEmpty (puts 15) [] (Delete G.Absent 7) is Begun 0
     -- 11: key absent; for a delete staged items are counted, for a look-up they are unseen
-    ∷ onEmpty [] [] (Delete 5) is Refused 11
-    ∷ onEmpty (put 1 5 ∷ []) [] (Delete 5) is Begun 0
-    ∷ on [] [] (Delete 5) is Refused 11
-    ∷ on [] [] (Delete 7) is Begun 0
-    ∷ on (delete 2 7 ∷ []) [] (Delete 7) is Refused 11
-    ∷ on (delete 2 7 ∷ put 3 7 ∷ []) [] (Delete 7) is Begun 0
+    ∷ onEmpty [] [] (Delete G.Absent 5) is Refused 11
+    ∷ onEmpty (put 1 5 ∷ []) [] (Delete G.Absent 5) is Begun 0
+    ∷ on [] [] (Delete G.Absent 5) is Refused 11
+    ∷ on [] [] (Delete G.Absent 7) is Begun 0
+    ∷ on (delete 2 7 ∷ []) [] (Delete G.Absent 7) is Refused 11
+    ∷ on (delete 2 7 ∷ put 3 7 ∷ []) [] (Delete G.Absent 7) is Begun 0
     ∷ on [] [] (LookUp 5) is Refused 11
     ∷ on (put 3 5 ∷ delete 2 7 ∷ []) [] (LookUp 5) is Refused 11
-    ∷ on (put 3 5 ∷ delete 2 7 ∷ []) [] (LookUp 7) is Words (4112 ∷ 5 ∷ [])
+    ∷ on (put 3 5 ∷ delete 2 7 ∷ []) [] (LookUp 7) is Words (4112 ∷ 5 ∷ 1 ∷ [])
     -- 12: a put's version would pass 1,048,574, a delete's 1,048,575; staged ones counted
-    ∷ on [] (512 becomes first 1 0 1048574 5 ∷ []) (Put 7 []) is Refused 12
-    ∷ on [] (512 becomes first 1 0 1048573 5 ∷ []) (Put 7 []) is Begun 0
-    ∷ on [] (512 becomes first 1 0 1048574 5 ∷ []) (Put 7 (large 505)) is Refused 12
-    ∷ on [] (512 becomes first 1 0 1048573 5 ∷ []) (Put 7 (large 505)) is Begun 74
-    ∷ on (put 1048574 7 ∷ []) (512 becomes first 1 0 1048573 5 ∷ []) (Put 7 []) is Refused 12
-    ∷ on (delete 1048573 7 ∷ []) (512 becomes first 1 0 1048572 5 ∷ []) (Put 7 []) is Begun 0
-    ∷ on [] (512 becomes first 1 0 1048574 5 ∷ []) (Delete 7) is Begun 0
-    ∷ on (put 1048574 7 ∷ []) (512 becomes first 1 0 1048573 5 ∷ []) (Delete 7) is Begun 0
+    ∷ on [] (512 becomes first 1 0 1048574 5 ∷ []) (Put G.Absent 7 []) is Refused 12
+    ∷ on [] (512 becomes first 1 0 1048573 5 ∷ []) (Put G.Absent 7 []) is Begun 0
+    ∷ on [] (512 becomes first 1 0 1048574 5 ∷ []) (Put G.Absent 7 (large 505)) is Refused 12
+    ∷ on [] (512 becomes first 1 0 1048573 5 ∷ []) (Put G.Absent 7 (large 505)) is Begun 74
+    ∷ on (put 1048574 7 ∷ []) (512 becomes first 1 0 1048573 5 ∷ []) (Put G.Absent 7 []) is Refused 12
+    ∷ on (delete 1048573 7 ∷ []) (512 becomes first 1 0 1048572 5 ∷ []) (Put G.Absent 7 []) is Begun 0
+    ∷ on [] (512 becomes first 1 0 1048574 5 ∷ []) (Delete G.Absent 7) is Begun 0
+    ∷ on (put 1048574 7 ∷ []) (512 becomes first 1 0 1048573 5 ∷ []) (Delete G.Absent 7) is Begun 0
     -- 12: an older image has a put at the last version: it is read, and neither put nor deleted
-    ∷ on [] (512 becomes first 1 0 1048575 5 ∷ []) (Put 7 []) is Refused 12
-    ∷ on [] (512 becomes first 1 0 1048575 5 ∷ []) (Delete 7) is Refused 12
-    ∷ on [] (512 becomes first 1 0 1048575 5 ∷ []) (LookUp 7) is Words (4112 ∷ 5 ∷ [])
+    ∷ on [] (512 becomes first 1 0 1048575 5 ∷ []) (Put G.Absent 7 []) is Refused 12
+    ∷ on [] (512 becomes first 1 0 1048575 5 ∷ []) (Delete G.Absent 7) is Refused 12
+    ∷ on [] (512 becomes first 1 0 1048575 5 ∷ []) (LookUp 7) is Words (4112 ∷ 5 ∷ 1048575 ∷ [])
     ∷ on [] (512 becomes first 1 0 1048575 5 ∷ []) Open is Accepted
     -- 12: deleted at the last version: a delete gets 11
-    ∷ on [] (517 becomes first 2 0 1048575 0 ∷ []) (Put 5 []) is Refused 12
-    ∷ on [] (517 becomes first 2 0 1048575 0 ∷ []) (Delete 5) is Refused 11
-    ∷ on (delete 1048575 7 ∷ []) (512 becomes first 1 0 1048574 5 ∷ []) (Put 7 []) is Refused 12
-    ∷ on (delete 1048575 7 ∷ []) (512 becomes first 1 0 1048574 5 ∷ []) (Delete 7) is Refused 11
+    ∷ on [] (517 becomes first 2 0 1048575 0 ∷ []) (Put G.Absent 5 []) is Refused 12
+    ∷ on [] (517 becomes first 2 0 1048575 0 ∷ []) (Delete G.Absent 5) is Refused 11
+    ∷ on (delete 1048575 7 ∷ []) (512 becomes first 1 0 1048574 5 ∷ []) (Put G.Absent 7 []) is Refused 12
+    ∷ on (delete 1048575 7 ∷ []) (512 becomes first 1 0 1048574 5 ∷ []) (Delete G.Absent 7) is Refused 11
+    -- 17: a named version is not the key's highest, staged items counted; 0 is that of a key neither known nor staged
+    ∷ on [] [] (Put (G.Number 1) 7 []) is Begun 0
+    ∷ on [] [] (Put (G.Number 0) 7 []) is Refused 17
+    ∷ on [] [] (Put (G.Number 2) 7 []) is Refused 17
+    ∷ on [] [] (Put (G.Number 18446744073709551615) 7 []) is Refused 17
+    ∷ on [] [] (Put (G.Number 1) 7 (large 505)) is Begun 74
+    ∷ on [] [] (Put (G.Number 2) 7 (large 505)) is Refused 17
+    ∷ on (put 2 7 ∷ []) [] (Put (G.Number 1) 7 []) is Refused 17
+    ∷ on (put 2 7 ∷ []) [] (Put (G.Number 2) 7 []) is Begun 0
+    ∷ on [] [] (Delete (G.Number 1) 7) is Begun 0
+    ∷ on [] [] (Delete (G.Number 2) 7) is Refused 17
+    ∷ on [] [] (Put (G.Number 0) 5 []) is Refused 17
+    ∷ onEmpty [] [] (Put (G.Number 0) 5 []) is Begun 0
+    ∷ onEmpty [] [] (Put (G.Number 1) 5 []) is Refused 17
+    -- 17 comes after 9 and 11, before 12
+    ∷ on [] [] (Put (G.Number 2) 7 (large 4089)) is Refused 9
+    ∷ on [] [] (Delete (G.Number 7) 5) is Refused 11
+    ∷ on [] (512 becomes first 1 0 1048574 5 ∷ []) (Put (G.Number 1048574) 7 []) is Refused 12
+    ∷ on [] (512 becomes first 1 0 1048574 5 ∷ []) (Put (G.Number 1048573) 7 []) is Refused 17
+    ∷ on [] (512 becomes first 1 0 1048575 5 ∷ []) (Delete (G.Number 1048575) 7) is Refused 12
+    ∷ on [] (512 becomes first 1 0 1048575 5 ∷ []) (Delete (G.Number 1048574) 7) is Refused 17
     -- 7: known and staged keys exceed the table: of three words, and of 16 or 20 with four known
-    ∷ ask (Put 7 []) (Rest 16384 3 []) empty 16384 3 is Refused 7
-    ∷ ask (Put 7 []) (Rest 16384 4 []) empty 16384 4 is Begun 0
-    ∷ ask (Put 7 []) (Rest 16384 16 []) image 16384 16 is Begun 0
-    ∷ ask (Put 5 []) (Rest 16384 16 []) image 16384 16 is Begun 0
-    ∷ ask (Put 8 []) (Rest 16384 16 []) image 16384 16 is Refused 7
-    ∷ ask (Put 8 []) (Rest 16384 20 []) image 16384 20 is Begun 0
-    ∷ ask (Put 8 []) (Rest 16384 20 (put 1 6 ∷ [])) image 16384 20 is Refused 7
-    ∷ ask (Put 6 []) (Rest 16384 20 (put 1 6 ∷ [])) image 16384 20 is Begun 0
+    ∷ ask (Put G.Absent 7 []) (Rest 16384 3 []) empty 16384 3 is Refused 7
+    ∷ ask (Put G.Absent 7 []) (Rest 16384 4 []) empty 16384 4 is Begun 0
+    ∷ ask (Put G.Absent 7 []) (Rest 16384 16 []) image 16384 16 is Begun 0
+    ∷ ask (Put G.Absent 5 []) (Rest 16384 16 []) image 16384 16 is Begun 0
+    ∷ ask (Put G.Absent 8 []) (Rest 16384 16 []) image 16384 16 is Refused 7
+    ∷ ask (Put G.Absent 8 []) (Rest 16384 20 []) image 16384 20 is Begun 0
+    ∷ ask (Put G.Absent 8 []) (Rest 16384 20 (put 1 6 ∷ [])) image 16384 20 is Refused 7
+    ∷ ask (Put G.Absent 6 []) (Rest 16384 20 (put 1 6 ∷ [])) image 16384 20 is Begun 0
     -- 14: nothing staged
     ∷ onEmpty [] [] Commit is Refused 14
     ∷ onEmpty (put 1 7 ∷ []) [] Commit is Begun 13
@@ -146,14 +167,14 @@ rows =
     ∷ on [] (9 becomes log 2 ∷ []) Choose is Number 1
     ∷ onEmpty [] [] Choose is Refused 16
     -- 13: staging of a large value: three chunks must be free, or a block of its size be neither live nor staged
-    ∷ onEmpty [] (9 becomes log 1 ∷ []) (Put 7 (large 257)) is Refused 13
-    ∷ onEmpty [] [] (Put 7 (large 257)) is Begun 41
-    ∷ onEmpty [] (9 becomes log 1 ∷ 10 becomes blocks 2 ∷ []) (Put 7 (large 257)) is Begun 39
-    ∷ onEmpty [] (9 becomes log 1 ∷ 10 becomes blocks 3 ∷ []) (Put 7 (large 257)) is Refused 13
-    ∷ onEmpty (putIn 32 5 ∷ []) (9 becomes log 1 ∷ 10 becomes blocks 16 ∷ []) (Put 7 (large 4088)) is Refused 13
-    ∷ onEmpty [] (9 becomes log 1 ∷ 10 becomes blocks 16 ∷ []) (Put 7 (large 4088)) is Begun 576
-    ∷ on [] (515 becomes 0 ∷ 516 becomes 0 ∷ 10 becomes blocks 16 ∷ 519 becomes first 1 1 1 32 ∷ []) (Put 7 (large 4088)) is Refused 13
-    ∷ on [] (515 becomes 0 ∷ 516 becomes 0 ∷ 10 becomes blocks 16 ∷ 519 becomes first 2 0 1 0 ∷ []) (Put 7 (large 4088)) is Begun 576
+    ∷ onEmpty [] (9 becomes log 1 ∷ []) (Put G.Absent 7 (large 257)) is Refused 13
+    ∷ onEmpty [] [] (Put G.Absent 7 (large 257)) is Begun 41
+    ∷ onEmpty [] (9 becomes log 1 ∷ 10 becomes blocks 2 ∷ []) (Put G.Absent 7 (large 257)) is Begun 39
+    ∷ onEmpty [] (9 becomes log 1 ∷ 10 becomes blocks 3 ∷ []) (Put G.Absent 7 (large 257)) is Refused 13
+    ∷ onEmpty (putIn 32 5 ∷ []) (9 becomes log 1 ∷ 10 becomes blocks 16 ∷ []) (Put G.Absent 7 (large 4088)) is Refused 13
+    ∷ onEmpty [] (9 becomes log 1 ∷ 10 becomes blocks 16 ∷ []) (Put G.Absent 7 (large 4088)) is Begun 576
+    ∷ on [] (515 becomes 0 ∷ 516 becomes 0 ∷ 10 becomes blocks 16 ∷ 519 becomes first 1 1 1 32 ∷ []) (Put G.Absent 7 (large 4088)) is Refused 13
+    ∷ on [] (515 becomes 0 ∷ 516 becomes 0 ∷ 10 becomes blocks 16 ∷ 519 becomes first 2 0 1 0 ∷ []) (Put G.Absent 7 (large 4088)) is Begun 576
     -- 13: commit: a log chunk with space, else three free chunks, or two if all items are deletes
     ∷ onEmpty (put 1 7 ∷ []) (9 becomes log 64 ∷ []) Commit is Refused 13
     ∷ onEmpty (put 1 7 ∷ []) (9 becomes log 63 ∷ []) Commit is Begun 13
@@ -165,19 +186,19 @@ rows =
     ∷ on [] (11 becomes log 64 ∷ []) (Clean 1) is Refused 13
     ∷ on [] (11 becomes log 63 ∷ []) (Clean 1) is Begun 16
     ∷ onEmpty [] (9 becomes log 1 ∷ 10 becomes blocks 2 ∷ 11 becomes blocks 2 ∷ []) (Clean 1) is Begun 3
-    -- the order: 2, 1, 8, 15, then 9, 11, 12, 10, 7, 14, 16, 13
+    -- the order: 2, 1, 8, 15, then 9, 11, 17, 12, 10, 7, 14, 16, 13
     ∷ ask Commit Closed image 20480 64 is Refused 2
     ∷ ask Commit committing image 20480 64 is Refused 1
-    ∷ ask (Put 7 (large 4089)) committing image 16384 64 is Refused 8
+    ∷ ask (Put G.Absent 7 (large 4089)) committing image 16384 64 is Refused 8
     ∷ ask (Clean 0) committing image 16384 64 is Refused 8
     ∷ on (puts 1) [] (Clean 0) is Refused 15
-    ∷ on (puts 16) (512 becomes first 1 0 1048574 5 ∷ []) (Put 7 (large 4089)) is Refused 9
-    ∷ on (puts 16) [] (Delete 25) is Refused 11
-    ∷ on (put 1048574 5 ∷ puts 15) [] (Put 5 []) is Refused 12
-    ∷ on (put 1048574 5 ∷ puts 15) [] (Delete 5) is Refused 10
-    ∷ on (put 1048575 5 ∷ puts 15) [] (Delete 5) is Refused 12
-    ∷ ask (Put 25 []) (Rest 16384 64 (puts 16)) empty 16384 64 is Refused 10
-    ∷ ask (Put 25 (large 257)) (Rest 16384 3 []) image 16384 3 is Refused 7
+    ∷ on (puts 16) (512 becomes first 1 0 1048574 5 ∷ []) (Put G.Absent 7 (large 4089)) is Refused 9
+    ∷ on (puts 16) [] (Delete G.Absent 25) is Refused 11
+    ∷ on (put 1048574 5 ∷ puts 15) [] (Put G.Absent 5 []) is Refused 12
+    ∷ on (put 1048574 5 ∷ puts 15) [] (Delete G.Absent 5) is Refused 10
+    ∷ on (put 1048575 5 ∷ puts 15) [] (Delete G.Absent 5) is Refused 12
+    ∷ ask (Put G.Absent 25 []) (Rest 16384 64 (puts 16)) empty 16384 64 is Refused 10
+    ∷ ask (Put G.Absent 25 (large 257)) (Rest 16384 3 []) image 16384 3 is Refused 7
     ∷ onEmpty [] (9 becomes log 64 ∷ 10 becomes log 64 ∷ 11 becomes log 64 ∷ []) Commit is Refused 14
     ∷ on [] (11 becomes log 64 ∷ []) (Clean 2) is Refused 16
     ∷ []

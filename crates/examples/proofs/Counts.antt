@@ -62,7 +62,7 @@ abbrev empty : List ℕ
 empty = 1 ∷ blankOf (headerTail 4 G.Absent G.Absent)
 
 abbrev staging : ℕ → List Action
-staging bytes = actionsOf (planPut basePower (blockLimit basePower) 4 empty 64 [] [] 7 (replicate bytes 94))
+staging bytes = actionsOf (planPut basePower (blockLimit basePower) 4 empty 64 [] [] G.Absent 7 (replicate bytes 94))
 
 -- the stores and flushes of a block alone, at unit 50
 abbrev block : ℕ → List Action

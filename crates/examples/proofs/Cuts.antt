@@ -55,7 +55,7 @@ new = Holds (Absent ∷ Value (33 ∷ []) ∷ [])
 -- the book when the end is reported
 abbrev ended : Book
 ended =
-    note Step (R.End 0) (note Commit (R.Begun 13) (note (Put 9 (33 ∷ [])) (R.Begun 0) (note (Delete 7) (R.Begun 0)
+    note Step (R.End 0) (note Commit (R.Begun 13) (note (Put G.Absent 9 (33 ∷ [])) (R.Begun 0) (note (Delete G.Absent 7) (R.Begun 0)
     (newBook (contents basePower 4 (over 3))))))
 
 abbrev inBook : Seen

@@ -33,16 +33,16 @@ session =
     ∷ Answers Open Accepted
     ∷ Lists []
     -- commit put 7 of 5 bytes and put 9 empty: word of chunk 1 is 257
-    ∷ Runs (Put 7 hello) 0 (0 ∷ 0 ∷ 0 ∷ []) 0
-    ∷ Runs (Put 9 []) 0 (0 ∷ 0 ∷ 0 ∷ []) 0
+    ∷ Runs (Put G.Absent 7 hello) 0 (0 ∷ 0 ∷ 0 ∷ []) 0
+    ∷ Runs (Put G.Absent 9 []) 0 (0 ∷ 0 ∷ 0 ∷ []) 0
     ∷ Answers (LookUp 7) (Refused 11)
     ∷ Runs Commit 13 (257 ∷ 0 ∷ 0 ∷ []) 0
     ∷ Has 7 (Value hello)
     ∷ Has 9 (Value [])
-    ∷ Answers (LookUp 7) (Words (4112 ∷ 5 ∷ []))
-    ∷ Answers (LookUp 9) (Words (4136 ∷ 0 ∷ []))
+    ∷ Answers (LookUp 7) (Words (4112 ∷ 5 ∷ 1 ∷ []))
+    ∷ Answers (LookUp 9) (Words (4136 ∷ 0 ∷ 1 ∷ []))
     -- commit delete 9: 513
-    ∷ Runs (Delete 9) 0 (257 ∷ 0 ∷ 0 ∷ []) 0
+    ∷ Runs (Delete G.Absent 9) 0 (257 ∷ 0 ∷ 0 ∷ []) 0
     ∷ Answers (Clean 1) (Refused 15)
     ∷ Runs Commit 13 (513 ∷ 0 ∷ 0 ∷ []) 0
     ∷ Has 7 (Value hello)
@@ -52,7 +52,7 @@ session =
     -- cleaning chunk 1 copies 1 entry: word of chunk 1 is 0, of chunk 2 is 257
     ∷ Answers Choose (Number 1)
     ∷ Runs (Clean 1) 16 (0 ∷ 257 ∷ 0 ∷ []) 1
-    ∷ Answers (LookUp 7) (Words (8208 ∷ 5 ∷ []))
+    ∷ Answers (LookUp 7) (Words (8208 ∷ 5 ∷ 1 ∷ []))
     ∷ Answers (LookUp 9) (Refused 11)
     ∷ Answers Choose (Refused 16)
     ∷ Answers Open Accepted

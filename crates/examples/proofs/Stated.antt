@@ -28,10 +28,10 @@ abbrev empty : List ℕ
 empty = headerMap G.Absent G.Absent ∷ blankOf (headerTail 16 G.Absent G.Absent)
 
 abbrev put : List Entry → ℕ → ℕ → Plan
-put items key bytes = planPut basePower (blockLimit basePower) 16 empty 256 [] items key (replicate bytes 94)
+put items key bytes = planPut basePower (blockLimit basePower) 16 empty 256 [] items G.Absent key (replicate bytes 94)
 
 abbrev delete : List Entry → ℕ → Plan
-delete items key = planDelete 256 [] items key
+delete items key = planDelete 256 [] items G.Absent key
 
 abbrev fits : Plan → Shown
 fits (Refuse n) = Refused (number n)

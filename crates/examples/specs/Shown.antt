@@ -87,4 +87,4 @@ shownReport R.Idle = Idle
 shownReport R.Opened = Accepted
 shownReport R.Abandoned = Accepted
 shownReport (R.Chosen c) = Number c
-shownReport (R.Part start length) = Words (start ∷ length ∷ [])
+shownReport (R.Part start length version) = Words (start ∷ length ∷ version ∷ [])

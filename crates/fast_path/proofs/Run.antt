@@ -31,7 +31,7 @@ store-is R.Idle h = absurd (not-both false h refl)
 store-is R.Opened h = absurd (not-both false h refl)
 store-is R.Abandoned h = absurd (not-both false h refl)
 store-is (R.Chosen c) h = absurd (not-both false h refl)
-store-is (R.Part a n) h = absurd (not-both false h refl)
+store-is (R.Part a n v) h = absurd (not-both false h refl)
 
 -- one that tells of none, and so of no change
 pub unchanged : (r : Report) (bytes : List ℕ) → isStore r ≡ false → Changed r bytes bytes
@@ -45,4 +45,4 @@ unchanged R.Idle bytes h = refl
 unchanged R.Opened bytes h = refl
 unchanged R.Abandoned bytes h = refl
 unchanged (R.Chosen c) bytes h = refl
-unchanged (R.Part a n) bytes h = refl
+unchanged (R.Part a n v) bytes h = refl

@@ -28,7 +28,7 @@ isStore R.Idle = false
 isStore R.Opened = false
 isStore R.Abandoned = false
 isStore (R.Chosen c) = false
-isStore (R.Part a n) = false
+isStore (R.Part a n v) = false
 
 -- one step, whose report tells of no store
 abbrev pub StepsOn : (m m′ : Memory) → Report → Type 0

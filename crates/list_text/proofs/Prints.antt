@@ -158,7 +158,7 @@ not-refused R.Idle n k e = let z : _≡_ {A = ℕ} 0 1 = cc in omega arith
 not-refused R.Opened n k e = let z : _≡_ {A = ℕ} 0 1 = cc in omega arith
 not-refused R.Abandoned n k e = let z : _≡_ {A = ℕ} 0 1 = cc in omega arith
 not-refused (R.Chosen c) n k e = let z : _≡_ {A = ℕ} 0 1 = cc in omega arith
-not-refused (R.Part a m) n k e = let z : _≡_ {A = ℕ} 0 1 = cc in omega arith
+not-refused (R.Part a m v) n k e = let z : _≡_ {A = ℕ} 0 1 = cc in omega arith
 
 module _ (paged : Bool) (c₀ : Control) (k₀ : Setup) (c : Control) (k : Setup) (bytes table table′ buffer buffer′ keys out out′ : List ℕ) (report : Report)
     (h : Does Open (memory (sessionOf c₀ k₀ buffer) bytes table) (memory (sessionOf c k buffer′) bytes table′) report) (r : ℕ) where

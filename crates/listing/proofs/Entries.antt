@@ -128,17 +128,23 @@ listed-present ws es k = by (chosen k es)
     by none = refl
     by (some e) = go (eqb (e .op) 1) (eqb (e .placement) 1) (blockBytes ws (e .field)) (valueBytes (e .field) (e .value)) (e .version) (valueLength ws e)
 
--- the length is that of the part that look-up answers
-pub listed-part : (ws : List ℕ) (es : List Entry) (k version n : ℕ) (inBlock : Bool) → listedOf ws es k ≡ L.Present version n inBlock → (start : ℕ) × (lookUp ws es k ≡ R.Part start n)
+-- length and version are those that look-up answers
+pub listed-part : (ws : List ℕ) (es : List Entry) (k version n : ℕ) (inBlock : Bool) → listedOf ws es k ≡ L.Present version n inBlock → (start : ℕ) × (lookUp ws es k ≡ R.Part start n version)
 unfolding listedOf lookUp
 listed-part ws es k version n inBlock h = by (chosen k es) h
   where
-    by : (o : Option Entry) → listedOr ws o ≡ L.Present version n inBlock → (start : ℕ) × (partOr ws o ≡ R.Part start n)
+    by : (o : Option Entry) → listedOr ws o ≡ L.Present version n inBlock → (start : ℕ) × (partOr ws o ≡ R.Part start n version)
     by none q = absurd (let z : _≡_ {A = ℕ} 0 1 = cc in omega arith)
     by (some e) q = go (eqb (e .op) 1) (pointed e) q
       where
         go : (b1 b2 : Bool) → pick b1 (L.Present (e .version) (pick b2 (getD ws (unitWord (e .field)) 0) (e .field)) b2) (L.Refused N.KeyAbsent) ≡ L.Present version n inBlock
-            → (start : ℕ) × (pick b1 (pick b2 (R.Part (8 * (unitWord (e .field) + 1)) (getD ws (unitWord (e .field)) 0)) (R.Part (8 * (e .at + 2)) (e .field))) (R.Refused N.KeyAbsent) ≡ R.Part start n)
-        go true true r = let z : getD ws (unitWord (e .field)) 0 ≡ n = cc in (8 * (unitWord (e .field) + 1), ap (R.Part (8 * (unitWord (e .field) + 1))) z)
-        go true false r = let z : e .field ≡ n = cc in (8 * (e .at + 2), ap (R.Part (8 * (e .at + 2))) z)
+            → (start : ℕ) × (pick b1 (pick b2 (R.Part (8 * (unitWord (e .field) + 1)) (getD ws (unitWord (e .field)) 0) (e .version)) (R.Part (8 * (e .at + 2)) (e .field) (e .version))) (R.Refused N.KeyAbsent) ≡ R.Part start n version)
+        go true true r =
+            let z : getD ws (unitWord (e .field)) 0 ≡ n = cc in
+            let v : e .version ≡ version = cc in
+            (8 * (unitWord (e .field) + 1), rw (z, v))
+        go true false r =
+            let z : e .field ≡ n = cc in
+            let v : e .version ≡ version = cc in
+            (8 * (e .at + 2), rw (z, v))
         go false b2 r = absurd (let z : _≡_ {A = ℕ} 0 1 = cc in omega arith)

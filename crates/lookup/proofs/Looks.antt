@@ -18,7 +18,7 @@ use Rattle.spec.specs.Log.{Entry, Entries, wordsFor, imageEntries}
 use Rattle.spec.specs.Blocks.{pointed}
 use Rattle.spec.specs.Contents.{chosen}
 use Rattle.spec.specs.Reports.{isRefused, number}
-use Rattle.spec.specs.Plans.{partOr, lookUp}
+use Rattle.spec.specs.Plans.{maxVersion, partOr, lookUp}
 use Rattle.spec.specs.Machine.{LookUp, State, gate, answer, next}
 use Rattle.spec.specs.Contract.{Changed, Anyway, Outcome}
 use Rattle.session.specs.declared.Control.{Control}
@@ -59,39 +59,39 @@ use Rattle.session.specs.Fits.{Proper}
 
 -- ## Any memory: 11, or a part of the image
 
-within-in : (bytes a n : ℕ) → PartIn bytes (within bytes a n)
-within-in bytes a n = go (leb (a + n) bytes) (leb-true (a + n) bytes)
+within-in : (vn bytes a n : ℕ) → vn ≤ maxVersion → PartIn bytes (within vn bytes a n)
+within-in vn bytes a n most = go (leb (a + n) bytes) (leb-true (a + n) bytes)
   where
-    go : (t : Bool) → (t ≡ true → a + n ≤ bytes) → PartIn bytes (pick t (L.Part a n) (L.Refused N.KeyAbsent))
-    go true h = h refl
+    go : (t : Bool) → (t ≡ true → a + n ≤ bytes) → PartIn bytes (pick t (L.Part a n vn) (L.Refused N.KeyAbsent))
+    go true h = (h refl, most)
     go false h = refl
 
 pick-in : (bytes : ℕ) (t : Bool) (x y : Located) → PartIn bytes x → PartIn bytes y → PartIn bytes (pick t x y)
 pick-in bytes true x y p q = p
 pick-in bytes false x y p q = q
 
-part-in : (bytes : ℕ) (ws : List ℕ) (place w : ℕ) → PartIn bytes (partBy bytes ws place w)
-part-in bytes ws place w =
-    pick-in bytes (eqb (w % 16) 1) _ _ (within-in bytes (8 * (place + 2)) (w / 16777216))
-    (pick-in bytes (eqb (w % 16) 5) _ (L.Refused N.KeyAbsent) (within-in bytes (8 * (unitWord (w / 16777216) + 1)) (getD ws (unitWord (w / 16777216)) 0)) refl)
+part-in : (vn bytes : ℕ) (ws : List ℕ) (place w : ℕ) → vn ≤ maxVersion → PartIn bytes (partBy vn bytes ws place w)
+part-in vn bytes ws place w most =
+    pick-in bytes (eqb (w % 16) 1) _ _ (within-in vn bytes (8 * (place + 2)) (w / 16777216) most)
+    (pick-in bytes (eqb (w % 16) 5) _ (L.Refused N.KeyAbsent) (within-in vn bytes (8 * (unitWord (w / 16777216) + 1)) (getD ws (unitWord (w / 16777216)) 0) most) refl)
 
 in-image : (bytes : ℕ) (r : Located) → PartIn bytes r → InImage bytes r
 in-image bytes (L.Refused n) h = tt
-in-image bytes (L.Part a n) h = h
+in-image bytes (L.Part a n v) h = h .0
 
 -- ## An accepted image: the part of its chosen entry
 
 -- the entry's own words say where its value is, in the log or in a block
-kind-part : (bytes : ℕ) (ws : List ℕ) (place w op pl x : ℕ) → Kind op pl x → w % 16 ≡ op + 4 * pl → w / 16777216 ≡ x
-    → partBy bytes ws place w ≡ pick (eqb op 1) (pick (eqb pl 1) (blockPart bytes ws x) (within bytes (8 * (place + 2)) x)) (L.Refused N.KeyAbsent)
-kind-part bytes ws place w op pl x (put l) a b = rw (a, b)
-kind-part bytes ws place w op pl x block a b = rw (a, b)
-kind-part bytes ws place w op pl x delete a b = rw a
+kind-part : (vn bytes : ℕ) (ws : List ℕ) (place w op pl x : ℕ) → Kind op pl x → w % 16 ≡ op + 4 * pl → w / 16777216 ≡ x
+    → partBy vn bytes ws place w ≡ pick (eqb op 1) (pick (eqb pl 1) (blockPart vn bytes ws x) (within vn bytes (8 * (place + 2)) x)) (L.Refused N.KeyAbsent)
+kind-part vn bytes ws place w op pl x (put l) a b = rw (a, b)
+kind-part vn bytes ws place w op pl x block a b = rw (a, b)
+kind-part vn bytes ws place w op pl x delete a b = rw a
 
 entry-part : (bytes : ℕ) (ws : List ℕ) (e : Entry) → StandsIn ws e → 8 * (e .at + 2) ≤ bytes
     → (pointed e ≡ true → 8 * (unitWord (e .field) + 1) + getD ws (unitWord (e .field)) 0 ≤ bytes)
     → (eqb (e .op) 1 ≡ true → eqb (e .placement) 1 ≡ false → 8 * (e .at + 2) + e .field ≤ bytes)
-    → reportOf (partAt bytes ws (e .at)) ≡ partOr ws (some e)
+    → reportOf (partAt (e .version) bytes ws (e .at)) ≡ partOr ws (some e)
 entry-part bytes ws e stands has blocks logs =
     let w = getD ws (e .at) 0 in
     let h = head-first w (e .op) (e .placement) (e .version) (e .field) (stands .first) in
@@ -100,7 +100,7 @@ entry-part bytes ws e stands has blocks logs =
     let a : w % 16 ≡ e .op + 4 * e .placement = omega arith in
     let b : w / 16777216 ≡ e .field = omega arith in
     let f : firstWord bytes ws (e .at) ≡ w = rw (le-leb _ _ has) in
-    ap (λ x. reportOf (partBy bytes ws (e .at) x)) f ∙ ap reportOf (kind-part bytes ws (e .at) w (e .op) (e .placement) (e .field) (stands .right .kind) a b) ∙ go (eqb (e .op) 1) (eqb (e .placement) 1) blocks logs
+    ap (λ x. reportOf (partBy (e .version) bytes ws (e .at) x)) f ∙ ap reportOf (kind-part (e .version) bytes ws (e .at) w (e .op) (e .placement) (e .field) (stands .right .kind) a b) ∙ go (eqb (e .op) 1) (eqb (e .placement) 1) blocks logs
   where
     kind-small : (op pl x : ℕ) → Kind op pl x → op + 4 * pl < 16
     kind-small op pl x (put l) = omega arith
@@ -108,8 +108,8 @@ entry-part bytes ws e stands has blocks logs =
     kind-small op pl x delete = omega arith
 
     go : (b1 b2 : Bool) → (both b1 b2 ≡ true → 8 * (unitWord (e .field) + 1) + getD ws (unitWord (e .field)) 0 ≤ bytes) → (b1 ≡ true → b2 ≡ false → 8 * (e .at + 2) + e .field ≤ bytes)
-        → reportOf (pick b1 (pick b2 (within bytes (8 * (unitWord (e .field) + 1)) (getD ws (unitWord (e .field)) 0)) (within bytes (8 * (e .at + 2)) (e .field))) (L.Refused N.KeyAbsent))
-        ≡ pick b1 (pick (both b1 b2) (R.Part (8 * (unitWord (e .field) + 1)) (getD ws (unitWord (e .field)) 0)) (R.Part (8 * (e .at + 2)) (e .field))) (R.Refused N.KeyAbsent)
+        → reportOf (pick b1 (pick b2 (within (e .version) bytes (8 * (unitWord (e .field) + 1)) (getD ws (unitWord (e .field)) 0)) (within (e .version) bytes (8 * (e .at + 2)) (e .field))) (L.Refused N.KeyAbsent))
+        ≡ pick b1 (pick (both b1 b2) (R.Part (8 * (unitWord (e .field) + 1)) (getD ws (unitWord (e .field)) 0) (e .version)) (R.Part (8 * (e .at + 2)) (e .field) (e .version))) (R.Refused N.KeyAbsent)
     go false b2 x y = refl
     go true true x y = rw (le-leb _ _ (x refl))
     go true false x y = rw (le-leb _ _ (y refl refl))
@@ -148,13 +148,13 @@ module _ (n : ℕ) (bytes : List ℕ) (es : List Entry) (ok : Ok 12 n (wordsOf b
         omega arith
 
     -- the part of a value whose extent the table holds
-    chosen-extent : 0 < extentOf (e .placement) (e .field) → reportOf (within (length bytes) (8 * (e .at + 2)) (extentOf (e .placement) (e .field) + 1)) ≡ lookUp ws es k
+    chosen-extent : 0 < extentOf (e .placement) (e .field) → reportOf (within (e .version) (length bytes) (8 * (e .at + 2)) (extentOf (e .placement) (e .field) + 1)) ≡ lookUp ws es k
     unfolding lookUp
     chosen-extent m =
         let q = extent-kind (e .op) (e .placement) (e .field) (stands .right .kind) m in
         rw (h, q .2, q .0, q .1, le-leb _ _ (in-log (q .0) (q .1)))
 
-  chosen-part : (k : ℕ) (e : Entry) → chosen k es ≡ some e → reportOf (partAt (length bytes) ws (e .at)) ≡ lookUp ws es k
+  chosen-part : (k : ℕ) (e : Entry) → chosen k es ≡ some e → reportOf (partAt (e .version) (length bytes) ws (e .at)) ≡ lookUp ws es k
   unfolding lookUp
   chosen-part k e h = rw h (entry-part (length bytes) ws e (stands k e h) (let f = stands k e h .fits in let l = long in omega arith) in-block (in-log k e h))
     where
@@ -172,42 +172,42 @@ module _ (n : ℕ) (bytes : List ℕ) (es : List Entry) (ok : Ok 12 n (wordsOf b
 
 -- ## What the code shows
 
-module _ (bytes a n : ℕ) where
-  pub within-yes : a ≤ bytes → n ≤ bytes - a → L.Part a n ≡ within bytes a n
+module _ (vn bytes a n : ℕ) where
+  pub within-yes : a ≤ bytes → n ≤ bytes - a → L.Part a n vn ≡ within vn bytes a n
   within-yes h l = sym (rw (le-leb (a + n) bytes (omega arith)))
 
-  pub within-no : bytes < a + n → L.Refused N.KeyAbsent ≡ within bytes a n
+  pub within-no : bytes < a + n → L.Refused N.KeyAbsent ≡ within vn bytes a n
   within-no h = sym (rw (lt-leb (a + n) bytes h))
 
-  pub within-all : a + n ≤ bytes → L.Part a n ≡ within bytes a n
+  pub within-all : a + n ≤ bytes → L.Part a n vn ≡ within vn bytes a n
   within-all h = sym (rw (le-leb (a + n) bytes h))
 
 -- the block at unit u, from its first byte and its first word
-module _ (bytes : ℕ) (ws : List ℕ) (u start w : ℕ) (small : u < 2 ^ 40) (es : start ≡ min (256 * u) (2 ^ 64 - 1)) (ew : w ≡ min (unitWord u) (2 ^ 61 - 1)) where
-  pub block-any : (r : Located) (v : ℕ) → v ≡ getD ws w 0 → r ≡ within bytes (start + 8) v → r ≡ blockPart bytes ws u
+module _ (vn bytes : ℕ) (ws : List ℕ) (u start w : ℕ) (small : u < 2 ^ 40) (es : start ≡ min (256 * u) (2 ^ 64 - 1)) (ew : w ≡ min (unitWord u) (2 ^ 61 - 1)) where
+  pub block-any : (r : Located) (v : ℕ) → v ≡ getD ws w 0 → r ≡ within vn bytes (start + 8) v → r ≡ blockPart vn bytes ws u
   block-any r v ev h =
       let a : start + 8 ≡ 8 * (unitWord u + 1) = omega arith in
       let e : w ≡ unitWord u = omega arith in
-      h ∙ ap (λ (x : ℕ). within bytes x v) a ∙ ap (within bytes (8 * (unitWord u + 1))) (ev ∙ ap (λ (x : ℕ). getD ws x 0) e)
+      h ∙ ap (λ (x : ℕ). within vn bytes x v) a ∙ ap (within vn bytes (8 * (unitWord u + 1))) (ev ∙ ap (λ (x : ℕ). getD ws x 0) e)
 
   module _ (n : ℕ) (has : start + 16 ≤ bytes) (en : n ≡ firstWord bytes ws w) where
     read : n ≡ getD ws w 0
     read = en ∙ rw (le-leb (8 * (w + 2)) bytes (omega arith))
 
-    pub block-yes : n ≤ bytes - (start + 8) → L.Part (start + 8) n ≡ blockPart bytes ws u
-    block-yes h = block-any (L.Part (start + 8) n) n read (within-yes bytes (start + 8) n (omega arith) h)
+    pub block-yes : n ≤ bytes - (start + 8) → L.Part (start + 8) n vn ≡ blockPart vn bytes ws u
+    block-yes h = block-any (L.Part (start + 8) n vn) n read (within-yes vn bytes (start + 8) n (omega arith) h)
 
-    pub block-no : bytes - (start + 8) < n → L.Refused N.KeyAbsent ≡ blockPart bytes ws u
-    block-no h = block-any (L.Refused N.KeyAbsent) n read (within-no bytes (start + 8) n (omega arith))
+    pub block-no : bytes - (start + 8) < n → L.Refused N.KeyAbsent ≡ blockPart vn bytes ws u
+    block-no h = block-any (L.Refused N.KeyAbsent) n read (within-no vn bytes (start + 8) n (omega arith))
 
-module _ (bytes : ℕ) (ws : List ℕ) (place word : ℕ) (is-word : word ≡ firstWord bytes ws place) where
-  pub part-log : (r : Located) → word % 16 ≡ 1 → r ≡ within bytes (8 * (place + 2)) (word / 16777216) → r ≡ partAt bytes ws place
+module _ (vn bytes : ℕ) (ws : List ℕ) (place word : ℕ) (is-word : word ≡ firstWord bytes ws place) where
+  pub part-log : (r : Located) → word % 16 ≡ 1 → r ≡ within vn bytes (8 * (place + 2)) (word / 16777216) → r ≡ partAt vn bytes ws place
   part-log r k h = h ∙ rw (← is-word, k)
 
-  pub part-block : (r : Located) → word % 16 ≡ 5 → r ≡ blockPart bytes ws (word / 16777216) → r ≡ partAt bytes ws place
+  pub part-block : (r : Located) → word % 16 ≡ 5 → r ≡ blockPart vn bytes ws (word / 16777216) → r ≡ partAt vn bytes ws place
   part-block r k h = h ∙ rw (← is-word, k)
 
-  pub part-none : (word % 16 ≡ 1 → ⊥) → (word % 16 ≡ 5 → ⊥) → L.Refused N.KeyAbsent ≡ partAt bytes ws place
+  pub part-none : (word % 16 ≡ 1 → ⊥) → (word % 16 ≡ 5 → ⊥) → L.Refused N.KeyAbsent ≡ partAt vn bytes ws place
   part-none a b = rw (← is-word, ne-eqb (word % 16) 1 a, ne-eqb (word % 16) 5 b)
 
 module _ (key : ℕ) (bytes table : List ℕ) (word : ℕ) (is : word ≡ get table key) where
@@ -216,25 +216,30 @@ module _ (key : ℕ) (bytes table : List ℕ) (word : ℕ) (is : word ≡ get ta
   looking-none z = record { inside = refl; exact = λ n keys es ok ix. sym (rw (found-none table keys es ix (small n bytes es ok) key word is z)) }
 
   module _ (info : Info) (i : info ≡ unpackOf word) where
+    narrow : info .version ≤ maxVersion
+    narrow = rw i (omega arith)
+
     -- the entry itself is read
-    pub looking-part : (r : Located) → (word ≡ 0 → ⊥) → r ≡ partAt (length bytes) (wordsOf bytes) (info .place) → Looking key bytes table r
+    pub looking-part : (r : Located) → (word ≡ 0 → ⊥) → r ≡ partAt (info .version) (length bytes) (wordsOf bytes) (info .place) → Looking key bytes table r
     looking-part r nz e = record {
-      inside = rw e (part-in (length bytes) (wordsOf bytes) (info .place) (firstWord (length bytes) (wordsOf bytes) (info .place)));
+      inside = rw e (part-in (info .version) (length bytes) (wordsOf bytes) (info .place) (firstWord (length bytes) (wordsOf bytes) (info .place)) narrow);
       exact = λ n keys es ok ix.
           let f = found-chosen table keys es ix (small n bytes es ok) key word is nz in
           let place : info .place ≡ f .0 .at = ap (λ (j : Info). j .place) (i ∙ f .2) in
-          ap reportOf (e ∙ ap (partAt (length bytes) (wordsOf bytes)) place) ∙ chosen-part n bytes es ok key (f .0) (f .1);
+          let version : info .version ≡ f .0 .version = ap (λ (j : Info). j .version) (i ∙ f .2) in
+          ap reportOf (e ∙ ap (λ (x : ℕ). partAt x (length bytes) (wordsOf bytes) (info .place)) version ∙ ap (partAt (f .0 .version) (length bytes) (wordsOf bytes)) place) ∙ chosen-part n bytes es ok key (f .0) (f .1);
     }
 
     -- the table's word says enough
-    pub looking-extent : (r : Located) → 0 < info .extent → r ≡ within (length bytes) (8 * (info .place + 2)) (info .extent + 1) → Looking key bytes table r
+    pub looking-extent : (r : Located) → 0 < info .extent → r ≡ within (info .version) (length bytes) (8 * (info .place + 2)) (info .extent + 1) → Looking key bytes table r
     looking-extent r more e = record {
-      inside = rw e (within-in (length bytes) (8 * (info .place + 2)) (info .extent + 1));
+      inside = rw e (within-in (info .version) (length bytes) (8 * (info .place + 2)) (info .extent + 1) narrow);
       exact = λ n keys es ok ix.
           let f = found-chosen table keys es ix (small n bytes es ok) key word is some-word in
           let place : info .place ≡ f .0 .at = ap (λ (j : Info). j .place) (i ∙ f .2) in
+          let version : info .version ≡ f .0 .version = ap (λ (j : Info). j .version) (i ∙ f .2) in
           let extent : info .extent ≡ extentOf (f .0 .placement) (f .0 .field) = ap (λ (j : Info). j .extent) (i ∙ f .2) in
-          ap reportOf (e ∙ ap (λ (x : ℕ). within (length bytes) (8 * (x + 2)) (info .extent + 1)) place ∙ ap (λ (x : ℕ). within (length bytes) (8 * (f .0 .at + 2)) (x + 1)) extent)
+          ap reportOf (e ∙ ap (λ (x : ℕ). within x (length bytes) (8 * (info .place + 2)) (info .extent + 1)) version ∙ ap (λ (x : ℕ). within (f .0 .version) (length bytes) (8 * (x + 2)) (info .extent + 1)) place ∙ ap (λ (x : ℕ). within (f .0 .version) (length bytes) (8 * (f .0 .at + 2)) (x + 1)) extent)
           ∙ chosen-extent n bytes es ok key (f .0) (f .1) (rw extent at more);
     }
       where
@@ -251,15 +256,15 @@ next-same σ key ws bytes words = sym (pick-same (both (isRefused (answer 12 lim
 module _ (s : Session) (key : ℕ) (bytes table : List ℕ) where
   outcome : (r : Located) → PartIn (length bytes) r → Outcome Proper stateOf Fits 12 limit (LookUp key) s s table table (reportOf r)
   outcome (L.Refused n) h = (inr (inr (inr (inl h))), (refl, refl))
-  outcome (L.Part a n) h = (refl, refl)
+  outcome (L.Part a n v) h = (refl, refl)
 
   anyway : (r : Located) → PartIn (length bytes) r → Anyway 12 limit (LookUp key) (stateOf s) (stateOf s) (wordsOf bytes) (length bytes) (length table) (reportOf r)
   anyway (L.Refused n) h = inl (n, refl)
-  anyway (L.Part a n) h = inr (a, (n, (refl, h)))
+  anyway (L.Part a n v) h = inr (a, (n, (v, (refl, h))))
 
   unchanged : (r : Located) → Changed (reportOf r) bytes bytes
   unchanged (L.Refused n) = refl
-  unchanged (L.Part a n) = refl
+  unchanged (L.Part a n v) = refl
 
   looked : (r : Located) → gate (stateOf s) (length bytes) (length table) ≡ none → Looking key bytes table r → Does (LookUp key) (memory s bytes table) (memory s bytes table) (reportOf r)
   looked r g l = record {
@@ -289,13 +294,13 @@ module _ (c : Control) (k : Setup) (key : ℕ) (bytes table : List ℕ) (g : Gat
 
 -- the part itself
 module _ (c : Control) (k : Setup) (key : ℕ) (bytes table : List ℕ) (r : Located) (found : Locating c k key bytes table r) where
-  pub part-inside : (a n : ℕ) → r ≡ L.Part a n → a + n ≤ length bytes
-  part-inside a n e = rw e at (found .inside)
+  pub part-inside : (a n v : ℕ) → r ≡ L.Part a n v → a + n ≤ length bytes
+  part-inside a n v e = rw e at (found .inside)
 
-  pub show-part : (a n : ℕ) → r ≡ L.Part a n → Showing c k key bytes table (take (a + n - a) (drop a bytes)) 0
-  show-part a n e =
+  pub show-part : (a n v : ℕ) → r ≡ L.Part a n v → Showing c k key bytes table (take (a + n - a) (drop a bytes)) 0 v
+  show-part a n v e =
       let d : a + n - a ≡ n = omega arith in
-      record { located = L.Part a n; called = rw e at (found .called); inside = rw e at (found .inside); is-part = rw d (take-drop a n bytes); is-number = refl }
+      record { located = L.Part a n v; called = rw e at (found .called); inside = rw e at (found .inside); is-part = rw d (take-drop a n bytes); is-number = refl; is-version = refl }
 
-  pub show-refused : (n : Refusal) (answer : ℕ) → r ≡ L.Refused n → answer ≡ number n → Showing c k key bytes table [] answer
-  show-refused n answer e m = record { located = L.Refused n; called = rw e at (found .called); inside = tt; is-part = refl; is-number = m }
+  pub show-refused : (n : Refusal) (answer : ℕ) → r ≡ L.Refused n → answer ≡ number n → Showing c k key bytes table [] answer 0
+  show-refused n answer e m = record { located = L.Refused n; called = rw e at (found .called); inside = tt; is-part = refl; is-number = m; is-version = refl }

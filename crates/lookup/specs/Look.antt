@@ -10,7 +10,7 @@ use Rattle.spec.specs.Words.{wordsOf}
 use Rattle.spec.specs.Places.{unitWord}
 use Rattle.spec.specs.Log.{Entry}
 use Rattle.spec.specs.Reports.{number}
-use Rattle.spec.specs.Plans.{lookUp}
+use Rattle.spec.specs.Plans.{maxVersion, lookUp}
 use Rattle.spec.specs.Machine.{LookUp}
 use Rattle.spec.specs.Contract.{partBytes}
 use Rattle.session.specs.declared.Control.{Control}
@@ -27,34 +27,34 @@ use Rattle.session.specs.Promise.{Does, memory}
 
 abbrev pub reportOf : Located → Report
 reportOf (L.Refused n) = R.Refused n
-reportOf (L.Part a n) = R.Part a n
+reportOf (L.Part a n v) = R.Part a n v
 
 -- the part from byte a, of n bytes, where an image of so many bytes has it
-abbrev pub within : (bytes a n : ℕ) → Located
-within bytes a n = pick (leb (a + n) bytes) (L.Part a n) (L.Refused N.KeyAbsent)
+abbrev pub within : (version bytes a n : ℕ) → Located
+within version bytes a n = pick (leb (a + n) bytes) (L.Part a n version) (L.Refused N.KeyAbsent)
 
 -- the part that holds the value of the block at a unit: its length is the block's first word
-abbrev pub blockPart : ℕ → List ℕ → ℕ → Located
-blockPart bytes ws unit = within bytes (8 * (unitWord unit + 1)) (getD ws (unitWord unit) 0)
+abbrev pub blockPart : (version bytes : ℕ) → List ℕ → ℕ → Located
+blockPart version bytes ws unit = within version bytes (8 * (unitWord unit + 1)) (getD ws (unitWord unit) 0)
 
 -- the part that holds the value of the entry at word `place`, whose first word is w: a put with its value in the log,
 -- or in a block
-abbrev pub partBy : ℕ → List ℕ → ℕ → ℕ → Located
-partBy bytes ws place w =
-    pick (eqb (w % 16) 1) (within bytes (8 * (place + 2)) (w / 16777216))
-    (pick (eqb (w % 16) 5) (blockPart bytes ws (w / 16777216)) (L.Refused N.KeyAbsent))
+abbrev pub partBy : (version bytes : ℕ) → List ℕ → ℕ → ℕ → Located
+partBy version bytes ws place w =
+    pick (eqb (w % 16) 1) (within version bytes (8 * (place + 2)) (w / 16777216))
+    (pick (eqb (w % 16) 5) (blockPart version bytes ws (w / 16777216)) (L.Refused N.KeyAbsent))
 
 -- that first word, 0 where an image of so many bytes does not have the entry's first two words
 abbrev pub firstWord : ℕ → List ℕ → ℕ → ℕ
 firstWord bytes ws place = pick (leb (8 * (place + 2)) bytes) (getD ws place 0) 0
 
-abbrev pub partAt : ℕ → List ℕ → ℕ → Located
-partAt bytes ws place = partBy bytes ws place (firstWord bytes ws place)
+abbrev pub partAt : (version bytes : ℕ) → List ℕ → ℕ → Located
+partAt version bytes ws place = partBy version bytes ws place (firstWord bytes ws place)
 
--- 11, or a part of an image of so many bytes
+-- 11, or a part of an image of so many bytes, with a version that an entry can have
 abbrev pub PartIn : ℕ → Located → Type 0
 PartIn bytes (L.Refused n) = n ≡ N.KeyAbsent
-PartIn bytes (L.Part a n) = a + n ≤ bytes
+PartIn bytes (L.Part a n v) = (a + n ≤ bytes) × (v ≤ maxVersion)
 
 -- behind the gate: for any memory, and with the table of an accepted image
 pub record Looking (key : ℕ) (bytes table : List ℕ) (r : Located) : Type 0 where
@@ -64,7 +64,7 @@ pub record Looking (key : ℕ) (bytes table : List ℕ) (r : Located) : Type 0 w
 -- a part that is answered lies in the image
 abbrev pub InImage : ℕ → Located → Type 0
 InImage bytes (L.Refused n) = Unit {0}
-InImage bytes (L.Part a n) = a + n ≤ bytes
+InImage bytes (L.Part a n v) = a + n ≤ bytes
 
 abbrev pub sessionOf : Control → Setup → List ℕ → Session
 sessionOf c k b = record { control = c; setup = k; buffer = b }
@@ -87,11 +87,16 @@ pub record Reporting (c : Control) (k : Setup) (key : ℕ) (bytes table : List �
 -- the call with the part itself, and 0 or the refusal's number: `located` is what it answers
 abbrev pub numberOf : Located → ℕ
 numberOf (L.Refused n) = number n
-numberOf (L.Part a n) = 0
+numberOf (L.Part a n v) = 0
 
-pub record Showing (c : Control) (k : Setup) (key : ℕ) (bytes table part : List ℕ) (answer : ℕ) : Type 0 where
+abbrev pub versionOf : Located → ℕ
+versionOf (L.Refused n) = 0
+versionOf (L.Part a n v) = v
+
+pub record Showing (c : Control) (k : Setup) (key : ℕ) (bytes table part : List ℕ) (answer version : ℕ) : Type 0 where
   pub located : Located
   pub called : LookedUp c k key bytes table (reportOf located)
   pub inside : InImage (length bytes) located
   pub is-part : part ≡ partBytes (reportOf located) bytes
   pub is-number : answer ≡ numberOf located
+  pub is-version : version ≡ versionOf located

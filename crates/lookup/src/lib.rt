@@ -11,20 +11,28 @@ use session::Setup;
 use spec::Refusal;
 use spec::Report;
 
-// What a look-up finds: a refusal, or the part of the image that holds the value.
+// What a look-up finds: a refusal, or the part of the image that holds the value, and its version.
 pub enum Located {
     Refused(Refusal),
-    Part { start: usize, length: usize },
+    Part {
+        start: usize,
+        length: usize,
+        version: u64,
+    },
 }
 
 // The part from byte `start`, where an image of so many bytes has it.
-fn within(bytes: usize, start: usize, length: u64) -> Located
-    ensures { λ r. ⌜ r ≡ within bytes start length ⌝ }
+fn within(bytes: usize, start: usize, length: u64, version: u64) -> Located
+    ensures { λ r. ⌜ r ≡ within version bytes start length ⌝ }
 {
     if start <= bytes {
         let n = length as usize;
         if n <= bytes - start {
-            return Located::Part { start, length: n };
+            return Located::Part {
+                start,
+                length: n,
+                version,
+            };
         }
     }
     Located::Refused(Refusal::KeyAbsent)
@@ -32,9 +40,9 @@ fn within(bytes: usize, start: usize, length: u64) -> Located
 
 // The part that holds the value of the block at a unit. Where the image has the word behind the block's length word
 // too, as every right image has, two comparisons are enough.
-fn block_part(image: &[u8], unit: Unit) -> Located
+fn block_part(image: &[u8], unit: Unit, version: u64) -> Located
     requires { ⌜ unit .0 < 2 ^ 40 ⌝ }
-    ensures { λ r. ⌜ r ≡ blockPart (length (now (image .entry))) (wordsOf (now (image .entry))) (unit .0) ⌝ }
+    ensures { λ r. ⌜ r ≡ blockPart version (length (now (image .entry))) (wordsOf (now (image .entry))) (unit .0) ⌝ }
 {
     let bytes = image.len();
     let start = unit.byte_offset();
@@ -46,22 +54,27 @@ fn block_part(image: &[u8], unit: Unit) -> Located
             return Located::Part {
                 start: start + 8,
                 length: n,
+                version,
             };
         }
         return Located::Refused(Refusal::KeyAbsent);
     }
-    within(bytes, start + 8, words::load(image, word))
+    within(bytes, start + 8, words::load(image, word), version)
 }
 
 // The part that holds a value in the log of an entry at word `place`.
-fn log_part(bytes: usize, place: usize, length: u64) -> Located
+fn log_part(bytes: usize, place: usize, length: u64, version: u64) -> Located
     requires { ⌜ (place < 0x4_0000) × (length < 2 ^ 40) ⌝ }
-    ensures { λ r. ⌜ r ≡ within bytes (8 * (place + 2)) length ⌝ }
+    ensures { λ r. ⌜ r ≡ within version bytes (8 * (place + 2)) length ⌝ }
 {
     let start = 8 * (place + 2);
     let n = length as usize;
     if start + n <= bytes {
-        return Located::Part { start, length: n };
+        return Located::Part {
+            start,
+            length: n,
+            version,
+        };
     }
     Located::Refused(Refusal::KeyAbsent)
 }
@@ -74,19 +87,19 @@ fn first_word(image: &[u8], place: usize) -> u64
 }
 
 // The part that holds the value of the entry at word `place`: a put with its value in the log, or one with its value in
-// a block.
-fn part_at(image: &[u8], place: usize) -> Located
+// a block; its version is as the key table has it.
+fn part_at(image: &[u8], place: usize, version: u64) -> Located
     requires { ⌜ place < 0x4_0000 ⌝ }
-    ensures { λ r. ⌜ r ≡ partAt (length (now (image .entry))) (wordsOf (now (image .entry))) place ⌝ }
+    ensures { λ r. ⌜ r ≡ partAt version (length (now (image .entry))) (wordsOf (now (image .entry))) place ⌝ }
 {
     let word = first_word(image, place);
     let kind = word % 16;
     let field = word / 16777216;
     if kind == 5 {
-        return block_part(image, Unit(field));
+        return block_part(image, Unit(field), version);
     }
     if kind == 1 {
-        return log_part(image.len(), place, field);
+        return log_part(image.len(), place, field, version);
     }
     Located::Refused(Refusal::KeyAbsent)
 }
@@ -99,14 +112,15 @@ fn value_of(image: &[u8], table: &[u64], key: u64) -> Located
     let held = index::look(table, key);
     let info = index::unpack(held);
     let extent = info.extent;
+    let version = info.version;
     let place = info.place as usize;
     if 0 < extent {
-        return log_part(image.len(), place, extent + 1);
+        return log_part(image.len(), place, extent + 1, version);
     }
     if held == 0 {
         return Located::Refused(Refusal::KeyAbsent);
     }
-    part_at(image, place)
+    part_at(image, place, version)
 }
 
 // 2, 1, 8, 11, or the part of the image that holds the value of a key.
@@ -127,11 +141,20 @@ pub fn find(control: Control, setup: Setup, image: &[u8], table: &[u64], key: u6
     let r = locate(control, setup, image, table, key);
     match r {
         Located::Refused(n) => Report::Refused(n),
-        Located::Part { start, length } => Report::Part { start, length },
+        Located::Part {
+            start,
+            length,
+            version,
+        } => Report::Part {
+            start,
+            length,
+            version,
+        },
     }
 }
 
-// Look-up: the part itself, the empty part on a refusal; `answer` gets 0 or the refusal's number.
+// Look-up: the part itself, the empty part on a refusal; `answer` gets 0 or the refusal's number, `named` the value's
+// version, 0 on a refusal.
 pub fn look_up_core<'a>(
     control: Control,
     setup: Setup,
@@ -139,18 +162,25 @@ pub fn look_up_core<'a>(
     table: &[u64],
     key: u64,
     answer: &mut u64,
+    named: &mut u64,
 ) -> &'a [u8]
-    ensures { λ r. ⌜ Showing control setup key (now (image .entry)) (now (table .entry)) (now r) (now (answer .exit)) ⌝ }
+    ensures { λ r. ⌜ Showing control setup key (now (image .entry)) (now (table .entry)) (now r) (now (answer .exit)) (now (named .exit)) ⌝ }
 {
     let found = locate(control, setup, image, table, key);
     match found {
-        Located::Part { start, length } => {
+        Located::Part {
+            start,
+            length,
+            version,
+        } => {
             let end = start + length;
             *answer = 0;
+            *named = version;
             &image[start..end]
         }
         Located::Refused(n) => {
             *answer = session::number(n);
+            *named = 0;
             &image[0..0]
         }
     }

@@ -39,19 +39,27 @@ fn put_part(
     key: u64,
     value: &[u8],
     n: usize,
+    named: Given,
 ) -> Outcome {
     if n <= value.len() {
         let part = &value[0..n];
-        return staging::put_core(c, s, buffer, image, table, key, part);
+        return staging::put_core(c, s, buffer, image, table, key, part, named);
     }
-    staging::put_core(c, s, buffer, image, table, key, value)
+    staging::put_core(c, s, buffer, image, table, key, value, named)
 }
 
 // A put of so many bytes, counted up from one; at most 4,096.
-fn put(c: Control, s: Setup, buffer: &mut Buffer, image: &[u8], table: &[u64], l: Line) -> Outcome {
-    let key = l.first;
-    let length = l.second;
-    let first = l.third;
+fn put_counted(
+    c: Control,
+    s: Setup,
+    buffer: &mut Buffer,
+    image: &[u8],
+    table: &[u64],
+    key: Token,
+    length: Token,
+    first: Token,
+    named: Given,
+) -> Outcome {
     let mut value: [u8; 4096] = [0; 4096];
     player_memory::count_up(&mut value, (first.value % 256) as u8);
     put_part(
@@ -63,6 +71,50 @@ fn put(c: Control, s: Setup, buffer: &mut Buffer, image: &[u8], table: &[u64], l
         key.value,
         &value,
         length.value as usize,
+        named,
+    )
+}
+
+fn put(c: Control, s: Setup, buffer: &mut Buffer, image: &[u8], table: &[u64], l: Line) -> Outcome {
+    let key = l.first;
+    let length = l.second;
+    let first = l.third;
+    put_counted(
+        c,
+        s,
+        buffer,
+        image,
+        table,
+        key,
+        length,
+        first,
+        Given::Absent,
+    )
+}
+
+// The version stands behind the key.
+fn put_at(
+    c: Control,
+    s: Setup,
+    buffer: &mut Buffer,
+    image: &[u8],
+    table: &[u64],
+    l: Line,
+) -> Outcome {
+    let key = l.first;
+    let version = l.second;
+    let length = l.third;
+    let first = l.fourth;
+    put_counted(
+        c,
+        s,
+        buffer,
+        image,
+        table,
+        key,
+        length,
+        first,
+        given(version),
     )
 }
 
@@ -72,12 +124,12 @@ fn delete(
     buffer: &mut Buffer,
     image: &[u8],
     table: &[u64],
-    l: Line,
+    key: Token,
+    named: Given,
 ) -> Outcome {
-    let key = l.first;
     changed(
         s,
-        staging::delete_core(c, s, buffer, image, table, key.value),
+        staging::delete_core(c, s, buffer, image, table, key.value, named),
     )
 }
 
@@ -173,7 +225,9 @@ pub fn asked(
         Command::Open => opening::open_core(c, s, buffer, image, table),
         Command::Format => format(c, s, buffer, image, table, l),
         Command::Put => put(c, s, buffer, image, table, l),
-        Command::Delete => delete(c, s, buffer, image, table, l),
+        Command::PutAt => put_at(c, s, buffer, image, table, l),
+        Command::Delete => delete(c, s, buffer, image, table, l.first, Given::Absent),
+        Command::DeleteAt => delete(c, s, buffer, image, table, l.first, given(l.second)),
         Command::Commit => committing::commit_core(c, s, buffer, image, table),
         Command::Abandon => staging::abandon_core(c, s, buffer, image, table),
         Command::Choose => choose(c, s, buffer, image, table),

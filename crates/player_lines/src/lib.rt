@@ -152,32 +152,38 @@ fn kept_line(kept: bool) {
 // LOOK-UP
 fn start_of(report: Report) -> u64 {
     match report {
-        Report::Part { start, length: _ } => start as u64,
+        Report::Part {
+            start,
+            length: _,
+            version: _,
+        } => start as u64,
         _ => 0,
     }
 }
 
-// Where the value's part starts, its length and its sum.
-fn look(c: Control, s: Setup, image: &[u8], table: &[u64], key: u64) {
+// Where the value's part starts, its length and its sum, and behind them its version where it is asked for.
+fn look(c: Control, s: Setup, image: &[u8], table: &[u64], key: u64, with_version: bool) {
     let mut answer: u64 = 0;
-    let value = lookup::look_up_core(c, s, image, table, key, &mut answer);
+    let mut version: u64 = 0;
+    let value = lookup::look_up_core(c, s, image, table, key, &mut answer, &mut version);
     if answer != 0 {
         player_output::one(b"refused", answer);
         return;
     }
     let start = start_of(lookup::find(c, s, image, table, key));
-    player_output::three(
-        b"value",
-        start,
-        value.len() as u64,
-        player_output::value_sum(value),
-    );
+    let sum = player_output::value_sum(value);
+    if with_version {
+        player_output::four(b"value", start, value.len() as u64, sum, version);
+        return;
+    }
+    player_output::three(b"value", start, value.len() as u64, sum);
 }
 
 // The value's length, its sum and its first bytes.
 fn show_value(c: Control, s: Setup, image: &[u8], table: &[u64], key: u64) {
     let mut answer: u64 = 0;
-    let value = lookup::look_up_core(c, s, image, table, key, &mut answer);
+    let mut version: u64 = 0;
+    let value = lookup::look_up_core(c, s, image, table, key, &mut answer, &mut version);
     if answer == 11 {
         player_output::one(b"absent", key);
         return;
@@ -196,7 +202,7 @@ fn untouched(state: State) -> State {
     s
 }
 
-fn look_line(state: State, image: &[u8], table: &[u64], key: Token) {
+fn look_line(state: State, image: &[u8], table: &[u64], key: Token, with_version: bool) {
     let bytes = state.bytes;
     let words = state.words;
     if bytes <= image.len() {
@@ -207,6 +213,7 @@ fn look_line(state: State, image: &[u8], table: &[u64], key: Token) {
                 &image[0..bytes],
                 &table[0..words],
                 key.value,
+                with_version,
             );
         }
     }
@@ -246,7 +253,8 @@ fn shown(state: State, image: &mut [u8], table: &[u64], command: Command, l: Lin
         Command::Sum => sum_line(bytes, image),
         Command::Keys => keys_line(state.control),
         Command::Kept => kept_line(state.kept),
-        Command::Look => look_line(state, image, table, first),
+        Command::Look => look_line(state, image, table, first, false),
+        Command::LookVersion => look_line(state, image, table, first, true),
         Command::Show => show_line(state, image, table, first),
         _ => bad(),
     }
@@ -269,6 +277,10 @@ pub fn lent_anew(
         Command::Record => record_line(state, buffer),
         Command::Aloud => read_aloud(state),
         Command::Look => {
+            shown(state, image, table, command, l);
+            untouched(state)
+        }
+        Command::LookVersion => {
             shown(state, image, table, command, l);
             untouched(state)
         }

@@ -34,6 +34,16 @@ pub fn three(word: &[u8], first: u64, second: u64, third: u64) {
     two_numbers(second, third);
 }
 
+pub fn four(word: &[u8], first: u64, second: u64, third: u64, fourth: u64) {
+    io::write_all(1, word);
+    io::write_all(1, b" ");
+    io::print_decimal(1, first);
+    io::write_all(1, b" ");
+    io::print_decimal(1, second);
+    io::write_all(1, b" ");
+    two_numbers(third, fourth);
+}
+
 fn two_numbers(first: u64, second: u64) {
     io::print_decimal(1, first);
     io::write_all(1, b" ");
@@ -93,7 +103,11 @@ pub fn report(report: Report, cleaning: bool) {
         Report::Opened => text(b"opened\n"),
         Report::Abandoned => text(b"abandoned\n"),
         Report::Chosen(chunk) => one(b"chunk", chunk as u64),
-        Report::Part { start, length } => two(b"part", start as u64, length as u64),
+        Report::Part {
+            start,
+            length,
+            version,
+        } => three(b"part", start as u64, length as u64, version),
     }
 }
 

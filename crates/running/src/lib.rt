@@ -29,6 +29,7 @@ fn is_store(report: Report) -> bool
         Report::Part {
             start: _,
             length: _,
+            version: _,
         } => false,
     }
 }

@@ -1,4 +1,4 @@
-// Lines of a script: a word and up to three numbers, separated by single blanks.
+// Lines of a script: a word and up to four numbers, separated by single blanks.
 ghost use mathlib.Core.Path.{_≡_};
 ghost use Prim.Native.Nat.{_+_, _-_, _*_, _%_, _^_, _<_};
 ghost use lib.ListN.{length, drop};
@@ -18,6 +18,7 @@ pub struct Line {
     pub first: Token,
     pub second: Token,
     pub third: Token,
+    pub fourth: Token,
     pub next: usize,
 }
 
@@ -165,11 +166,13 @@ pub fn line_at(text: &[u8], from: usize) -> Line
     let first = next_number(text, w.at);
     let second = next_number(text, first.at);
     let third = next_number(text, second.at);
+    let fourth = next_number(text, third.at);
     Line {
         word: w.value,
         first,
         second,
         third,
+        fourth,
         next,
     }
 }
@@ -190,7 +193,9 @@ pub enum Command {
     Format,
     Open,
     Put,
+    PutAt,
     Delete,
+    DeleteAt,
     Commit,
     Abandon,
     Choose,
@@ -198,6 +203,7 @@ pub enum Command {
     Step,
     Run,
     Look,
+    LookVersion,
     Show,
     Aloud,
     None,
@@ -220,7 +226,9 @@ pub fn command_of(word: u64) -> Command {
         0x666f_726d_6174 => Command::Format, // format
         0x6f70_656e => Command::Open, // open
         0x70_7574 => Command::Put, // put
+        0x70_7574_6174 => Command::PutAt, // putat
         0x6465_6c65_7465 => Command::Delete, // delete
+        0x6465_6c65_7465_6174 => Command::DeleteAt, // deleteat
         0x636f_6d6d_6974 => Command::Commit, // commit
         0x61_6261_6e64_6f6e => Command::Abandon, // abandon
         0x6368_6f6f_7365 => Command::Choose, // choose
@@ -228,6 +236,7 @@ pub fn command_of(word: u64) -> Command {
         0x7374_6570 => Command::Step, // step
         0x72_756e => Command::Run, // run
         0x6c6f_6f6b => Command::Look, // look
+        0x6c_6f6f_6b76 => Command::LookVersion, // lookv
         0x7368_6f77 => Command::Show, // show
         0x61_6c6f_7564 => Command::Aloud, // aloud
         0 => Command::None,
@@ -241,7 +250,9 @@ pub fn is_call(command: Command) -> bool {
         Command::Format => true,
         Command::Open => true,
         Command::Put => true,
+        Command::PutAt => true,
         Command::Delete => true,
+        Command::DeleteAt => true,
         Command::Commit => true,
         Command::Abandon => true,
         Command::Choose => true,

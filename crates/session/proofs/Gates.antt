@@ -140,8 +140,8 @@ module _ (p limit : ℕ) (s : Session) (bytes table : List ℕ) (n : Refusal) wh
 abbrev pub Gating : Call → Type 0
 Gating (Format a b) = ⊥
 Gating Open = ⊥
-Gating (Put k v) = Unit {0}
-Gating (Delete k) = Unit {0}
+Gating (Put x k v) = Unit {0}
+Gating (Delete x k) = Unit {0}
 Gating Commit = Unit {0}
 Gating Abandon = Unit {0}
 Gating (LookUp k) = Unit {0}
@@ -160,8 +160,8 @@ module _ (p limit : ℕ) (s : Session) (bytes table : List ℕ) (n : Refusal) (g
   unfolding next
   turned-down (Format a b) t = absurd t
   turned-down Open t = absurd t
-  turned-down (Put k v) t = refused p limit s bytes table n (Put k v) refl (λ f. f) (λ f. sym (rw g)) only member (refl, refl) (inl (n, refl))
-  turned-down (Delete k) t = refused p limit s bytes table n (Delete k) refl (λ f. f) (λ f. sym (rw g)) only member (refl, refl) (inl (n, refl))
+  turned-down (Put x k v) t = refused p limit s bytes table n (Put x k v) refl (λ f. f) (λ f. sym (rw g)) only member (refl, refl) (inl (n, refl))
+  turned-down (Delete x k) t = refused p limit s bytes table n (Delete x k) refl (λ f. f) (λ f. sym (rw g)) only member (refl, refl) (inl (n, refl))
   turned-down Commit t = refused p limit s bytes table n Commit refl (λ f. f) (λ f. sym (rw g)) only member (refl, refl) (inl (n, refl))
   turned-down Abandon t = refused p limit s bytes table n Abandon refl (λ f. f) (λ f. sym (rw g)) only member (refl, refl) (sym (rw g), sym (rw g))
   turned-down (LookUp k) t = refused p limit s bytes table n (LookUp k) refl (λ f. f) (λ f. sym (rw g)) only member (refl, refl) (inl (n, refl))

@@ -437,5 +437,6 @@ pub fn number(refusal: Refusal) -> u64
         Refusal::NothingStaged => 14,
         Refusal::BatchStaged => 15,
         Refusal::NotCleanable => 16,
+        Refusal::OtherVersion => 17,
     }
 }

@@ -12,6 +12,7 @@ use Rattle.spec.specs.Medium.{Action, Store, Flush, Fence, Medium, run, 
 use Rattle.spec.specs.Contents.{Held, Absent, Value, sameHeld}
 use Rattle.spec.specs.Machine.{Put, Delete, Commit, Abandon, Step}
 use Rattle.spec.specs.Book.{Item, Book, newBook, note, noteCut, noteOpen}
+use Rattle.spec.specs.declared.Given.the-variants as G
 use Rattle.spec.specs.declared.Refusal.the-variants as N
 use Rattle.spec.specs.declared.Report.the-variants as R
 
@@ -63,7 +64,7 @@ abbrev start : Book
 start = newBook (λ k. pick (eqb k 7) (Value (104 ∷ [])) Absent)
 
 abbrev staged : Book
-staged = note Step (R.End 0) (note (Put 9 (33 ∷ [])) (R.Begun 0) (note Step (R.End 0) (note (Delete 7) (R.Begun 0) start)))
+staged = note Step (R.End 0) (note (Put G.Absent 9 (33 ∷ [])) (R.Begun 0) (note Step (R.End 0) (note (Delete G.Absent 7) (R.Begun 0) start)))
 
 abbrev committing : Book
 committing = note Step R.Fence (note Commit (R.Begun 13) staged)
@@ -75,7 +76,7 @@ books =
     ∷ says committing (Value (104 ∷ [])) Absent [] (some (7 ∷ 9 ∷ []))
     ∷ says (note Step (R.End 0) committing) Absent (Value (33 ∷ [])) [] none
     -- refused calls, and a refused step, change nothing
-    ∷ says (note (Put 9 []) (R.Refused N.BatchFull) staged) (Value (104 ∷ [])) Absent (7 ∷ 9 ∷ []) none
+    ∷ says (note (Put G.Absent 9 []) (R.Refused N.BatchFull) staged) (Value (104 ∷ [])) Absent (7 ∷ 9 ∷ []) none
     ∷ says (note Commit (R.Refused N.NoSpace) staged) (Value (104 ∷ [])) Absent (7 ∷ 9 ∷ []) none
     ∷ says (note Step (R.Refused N.ImageLength) committing) (Value (104 ∷ [])) Absent [] (some (7 ∷ 9 ∷ []))
     -- abandoning empties the tray; so does a cut; a batch in hand stays through a cut
@@ -87,9 +88,9 @@ books =
     ∷ says (noteOpen false (noteCut committing)) (Value (104 ∷ [])) Absent [] none
     ∷ says (noteOpen true staged) (Value (104 ∷ [])) Absent [] none
     -- items go in order: put 7, delete 7, put 7
-    ∷ says (note Step (R.End 0) (note Commit (R.Begun 13) (note (Put 7 (3 ∷ [])) (R.Begun 0) (note (Delete 7) (R.Begun 0) (note (Put 7 (2 ∷ [])) (R.Begun 0) start))))) (Value (3 ∷ [])) Absent [] none
+    ∷ says (note Step (R.End 0) (note Commit (R.Begun 13) (note (Put G.Absent 7 (3 ∷ [])) (R.Begun 0) (note (Delete G.Absent 7) (R.Begun 0) (note (Put G.Absent 7 (2 ∷ [])) (R.Begun 0) start))))) (Value (3 ∷ [])) Absent [] none
     -- what was staged before a cut is no part of a later commit
-    ∷ says (note Step (R.End 0) (note Commit (R.Begun 13) (note (Put 9 []) (R.Begun 0) (noteOpen false (noteCut staged))))) (Value (104 ∷ [])) (Value []) [] none
+    ∷ says (note Step (R.End 0) (note Commit (R.Begun 13) (note (Put G.Absent 9 []) (R.Begun 0) (noteOpen false (noteCut staged))))) (Value (104 ∷ [])) (Value []) [] none
     ∷ []
 
 pub computed : T (every (media ++ books))

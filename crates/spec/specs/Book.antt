@@ -56,7 +56,7 @@ isEnd R.Idle = false
 isEnd R.Opened = false
 isEnd R.Abandoned = false
 isEnd (R.Chosen c) = false
-isEnd (R.Part a n) = false
+isEnd (R.Part a n v) = false
 
 abbrev pub withStaged : Item → Book → Book
 withStaged i b = book (b .register) (b .staged ++ (i ∷ [])) (b .in-flight)
@@ -65,8 +65,8 @@ withStaged i b = book (b .register) (b .staged ++ (i ∷ [])) (b .in-flight)
 abbrev pub note : Call → Report → Book → Book
 note (Format s c) r b = b
 note Open r b = b
-note (Put k v) r b = pick (isRefused r) b (withStaged (record { key = k; gets = Value v }) b)
-note (Delete k) r b = pick (isRefused r) b (withStaged (record { key = k; gets = Absent }) b)
+note (Put x k v) r b = pick (isRefused r) b (withStaged (record { key = k; gets = Value v }) b)
+note (Delete x k) r b = pick (isRefused r) b (withStaged (record { key = k; gets = Absent }) b)
 note Commit r b = pick (isRefused r) b (book (b .register) [] (some (b .staged)))
 note Abandon r b = pick (isRefused r) b (book (b .register) [] (b .in-flight))
 note (LookUp k) r b = b

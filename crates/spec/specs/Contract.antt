@@ -12,7 +12,7 @@ use Rattle.spec.specs.Places.{chunksIn}
 use Rattle.spec.specs.Medium.{Action, Store, Flush, Fence}
 use Rattle.spec.specs.Log.{Entry}
 use Rattle.spec.specs.Reports.{actionOf, partIn, asReport, isRefused}
-use Rattle.spec.specs.Plans.{Staging, Committing, Cleaning}
+use Rattle.spec.specs.Plans.{Staging, Committing, Cleaning, maxVersion}
 use Rattle.spec.specs.Machine.{Kind, ToFormat, ToOpen, ToWork, ToStep, kindOf, Call, Format, Open, Put, Delete, Commit, Abandon, LookUp, Choose, Clean, Step, State, Closed, Rest, Busy, Formatting, itemsOf, countOf, answer, next, barred, refusals, stepsLeft}
 use Rattle.spec.specs.declared.Refusal.{Refusal}
 use Rattle.spec.specs.declared.Report.{Report}
@@ -85,11 +85,11 @@ CleansIn b t acts σ = (n : ℕ) × (σ ≡ Busy b t [] (Cleaning n) acts)
 abbrev pub Anyway : (p limit : ℕ) → Call → (σ σ′ : State) → (ws : List ℕ) → (bytes table : ℕ) → Report → Type 0
 Anyway p limit (Format x y) σ σ′ ws bytes table r = (r ≡ answer p limit (Format x y) σ ws bytes table) × (σ′ ≡ next p limit (Format x y) σ ws bytes table)
 Anyway p limit Open σ σ′ ws bytes table r = Refuses r ⊎ ((r ≡ R.Opened) × (σ′ ≡ Rest bytes table []))
-Anyway p limit (Put k v) σ σ′ ws bytes table r = Refuses r ⊎ Begins (StagesIn bytes table) σ′ r
-Anyway p limit (Delete k) σ σ′ ws bytes table r = Refuses r ⊎ Begins (StagesIn bytes table) σ′ r
+Anyway p limit (Put x k v) σ σ′ ws bytes table r = Refuses r ⊎ Begins (StagesIn bytes table) σ′ r
+Anyway p limit (Delete x k) σ σ′ ws bytes table r = Refuses r ⊎ Begins (StagesIn bytes table) σ′ r
 Anyway p limit Commit σ σ′ ws bytes table r = Refuses r ⊎ Begins (CommitsIn bytes table (itemsOf σ)) σ′ r
 Anyway p limit Abandon σ σ′ ws bytes table r = (r ≡ answer p limit Abandon σ ws bytes table) × (σ′ ≡ next p limit Abandon σ ws bytes table)
-Anyway p limit (LookUp k) σ σ′ ws bytes table r = Refuses r ⊎ ((a : ℕ) × ((n : ℕ) × ((r ≡ R.Part a n) × (a + n ≤ bytes))))
+Anyway p limit (LookUp k) σ σ′ ws bytes table r = Refuses r ⊎ ((a : ℕ) × ((n : ℕ) × ((v : ℕ) × ((r ≡ R.Part a n v) × ((a + n ≤ bytes) × (v ≤ maxVersion))))))
 Anyway p limit Choose σ σ′ ws bytes table r = Refuses r ⊎ ((c : ℕ) × ((r ≡ R.Chosen c) × ((1 ≤ c) × (c < chunksIn p bytes))))
 Anyway p limit (Clean c) σ σ′ ws bytes table r = Refuses r ⊎ Begins (CleansIn bytes table) σ′ r
 Anyway p limit Step σ σ′ ws bytes table r = (r ≡ answer p limit Step σ ws bytes table) × (σ′ ≡ next p limit Step σ ws bytes table)
@@ -98,8 +98,8 @@ Anyway p limit Step σ σ′ ws bytes table r = (r ≡ answer p limit Step σ ws
 abbrev pub CountAt : Call → ℕ → Type 0
 CountAt (Format x y) n = n ≡ 0
 CountAt Open n = ⊥
-CountAt (Put k v) n = n ≡ 0
-CountAt (Delete k) n = n ≡ 0
+CountAt (Put x k v) n = n ≡ 0
+CountAt (Delete x k) n = n ≡ 0
 CountAt Commit n = n ≡ 0
 CountAt Abandon n = ⊥
 CountAt (LookUp k) n = ⊥
@@ -160,7 +160,7 @@ module _ {S : Type 0} (Proper : S → Type 0) (stateOf : S → State) (Fits : S 
   Outcome k s s′ table table′ R.Opened = stepsLeft (stateOf s′) ≡ 0
   Outcome k s s′ table table′ R.Abandoned = (stepsLeft (stateOf s′) ≡ 0) × (table′ ≡ table)
   Outcome k s s′ table table′ (R.Chosen c) = (s′ ≡ s) × (table′ ≡ table)
-  Outcome k s s′ table table′ (R.Part a n) = (s′ ≡ s) × (table′ ≡ table)
+  Outcome k s s′ table table′ (R.Part a n v) = (s′ ≡ s) × (table′ ≡ table)
 
   -- what the record and the lengths alone decide, whatever the image and the table hold
   abbrev pub Barred : Call → S → List ℕ → List ℕ → Report → Type 0

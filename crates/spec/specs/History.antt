@@ -55,7 +55,7 @@ unfinishedAfter R.Idle u = u
 unfinishedAfter R.Opened u = false
 unfinishedAfter R.Abandoned u = u
 unfinishedAfter (R.Chosen c) u = u
-unfinishedAfter (R.Part a n) u = u
+unfinishedAfter (R.Part a n v) u = u
 
 -- WHAT MAY FOLLOW WHAT. An opening is lent any record, and any table no smaller than at the opening before, and comes
 -- only when every call begun has ended; any other call gets record and table as the last call left them.
@@ -80,8 +80,8 @@ module _ {S : Type 0} (Proper : S → Type 0) where
 abbrev pub Stands : Call → Report → Type 0
 Stands (Format a b) r = isRefused r ≡ true
 Stands Open r = Unit {0}
-Stands (Put k v) r = AreBytes v
-Stands (Delete k) r = Unit {0}
+Stands (Put x k v) r = AreBytes v
+Stands (Delete x k) r = Unit {0}
 Stands Commit r = Unit {0}
 Stands Abandon r = Unit {0}
 Stands (LookUp k) r = Unit {0}
@@ -135,8 +135,8 @@ module _ {S : Type 0} (Proper : S → Type 0) (stateOf : S → State) (Fits : S 
   abbrev pub Ends : Call → (World S → Book → Type 0) → World S → Book → S → List ℕ → List ℕ → Report → Type 0
   Ends (Format a c) Then w b s′ image′ table′ r = Goes (Format a c) Then w b s′ image′ table′ r
   Ends Open Then w b s′ image′ table′ r = Opens Then w b s′ image′ table′ r
-  Ends (Put k v) Then w b s′ image′ table′ r = Goes (Put k v) Then w b s′ image′ table′ r
-  Ends (Delete k) Then w b s′ image′ table′ r = Goes (Delete k) Then w b s′ image′ table′ r
+  Ends (Put x k v) Then w b s′ image′ table′ r = Goes (Put x k v) Then w b s′ image′ table′ r
+  Ends (Delete x k) Then w b s′ image′ table′ r = Goes (Delete x k) Then w b s′ image′ table′ r
   Ends Commit Then w b s′ image′ table′ r = Goes Commit Then w b s′ image′ table′ r
   Ends Abandon Then w b s′ image′ table′ r = Goes Abandon Then w b s′ image′ table′ r
   Ends (LookUp k) Then w b s′ image′ table′ r = Looks k w b image′ r × Goes (LookUp k) Then w b s′ image′ table′ r

@@ -22,11 +22,12 @@ use Rattle.spec.specs.declared.Report.the-variants as R
 use Rattle.spec.specs.Reports.{isRefused, asReport}
 use Rattle.spec.specs.Plans.{Task, Staging, Committing, Cleaning, Plan, Refuse, Begin, planPut, planDelete, planCommit, planClean, chosenChunk, lookUp, planned, chosenOr}
 
+-- a put and a delete may be told the version that they are for
 pub data Call : Type 0 where
   Format : Given → Given → Call
   Open : Call
-  Put : ℕ → List ℕ → Call
-  Delete : ℕ → Call
+  Put : Given → ℕ → List ℕ → Call
+  Delete : Given → ℕ → Call
   Commit : Call
   Abandon : Call
   LookUp : ℕ → Call
@@ -44,8 +45,8 @@ pub data Kind : Type 0 where
 abbrev pub kindOf : Call → Kind
 kindOf (Format s c) = ToFormat
 kindOf Open = ToOpen
-kindOf (Put k v) = ToWork
-kindOf (Delete k) = ToWork
+kindOf (Put x k v) = ToWork
+kindOf (Delete x k) = ToWork
 kindOf Commit = ToWork
 kindOf Abandon = ToWork
 kindOf (LookUp k) = ToWork
@@ -93,8 +94,8 @@ isOpen (Formatting o b t rest) = o
 abbrev pub planOf : ℕ → ℕ → Call → List Entry → List ℕ → ℕ → ℕ → Option Plan
 planOf p limit (Format s c) items ws bytes table = none
 planOf p limit Open items ws bytes table = none
-planOf p limit (Put k v) items ws bytes table = some (planPut p limit (chunksIn p bytes) ws table (entriesIn p (chunksIn p bytes) ws) items k v)
-planOf p limit (Delete k) items ws bytes table = some (planDelete table (entriesIn p (chunksIn p bytes) ws) items k)
+planOf p limit (Put x k v) items ws bytes table = some (planPut p limit (chunksIn p bytes) ws table (entriesIn p (chunksIn p bytes) ws) items x k v)
+planOf p limit (Delete x k) items ws bytes table = some (planDelete table (entriesIn p (chunksIn p bytes) ws) items x k)
 planOf p limit Commit items ws bytes table = some (planCommit p (chunksIn p bytes) ws items)
 planOf p limit Abandon items ws bytes table = none
 planOf p limit (LookUp k) items ws bytes table = none
@@ -169,8 +170,8 @@ planAnswer (some q) = planned q
 abbrev pub answer : ℕ → ℕ → Call → State → List ℕ → ℕ → ℕ → Report
 answer p limit (Format s c) σ ws bytes table = formatAnswer p s c σ bytes
 answer p limit Open σ ws bytes table = opened (opening p bytes ws table)
-answer p limit (Put k v) σ ws bytes table = gated (gate σ bytes table) (planAnswer (planOf p limit (Put k v) (itemsOf σ) ws bytes table))
-answer p limit (Delete k) σ ws bytes table = gated (gate σ bytes table) (planAnswer (planOf p limit (Delete k) (itemsOf σ) ws bytes table))
+answer p limit (Put x k v) σ ws bytes table = gated (gate σ bytes table) (planAnswer (planOf p limit (Put x k v) (itemsOf σ) ws bytes table))
+answer p limit (Delete x k) σ ws bytes table = gated (gate σ bytes table) (planAnswer (planOf p limit (Delete x k) (itemsOf σ) ws bytes table))
 answer p limit Commit σ ws bytes table = gated (gate σ bytes table) (planAnswer (planOf p limit Commit (itemsOf σ) ws bytes table))
 answer p limit Abandon σ ws bytes table = gated (gate σ bytes table) (pick (isEmpty (itemsOf σ)) (R.Refused N.NothingStaged) R.Abandoned)
 answer p limit (LookUp k) σ ws bytes table = gated (gate σ bytes table) (lookUp ws (entriesIn p (chunksIn p bytes) ws) k)
@@ -212,8 +213,8 @@ planState (some q) σ = begun q σ
 abbrev pub change : ℕ → ℕ → Call → State → List ℕ → ℕ → ℕ → State
 change p limit (Format s c) σ ws bytes table = formatState p s c σ bytes table
 change p limit Open σ ws bytes table = openedState (opening p bytes ws table) bytes table
-change p limit (Put k v) σ ws bytes table = planState (planOf p limit (Put k v) (itemsOf σ) ws bytes table) σ
-change p limit (Delete k) σ ws bytes table = planState (planOf p limit (Delete k) (itemsOf σ) ws bytes table) σ
+change p limit (Put x k v) σ ws bytes table = planState (planOf p limit (Put x k v) (itemsOf σ) ws bytes table) σ
+change p limit (Delete x k) σ ws bytes table = planState (planOf p limit (Delete x k) (itemsOf σ) ws bytes table) σ
 change p limit Commit σ ws bytes table = planState (planOf p limit Commit (itemsOf σ) ws bytes table) σ
 change p limit Abandon σ ws bytes table = emptied σ
 change p limit (LookUp k) σ ws bytes table = σ
@@ -235,8 +236,8 @@ next p limit k σ ws bytes table =
 abbrev pub refusals : Call → List Refusal
 refusals (Format s c) = N.ImageLength ∷ N.Unfinished ∷ []
 refusals Open = N.ImageLength ∷ N.NotOpen ∷ N.DirectoryWrong ∷ N.EntryWrong ∷ N.BlockWrong ∷ N.TopsDisagree ∷ N.TableFull ∷ []
-refusals (Put k v) = N.NotOpen ∷ N.ImageLength ∷ N.Unfinished ∷ N.TooLong ∷ N.VersionSpent ∷ N.BatchFull ∷ N.TableFull ∷ N.NoSpace ∷ []
-refusals (Delete k) = N.NotOpen ∷ N.ImageLength ∷ N.Unfinished ∷ N.KeyAbsent ∷ N.VersionSpent ∷ N.BatchFull ∷ N.TableFull ∷ []
+refusals (Put x k v) = N.NotOpen ∷ N.ImageLength ∷ N.Unfinished ∷ N.TooLong ∷ N.OtherVersion ∷ N.VersionSpent ∷ N.BatchFull ∷ N.TableFull ∷ N.NoSpace ∷ []
+refusals (Delete x k) = N.NotOpen ∷ N.ImageLength ∷ N.Unfinished ∷ N.KeyAbsent ∷ N.OtherVersion ∷ N.VersionSpent ∷ N.BatchFull ∷ N.TableFull ∷ []
 refusals Commit = N.NotOpen ∷ N.ImageLength ∷ N.Unfinished ∷ N.NothingStaged ∷ N.NoSpace ∷ []
 refusals Abandon = N.NotOpen ∷ N.ImageLength ∷ N.Unfinished ∷ N.NothingStaged ∷ []
 refusals (LookUp k) = N.NotOpen ∷ N.ImageLength ∷ N.Unfinished ∷ N.KeyAbsent ∷ []

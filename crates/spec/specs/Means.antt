@@ -27,8 +27,8 @@ meant p image = contents p (chunksIn p (length image)) (wordsOf image)
 abbrev pub does : Call → List Item → (ℕ → Held) → ℕ → Held
 does (Format a b) tray register = nothing
 does Open tray register = register
-does (Put k v) tray register = register
-does (Delete k) tray register = register
+does (Put x k v) tray register = register
+does (Delete x k) tray register = register
 does Commit tray register = doneItems tray register
 does Abandon tray register = register
 does (LookUp k) tray register = register
@@ -40,8 +40,8 @@ does Step tray register = register
 abbrev pub MayBegin : Call → Type 0
 MayBegin (Format a b) = Unit {0}
 MayBegin Open = ⊥
-MayBegin (Put k v) = AreBytes v
-MayBegin (Delete k) = Unit {0}
+MayBegin (Put x k v) = AreBytes v
+MayBegin (Delete x k) = Unit {0}
 MayBegin Commit = Unit {0}
 MayBegin Abandon = ⊥
 MayBegin (LookUp k) = ⊥
@@ -53,8 +53,8 @@ MayBegin Step = ⊥
 abbrev pub Untouching : Call → Bool → Type 0
 Untouching (Format a b) u = Unit {0}
 Untouching Open u = Unit {0}
-Untouching (Put k v) u = Unit {0}
-Untouching (Delete k) u = Unit {0}
+Untouching (Put x k v) u = Unit {0}
+Untouching (Delete x k) u = Unit {0}
 Untouching Commit u = Unit {0}
 Untouching Abandon u = Unit {0}
 Untouching (LookUp k) u = Unit {0}

@@ -16,6 +16,8 @@ use Rattle.spec.specs.Log.{Entry, maxInLog, encodeAll}
 use Rattle.spec.specs.Blocks.{blockSize, pointed}
 use Rattle.spec.specs.Contents.{highest, chosen, capacity, pointers, liveBlocks, keptIn}
 use Rattle.spec.specs.Actions.{linesFor, appendOf, freeOf, takeOf, blockOf}
+use Rattle.spec.specs.declared.Given.{Given}
+use Rattle.spec.specs.declared.Given.the-variants as G
 use Rattle.spec.specs.declared.Refusal.{Refusal}
 use Rattle.spec.specs.declared.Refusal.the-variants as N
 use Rattle.spec.specs.declared.Report.{Report}
@@ -59,6 +61,15 @@ isPut (some e) = eqb (e .op) 1
 -- key
 abbrev pub nextVersion : ℕ → List Entry → List Entry → ℕ
 nextVersion k es items = suc (highest k (es ++ items))
+
+-- 17: a staging may name a version, which must be the key's highest, staged items counted; 0 is that of a key neither
+-- known nor staged
+abbrev pub isNamed : Given → ℕ → Bool
+isNamed G.Absent v = true
+isNamed (G.Number n) v = eqb n v
+
+abbrev pub fitsVersion : Given → ℕ → List Entry → List Entry → Bool
+fitsVersion named k es items = isNamed named (highest k (es ++ items))
 
 abbrev pub present : ℕ → List Entry → List Entry → Bool
 present k es items = isPut (chosen k (es ++ items))
@@ -122,23 +133,25 @@ stagePut p n ws es items version k bytes =
 abbrev pub putWords : ℕ → ℕ
 putWords bytes = 2 + pick (leb bytes maxInLog) ((bytes + 7) / 8) 0
 
--- 9, 12, 10, 7, 13 of a put; `limit` is the level's largest value
-unfoldable pub planPut : ℕ → ℕ → ℕ → List ℕ → ℕ → List Entry → List Entry → ℕ → List ℕ → Plan
-planPut p limit n ws table es items k bytes =
+-- 9, 17, 12, 10, 7, 13 of a put; `limit` is the level's largest value
+unfoldable pub planPut : ℕ → ℕ → ℕ → List ℕ → ℕ → List Entry → List Entry → Given → ℕ → List ℕ → Plan
+planPut p limit n ws table es items named k bytes =
     need (leb (length bytes) limit) N.TooLong
+    (need (fitsVersion named k es items) N.OtherVersion
     (need (leb (nextVersion k es items) maxPutVersion) N.VersionSpent
     (need (fitsBatch items (putWords (length bytes))) N.BatchFull
     (need (fitsKeys table es items k) N.TableFull
-    (stagePut p n ws es items (nextVersion k es items) k bytes))))
+    (stagePut p n ws es items (nextVersion k es items) k bytes)))))
 
--- 11, 12, 10, 7 of a delete
-unfoldable pub planDelete : ℕ → List Entry → List Entry → ℕ → Plan
-planDelete table es items k =
+-- 11, 17, 12, 10, 7 of a delete
+unfoldable pub planDelete : ℕ → List Entry → List Entry → Given → ℕ → Plan
+planDelete table es items named k =
     need (present k es items) N.KeyAbsent
+    (need (fitsVersion named k es items) N.OtherVersion
     (need (leb (nextVersion k es items) maxVersion) N.VersionSpent
     (need (fitsBatch items 2) N.BatchFull
     (need (fitsKeys table es items k) N.TableFull
-    (Begin (items ++ (entry 2 0 (nextVersion k es items) 0 k [] ∷ [])) Staging []))))
+    (Begin (items ++ (entry 2 0 (nextVersion k es items) 0 k [] ∷ [])) Staging [])))))
 
 -- COMMIT: the first log chunk, other than chunk x, with space for b lines behind its committed lines, else the first
 -- free chunk if at least so many are free
@@ -228,9 +241,9 @@ best p ws es d (c ∷ cs) = best p ws es (better p ws es d c) cs
 unfoldable pub chosenChunk : ℕ → ℕ → List ℕ → List Entry → Option ℕ
 chosenChunk p n ws es = best p ws es none (filter (worthCleaning p ws es) (upFrom 1 (n - 1)))
 
--- LOOK-UP: the part of the image that holds the value of the chosen top entry
+-- LOOK-UP: the part of the image that holds the value of the chosen top entry, and that entry's version
 abbrev pub partOf : List ℕ → Entry → Report
-partOf ws e = pick (pointed e) (R.Part (8 * (unitWord (e .field) + 1)) (getD ws (unitWord (e .field)) 0)) (R.Part (8 * (e .at + 2)) (e .field))
+partOf ws e = pick (pointed e) (R.Part (8 * (unitWord (e .field) + 1)) (getD ws (unitWord (e .field)) 0) (e .version)) (R.Part (8 * (e .at + 2)) (e .field) (e .version))
 
 abbrev pub partOr : List ℕ → Option Entry → Report
 partOr ws none = R.Refused N.KeyAbsent

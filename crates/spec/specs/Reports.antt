@@ -31,9 +31,10 @@ number N.NoSpace = 13
 number N.NothingStaged = 14
 number N.BatchStaged = 15
 number N.NotCleanable = 16
+number N.OtherVersion = 17
 
 -- the values of each case of a report: refused n, begun a, store w v, flush l, fence, end n, idle; for the answers
--- of calls that answer directly, the chunk chosen, and the part's first byte and length.
+-- of calls that answer directly, the chunk chosen, and the part's first byte and length and its value's version.
 abbrev pub numbersOf : Report → List ℕ
 numbersOf (R.Refused n) = number n ∷ []
 numbersOf (R.Begun a) = a ∷ []
@@ -45,7 +46,7 @@ numbersOf R.Idle = []
 numbersOf R.Opened = []
 numbersOf R.Abandoned = []
 numbersOf (R.Chosen c) = c ∷ []
-numbersOf (R.Part a n) = a ∷ n ∷ []
+numbersOf (R.Part a n v) = a ∷ n ∷ v ∷ []
 
 -- What a report says: the action that was done, the refusal, where in the image the part lies that a look-up hands out.
 -- What follows of a report goes by these.
@@ -60,7 +61,7 @@ actionOf R.Idle = none
 actionOf R.Opened = none
 actionOf R.Abandoned = none
 actionOf (R.Chosen c) = none
-actionOf (R.Part a n) = none
+actionOf (R.Part a n v) = none
 
 abbrev pub refusalOf : Report → Option Refusal
 refusalOf (R.Refused n) = some n
@@ -73,7 +74,7 @@ refusalOf R.Idle = none
 refusalOf R.Opened = none
 refusalOf R.Abandoned = none
 refusalOf (R.Chosen c) = none
-refusalOf (R.Part a n) = none
+refusalOf (R.Part a n v) = none
 
 abbrev pub placeOf : Report → Option (ℕ × ℕ)
 placeOf (R.Refused n) = none
@@ -86,7 +87,7 @@ placeOf R.Idle = none
 placeOf R.Opened = none
 placeOf R.Abandoned = none
 placeOf (R.Chosen c) = none
-placeOf (R.Part a n) = some (a, n)
+placeOf (R.Part a n v) = some (a, n)
 
 abbrev pub sliced : Option (ℕ × ℕ) → List ℕ → Option (List ℕ)
 sliced none bytes = none

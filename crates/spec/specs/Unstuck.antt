@@ -57,8 +57,8 @@ module _ {S : Type 0} (Proper : S → Type 0) (stateOf : S → State) (Fits : S 
   abbrev pub Obeys : Call → World S → Report → Type 0
   Obeys (Format a c) w r = Unit {0}
   Obeys Open w r = Unit {0}
-  Obeys (Put k v) w r = Unit {0}
-  Obeys (Delete k) w r = Unit {0}
+  Obeys (Put x k v) w r = Unit {0}
+  Obeys (Delete x k) w r = Unit {0}
   Obeys Commit w r = isRefused r ≡ false → FreeIn (w .image)
   Obeys Abandon w r = Unit {0}
   Obeys (LookUp k) w r = Unit {0}

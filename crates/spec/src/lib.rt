@@ -36,13 +36,14 @@ pub enum LogStep {
     },
 }
 
-// A number that a formatting is told, or not.
+// A number that a call is told, or not: a formatting the numbers of station and centre, a staging the version that it
+// names.
 pub enum Given {
     Number(u64),
     Absent,
 }
 
-// Why a call is turned down, 1 to 16 in the order of the rules' table.
+// Why a call is turned down, 1 to 17 in the order of the rules' table.
 pub enum Refusal {
     ImageLength,
     NotOpen,
@@ -60,14 +61,18 @@ pub enum Refusal {
     NothingStaged,
     BatchStaged,
     NotCleanable,
+    OtherVersion,
 }
 
 // What a call answers. `Begun` has the number of actions, `End` the entries copied (0 but for a cleaning),
-// `Part` the first byte and the length of the part of the image that holds a value.
+// `Part` the first byte and the length of the part of the image that holds a value, and the value's version.
 pub enum Report {
     Refused(Refusal),
     Begun(usize),
-    Store { word: usize, value: u64 },
+    Store {
+        word: usize,
+        value: u64,
+    },
     Flush(usize),
     Fence,
     End(usize),
@@ -75,5 +80,9 @@ pub enum Report {
     Opened,
     Abandoned,
     Chosen(usize),
-    Part { start: usize, length: usize },
+    Part {
+        start: usize,
+        length: usize,
+        version: u64,
+    },
 }

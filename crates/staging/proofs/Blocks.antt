@@ -22,6 +22,7 @@ use Rattle.spec.specs.Contract.{StagesIn}
 use Rattle.session.specs.declared.Control.{Control}
 use Rattle.session.specs.declared.Setup.{Setup}
 use Rattle.session.specs.declared.Session.{Session}
+use Rattle.spec.specs.declared.Given.{Given}
 use Rattle.spec.specs.declared.Refusal.{Refusal}
 use Rattle.spec.specs.declared.Refusal.the-variants as N
 use Rattle.spec.specs.declared.Report.the-variants as R
@@ -47,9 +48,9 @@ use Rattle.session.proofs.Gates.{refused, gate-passed, AtRest}
 use Rattle.admitting.specs.declared.Admission.{Admission}
 use Rattle.admitting.specs.declared.Admission.the-variants as A
 use Rattle.admitting.specs.declared.Newest.{Newest}
-use Rattle.admitting.specs.Admitting.{NewestOf, VersionOf, admitOf}
+use Rattle.admitting.specs.Admitting.{NewestOf, VersionOf, admitNamed}
 use Rattle.staging.proofs.Staging as S
-use Rattle.admitting.proofs.Admits.{planBy, Admitting, admitted, turned, fresh-then, plan-admits}
+use Rattle.admitting.proofs.Admits.{planBy, Admitting, named-admitted, named-turned, fresh-then, plan-named}
 use Rattle.session.specs.Promise.{Does, memory, memoryOf}
 use Rattle.session.specs.Numbers.{stagedMore}
 
@@ -67,8 +68,8 @@ unfolding blockLimit chunkUnits
 beyond h = omega arith
 
 module _ (c : Control) (k : Setup) (b bytes table : List ℕ) (g : Gated) (asks : Asking c k (length bytes) (length table) g) (passes : g ≡ G.Open)
-    (key last : ℕ) (is : VersionOf b (c .words) table key last) (v : List ℕ) (low : 256 < length v) (high : length v ≤ limit)
-    (a : Admission) (told : a ≡ admitOf c maxPutVersion last 2 (capacity (length table))) where
+    (named : Given) (key last : ℕ) (is : VersionOf b (c .words) table key last) (v : List ℕ) (low : 256 < length v) (high : length v ≤ limit)
+    (a : Admission) (told : a ≡ admitNamed named c maxPutVersion last 2 (capacity (length table))) where
   abbrev s : Session
   s = record { control = c; setup = k; buffer = b }
 
@@ -100,29 +101,29 @@ module _ (c : Control) (k : Setup) (b bytes table : List ℕ) (g : Gated) (asks 
   abbrev placing : ℕ → ℕ → Fits s ws table → Plan
   placing m version f = stageLarge 12 ws (items f) version key v (slotFor 12 m ws (es f) (items f) size)
 
-  block-plan : (f : Fits s ws table) → planPut 12 limit chunks ws (length table) (entriesIn 12 chunks ws) (itemsOf (stateOf s)) key v ≡ planBy (admitOf c maxPutVersion last 2 room) (placing chunks (suc last) f)
+  block-plan : (f : Fits s ws table) → planPut 12 limit chunks ws (length table) (entriesIn 12 chunks ws) (itemsOf (stateOf s)) named key v ≡ planBy (admitNamed named c maxPutVersion last 2 room) (placing chunks (suc last) f)
   unfolding planPut
   block-plan f =
       let y = S.numbered c k b bytes table g asks passes f key last is in
       rw (S.parsed c k b bytes table g asks passes f, rests f .state, le-leb (length v) limit high, lt-leb (length v) 256 low)
-      (plan-admits c b n ws (es f) (items f) (rests f .fits .batch) maxPutVersion key last 2 (length table) (y .version) (y .old) _
-      ∙ ap (λ (h : ℕ). planBy (admitOf c maxPutVersion last 2 room) (placing chunks (suc h) f)) (sym (y .version)))
+      (plan-named named c b n ws (es f) (items f) (rests f .fits .batch) maxPutVersion key last 2 (length table) (y .version) (y .old) _
+      ∙ ap (λ (h : ℕ). planBy (admitNamed named c maxPutVersion last 2 room) (placing chunks (suc h) f)) (sym (y .version)))
 
   -- 12, 10, 7
-  pub block-refused : (x : Refusal) → a ≡ A.Refused x → Does (Put key v) (memory s bytes table) (memory s bytes table) (R.Refused x)
+  pub block-refused : (x : Refusal) → a ≡ A.Refused x → Does (Put named key v) (memory s bytes table) (memory s bytes table) (R.Refused x)
   block-refused x e =
-      refused 12 limit s bytes table x (Put key v) refl (λ f. f) (λ f. sym (rw (S.opened c k b bytes table g asks passes, block-plan f, sym told ∙ e)))
-      (S.barred c k b bytes table g asks passes (R.Refused x)) (inr (inr (inr (inr (turned c maxPutVersion last 2 room x (sym told ∙ e)))))) (refl, refl) (inl (x, refl))
+      refused 12 limit s bytes table x (Put named key v) refl (λ f. f) (λ f. sym (rw (S.opened c k b bytes table g asks passes, block-plan f, sym told ∙ e)))
+      (S.barred c k b bytes table g asks passes (R.Refused x)) (inr (inr (inr (inr (named-turned named c maxPutVersion last 2 room x (sym told ∙ e)))))) (refl, refl) (inl (x, refl))
 
   -- ADMITTED, and its block looked for
   module _ (fresh : ℕ) (e : a ≡ A.Admitted fresh) (are : AreBytes v) (after : List ℕ) (r : Large) (staged : LargeStaged bytes b after k (c .words) (last + 1) key v r) where
     adm : Admitting c maxPutVersion last 2 room fresh
-    adm = admitted c maxPutVersion last 2 room fresh (sym told ∙ e)
+    adm = named-admitted named c maxPutVersion last 2 room fresh (sym told ∙ e)
 
     next-is : last + 1 ≡ suc last
     next-is = omega arith
 
-    plan-is : (f : Fits s ws table) → planPut 12 limit chunks ws (length table) (entriesIn 12 chunks ws) (itemsOf (stateOf s)) key v ≡ placing n (last + 1) f
+    plan-is : (f : Fits s ws table) → planPut 12 limit chunks ws (length table) (entriesIn 12 chunks ws) (itemsOf (stateOf s)) named key v ≡ placing n (last + 1) f
     plan-is f =
         block-plan f
         ∙ ap (λ (x : Admission). planBy x (placing chunks (suc last) f)) (sym told ∙ e)
@@ -144,11 +145,11 @@ module _ (c : Control) (k : Setup) (b bytes table : List ℕ) (g : Gated) (asks 
         (record { blocks = rests f .fits .built .blocks; staged = fits-staged c b n ws (es f) (items f) (rests f .fits .batch) })
 
     -- 13
-    pub block-nowhere : r .found ≡ false → Does (Put key v) (memory s bytes table) (memoryOf c k after bytes table) (R.Refused N.NoSpace)
+    pub block-nowhere : r .found ≡ false → Does (Put named key v) (memory s bytes table) (memoryOf c k after bytes table) (R.Refused N.NoSpace)
     block-nowhere z =
         rw (staged .nothing z .0)
-        (refused 12 limit s bytes table N.NoSpace (Put key v) refl (λ f. f) (λ f. sym (rw (S.opened c k b bytes table g asks passes, plan-is f, none-found f)))
-        (S.barred c k b bytes table g asks passes (R.Refused N.NoSpace)) (inr (inr (inr (inr (inr (inr (inr (inl refl)))))))) (refl, refl) (inl (N.NoSpace, refl)))
+        (refused 12 limit s bytes table N.NoSpace (Put named key v) refl (λ f. f) (λ f. sym (rw (S.opened c k b bytes table g asks passes, plan-is f, none-found f)))
+        (S.barred c k b bytes table g asks passes (R.Refused N.NoSpace)) (inr (inr (inr (inr (inr (inr (inr (inr (inl refl))))))))) (refl, refl) (inl (N.NoSpace, refl)))
       where
         none-found : (f : Fits s ws table) → placing n (last + 1) f ≡ Refuse N.NoSpace
         none-found f = subst (λ (x : Bool). Planned x (placing n (last + 1) f) after (items f) r) z (shown f)
@@ -192,7 +193,7 @@ module _ (c : Control) (k : Setup) (b bytes table : List ℕ) (g : Gated) (asks 
         abbrev more : List Entry
         more = items f ++ (item ∷ [])
 
-        plan : planPut 12 limit chunks ws (length table) (entriesIn 12 chunks ws) (itemsOf (stateOf s)) key v ≡ Begin more Staging acts
+        plan : planPut 12 limit chunks ws (length table) (entriesIn 12 chunks ws) (itemsOf (stateOf s)) named key v ≡ Begin more Staging acts
         plan = plan-is f ∙ begins .plan′ ∙ ap (λ (l : List Entry). Begin l Staging acts) (goes .1)
 
         in-room : c′ .words ≤ batchRoom
@@ -241,7 +242,7 @@ module _ (c : Control) (k : Setup) (b bytes table : List ℕ) (g : Gated) (asks 
                   in-room written (omega arith) (omega arith) right (counts-more (es f) (items f) item (q .batch .counts) h) marked keys (rw l at o)),
             )
 
-      pub block-begun : Does (Put key v) (memory s bytes table) (memory s′ bytes table) (R.Begun (r .count))
+      pub block-begun : Does (Put named key v) (memory s bytes table) (memory s′ bytes table) (R.Begun (r .count))
       unfolding next
       block-begun = record {
         exact = λ f. record {

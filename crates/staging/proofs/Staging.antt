@@ -22,6 +22,7 @@ use Rattle.spec.specs.Contract.{StagesIn, Anyway, Again, Ready, Barred}
 use Rattle.session.specs.declared.Control.{Control}
 use Rattle.session.specs.declared.Setup.{Setup}
 use Rattle.session.specs.declared.Session.{Session}
+use Rattle.spec.specs.declared.Given.{Given}
 use Rattle.spec.specs.declared.Refusal.{Refusal}
 use Rattle.spec.specs.declared.Refusal.the-variants as N
 use Rattle.spec.specs.declared.Report.{Report}
@@ -50,11 +51,11 @@ use Rattle.admitting.specs.declared.Newest.{Newest}
 use Rattle.admitting.specs.declared.Admission.{Admission}
 use Rattle.admitting.specs.declared.Admission.the-variants as A
 use Rattle.session.specs.declared.Stepped.{Stepped}
-use Rattle.admitting.specs.Admitting.{NewestOf, VersionOf, presentBy, admitOf}
+use Rattle.admitting.specs.Admitting.{NewestOf, VersionOf, presentBy, admitNamed}
 use Rattle.staging.specs.Staging.{refusedWith, oneMore}
 use Rattle.staging.proofs.Shows as Shows
 use Rattle.admitting.proofs.Known.{Numbered, Says, newest-says, version-says}
-use Rattle.admitting.proofs.Admits.{planBy, Admitting, admitted, turned, fresh-then, plan-admits}
+use Rattle.admitting.proofs.Admits.{planBy, Admitting, named-admitted, named-turned, fresh-then, plan-named}
 use Rattle.session.specs.Promise.{Does, memory, memoryOf}
 use Rattle.session.specs.Fits.{Proper}
 use Rattle.session.specs.Numbers.{stagedMore}
@@ -127,14 +128,14 @@ module _ (c : Control) (k : Setup) (b bytes table : List ℕ) where
 
     -- ## Too long
 
-    pub put-long : (key : ℕ) (v : List ℕ) → limit < length v → Does (Put key v) (memory s bytes table) (memory s bytes table) (R.Refused N.TooLong)
+    pub put-long : (named : Given) (key : ℕ) (v : List ℕ) → limit < length v → Does (Put named key v) (memory s bytes table) (memory s bytes table) (R.Refused N.TooLong)
     unfolding planPut
-    put-long key v l =
-        refused 12 limit s bytes table N.TooLong (Put key v) refl (λ f. f) (λ f. sym (rw (opened, lt-leb (length v) limit l)))
+    put-long named key v l =
+        refused 12 limit s bytes table N.TooLong (Put named key v) refl (λ f. f) (λ f. sym (rw (opened, lt-leb (length v) limit l)))
         (barred (R.Refused N.TooLong)) (inr (inr (inr (inl refl)))) (refl, refl) (inl (N.TooLong, refl))
 
     -- `last` is the key's highest version so far
-    module _ (key last : ℕ) (is : VersionOf b (c .words) table key last) where
+    module _ (named : Given) (key last : ℕ) (is : VersionOf b (c .words) table key last) where
       -- ## One more item
 
       module _ (e : Entry) (most fresh : ℕ) (adm : Admitting c most last (2 + length (e .value)) room fresh) (after : List ℕ) (words : ℕ) (added : Added b after (c .words) words e) where
@@ -232,27 +233,27 @@ module _ (c : Control) (k : Setup) (b bytes table : List ℕ) where
         need-words = 2 + (length v + 7) / 8
 
         put-plan : (l : length v ≤ 256) (f : Fits s ws table)
-            → planPut 12 limit chunks ws (length table) (entriesIn 12 chunks ws) (itemsOf (stateOf s)) key v
-            ≡ planBy (admitOf c maxPutVersion last need-words room) (Begin (items f ++ (entry 1 0 (suc last) (length v) key (packed v) ∷ [])) Staging [])
+            → planPut 12 limit chunks ws (length table) (entriesIn 12 chunks ws) (itemsOf (stateOf s)) named key v
+            ≡ planBy (admitNamed named c maxPutVersion last need-words room) (Begin (items f ++ (entry 1 0 (suc last) (length v) key (packed v) ∷ [])) Staging [])
         unfolding planPut
         put-plan l f =
             let y = numbered f key last is in
             rw (parsed f, rests f .state, le-leb (length v) limit (within l), le-leb (length v) 256 l)
-            (plan-admits c b (chunksIn 12 (k .image)) ws (es f) (items f) (batch f) maxPutVersion key last need-words (length table) (y .version) (y .old) _
-            ∙ ap (λ (h : ℕ). planBy (admitOf c maxPutVersion last need-words room) (Begin (items f ++ (entry 1 0 (suc h) (length v) key (packed v) ∷ [])) Staging [])) (sym (y .version)))
+            (plan-named named c b (chunksIn 12 (k .image)) ws (es f) (items f) (batch f) maxPutVersion key last need-words (length table) (y .version) (y .old) _
+            ∙ ap (λ (h : ℕ). planBy (admitNamed named c maxPutVersion last need-words room) (Begin (items f ++ (entry 1 0 (suc h) (length v) key (packed v) ∷ [])) Staging [])) (sym (y .version)))
 
-        module _ (l : length v ≤ 256) (a : Admission) (told : a ≡ admitOf c maxPutVersion last need-words room) where
-          pub put-refused : (x : Refusal) → a ≡ A.Refused x → Does (Put key v) (memory s bytes table) (memory s bytes table) (R.Refused x)
+        module _ (l : length v ≤ 256) (a : Admission) (told : a ≡ admitNamed named c maxPutVersion last need-words room) where
+          pub put-refused : (x : Refusal) → a ≡ A.Refused x → Does (Put named key v) (memory s bytes table) (memory s bytes table) (R.Refused x)
           put-refused x e =
-              refused 12 limit s bytes table x (Put key v) refl (λ f. f) (λ f. sym (rw (opened, put-plan l f, sym told ∙ e)))
-              (barred (R.Refused x)) (inr (inr (inr (inr (turned c maxPutVersion last need-words room x (sym told ∙ e)))))) (refl, refl) (inl (x, refl))
+              refused 12 limit s bytes table x (Put named key v) refl (λ f. f) (λ f. sym (rw (opened, put-plan l f, sym told ∙ e)))
+              (barred (R.Refused x)) (inr (inr (inr (inr (named-turned named c maxPutVersion last need-words room x (sym told ∙ e)))))) (refl, refl) (inl (x, refl))
 
           pub put-done : (small : AreBytes v) (fresh : ℕ) → a ≡ A.Admitted fresh → (after : List ℕ) (words : ℕ)
               → Added b after (c .words) words (entry 1 0 (last + 1) (length v) key (packed v)) → (r : Stepped) → r ≡ oneMore c words fresh
-              → Does (Put key v) (memory s bytes table) (memoryOf (r .control) k after bytes table) (r .report)
+              → Does (Put named key v) (memory s bytes table) (memoryOf (r .control) k after bytes table) (r .report)
           unfolding next
           put-done small fresh e after words added r is-r = rw is-r
-              (staged item maxPutVersion fresh adm after words added (Put key v) (λ f. f) (λ Fit f. f) (barred (R.Begun 0)) right refl refl next-is refl
+              (staged item maxPutVersion fresh adm after words added (Put named key v) (λ f. f) (λ Fit f. f) (barred (R.Begun 0)) right refl refl next-is refl
               (λ f. (rw (opened, plan f), rw (opened, plan f, rests f .state))) (inr ([], (stages item maxPutVersion fresh adm after words added, refl))))
             where
               next-is : last + 1 ≡ suc last
@@ -262,50 +263,50 @@ module _ (c : Control) (k : Setup) (b bytes table : List ℕ) where
               item = entry 1 0 (last + 1) (length v) key (packed v)
 
               adm : Admitting c maxPutVersion last (2 + length (packed v)) room fresh
-              adm = rw (length-packed v) (admitted c maxPutVersion last need-words room fresh (sym told ∙ e))
+              adm = rw (length-packed v) (named-admitted named c maxPutVersion last need-words room fresh (sym told ∙ e))
 
               right : Right item
               right = let u = adm .unspent in put-right v small (last + 1) key (omega arith) (omega arith) l
 
-              plan : (f : Fits s ws table) → planPut 12 limit chunks ws (length table) (entriesIn 12 chunks ws) (itemsOf (stateOf s)) key v ≡ Begin (items f ++ (item ∷ [])) Staging []
+              plan : (f : Fits s ws table) → planPut 12 limit chunks ws (length table) (entriesIn 12 chunks ws) (itemsOf (stateOf s)) named key v ≡ Begin (items f ++ (item ∷ [])) Staging []
               plan f = put-plan l f ∙ rw (sym told ∙ e, next-is)
 
     -- ## Delete
 
-    module _ (key : ℕ) (n : Newest) (is : NewestOf b (c .words) table key n) where
+    module _ (named : Given) (key : ℕ) (n : Newest) (is : NewestOf b (c .words) table key n) where
       version-is : VersionOf b (c .words) table key (n .version)
       version-is items st = ap (λ (m : Newest). m .version) (is items st)
 
       delete-plan : presentBy ws n ≡ true → (f : Fits s ws table)
-          → planDelete (length table) (entriesIn 12 chunks ws) (itemsOf (stateOf s)) key
-          ≡ planBy (admitOf c maxVersion (n .version) 2 room) (Begin (items f ++ (entry 2 0 (suc (n .version)) 0 key [] ∷ [])) Staging [])
+          → planDelete (length table) (entriesIn 12 chunks ws) (itemsOf (stateOf s)) named key
+          ≡ planBy (admitNamed named c maxVersion (n .version) 2 room) (Begin (items f ++ (entry 2 0 (suc (n .version)) 0 key [] ∷ [])) Staging [])
       unfolding planDelete
       delete-plan h f =
           let x = says f key n is in
           let y = x .numbered in
           rw (parsed f, rests f .state, sym (x .shown) ∙ h)
-          (plan-admits c b (chunksIn 12 (k .image)) ws (es f) (items f) (batch f) maxVersion key (n .version) 2 (length table) (y .version) (y .old) _
-          ∙ ap (λ (h′ : ℕ). planBy (admitOf c maxVersion (n .version) 2 room) (Begin (items f ++ (entry 2 0 (suc h′) 0 key [] ∷ [])) Staging [])) (sym (y .version)))
+          (plan-named named c b (chunksIn 12 (k .image)) ws (es f) (items f) (batch f) maxVersion key (n .version) 2 (length table) (y .version) (y .old) _
+          ∙ ap (λ (h′ : ℕ). planBy (admitNamed named c maxVersion (n .version) 2 room) (Begin (items f ++ (entry 2 0 (suc h′) 0 key [] ∷ [])) Staging [])) (sym (y .version)))
 
-      pub delete-absent : presentBy ws n ≡ false → Does (Delete key) (memory s bytes table) (memory s bytes table) (R.Refused N.KeyAbsent)
+      pub delete-absent : presentBy ws n ≡ false → Does (Delete named key) (memory s bytes table) (memory s bytes table) (R.Refused N.KeyAbsent)
       unfolding planDelete
       delete-absent h =
-          refused 12 limit s bytes table N.KeyAbsent (Delete key) refl (λ f. f) (λ f. sym (rw (opened, parsed f, rests f .state, sym (says f key n is .shown) ∙ h)))
+          refused 12 limit s bytes table N.KeyAbsent (Delete named key) refl (λ f. f) (λ f. sym (rw (opened, parsed f, rests f .state, sym (says f key n is .shown) ∙ h)))
           (barred (R.Refused N.KeyAbsent)) (inr (inr (inr (inl refl)))) (refl, refl) (inl (N.KeyAbsent, refl))
 
-      module _ (h : presentBy ws n ≡ true) (a : Admission) (told : a ≡ admitOf c maxVersion (n .version) 2 room) where
-        pub delete-refused : (x : Refusal) → a ≡ A.Refused x → Does (Delete key) (memory s bytes table) (memory s bytes table) (R.Refused x)
+      module _ (h : presentBy ws n ≡ true) (a : Admission) (told : a ≡ admitNamed named c maxVersion (n .version) 2 room) where
+        pub delete-refused : (x : Refusal) → a ≡ A.Refused x → Does (Delete named key) (memory s bytes table) (memory s bytes table) (R.Refused x)
         delete-refused x e =
-            refused 12 limit s bytes table x (Delete key) refl (λ f. f) (λ f. sym (rw (opened, delete-plan h f, sym told ∙ e)))
-            (barred (R.Refused x)) (inr (inr (inr (inr (turned c maxVersion (n .version) 2 room x (sym told ∙ e)))))) (refl, refl) (inl (x, refl))
+            refused 12 limit s bytes table x (Delete named key) refl (λ f. f) (λ f. sym (rw (opened, delete-plan h f, sym told ∙ e)))
+            (barred (R.Refused x)) (inr (inr (inr (inr (named-turned named c maxVersion (n .version) 2 room x (sym told ∙ e)))))) (refl, refl) (inl (x, refl))
 
         pub delete-done : (fresh : ℕ) → a ≡ A.Admitted fresh → (after : List ℕ) (words : ℕ)
             → Added b after (c .words) words (entry 2 0 (n .version + 1) 0 key []) → (r : Stepped) → r ≡ oneMore c words fresh
-            → Does (Delete key) (memory s bytes table) (memoryOf (r .control) k after bytes table) (r .report)
+            → Does (Delete named key) (memory s bytes table) (memoryOf (r .control) k after bytes table) (r .report)
         unfolding next
         delete-done fresh e after words added r is-r = rw is-r
-            (staged key (n .version) version-is item maxVersion fresh adm after words added (Delete key) (λ f. f) (λ Fit f. f) (barred (R.Begun 0)) right refl refl next-is refl
-            (λ f. (rw (opened, plan f), rw (opened, plan f, rests f .state))) (inr ([], (stages key (n .version) version-is item maxVersion fresh adm after words added, refl))))
+            (staged named key (n .version) version-is item maxVersion fresh adm after words added (Delete named key) (λ f. f) (λ Fit f. f) (barred (R.Begun 0)) right refl refl next-is refl
+            (λ f. (rw (opened, plan f), rw (opened, plan f, rests f .state))) (inr ([], (stages named key (n .version) version-is item maxVersion fresh adm after words added, refl))))
           where
             next-is : n .version + 1 ≡ suc (n .version)
             next-is = omega arith
@@ -314,10 +315,10 @@ module _ (c : Control) (k : Setup) (b bytes table : List ℕ) where
             item = entry 2 0 (n .version + 1) 0 key []
 
             adm : Admitting c maxVersion (n .version) 2 room fresh
-            adm = admitted c maxVersion (n .version) 2 room fresh (sym told ∙ e)
+            adm = named-admitted named c maxVersion (n .version) 2 room fresh (sym told ∙ e)
 
             right : Right item
             right = let u = adm .unspent in delete-right (n .version + 1) key (omega arith) (omega arith)
 
-            plan : (f : Fits s ws table) → planDelete (length table) (entriesIn 12 chunks ws) (itemsOf (stateOf s)) key ≡ Begin (items f ++ (item ∷ [])) Staging []
+            plan : (f : Fits s ws table) → planDelete (length table) (entriesIn 12 chunks ws) (itemsOf (stateOf s)) named key ≡ Begin (items f ++ (item ∷ [])) Staging []
             plan f = delete-plan h f ∙ rw (sym told ∙ e, next-is)

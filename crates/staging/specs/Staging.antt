@@ -8,6 +8,7 @@ use Rattle.spec.specs.Log.{maxInLog}
 use Rattle.spec.specs.Machine.{Put}
 use Rattle.session.specs.declared.Control.{Control}
 use Rattle.spec.specs.declared.Report.{Report}
+use Rattle.spec.specs.declared.Given.{Given}
 use Rattle.spec.specs.declared.Refusal.{Refusal}
 use Rattle.spec.specs.declared.Report.the-variants as R
 use Rattle.session.specs.State.{behindAll}
@@ -24,8 +25,8 @@ abbrev pub oneMore : Control → ℕ → ℕ → Stepped
 oneMore c words fresh = record { control = stagedMore behindAll words fresh c; report = R.Begun 0 }
 
 -- A put where `Here` holds of the value's length; elsewhere nothing is done.
-pub record PutWhere (Here : ℕ → Type 0) (key : ℕ) (v : List ℕ) (m m′ : Memory) (r : Report) : Type 0 where
-  pub within : Here (length v) → Does (Put key v) m m′ r
+pub record PutWhere (Here : ℕ → Type 0) (named : Given) (key : ℕ) (v : List ℕ) (m m′ : Memory) (r : Report) : Type 0 where
+  pub within : Here (length v) → Does (Put named key v) m m′ r
   pub without : (Here (length v) → ⊥) → (m′ ≡ m) × (r ≡ R.Idle)
 
 -- a value that goes into the log, and one that does not

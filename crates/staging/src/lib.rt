@@ -7,12 +7,14 @@ ghost use Rattle.spec.specs.Machine.{Put, Delete, Abandon};
 ghost use Rattle.staging.specs.Staging.{refusedWith, oneMore, PutWhere, Short, Long};
 ghost use Rattle.session.specs.Promise.{Does, memoryOf};
 use admitting::Admission;
+ghost use Rattle.spec.specs.declared.Given.the-variants.{Absent, Number};
 use blocks::Buffer;
 use session::Control;
 use session::Gated;
 use session::Outcome;
 use session::Setup;
 use session::Stepped;
+use spec::Given;
 use spec::Refusal;
 use spec::Report;
 
@@ -82,7 +84,7 @@ fn one_more(control: Control, words: usize, fresh: usize) -> Stepped
     }
 }
 
-// A put whose value goes into the log: 12, 10, 7. All is asked before the buffer is written.
+// A put whose value goes into the log: 17, 12, 10, 7. All is asked before the buffer is written.
 fn put_in_log(
     control: Control,
     setup: Setup,
@@ -91,9 +93,10 @@ fn put_in_log(
     table: &[u64],
     key: u64,
     value: &[u8],
+    named: Given,
 ) -> Stepped
     requires { ⌜ length (now value) ≤ 256 ⌝ }
-    ensures { λ r. ⌜ Does (Put key (now (value .entry))) (memoryOf control setup (now (buffer .entry)) (now (image .entry)) (now (table .entry))) (memoryOf (r .control) setup (now (buffer .exit)) (now (image .entry)) (now (table .entry))) (r .report) ⌝ }
+    ensures { λ r. ⌜ Does (Put named key (now (value .entry))) (memoryOf control setup (now (buffer .entry)) (now (image .entry)) (now (table .entry))) (memoryOf (r .control) setup (now (buffer .exit)) (now (image .entry)) (now (table .entry))) (r .report) ⌝ }
 {
     let g = session::gate(control, setup, image.len(), table.len());
     match g {
@@ -105,6 +108,7 @@ fn put_in_log(
             let more = 2 + (bytes + 7) / 8;
             let a = admitting::admit(
                 control,
+                named,
                 LAST_PUT,
                 version,
                 more,
@@ -122,7 +126,7 @@ fn put_in_log(
     }
 }
 
-// A put whose value goes into a block: 9, 12, 10, 7, 13; else the call has the block's actions to come.
+// A put whose value goes into a block: 9, 17, 12, 10, 7, 13; else the call has the block's actions to come.
 fn put_in_block(
     control: Control,
     setup: Setup,
@@ -131,9 +135,10 @@ fn put_in_block(
     table: &[u64],
     key: u64,
     value: &[u8],
+    named: Given,
 ) -> Outcome
     requires { ⌜ 256 < length (now value) ⌝ }
-    ensures { λ r. ⌜ Does (Put key (now (value .entry))) (memoryOf control setup (now (buffer .entry)) (now (image .entry)) (now (table .entry))) (memoryOf (r .control) (r .setup) (now (buffer .exit)) (now (image .entry)) (now (table .entry))) (r .report) ⌝ }
+    ensures { λ r. ⌜ Does (Put named key (now (value .entry))) (memoryOf control setup (now (buffer .entry)) (now (image .entry)) (now (table .entry))) (memoryOf (r .control) (r .setup) (now (buffer .exit)) (now (image .entry)) (now (table .entry))) (r .report) ⌝ }
 {
     let g = session::gate(control, setup, image.len(), table.len());
     match g {
@@ -153,7 +158,14 @@ fn put_in_block(
             let words = control.words;
             let known = admitting::known_of(buffer, words, table, key);
             let version = known.version;
-            let a = admitting::admit(control, LAST_PUT, version, 2, index::capacity(table.len()));
+            let a = admitting::admit(
+                control,
+                named,
+                LAST_PUT,
+                version,
+                2,
+                index::capacity(table.len()),
+            );
             match a {
                 Admission::Refused(n) => Outcome {
                     control,
@@ -198,7 +210,8 @@ pub fn is_short(control: Control, bytes: usize) -> bool
     bytes <= 256
 }
 
-// Stages a put of a short value, which leaves the record's setup; elsewhere nothing is done.
+// Stages a put of a short value for whatever version stands, which leaves the record's setup; elsewhere nothing is
+// done.
 pub fn put_short(
     control: Control,
     setup: Setup,
@@ -208,10 +221,19 @@ pub fn put_short(
     key: u64,
     value: &[u8],
 ) -> Stepped
-    ensures { λ r. ⌜ PutWhere Short key (now (value .entry)) (memoryOf control setup (now (buffer .entry)) (now (image .entry)) (now (table .entry))) (memoryOf (r .control) setup (now (buffer .exit)) (now (image .entry)) (now (table .entry))) (r .report) ⌝ }
+    ensures { λ r. ⌜ PutWhere Short Absent key (now (value .entry)) (memoryOf control setup (now (buffer .entry)) (now (image .entry)) (now (table .entry))) (memoryOf (r .control) setup (now (buffer .exit)) (now (image .entry)) (now (table .entry))) (r .report) ⌝ }
 {
     if value.len() <= 256 {
-        return put_in_log(control, setup, buffer, image, table, key, value);
+        return put_in_log(
+            control,
+            setup,
+            buffer,
+            image,
+            table,
+            key,
+            value,
+            Given::Absent,
+        );
     }
     Stepped {
         control,
@@ -219,7 +241,7 @@ pub fn put_short(
     }
 }
 
-// Stages a put of a longer value; elsewhere nothing is done.
+// Stages a put of a longer value for whatever version stands; elsewhere nothing is done.
 pub fn put_long(
     control: Control,
     setup: Setup,
@@ -229,10 +251,19 @@ pub fn put_long(
     key: u64,
     value: &[u8],
 ) -> Outcome
-    ensures { λ r. ⌜ PutWhere Long key (now (value .entry)) (memoryOf control setup (now (buffer .entry)) (now (image .entry)) (now (table .entry))) (memoryOf (r .control) (r .setup) (now (buffer .exit)) (now (image .entry)) (now (table .entry))) (r .report) ⌝ }
+    ensures { λ r. ⌜ PutWhere Long Absent key (now (value .entry)) (memoryOf control setup (now (buffer .entry)) (now (image .entry)) (now (table .entry))) (memoryOf (r .control) (r .setup) (now (buffer .exit)) (now (image .entry)) (now (table .entry))) (r .report) ⌝ }
 {
     if 256 < value.len() {
-        return put_in_block(control, setup, buffer, image, table, key, value);
+        return put_in_block(
+            control,
+            setup,
+            buffer,
+            image,
+            table,
+            key,
+            value,
+            Given::Absent,
+        );
     }
     Outcome {
         control,
@@ -241,7 +272,7 @@ pub fn put_long(
     }
 }
 
-// Stages a put: 9, 12, 10, 7, 13.
+// Stages a put: 9, 17, 12, 10, 7, 13.
 pub fn put_core(
     control: Control,
     setup: Setup,
@@ -250,11 +281,12 @@ pub fn put_core(
     table: &[u64],
     key: u64,
     value: &[u8],
+    named: Given,
 ) -> Outcome
-    ensures { λ r. ⌜ Does (Put key (now (value .entry))) (memoryOf control setup (now (buffer .entry)) (now (image .entry)) (now (table .entry))) (memoryOf (r .control) (r .setup) (now (buffer .exit)) (now (image .entry)) (now (table .entry))) (r .report) ⌝ }
+    ensures { λ r. ⌜ Does (Put named key (now (value .entry))) (memoryOf control setup (now (buffer .entry)) (now (image .entry)) (now (table .entry))) (memoryOf (r .control) (r .setup) (now (buffer .exit)) (now (image .entry)) (now (table .entry))) (r .report) ⌝ }
 {
     if value.len() <= 256 {
-        let staged = put_in_log(control, setup, buffer, image, table, key, value);
+        let staged = put_in_log(control, setup, buffer, image, table, key, value, named);
         let next = staged.control;
         let report = staged.report;
         return Outcome {
@@ -263,10 +295,59 @@ pub fn put_core(
             report,
         };
     }
-    put_in_block(control, setup, buffer, image, table, key, value)
+    put_in_block(control, setup, buffer, image, table, key, value, named)
 }
 
-// Stages a delete: 11, 12, 10, 7.
+// Stages a put for whatever version stands.
+pub fn put_any(
+    control: Control,
+    setup: Setup,
+    buffer: &mut Buffer,
+    image: &[u8],
+    table: &[u64],
+    key: u64,
+    value: &[u8],
+) -> Outcome
+    ensures { λ r. ⌜ Does (Put Absent key (now (value .entry))) (memoryOf control setup (now (buffer .entry)) (now (image .entry)) (now (table .entry))) (memoryOf (r .control) (r .setup) (now (buffer .exit)) (now (image .entry)) (now (table .entry))) (r .report) ⌝ }
+{
+    put_core(
+        control,
+        setup,
+        buffer,
+        image,
+        table,
+        key,
+        value,
+        Given::Absent,
+    )
+}
+
+// Stages a put for the version named.
+pub fn put_at(
+    control: Control,
+    setup: Setup,
+    buffer: &mut Buffer,
+    image: &[u8],
+    table: &[u64],
+    key: u64,
+    value: &[u8],
+    version: u64,
+) -> Outcome
+    ensures { λ r. ⌜ Does (Put (Number version) key (now (value .entry))) (memoryOf control setup (now (buffer .entry)) (now (image .entry)) (now (table .entry))) (memoryOf (r .control) (r .setup) (now (buffer .exit)) (now (image .entry)) (now (table .entry))) (r .report) ⌝ }
+{
+    put_core(
+        control,
+        setup,
+        buffer,
+        image,
+        table,
+        key,
+        value,
+        Given::Number(version),
+    )
+}
+
+// Stages a delete: 11, 17, 12, 10, 7.
 pub fn delete_core(
     control: Control,
     setup: Setup,
@@ -274,8 +355,9 @@ pub fn delete_core(
     image: &[u8],
     table: &[u64],
     key: u64,
+    named: Given,
 ) -> Stepped
-    ensures { λ r. ⌜ Does (Delete key) (memoryOf control setup (now (buffer .entry)) (now (image .entry)) (now (table .entry))) (memoryOf (r .control) setup (now (buffer .exit)) (now (image .entry)) (now (table .entry))) (r .report) ⌝ }
+    ensures { λ r. ⌜ Does (Delete named key) (memoryOf control setup (now (buffer .entry)) (now (image .entry)) (now (table .entry))) (memoryOf (r .control) setup (now (buffer .exit)) (now (image .entry)) (now (table .entry))) (r .report) ⌝ }
 {
     let g = session::gate(control, setup, image.len(), table.len());
     match g {
@@ -286,6 +368,7 @@ pub fn delete_core(
             if admitting::is_present(image, known) {
                 let a = admitting::admit(
                     control,
+                    named,
                     LAST_DELETE,
                     known.version,
                     2,
@@ -305,4 +388,41 @@ pub fn delete_core(
             }
         }
     }
+}
+
+// Stages a delete for whatever version stands.
+pub fn delete_any(
+    control: Control,
+    setup: Setup,
+    buffer: &mut Buffer,
+    image: &[u8],
+    table: &[u64],
+    key: u64,
+) -> Stepped
+    ensures { λ r. ⌜ Does (Delete Absent key) (memoryOf control setup (now (buffer .entry)) (now (image .entry)) (now (table .entry))) (memoryOf (r .control) setup (now (buffer .exit)) (now (image .entry)) (now (table .entry))) (r .report) ⌝ }
+{
+    delete_core(control, setup, buffer, image, table, key, Given::Absent)
+}
+
+// Stages a delete for the version named.
+pub fn delete_at(
+    control: Control,
+    setup: Setup,
+    buffer: &mut Buffer,
+    image: &[u8],
+    table: &[u64],
+    key: u64,
+    version: u64,
+) -> Stepped
+    ensures { λ r. ⌜ Does (Delete (Number version) key) (memoryOf control setup (now (buffer .entry)) (now (image .entry)) (now (table .entry))) (memoryOf (r .control) setup (now (buffer .exit)) (now (image .entry)) (now (table .entry))) (r .report) ⌝ }
+{
+    delete_core(
+        control,
+        setup,
+        buffer,
+        image,
+        table,
+        key,
+        Given::Number(version),
+    )
 }

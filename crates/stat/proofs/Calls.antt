@@ -40,8 +40,8 @@ use Rattle.stat.proofs.Stays.{FitsIn, countIn, begin-counts, next-is, s
 abbrev pub StepKeeps : Call → (m m′ : Memory) → Type 0
 StepKeeps (Format x y) m m′ = Unit {0}
 StepKeeps Open m m′ = Unit {0}
-StepKeeps (Put k v) m m′ = Unit {0}
-StepKeeps (Delete k) m m′ = Unit {0}
+StepKeeps (Put x k v) m m′ = Unit {0}
+StepKeeps (Delete x k) m m′ = Unit {0}
 StepKeeps Commit m m′ = Unit {0}
 StepKeeps Abandon m m′ = Unit {0}
 StepKeeps (LookUp k) m m′ = Unit {0}
@@ -121,10 +121,10 @@ module _ (b t : ℕ) (items : List Entry) (j : ℕ) (c : Action) (rest : List Ac
           | inl q ↦ absurd (let closed : stateOf (m′ .session) ≡ Closed = subst (Ended Open) (q .1) (d .outcome) .1 .0 in let z : _≡_ {A = ℕ} 0 1 = cc in omega arith)
           | inr q ↦ absurd (let rests = q .1 in let z : _≡_ {A = ℕ} 0 1 = cc in omega arith)
         ]
-    call-counts (Put k v) d h =
-        elim (d .anyway) [ inl q ↦ as-before (subst (Ended (Put k v)) (q .1) (d .outcome) .1 .0) | inr q ↦ absurd (let stages = q .1 .0 .1 in let z : _≡_ {A = ℕ} 0 1 = cc in omega arith) ]
-    call-counts (Delete k) d h =
-        elim (d .anyway) [ inl q ↦ as-before (subst (Ended (Delete k)) (q .1) (d .outcome) .1 .0) | inr q ↦ absurd (let stages = q .1 .0 .1 in let z : _≡_ {A = ℕ} 0 1 = cc in omega arith) ]
+    call-counts (Put x k v) d h =
+        elim (d .anyway) [ inl q ↦ as-before (subst (Ended (Put x k v)) (q .1) (d .outcome) .1 .0) | inr q ↦ absurd (let stages = q .1 .0 .1 in let z : _≡_ {A = ℕ} 0 1 = cc in omega arith) ]
+    call-counts (Delete x k) d h =
+        elim (d .anyway) [ inl q ↦ as-before (subst (Ended (Delete x k)) (q .1) (d .outcome) .1 .0) | inr q ↦ absurd (let stages = q .1 .0 .1 in let z : _≡_ {A = ℕ} 0 1 = cc in omega arith) ]
     call-counts Commit d h =
         elim (d .anyway) [ inl q ↦ as-before (subst (Ended Commit) (q .1) (d .outcome) .1 .0) | inr q ↦ absurd (let commits = q .1 .0 in let z : _≡_ {A = ℕ} 0 1 = cc in omega arith) ]
     call-counts Abandon d h = go (gate (stateOf (m .session)) (length (m .image)) (length (m .table))) (isEmpty (itemsOf (stateOf (m .session)))) (d .anyway .0)

@@ -10,7 +10,7 @@ use Rattle.session.specs.declared.Session.{Session}
 use Rattle.spec.specs.declared.Report.{Report}
 use Rattle.spec.specs.declared.Report.the-variants as R
 use Rattle.lookup.specs.declared.Located.{Located}
-use Rattle.lookup.specs.Look.{reportOf, InImage, numberOf}
+use Rattle.lookup.specs.Look.{reportOf, InImage, numberOf, versionOf}
 use Rattle.session.specs.Promise.{Does, memory}
 
 -- the call's report, for any memory a refusal or a part of the image
@@ -20,10 +20,11 @@ pub record Reported (s : Session) (key : ℕ) (bytes table : List ℕ) (r : Repo
   pub is-report : r ≡ reportOf located
   pub inside : InImage (length bytes) located
 
--- the part itself, and 0 or the refusal's number: `located` is what the call answers
-pub record Shown (s : Session) (key : ℕ) (bytes table part : List ℕ) (answer : ℕ) : Type 0 where
+-- the part itself, 0 or the refusal's number, and the value's version or 0: `located` is what the call answers
+pub record Shown (s : Session) (key : ℕ) (bytes table part : List ℕ) (answer version : ℕ) : Type 0 where
   pub located : Located
   pub called : Does (LookUp key) (memory s bytes table) (memory s bytes table) (reportOf located)
   pub inside : InImage (length bytes) located
   pub is-part : part ≡ partBytes (reportOf located) bytes
   pub is-number : answer ≡ numberOf located
+  pub is-version : version ≡ versionOf located

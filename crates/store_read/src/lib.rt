@@ -18,7 +18,7 @@ pub fn choose(s: &Session, image: &[u8], table: &[u64]) -> Report
     choosing::choose_core(c, k, b, image, table)
 }
 
-// Look-up, with its report: a refusal, or where in the image the value lies. The record is only read.
+// Look-up, with its report: a refusal, or where in the image the value lies, and its version. The record is only read.
 pub fn find(s: &Session, image: &[u8], table: &[u64], key: u64) -> Report
     ensures { λ r. ⌜ Reported (now (s .entry)) key (now (image .entry)) (now (table .entry)) r ⌝ }
 {
@@ -28,19 +28,20 @@ pub fn find(s: &Session, image: &[u8], table: &[u64], key: u64) -> Report
 }
 
 // Look-up: the part of the image that holds the value, the empty part on a refusal; `answer` gets 0 or the refusal's
-// number.
+// number, `version` the value's, 0 on a refusal.
 pub fn look_up<'a>(
     s: &Session,
     image: &'a [u8],
     table: &[u64],
     key: u64,
     answer: &mut u64,
+    version: &mut u64,
 ) -> &'a [u8]
-    ensures { λ r. ⌜ Shown (now (s .entry)) key (now (image .entry)) (now (table .entry)) (now r) (now (answer .exit)) ⌝ }
+    ensures { λ r. ⌜ Shown (now (s .entry)) key (now (image .entry)) (now (table .entry)) (now r) (now (answer .exit)) (now (version .exit)) ⌝ }
 {
     let c = s.control;
     let k = s.setup;
-    lookup::look_up_core(c, k, image, table, key, answer)
+    lookup::look_up_core(c, k, image, table, key, answer, version)
 }
 
 // The present keys, rising, into the lent words as far as these reach, and how many there are. The record is only read.

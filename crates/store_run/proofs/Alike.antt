@@ -43,7 +43,7 @@ changed-near R.Idle image other image′ other′ w o l c d = rw (c, d) (w, (o, 
 changed-near R.Opened image other image′ other′ w o l c d = rw (c, d) (w, (o, l))
 changed-near R.Abandoned image other image′ other′ w o l c d = rw (c, d) (w, (o, l))
 changed-near (R.Chosen n) image other image′ other′ w o l c d = rw (c, d) (w, (o, l))
-changed-near (R.Part a n) image other image′ other′ w o l c d = rw (c, d) (w, (o, l))
+changed-near (R.Part a n v) image other image′ other′ w o l c d = rw (c, d) (w, (o, l))
 
 -- answer and next state are functions of what is alike
 alike-in : {A : Type 0} (f : State → List ℕ → ℕ → ℕ → A) (m l : Memory) → Near m l

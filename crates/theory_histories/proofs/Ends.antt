@@ -161,8 +161,8 @@ module _ {S : Type 0} (Proper : S → Type 0) (stateOf : S → State) (Fits : S 
   pub ends : Ends Proper stateOf Fits p limit
   ends (Format x y) s s′ bytes bytes′ table table′ a c = formats x y s s′ bytes table a (c .anyway .0) (c .anyway .1)
   ends Open s s′ bytes bytes′ table table′ a c = absurd (⊎-elim (λ (x, h). never-refused a x h) (λ (h, e). let z : _≡_ {A = ℕ} 0 1 = cc in omega arith) (c .anyway))
-  ends (Put k v) s s′ bytes bytes′ table table′ a c = begins (Put k v) s′ bytes table a (StagesIn (length bytes) (length table)) (λ acts (items, e). (items, (Staging, (refl, e)))) (c .anyway)
-  ends (Delete k) s s′ bytes bytes′ table table′ a c = begins (Delete k) s′ bytes table a (StagesIn (length bytes) (length table)) (λ acts (items, e). (items, (Staging, (refl, e)))) (c .anyway)
+  ends (Put x k v) s s′ bytes bytes′ table table′ a c = begins (Put x k v) s′ bytes table a (StagesIn (length bytes) (length table)) (λ acts (items, e). (items, (Staging, (refl, e)))) (c .anyway)
+  ends (Delete x k) s s′ bytes bytes′ table table′ a c = begins (Delete x k) s′ bytes table a (StagesIn (length bytes) (length table)) (λ acts (items, e). (items, (Staging, (refl, e)))) (c .anyway)
   ends Commit s s′ bytes bytes′ table table′ a c = begins Commit s′ bytes table a (CommitsIn (length bytes) (length table) (itemsOf (stateOf s))) (λ acts e. (itemsOf (stateOf s), (Committing, (refl, e)))) (c .anyway)
   ends Abandon s s′ bytes bytes′ table table′ a c = absurd (no-abandon (gate (stateOf s) (length bytes) (length table)) (isEmpty (itemsOf (stateOf s))) a (c .anyway .0))
   ends (LookUp k) s s′ bytes bytes′ table table′ a c = absurd (⊎-elim (λ (x, h). never-refused a x h) (λ (at, (n, (h, e))). let z : _≡_ {A = ℕ} 0 1 = cc in omega arith) (c .anyway))

@@ -61,7 +61,7 @@ image-follows R.Idle m image image′ c e = (ap wordsOf c ∙ e, ap length c)
 image-follows R.Opened m image image′ c e = (ap wordsOf c ∙ e, ap length c)
 image-follows R.Abandoned m image image′ c e = (ap wordsOf c ∙ e, ap length c)
 image-follows (R.Chosen c′) m image image′ c e = (ap wordsOf c ∙ e, ap length c)
-image-follows (R.Part a n) m image image′ c e = (ap wordsOf c ∙ e, ap length c)
+image-follows (R.Part a n v) m image image′ c e = (ap wordsOf c ∙ e, ap length c)
 
 pub same-length : (r : Report) (image image′ : List ℕ) → Changed r image image′ → length image′ ≡ length image
 same-length r image image′ c = image-follows r (settledAt (wordsOf image)) image image′ c (sym (W.latest-settled (wordsOf image))) .1
@@ -80,4 +80,4 @@ refused-is R.Idle e = absurd (false-true e)
 refused-is R.Opened e = absurd (false-true e)
 refused-is R.Abandoned e = absurd (false-true e)
 refused-is (R.Chosen c) e = absurd (false-true e)
-refused-is (R.Part a n) e = absurd (false-true e)
+refused-is (R.Part a n v) e = absurd (false-true e)

@@ -34,6 +34,7 @@ use Rattle.spec.specs.Plans.{Task, Plan, Refuse, Begin, planPut, planDelete, pl
 use Rattle.spec.specs.Machine.{Call, Put, Delete, Commit, Abandon, LookUp, Choose, Clean, Step, State, Closed, Rest, Busy, Formatting, gate, itemsOf, begun, gated, countOf, itemsThen, emptied, answer, next}
 use Rattle.spec.specs.Book.{Book, doneBatch, note}
 use Rattle.spec.specs.History.{unfinishedAfter, shows}
+use Rattle.spec.specs.declared.Given.{Given}
 use Rattle.spec.specs.declared.Refusal.{Refusal}
 use Rattle.spec.specs.declared.Refusal.the-variants as N
 use Rattle.spec.specs.declared.Report.{Report}
@@ -77,7 +78,7 @@ part-direct : (ws : List ℕ) (c : Option Entry) → Direct (partOr ws c)
 part-direct ws none = λ u m. (refl, refl)
 part-direct ws (some e) =
     pick-direct (eqb (e .op) 1) (partOf ws e) (R.Refused N.KeyAbsent)
-    (pick-direct (pointed e) (R.Part (8 * (unitWord (e .field) + 1)) (getD ws (unitWord (e .field)) 0)) (R.Part (8 * (e .at + 2)) (e .field)) (λ u m. (refl, refl)) (λ u m. (refl, refl)))
+    (pick-direct (pointed e) (R.Part (8 * (unitWord (e .field) + 1)) (getD ws (unitWord (e .field)) 0) (e .version)) (R.Part (8 * (e .at + 2)) (e .field) (e .version)) (λ u m. (refl, refl)) (λ u m. (refl, refl)))
     (λ u m. (refl, refl))
 
 pub look-direct : (ws : List ℕ) (es : List Entry) (k : ℕ) → Direct (lookUp ws es k)
@@ -135,17 +136,17 @@ module _ (p limit : ℕ) (laws : Laws p limit) (bytes least : ℕ) (u : Bool) (b
   direct-kept : (reply : Report) → Direct reply → (σ : State) → Holds p bytes least u b σ m → Leaves p bytes least u (λ r. b) (gated (gate σ bytes least) reply) σ σ m
   direct-kept reply d = gated-kept (λ r. b) (λ σ. reply) (λ σ. σ) (λ n σ h. h) (λ l t items h. rw (d u m .0, d u m .1, pick-same) h)
 
-  pub put-kept : (k : ℕ) (v : List ℕ) → AreBytes v → (σ : State) → Holds p bytes least u b σ m → Keeps p limit bytes least u b m (Put k v) σ
+  pub put-kept : (x : Given) (k : ℕ) (v : List ℕ) → AreBytes v → (σ : State) → Holds p bytes least u b σ m → Keeps p limit bytes least u b m (Put x k v) σ
   unfolding next
-  put-kept k v small =
-      planned-kept (λ r. note (Put k v) r b) (λ items. planPut p limit n (latest m) least (entriesIn p n (latest m)) items k v) (λ r σ h. h) λ items items′ task acts e s q.
-      let g = laws .put-goes n least (b .register) (b .staged) items items′ task acts m k v small s q in rw (e, g .0) (g .1)
+  put-kept x k v small =
+      planned-kept (λ r. note (Put x k v) r b) (λ items. planPut p limit n (latest m) least (entriesIn p n (latest m)) items x k v) (λ r σ h. h) λ items items′ task acts e s q.
+      let g = laws .put-goes n least (b .register) (b .staged) items items′ task acts m x k v small s q in rw (e, g .0) (g .1)
 
-  pub delete-kept : (k : ℕ) (σ : State) → Holds p bytes least u b σ m → Keeps p limit bytes least u b m (Delete k) σ
+  pub delete-kept : (x : Given) (k : ℕ) (σ : State) → Holds p bytes least u b σ m → Keeps p limit bytes least u b m (Delete x k) σ
   unfolding next
-  delete-kept k =
-      planned-kept (λ r. note (Delete k) r b) (λ items. planDelete least (entriesIn p n (latest m)) items k) (λ r σ h. h) λ items items′ task acts e s q.
-      let g = laws .delete-goes n least (b .register) (b .staged) items items′ task acts m k s q in rw (e, g .0) (g .1)
+  delete-kept x k =
+      planned-kept (λ r. note (Delete x k) r b) (λ items. planDelete least (entriesIn p n (latest m)) items x k) (λ r σ h. h) λ items items′ task acts e s q.
+      let g = laws .delete-goes n least (b .register) (b .staged) items items′ task acts m x k s q in rw (e, g .0) (g .1)
 
   pub commit-kept : (σ : State) → Holds p bytes least u b σ m → Keeps p limit bytes least u b m Commit σ
   unfolding next

@@ -13,3 +13,4 @@ pub mod Fixed
 pub mod RoomKept
 pub mod NeverStuck
 pub mod PastImage
+pub mod Versions

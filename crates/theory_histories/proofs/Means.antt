@@ -84,7 +84,7 @@ isStore R.Idle = false
 isStore R.Opened = false
 isStore R.Abandoned = false
 isStore (R.Chosen c) = false
-isStore (R.Part a n) = false
+isStore (R.Part a n v) = false
 
 unchanged : (r : Report) (image image′ : List ℕ) → isStore r ≡ false → Changed r image image′ → image′ ≡ image
 unchanged (R.Refused n) image image′ e c = c
@@ -97,7 +97,7 @@ unchanged R.Idle image image′ e c = c
 unchanged R.Opened image image′ e c = c
 unchanged R.Abandoned image image′ e c = c
 unchanged (R.Chosen d) image image′ e c = c
-unchanged (R.Part a n) image image′ e c = c
+unchanged (R.Part a n v) image image′ e c = c
 
 pick-quiet : (t : Bool) (r q : Report) → isStore r ≡ false → isStore q ≡ false → isStore (pick t r q) ≡ false
 pick-quiet true r q x y = x
@@ -128,14 +128,14 @@ module _ (p limit : ℕ) {S : Type 0} (Proper : S → Type 0) (stateOf : S → S
       (pick-quiet (lengthAllowed p (length image)) (pick (isUnfinished (stateOf s)) (R.Refused N.Unfinished) (R.Begun (length (formatOf (chunksIn p (length image)) a b)))) (R.Refused N.ImageLength)
       (pick-quiet (isUnfinished (stateOf s)) (R.Refused N.Unfinished) (R.Begun (length (formatOf (chunksIn p (length image)) a b))) refl refl) refl)
   writes-none Open u idle t c = ⊎-elim refused (λ q. silent R.Opened (q .0) refl) (c .anyway)
-  writes-none (Put k v) u idle t c = ⊎-elim refused (λ q. silent (R.Begun (length (q .0))) (q .1 .1) refl) (c .anyway)
-  writes-none (Delete k) u idle t c = ⊎-elim refused (λ q. silent (R.Begun (length (q .0))) (q .1 .1) refl) (c .anyway)
+  writes-none (Put x k v) u idle t c = ⊎-elim refused (λ q. silent (R.Begun (length (q .0))) (q .1 .1) refl) (c .anyway)
+  writes-none (Delete x k) u idle t c = ⊎-elim refused (λ q. silent (R.Begun (length (q .0))) (q .1 .1) refl) (c .anyway)
   writes-none Commit u idle t c = ⊎-elim refused (λ q. silent (R.Begun (length (q .0))) (q .1 .1) refl) (c .anyway)
   writes-none Abandon u idle t c =
       silent (answer p limit Abandon (stateOf s) (wordsOf image) (length image) (length table)) (c .anyway .0)
       (gated-quiet (gate (stateOf s) (length image) (length table)) (pick (isEmpty (itemsOf (stateOf s))) (R.Refused N.NothingStaged) R.Abandoned)
       (pick-quiet (isEmpty (itemsOf (stateOf s))) (R.Refused N.NothingStaged) R.Abandoned refl refl))
-  writes-none (LookUp k) u idle t c = ⊎-elim refused (λ q. silent (R.Part (q .0) (q .1 .0)) (q .1 .1 .0) refl) (c .anyway)
+  writes-none (LookUp k) u idle t c = ⊎-elim refused (λ q. silent (R.Part (q .0) (q .1 .0) (q .1 .1 .0)) (q .1 .1 .1 .0) refl) (c .anyway)
   writes-none Choose u idle t c = ⊎-elim refused (λ q. silent (R.Chosen (q .0)) (q .1 .0) refl) (c .anyway)
   writes-none (Clean k) u idle t c = ⊎-elim refused (λ q. silent (R.Begun (length (q .0))) (q .1 .1) refl) (c .anyway)
   writes-none Step u idle t c = silent (stepAnswer (stateOf s) (length image) (length table)) (c .anyway .0) (rest-quiet (stateOf s) (length image) (length table) (idle t))
@@ -212,8 +212,8 @@ module _ (p limit : ℕ) (laws : Laws p limit) {S : Type 0} (Proper : S → Type
         → Called Proper stateOf Fits p limit k s s′ (w .image) image′ table table′ r → AreBytes image′ → Stands k r → isOpening (kindOf k) ≡ false → Kept k w b s′ image′ table′ r
     kept (Format x y) w b s s′ image′ table table′ r i l c small st o = T.call p limit laws Proper stateOf Fits bytes whole (Inv p Proper stateOf Fits bytes) (λ w b i. i) (Format x y) w b i s s′ image′ table table′ r l c small st
     kept Open w b s s′ image′ table table′ r i l c small st o = absurd (false-true (sym o))
-    kept (Put k v) w b s s′ image′ table table′ r i l c small st o = T.call p limit laws Proper stateOf Fits bytes whole (Inv p Proper stateOf Fits bytes) (λ w b i. i) (Put k v) w b i s s′ image′ table table′ r l c small st
-    kept (Delete k) w b s s′ image′ table table′ r i l c small st o = T.call p limit laws Proper stateOf Fits bytes whole (Inv p Proper stateOf Fits bytes) (λ w b i. i) (Delete k) w b i s s′ image′ table table′ r l c small st
+    kept (Put x k v) w b s s′ image′ table table′ r i l c small st o = T.call p limit laws Proper stateOf Fits bytes whole (Inv p Proper stateOf Fits bytes) (λ w b i. i) (Put x k v) w b i s s′ image′ table table′ r l c small st
+    kept (Delete x k) w b s s′ image′ table table′ r i l c small st o = T.call p limit laws Proper stateOf Fits bytes whole (Inv p Proper stateOf Fits bytes) (λ w b i. i) (Delete x k) w b i s s′ image′ table table′ r l c small st
     kept Commit w b s s′ image′ table table′ r i l c small st o = T.call p limit laws Proper stateOf Fits bytes whole (Inv p Proper stateOf Fits bytes) (λ w b i. i) Commit w b i s s′ image′ table table′ r l c small st
     kept Abandon w b s s′ image′ table table′ r i l c small st o = T.call p limit laws Proper stateOf Fits bytes whole (Inv p Proper stateOf Fits bytes) (λ w b i. i) Abandon w b i s s′ image′ table table′ r l c small st
     kept (LookUp k) w b s s′ image′ table table′ r i l c small st o = T.call p limit laws Proper stateOf Fits bytes whole (Inv p Proper stateOf Fits bytes) (λ w b i. i) (LookUp k) w b i s s′ image′ table table′ r l c small st .1
@@ -252,8 +252,8 @@ module _ (p limit : ℕ) (laws : Laws p limit) {S : Type 0} (Proper : S → Type
           → (key : ℕ) → meant p image′ key ≡ does k (b .staged) (meant p (w .image)) key
       ends (Format x y) may c key = format-does x y s s₀ s′ (w .image) image′ table table₀ table′ a n rs m m′ c steps key
       ends Open may c key = absurd may
-      ends (Put k v) may c key = ends-by (Put k v) c may refl key ∙ stays (begun-at-rest w b s table i same a (c .first)) key
-      ends (Delete k) may c key = ends-by (Delete k) c tt refl key ∙ stays (begun-at-rest w b s table i same a (c .first)) key
+      ends (Put x k v) may c key = ends-by (Put x k v) c may refl key ∙ stays (begun-at-rest w b s table i same a (c .first)) key
+      ends (Delete x k) may c key = ends-by (Delete x k) c tt refl key ∙ stays (begun-at-rest w b s table i same a (c .first)) key
       ends Commit may c key =
           ends-by Commit c tt refl key ∙ done-same (b .staged) (b .register) (meant p (w .image)) (λ k. sym (begun-at-rest w b s table i same a (c .first) .1 k)) key
       ends Abandon may c key = absurd may

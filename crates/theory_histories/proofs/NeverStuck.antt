@@ -109,7 +109,7 @@ module _ (p : ℕ) (lo : 12 ≤ p) (hi : p ≤ 16) (limit : ℕ) (fits : limit �
 
         -- exact on memory as our calls left it
         usual : (q : E.Usual p limit laws Proper stateOf Fits bytes k)
-            → ((σ : State) → σ ≡ stateOf s → Holds p bytes (w .least) (w .unfinished) b σ (w .medium) → RoomOf Φ σ (w .medium) → After p lo hi limit fits bytes Φ (w .least) (w .unfinished) b (w .medium) k σ)
+            → ((σ : State) → σ ≡ stateOf s → Holds p bytes (w .least) (w .unfinished) b σ (w .medium) → RoomOf Φ σ (w .medium) → After p lo hi limit fits bytes Φ (w .least) (w .unfinished) b (w .medium) x k σ)
             → RoomInv Φ (afterCall k w s′ image′ table′ r)
         usual q after =
             let y = q .ready s (wordsOf (w .image)) table (held .0) in
@@ -184,12 +184,12 @@ module _ (p : ℕ) (lo : 12 ≤ p) (hi : p ≤ 16) (limit : ℕ) (fits : limit �
         → Called Proper stateOf Fits p limit k s s′ (w .image) image′ table table′ r → AreBytes image′ → Stands k r → Φ ⊎ Obeys Proper stateOf Fits p limit k w r → RoomInv Φ (afterCall k w s′ image′ table′ r)
     call-keeps Φ (Format a z) w i s s′ image′ table table′ r l c small e o = (format-keeps Φ w i s s′ image′ table table′ r a z l c e)
     call-keeps Φ Open w i s s′ image′ table table′ r l c small e o = (open-keeps Φ w i s s′ image′ table table′ r l c small)
-    call-keeps Φ (Put k v) w i s s′ image′ table table′ r l c small e o =
-        (usual Φ w i s s′ image′ table table′ r (Put k v) l c (record { ready = λ s ws t f. f; again = λ s ws t r f. f; least = λ t a. refl; kept = λ least u b m. K.put-kept p limit laws bytes least u b m k v e })
-        (λ σ q. put-after p lo hi limit fits bytes Φ (w .least) (w .unfinished) (i .book) (w .medium) k v e σ))
-    call-keeps Φ (Delete k) w i s s′ image′ table table′ r l c small e o =
-        (usual Φ w i s s′ image′ table table′ r (Delete k) l c (record { ready = λ s ws t f. f; again = λ s ws t r f. f; least = λ t a. refl; kept = λ least u b m. K.delete-kept p limit laws bytes least u b m k })
-        (λ σ q. delete-after p lo hi limit fits bytes Φ (w .least) (w .unfinished) (i .book) (w .medium) k σ))
+    call-keeps Φ (Put x k v) w i s s′ image′ table table′ r l c small e o =
+        (usual Φ w i s s′ image′ table table′ r (Put x k v) l c (record { ready = λ s ws t f. f; again = λ s ws t r f. f; least = λ t a. refl; kept = λ least u b m. K.put-kept p limit laws bytes least u b m x k v e })
+        (λ σ q. put-after p lo hi limit fits bytes Φ (w .least) (w .unfinished) (i .book) (w .medium) x k v e σ))
+    call-keeps Φ (Delete x k) w i s s′ image′ table table′ r l c small e o =
+        (usual Φ w i s s′ image′ table table′ r (Delete x k) l c (record { ready = λ s ws t f. f; again = λ s ws t r f. f; least = λ t a. refl; kept = λ least u b m. K.delete-kept p limit laws bytes least u b m x k })
+        (λ σ q. delete-after p lo hi limit fits bytes Φ (w .least) (w .unfinished) (i .book) (w .medium) x k σ))
     call-keeps Φ Commit w i s s′ image′ table table′ r l c small e o =
         (usual Φ w i s s′ image′ table table′ r Commit l c plain
         (λ σ q. commit-after p lo hi limit fits bytes Φ (w .least) (w .unfinished) (i .book) (w .medium) σ (rule σ q o)))
@@ -209,7 +209,7 @@ module _ (p : ℕ) (lo : 12 ≤ p) (hi : p ≤ 16) (limit : ℕ) (fits : limit �
         (λ σ q. abandon-after p lo hi limit fits bytes Φ (w .least) (w .unfinished) (i .book) (w .medium) σ))
     call-keeps Φ (LookUp k) w i s s′ image′ table table′ r l c small e o =
         (usual Φ w i s s′ image′ table table′ r (LookUp k) l c (record { ready = λ s ws t f. f; again = λ s ws t r f. f; least = λ t a. refl; kept = λ least u b m. K.look-kept p limit laws bytes least u b m k })
-        (λ σ q. look-after p lo hi limit fits bytes Φ (w .least) (w .unfinished) (i .book) (w .medium) k σ))
+        (λ σ q. look-after p lo hi limit fits bytes Φ (w .least) (w .unfinished) (i .book) (w .medium) x k σ))
     call-keeps Φ Choose w i s s′ image′ table table′ r l c small e o =
         (usual Φ w i s s′ image′ table table′ r Choose l c (record { ready = λ s ws t f. f; again = λ s ws t r f. f; least = λ t a. refl; kept = K.choose-kept p limit laws bytes })
         (λ σ q. choose-after p lo hi limit fits bytes Φ (w .least) (w .unfinished) (i .book) (w .medium) σ))

@@ -21,6 +21,7 @@ use Rattle.spec.specs.Plans.{Task, Plan, Refuse, Begin, planPut, planDelete, pl
 use Rattle.spec.specs.Machine.{Call, Put, Delete, Commit, Abandon, LookUp, Choose, Clean, Step, State, Closed, Rest, Busy, Formatting, gate, itemsOf, begun, gated, countOf, itemsThen, emptied, answer, next}
 use Rattle.spec.specs.Book.{Book}
 use Rattle.spec.specs.Unstuck.{FreeStands}
+use Rattle.spec.specs.declared.Given.{Given}
 use Rattle.spec.specs.declared.Refusal.the-variants as N
 use Rattle.spec.specs.declared.Report.{Report}
 use Rattle.spec.specs.declared.Report.the-variants as R
@@ -85,15 +86,15 @@ module _ (p : ℕ) (lo : 12 ≤ p) (hi : p ≤ 16) (limit : ℕ) (fits : limit �
     abbrev pub After : Call → State → Type 0
     After k σ = RoomIn (next p limit k σ (latest m) bytes least) (mediumAfter (answer p limit k σ (latest m) bytes least) m)
 
-    pub put-after : (k : ℕ) (v : List ℕ) → AreBytes v → (σ : State) → Holds p bytes least u b σ m → RoomIn σ m → After (Put k v) σ
+    pub put-after : (x : Given) (k : ℕ) (v : List ℕ) → AreBytes v → (σ : State) → Holds p bytes least u b σ m → RoomIn σ m → After (Put x k v) σ
     unfolding next
-    put-after k v small = planned-room (λ items. planPut p limit n (latest m) least (entriesIn p n (latest m)) items k v) λ items items′ task acts s r q.
-        (put-room p lo hi n least (b .register) (b .staged) items items′ task acts m s (r .0) limit fits k v small q, λ f. put-free p lo hi n least (b .register) (b .staged) items items′ task acts m s (r .0) (r .1 f) limit fits k v small q)
+    put-after x k v small = planned-room (λ items. planPut p limit n (latest m) least (entriesIn p n (latest m)) items x k v) λ items items′ task acts s r q.
+        (put-room p lo hi n least (b .register) (b .staged) items items′ task acts m s (r .0) limit fits x k v small q, λ f. put-free p lo hi n least (b .register) (b .staged) items items′ task acts m s (r .0) (r .1 f) limit fits x k v small q)
 
-    pub delete-after : (k : ℕ) (σ : State) → Holds p bytes least u b σ m → RoomIn σ m → After (Delete k) σ
+    pub delete-after : (x : Given) (k : ℕ) (σ : State) → Holds p bytes least u b σ m → RoomIn σ m → After (Delete x k) σ
     unfolding next
-    delete-after k = planned-room (λ items. planDelete least (entriesIn p n (latest m)) items k) λ items items′ task acts s r q.
-        (delete-room p lo hi n least (b .register) (b .staged) items items′ task acts m s (r .0) k q, λ f. delete-free p lo hi n least (b .register) (b .staged) items items′ task acts m s (r .0) (r .1 f) k q)
+    delete-after x k = planned-room (λ items. planDelete least (entriesIn p n (latest m)) items x k) λ items items′ task acts s r q.
+        (delete-room p lo hi n least (b .register) (b .staged) items items′ task acts m s (r .0) x k q, λ f. delete-free p lo hi n least (b .register) (b .staged) items items′ task acts m s (r .0) (r .1 f) x k q)
 
     -- by the host's rule
     pub commit-after : (σ : State) → Φ ⊎ (isRefused (answer p limit Commit σ (latest m) bytes least) ≡ false → FreeStands p n (latest m)) → Holds p bytes least u b σ m → RoomIn σ m → After Commit σ

@@ -38,10 +38,10 @@ module _ (p limit : ℕ) (laws : Laws p limit) {S : Type 0} (Proper : S → Type
           → Called Proper stateOf Fits p limit k s s′ (w .image) image′ table table′ r → AreBytes image′ → Stands k r → Ends Proper stateOf Fits p limit k Then w b s′ image′ table′ r
       call (Format a z) w b i s s′ image′ table table′ r l c small e = sound (afterCall (Format a z) w s′ image′ table′ r) b (E.format-kept p limit laws Proper stateOf Fits bytes a z w b s s′ image′ table table′ r i l c e)
       call Open w b i s s′ image′ table table′ r l c small e = E.opening-claim p limit laws Proper stateOf Fits bytes whole Then sound w b s s′ image′ table table′ r i l c small
-      call (Put k v) w b i s s′ image′ table table′ r l c small e =
-          usual (Put k v) (record { ready = λ s ws t f. f; again = λ s ws t r f. f; least = λ t a. refl; kept = λ least u b m. K.put-kept p limit laws bytes least u b m k v e }) w b i s s′ image′ table table′ r l c
-      call (Delete k) w b i s s′ image′ table table′ r l c small e =
-          usual (Delete k) (record { ready = λ s ws t f. f; again = λ s ws t r f. f; least = λ t a. refl; kept = λ least u b m. K.delete-kept p limit laws bytes least u b m k }) w b i s s′ image′ table table′ r l c
+      call (Put x k v) w b i s s′ image′ table table′ r l c small e =
+          usual (Put x k v) (record { ready = λ s ws t f. f; again = λ s ws t r f. f; least = λ t a. refl; kept = λ least u b m. K.put-kept p limit laws bytes least u b m x k v e }) w b i s s′ image′ table table′ r l c
+      call (Delete x k) w b i s s′ image′ table table′ r l c small e =
+          usual (Delete x k) (record { ready = λ s ws t f. f; again = λ s ws t r f. f; least = λ t a. refl; kept = λ least u b m. K.delete-kept p limit laws bytes least u b m x k }) w b i s s′ image′ table table′ r l c
       call Commit w b i s s′ image′ table table′ r l c small e =
           usual Commit (record { ready = λ s ws t f. f; again = λ s ws t r f. f; least = λ t a. refl; kept = K.commit-kept p limit laws bytes }) w b i s s′ image′ table table′ r l c
       call Abandon w b i s s′ image′ table table′ r l c small e =

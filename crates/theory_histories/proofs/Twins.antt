@@ -42,14 +42,14 @@ changed-same R.Idle image a b small also c d = c ∙ sym d
 changed-same R.Opened image a b small also c d = c ∙ sym d
 changed-same R.Abandoned image a b small also c d = c ∙ sym d
 changed-same (R.Chosen n) image a b small also c d = c ∙ sym d
-changed-same (R.Part x n) image a b small also c d = c ∙ sym d
+changed-same (R.Part x n v) image a b small also c d = c ∙ sym d
 
 module _ (p limit : ℕ) {S : Type 0} (Proper : S → Type 0) (stateOf : S → State) (Fits : S → List ℕ → List ℕ → Type 0) (proper : (s : S) (ws table : List ℕ) → Fits s ws table → Proper s) where
   ready : (k : Call) (s : S) (ws table : List ℕ) → Fits s ws table → Ready Proper stateOf Fits p limit k s ws table
   ready (Format a b) s ws table f = proper s ws table f
   ready Open s ws table f = proper s ws table f
-  ready (Put k v) s ws table f = f
-  ready (Delete k) s ws table f = f
+  ready (Put x k v) s ws table f = f
+  ready (Delete x k) s ws table f = f
   ready Commit s ws table f = f
   ready Abandon s ws table f = f
   ready (LookUp k) s ws table f = f
@@ -70,8 +70,8 @@ module _ (p limit : ℕ) {S : Type 0} (Proper : S → Type 0) (stateOf : S → S
           let i : image′ ≡ image = rw (q .1) at (c .image) in
           rw (o .1 .0, o .1 .1, i) f
   fits-again Open s s′ image image′ table table′ r f c = c .exact (proper s (wordsOf image) table f) .fits
-  fits-again (Put k v) s s′ image image′ table table′ r f c = c .exact f .fits
-  fits-again (Delete k) s s′ image image′ table table′ r f c = c .exact f .fits
+  fits-again (Put x k v) s s′ image image′ table table′ r f c = c .exact f .fits
+  fits-again (Delete x k) s s′ image image′ table table′ r f c = c .exact f .fits
   fits-again Commit s s′ image image′ table table′ r f c = c .exact f .fits
   fits-again Abandon s s′ image image′ table table′ r f c = c .exact f .fits
   fits-again (LookUp k) s s′ image image′ table table′ r f c = c .exact f .fits

@@ -74,7 +74,7 @@ module _ (p : ℕ) (lo : 12 ≤ p) (hi : p ≤ 16) where
   looked n ws es image ok small w k = go (chosen k es) refl
     where
       one : (e : Entry) → chosen k es ≡ some e → (b : Bool) → eqb (e .op) 1 ≡ b → (q : Bool) → pointed e ≡ q
-          → shows (pick b (pick q (R.Part (8 * (unitWord (e .field) + 1)) (getD ws (unitWord (e .field)) 0)) (R.Part (8 * (e .at + 2)) (e .field))) (R.Refused N.KeyAbsent)) image
+          → shows (pick b (pick q (R.Part (8 * (unitWord (e .field) + 1)) (getD ws (unitWord (e .field)) 0) (e .version)) (R.Part (8 * (e .at + 2)) (e .field) (e .version))) (R.Refused N.KeyAbsent)) image
           ≡ some (pick q (Value (blockBytes ws (e .field))) (pick b (Value (valueBytes (e .field) (e .value))) Absent))
       one e c true h true g = ap (λ (l : List ℕ). some (Value l)) (value-at image ws (unitWord u + 1) len small w end)
         where

@@ -22,9 +22,10 @@ use Rattle.spec.specs.Log.{Entry, encodeAll, maxInLog}
 use Rattle.spec.specs.Blocks.{blockLimit, blockSize}
 use Rattle.spec.specs.Contents.{Held, capacity, keysOf, entriesIn, keptIn}
 use Rattle.spec.specs.Actions.{linesFor, takeOf, blockOf}
-use Rattle.spec.specs.Plans.{Task, Staging, Begin, Slot, InData, InFree, Nowhere, nextVersion, present, maxPutVersion, maxVersion, fitsBatch, fitsKeys, putWords, entry, freeChunk, orFree, slotFor, stageLarge, planPut, planDelete, isDelete, freeNeeded, hasSpace, orElse, logPlace, appendTo, commitAt, planCommit, free}
+use Rattle.spec.specs.Plans.{Task, Staging, Begin, Slot, InData, InFree, Nowhere, nextVersion, present, fitsVersion, maxPutVersion, maxVersion, fitsBatch, fitsKeys, putWords, entry, freeChunk, orFree, slotFor, stageLarge, planPut, planDelete, isDelete, freeNeeded, hasSpace, orElse, logPlace, appendTo, commitAt, planCommit, free}
 use Rattle.spec.specs.Book.{Item, doneItems}
 use Rattle.spec.specs.Unstuck.{FreeStands}
+use Rattle.spec.specs.declared.Given.{Given}
 use Rattle.spec.specs.declared.Refusal.the-variants as N
 use Rattle.spec.specs.declared.Role.{Role}
 use Rattle.spec.specs.declared.Role.the-variants as R
@@ -209,11 +210,12 @@ module _ (p : ℕ) (lo : 12 ≤ p) (hi : p ≤ 16) (n table : ℕ) (C : ℕ → 
   pub put-cases : (G : List Action → Type 0) → G [] → ((u size : ℕ) (words : List ℕ) → B.Slot p n ws es u size → length words ≤ 32 * size → G (blockOf u words))
       → ((c size : ℕ) (words : List ℕ) → 1 ≤ c → c < n → isFree (roleAt p ws c) ≡ true → 3 ≤ length (freeChunks p n ws) → isSize p size ≡ true → length words ≤ 32 * size
       → G (takeOf c (getD ws (directoryWord c) 0) size ++ blockOf (firstUnit p c) words))
-      → (limit : ℕ) → limit ≤ blockLimit p → (items′ : List Entry) (task : Task) (acts : List Action) (k : ℕ) (v : List ℕ) → AreBytes v → planPut p limit n ws table es items k v ≡ Begin items′ task acts → G acts
+      → (limit : ℕ) → limit ≤ blockLimit p → (items′ : List Entry) (task : Task) (acts : List Action) (x : Given) (k : ℕ) (v : List ℕ) → AreBytes v → planPut p limit n ws table es items x k v ≡ Begin items′ task acts → G acts
   unfolding planPut
-  put-cases G nothing block take limit fits items′ task acts k v bytes h =
+  put-cases G nothing block take limit fits items′ task acts x k v bytes h =
       let a = need-begin (leb (length v) limit) N.TooLong _ items′ task acts h in
-      let b = need-begin (leb (nextVersion k es items) maxPutVersion) N.VersionSpent _ items′ task acts (a .1) in
+      let o = need-begin (fitsVersion x k es items) N.OtherVersion _ items′ task acts (a .1) in
+      let b = need-begin (leb (nextVersion k es items) maxPutVersion) N.VersionSpent _ items′ task acts (o .1) in
       let c = need-begin (fitsBatch items (putWords (length v))) N.BatchFull _ items′ task acts (b .1) in
       let d = need-begin (fitsKeys table es items k) N.TableFull _ items′ task acts (c .1) in
       go (leb-true (length v) limit (a .0)) (leb (length v) maxInLog) refl (d .1)
@@ -241,14 +243,15 @@ module _ (p : ℕ) (lo : 12 ≤ p) (hi : p ≤ 16) (n table : ℕ) (C : ℕ → 
       go u true q g = rw (begun-acts _ _ _ _ _ _ g) nothing
       go u false q g = large (leb-false (length v) maxInLog q) u (slotFor p n ws es items size) refl g
 
-  put-plan : (limit : ℕ) → limit ≤ blockLimit p → (items′ : List Entry) (task : Task) (acts : List Action) (k : ℕ) (v : List ℕ) → AreBytes v → planPut p limit n ws table es items k v ≡ Begin items′ task acts → Goes acts
+  put-plan : (limit : ℕ) → limit ≤ blockLimit p → (items′ : List Entry) (task : Task) (acts : List Action) (x : Given) (k : ℕ) (v : List ℕ) → AreBytes v → planPut p limit n ws table es items x k v ≡ Begin items′ task acts → Goes acts
   put-plan = put-cases Goes room data-room taken-room
 
-  delete-plan : (items′ : List Entry) (task : Task) (acts : List Action) (k : ℕ) → planDelete table es items k ≡ Begin items′ task acts → Goes acts
+  delete-plan : (items′ : List Entry) (task : Task) (acts : List Action) (x : Given) (k : ℕ) → planDelete table es items x k ≡ Begin items′ task acts → Goes acts
   unfolding planDelete
-  delete-plan items′ task acts k h =
+  delete-plan items′ task acts x k h =
       let a = need-begin (present k es items) N.KeyAbsent _ items′ task acts h in
-      let b = need-begin (leb (nextVersion k es items) maxVersion) N.VersionSpent _ items′ task acts (a .1) in
+      let o = need-begin (fitsVersion x k es items) N.OtherVersion _ items′ task acts (a .1) in
+      let b = need-begin (leb (nextVersion k es items) maxVersion) N.VersionSpent _ items′ task acts (o .1) in
       let c = need-begin (fitsBatch items 2) N.BatchFull _ items′ task acts (b .1) in
       let d = need-begin (fitsKeys table es items k) N.TableFull _ items′ task acts (c .1) in
       rw (begun-acts _ _ _ _ _ _ (d .1)) room
@@ -310,7 +313,7 @@ module _ (p : ℕ) (lo : 12 ≤ p) (hi : p ≤ 16) (n table : ℕ) (C : ℕ → 
   within : (f : ℕ) → f < n → f < maxChunks
   within f high = let q = s .rest .ok .most in omega arith
 
-  put-stays : (limit : ℕ) → limit ≤ blockLimit p → (items′ : List Entry) (task : Task) (acts : List Action) (k : ℕ) (v : List ℕ) → AreBytes v → planPut p limit n (s .words) table (s .entries) items k v ≡ Begin items′ task acts
+  put-stays : (limit : ℕ) → limit ≤ blockLimit p → (items′ : List Entry) (task : Task) (acts : List Action) (x : Given) (k : ℕ) (v : List ℕ) → AreBytes v → planPut p limit n (s .words) table (s .entries) items x k v ≡ Begin items′ task acts
       → FreeStands p n (latest (run acts m))
   put-stays =
       put-cases p lo hi n table C book items m s room (λ acts. FreeStands p n (latest (run acts m))) (rw (s .rest .now) stands)
@@ -346,36 +349,37 @@ module _ (p : ℕ) (lo : 12 ≤ p) (hi : p ≤ 16) (n table : ℕ) (C : ℕ → 
 
 -- THE LAWS OF THE PLANS, as the calls read the image
 module _ (p : ℕ) (lo : 12 ≤ p) (hi : p ≤ 16) (n table : ℕ) (C : ℕ → Held) (book : List Item) (items items′ : List Entry) (task : Task) (acts : List Action) (m : Medium) (s : Standing p n table C book items m) (room : Room p n m) where
-  pub put-room : (limit : ℕ) → limit ≤ blockLimit p → (k : ℕ) (v : List ℕ) → AreBytes v → planPut p limit n (latest m) table (entriesIn p n (latest m)) items k v ≡ Begin items′ task acts → Through (RoomyCuts p n) (Room p n) acts m
-  put-room limit fits k v bytes h =
-      put-plan p lo hi n table C book items m s room limit fits items′ task acts k v bytes
-      (ap (λ (ws : List ℕ). planPut p limit n ws table (s .entries) items k v) (sym (s .rest .now))
-      ∙ ap (λ (es : List Entry). planPut p limit n (latest m) table es items k v) (sym (stand-entries p lo hi n table C book items m s))
+  pub put-room : (limit : ℕ) → limit ≤ blockLimit p → (x : Given) (k : ℕ) (v : List ℕ) → AreBytes v → planPut p limit n (latest m) table (entriesIn p n (latest m)) items x k v ≡ Begin items′ task acts → Through (RoomyCuts p n) (Room p n) acts m
+  put-room limit fits x k v bytes h =
+      put-plan p lo hi n table C book items m s room limit fits items′ task acts x k v bytes
+      (ap (λ (ws : List ℕ). planPut p limit n ws table (s .entries) items x k v) (sym (s .rest .now))
+      ∙ ap (λ (es : List Entry). planPut p limit n (latest m) table es items x k v) (sym (stand-entries p lo hi n table C book items m s))
       ∙ h)
 
-  pub delete-room : (k : ℕ) → planDelete table (entriesIn p n (latest m)) items k ≡ Begin items′ task acts → Through (RoomyCuts p n) (Room p n) acts m
-  delete-room k h =
-      delete-plan p lo hi n table C book items m s room items′ task acts k
-      (ap (λ (es : List Entry). planDelete table es items k) (sym (stand-entries p lo hi n table C book items m s)) ∙ h)
+  pub delete-room : (x : Given) (k : ℕ) → planDelete table (entriesIn p n (latest m)) items x k ≡ Begin items′ task acts → Through (RoomyCuts p n) (Room p n) acts m
+  delete-room x k h =
+      delete-plan p lo hi n table C book items m s room items′ task acts x k
+      (ap (λ (es : List Entry). planDelete table es items x k) (sym (stand-entries p lo hi n table C book items m s)) ∙ h)
 
   pub commit-room : FreeStands p n (latest m) → planCommit p n (latest m) items ≡ Begin items′ task acts → Through (RoomyCuts p n) (Room p n) acts m
   commit-room f h =
       commit-plan p lo hi n table C book items m s room items′ task acts (rw (s .rest .now) at f) (rw (s .rest .now) at h) (commit-begun p lo hi n table C book items items′ task acts m s h .1 .1)
 
-  pub put-free : FreeStands p n (latest m) → (limit : ℕ) → limit ≤ blockLimit p → (k : ℕ) (v : List ℕ) → AreBytes v → planPut p limit n (latest m) table (entriesIn p n (latest m)) items k v ≡ Begin items′ task acts
+  pub put-free : FreeStands p n (latest m) → (limit : ℕ) → limit ≤ blockLimit p → (x : Given) (k : ℕ) (v : List ℕ) → AreBytes v → planPut p limit n (latest m) table (entriesIn p n (latest m)) items x k v ≡ Begin items′ task acts
       → FreeStands p n (latest (run acts m))
-  put-free f limit fits k v bytes h =
-      put-stays p lo hi n table C book items m s room (rw (s .rest .now) at f) limit fits items′ task acts k v bytes
-      (ap (λ (ws : List ℕ). planPut p limit n ws table (s .entries) items k v) (sym (s .rest .now))
-      ∙ ap (λ (es : List Entry). planPut p limit n (latest m) table es items k v) (sym (stand-entries p lo hi n table C book items m s))
+  put-free f limit fits x k v bytes h =
+      put-stays p lo hi n table C book items m s room (rw (s .rest .now) at f) limit fits items′ task acts x k v bytes
+      (ap (λ (ws : List ℕ). planPut p limit n ws table (s .entries) items x k v) (sym (s .rest .now))
+      ∙ ap (λ (es : List Entry). planPut p limit n (latest m) table es items x k v) (sym (stand-entries p lo hi n table C book items m s))
       ∙ h)
 
-  pub delete-free : FreeStands p n (latest m) → (k : ℕ) → planDelete table (entriesIn p n (latest m)) items k ≡ Begin items′ task acts → FreeStands p n (latest (run acts m))
+  pub delete-free : FreeStands p n (latest m) → (x : Given) (k : ℕ) → planDelete table (entriesIn p n (latest m)) items x k ≡ Begin items′ task acts → FreeStands p n (latest (run acts m))
   unfolding planDelete
-  delete-free f k h =
+  delete-free f x k h =
       let es = entriesIn p n (latest m) in
       let a = need-begin (present k es items) N.KeyAbsent _ items′ task acts h in
-      let b = need-begin (leb (nextVersion k es items) maxVersion) N.VersionSpent _ items′ task acts (a .1) in
+      let o = need-begin (fitsVersion x k es items) N.OtherVersion _ items′ task acts (a .1) in
+      let b = need-begin (leb (nextVersion k es items) maxVersion) N.VersionSpent _ items′ task acts (o .1) in
       let c = need-begin (fitsBatch items 2) N.BatchFull _ items′ task acts (b .1) in
       let d = need-begin (fitsKeys table es items k) N.TableFull _ items′ task acts (c .1) in
       rw (begun-acts _ _ _ _ _ _ (d .1)) f

@@ -18,8 +18,9 @@ use Rattle.spec.specs.Log.{Entry, filled, maxInLog}
 use Rattle.spec.specs.Blocks.{blockLimit, blockSize}
 use Rattle.spec.specs.Contents.{Held, Absent, Value, highest, entriesIn}
 use Rattle.spec.specs.Actions.{takeOf, blockOf}
-use Rattle.spec.specs.Plans.{Task, Staging, Plan, Begin, need, nextVersion, present, fitsBatch, fitsKeys, maxPutVersion, maxVersion, entry, Slot as Found, InData, InFree, Nowhere, slotFor, putWords, stageLarge, stagePut, planPut, planDelete}
+use Rattle.spec.specs.Plans.{Task, Staging, Plan, Begin, need, nextVersion, present, fitsVersion, fitsBatch, fitsKeys, maxPutVersion, maxVersion, entry, Slot as Found, InData, InFree, Nowhere, slotFor, putWords, stageLarge, stagePut, planPut, planDelete}
 use Rattle.spec.specs.Book.{Item}
+use Rattle.spec.specs.declared.Given.{Given}
 use Rattle.spec.specs.declared.Refusal.{Refusal}
 use Rattle.spec.specs.declared.Refusal.the-variants as N
 use Rattle.words.proofs.Values.{length-packed, packed-filled, bytes-packed}
@@ -38,6 +39,12 @@ met true true true false x y z w q items task acts h = absurd (let o : _≡_ {A 
 met true true false d x y z w q items task acts h = absurd (let o : _≡_ {A = ℕ} 0 1 = cc in omega arith)
 met true false c d x y z w q items task acts h = absurd (let o : _≡_ {A = ℕ} 0 1 = cc in omega arith)
 met false b c d x y z w q items task acts h = absurd (let o : _≡_ {A = ℕ} 0 1 = cc in omega arith)
+
+-- A plan that begins has met its second test: what is left is the plan without it.
+past-second : (a b : Bool) (x y : Refusal) (q : Plan) (items : List Entry) (task : Task) (acts : List Action) → need a x (need b y q) ≡ Begin items task acts → need a x q ≡ Begin items task acts
+past-second true true x y q items task acts h = h
+past-second true false x y q items task acts h = absurd (let o : _≡_ {A = ℕ} 0 1 = cc in omega arith)
+past-second false b x y q items task acts h = absurd (let o : _≡_ {A = ℕ} 0 1 = cc in omega arith)
 
 -- The new entries are right; h, k: the words before the value's.
 module _ (v : List ℕ) (bytes : AreBytes v) where
@@ -74,10 +81,10 @@ module _ (p : ℕ) (lo : 12 ≤ p) (hi : p ≤ 16) (n table : ℕ) (C : ℕ → 
       (b, (rw (a, c) at g))
 
   -- A PUT of at most the bytes that a block can hold
-  planned-put : (limit : ℕ) → limit ≤ blockLimit p → (items′ : List Entry) (task : Task) (acts : List Action) (k : ℕ) (v : List ℕ) → AreBytes v → planPut p limit n ws table es items k v ≡ Begin items′ task acts
+  planned-put : (limit : ℕ) → limit ≤ blockLimit p → (items′ : List Entry) (task : Task) (acts : List Action) (x : Given) (k : ℕ) (v : List ℕ) → AreBytes v → planPut p limit n ws table es items x k v ≡ Begin items′ task acts
       → (task ≡ Staging) × Going p n table C C (book ++ (record { key = k; gets = Value v } ∷ [])) items′ acts m
   unfolding planPut
-  planned-put limit fits items′ task acts k v bytes h = go (leb (length v) maxInLog) refl (tests .2) (tests .4)
+  planned-put limit fits items′ task acts x k v bytes h = go (leb (length v) maxInLog) refl (tests .2) (tests .4)
     where
       version : ℕ
       version = nextVersion k es items
@@ -94,7 +101,8 @@ module _ (p : ℕ) (lo : 12 ≤ p) (hi : p ≤ 16) (n table : ℕ) (C : ℕ → 
       tests : (leb (length v) limit ≡ true) × (leb version maxPutVersion ≡ true) × (fitsBatch items (putWords (length v)) ≡ true) × (fitsKeys table es items k ≡ true)
           × (stagePut p n ws es items version k v ≡ Begin items′ task acts)
       tests = met (leb (length v) limit) (leb version maxPutVersion) (fitsBatch items (putWords (length v))) (fitsKeys table es items k) N.TooLong N.VersionSpent N.BatchFull N.TableFull
-          (stagePut p n ws es items version k v) items′ task acts h
+          (stagePut p n ws es items version k v) items′ task acts
+          (past-second (leb (length v) limit) (fitsVersion x k es items) N.TooLong N.OtherVersion _ items′ task acts h)
 
       spent : version ≤ maxPutVersion
       spent = leb-true version maxPutVersion (tests .1)
@@ -123,10 +131,10 @@ module _ (p : ℕ) (lo : 12 ≤ p) (hi : p ≤ 16) (n table : ℕ) (C : ℕ → 
           (log-ready p n ws es items m (entry 1 0 version (length v) k (packed v)) refl) (ap Value (bytes-packed v bytes)))
       go false q b g = large (leb-false (length v) maxInLog q) b (slotFor p n ws es items size) refl g
 
-  planned-delete : (items′ : List Entry) (task : Task) (acts : List Action) (k : ℕ) → planDelete table es items k ≡ Begin items′ task acts
+  planned-delete : (items′ : List Entry) (task : Task) (acts : List Action) (x : Given) (k : ℕ) → planDelete table es items x k ≡ Begin items′ task acts
       → (task ≡ Staging) × Going p n table C C (book ++ (record { key = k; gets = Absent } ∷ [])) items′ acts m
   unfolding planDelete
-  planned-delete items′ task acts k h =
+  planned-delete items′ task acts x k h =
       begins (book ++ (record { key = k; gets = Absent } ∷ [])) (items ++ (e ∷ [])) items′ task [] acts (tests .4)
       (stand-more p n table C book items m s e Absent
       (record { counts = refl; right = delete-right (highest k (es ++ items)) k (leb-true version maxVersion (tests .1)); batch = tests .2; keys = tests .3 })
@@ -139,21 +147,22 @@ module _ (p : ℕ) (lo : 12 ≤ p) (hi : p ≤ 16) (n table : ℕ) (C : ℕ → 
       e = entry 2 0 version 0 k []
 
       tests : (present k es items ≡ true) × (leb version maxVersion ≡ true) × (fitsBatch items 2 ≡ true) × (fitsKeys table es items k ≡ true) × (Begin (items ++ (e ∷ [])) Staging [] ≡ Begin items′ task acts)
-      tests = met (present k es items) (leb version maxVersion) (fitsBatch items 2) (fitsKeys table es items k) N.KeyAbsent N.VersionSpent N.BatchFull N.TableFull (Begin (items ++ (e ∷ [])) Staging []) items′ task acts h
+      tests = met (present k es items) (leb version maxVersion) (fitsBatch items 2) (fitsKeys table es items k) N.KeyAbsent N.VersionSpent N.BatchFull N.TableFull (Begin (items ++ (e ∷ [])) Staging []) items′ task acts
+          (past-second (present k es items) (fitsVersion x k es items) N.KeyAbsent N.OtherVersion _ items′ task acts h)
 
 module _ (p : ℕ) (lo : 12 ≤ p) (hi : p ≤ 16) where
-  pub put-goes : (limit : ℕ) → limit ≤ blockLimit p → (n table : ℕ) (C : ℕ → Held) (book : List Item) (items items′ : List Entry) (task : Task) (acts : List Action) (m : Medium) (k : ℕ) (v : List ℕ)
-      → AreBytes v → Standing p n table C book items m → planPut p limit n (latest m) table (entriesIn p n (latest m)) items k v ≡ Begin items′ task acts
+  pub put-goes : (limit : ℕ) → limit ≤ blockLimit p → (n table : ℕ) (C : ℕ → Held) (book : List Item) (items items′ : List Entry) (task : Task) (acts : List Action) (m : Medium) (x : Given) (k : ℕ) (v : List ℕ)
+      → AreBytes v → Standing p n table C book items m → planPut p limit n (latest m) table (entriesIn p n (latest m)) items x k v ≡ Begin items′ task acts
       → (task ≡ Staging) × Going p n table C C (book ++ (record { key = k; gets = Value v } ∷ [])) items′ acts m
-  put-goes limit fits n table C book items items′ task acts m k v bytes s h =
-      planned-put p lo hi n table C book items m s limit fits items′ task acts k v bytes
-      (ap (λ (ws : List ℕ). planPut p limit n ws table (s .entries) items k v) (sym (s .rest .now))
-      ∙ ap (λ (es : List Entry). planPut p limit n (latest m) table es items k v) (sym (stand-entries p lo hi n table C book items m s))
+  put-goes limit fits n table C book items items′ task acts m x k v bytes s h =
+      planned-put p lo hi n table C book items m s limit fits items′ task acts x k v bytes
+      (ap (λ (ws : List ℕ). planPut p limit n ws table (s .entries) items x k v) (sym (s .rest .now))
+      ∙ ap (λ (es : List Entry). planPut p limit n (latest m) table es items x k v) (sym (stand-entries p lo hi n table C book items m s))
       ∙ h)
 
-  pub delete-goes : (n table : ℕ) (C : ℕ → Held) (book : List Item) (items items′ : List Entry) (task : Task) (acts : List Action) (m : Medium) (k : ℕ)
-      → Standing p n table C book items m → planDelete table (entriesIn p n (latest m)) items k ≡ Begin items′ task acts
+  pub delete-goes : (n table : ℕ) (C : ℕ → Held) (book : List Item) (items items′ : List Entry) (task : Task) (acts : List Action) (m : Medium) (x : Given) (k : ℕ)
+      → Standing p n table C book items m → planDelete table (entriesIn p n (latest m)) items x k ≡ Begin items′ task acts
       → (task ≡ Staging) × Going p n table C C (book ++ (record { key = k; gets = Absent } ∷ [])) items′ acts m
-  delete-goes n table C book items items′ task acts m k s h =
-      planned-delete p lo hi n table C book items m s items′ task acts k
-      (ap (λ (es : List Entry). planDelete table es items k) (sym (stand-entries p lo hi n table C book items m s)) ∙ h)
+  delete-goes n table C book items items′ task acts m x k s h =
+      planned-delete p lo hi n table C book items m s items′ task acts x k
+      (ap (λ (es : List Entry). planDelete table es items x k) (sym (stand-entries p lo hi n table C book items m s)) ∙ h)

@@ -28,12 +28,13 @@ abbrev pub Anything : Medium → Type 0
 Anything m = Unit {0}
 
 pub record Laws (p limit : ℕ) : Type 0 where
-  -- an accepted staging puts its item last into the book's staged items, and keeps the contents
-  pub put-goes : (n table : ℕ) (C : ℕ → Held) (book : List Item) (items items′ : List Entry) (task : Task) (acts : List Action) (m : Medium) (k : ℕ) (v : List ℕ)
-      → AreBytes v → Standing p n table C book items m → planPut p limit n (latest m) table (entriesIn p n (latest m)) items k v ≡ Begin items′ task acts
+  -- an accepted staging, whatever version it names, puts its item last into the book's staged items and keeps the
+  -- contents
+  pub put-goes : (n table : ℕ) (C : ℕ → Held) (book : List Item) (items items′ : List Entry) (task : Task) (acts : List Action) (m : Medium) (x : Given) (k : ℕ) (v : List ℕ)
+      → AreBytes v → Standing p n table C book items m → planPut p limit n (latest m) table (entriesIn p n (latest m)) items x k v ≡ Begin items′ task acts
       → (task ≡ Staging) × Going p n table C C (book ++ (record { key = k; gets = Value v } ∷ [])) items′ acts m
-  pub delete-goes : (n table : ℕ) (C : ℕ → Held) (book : List Item) (items items′ : List Entry) (task : Task) (acts : List Action) (m : Medium) (k : ℕ)
-      → Standing p n table C book items m → planDelete table (entriesIn p n (latest m)) items k ≡ Begin items′ task acts
+  pub delete-goes : (n table : ℕ) (C : ℕ → Held) (book : List Item) (items items′ : List Entry) (task : Task) (acts : List Action) (m : Medium) (x : Given) (k : ℕ)
+      → Standing p n table C book items m → planDelete table (entriesIn p n (latest m)) items x k ≡ Begin items′ task acts
       → (task ≡ Staging) × Going p n table C C (book ++ (record { key = k; gets = Absent } ∷ [])) items′ acts m
   -- a commit does the book's staged items in order
   pub commit-goes : (n table : ℕ) (C : ℕ → Held) (book : List Item) (items items′ : List Entry) (task : Task) (acts : List Action) (m : Medium)

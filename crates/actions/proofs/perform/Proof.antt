@@ -44,7 +44,7 @@ quiet R.Idle bytes k = refl
 quiet R.Opened bytes k = refl
 quiet R.Abandoned bytes k = refl
 quiet (R.Chosen c) bytes k = refl
-quiet (R.Part a n) bytes k = refl
+quiet (R.Part a n v) bytes k = refl
 
 returns-2 : tie.Need-returns-2
 unfolding others

@@ -1,53 +1,26 @@
 -- `admitting::admit` meets its contract.
 -- Assumes nothing.
-use native.Mathlib.Omega.{arith}
-use mathlib.Core.Path.{refl}
+use mathlib.Core.Path.{sym, _∙_}
 use borrow.Author.Needs.{needs}
-use Rattle.admitting.proofs.Admits.{admit-spent, admit-many, admit-full, admit-keys, admit-all}
+use Rattle.admitting.proofs.Admits.{named-yes, named-no}
 use Rattle.admitting.proofs.admit.Statement.{statement}
 use Rattle.admitting.proofs.admit.Tie as tie
 
+is-named-requires : tie.Need-is-named-requires
+is-named-requires c κs = search needs
+
+admit-any-requires : tie.Need-admit-any-requires
+admit-any-requires c κs = search needs
+
 returns : tie.Need-returns
-returns c = admit-spent _ _ _ _ _ (c .if1 .taken)
+returns c =
+    let a = c .before .before .before .args in
+    named-yes (a .named) (a .control) (a .most) (a .version) (a .more) (a .room) _ (sym (c .before .before .is-named .ensures) ∙ c .before .if1 .taken) (c .admit-any .ensures)
 
 returns-2 : tie.Need-returns-2
-returns-2 c = admit-many _ _ _ _ _ (c .before .before .if1 .left) (c .if2 .taken)
-
-returns-3 : tie.Need-returns-3
-returns-3 c = admit-full _ _ _ _ _ (c .before .before .before .if1 .left) (c .before .if2 .left) (omega arith)
-
-returns-4 : tie.Need-returns-4
-returns-4 c = admit-full _ _ _ _ _ (c .before .before .before .before .if1 .left) (c .before .before .if2 .left) (omega arith)
-
-returns-5 : tie.Need-returns-5
-returns-5 c = admit-keys _ _ _ _ _ (c .before .before .before .before .before .if1 .left) (c .before .before .before .if2 .left) (omega arith) _ refl (omega arith)
-
-returns-6 : tie.Need-returns-6
-returns-6 c = admit-keys _ _ _ _ _ (c .before .before .before .before .before .before .if1 .left) (c .before .before .before .before .if2 .left) (omega arith) _ refl (omega arith)
-
-new-keys-requires : tie.Need-new-keys-requires
-new-keys-requires c κs = search needs
-
-returns-7 : tie.Need-returns-7
-returns-7 c = admit-keys _ _ _ _ _ (c .before .before .before .before .before .before .before .before .if1 .left) (c .before .before .before .before .before .before .if2 .left) (omega arith) _ (c .before .new-keys .ensures) (omega arith)
-
-add-t15 : tie.Need-add-t15
-add-t15 c = search needs
-
-returns-8 : tie.Need-returns-8
-returns-8 c = admit-all _ _ _ _ _ (c .before .before .before .before .before .before .before .before .if1 .left) (c .before .before .before .before .before .before .if2 .left) (omega arith) _ (c .before .new-keys .ensures) (omega arith)
+returns-2 c =
+    let a = c .before .before .args in
+    named-no (a .named) (a .control) (a .most) (a .version) (a .more) (a .room) (sym (c .before .is-named .ensures) ∙ c .if1 .left)
 
 pub admit-spec : {M : Type 1} → statement M
-admit-spec =
-    tie.close
-    (tie.spec
-    returns
-    returns-2
-    returns-3
-    returns-4
-    returns-5
-    returns-6
-    new-keys-requires
-    returns-7
-    add-t15
-    returns-8)
+admit-spec = tie.close (tie.spec is-named-requires admit-any-requires returns returns-2)

@@ -39,7 +39,7 @@ returns-2 c =
     (c .number .ensures ∙ sym (ap numberIn q), (sym (ap startIn q), sym (ap lengthIn q)))
 
 returns-3 : tie.Need-returns-3
-returns-3 c = search needs
+returns-3 c = let q = c .before .report2 .given .1 in (sym (ap numberIn q), (sym (ap startIn q), sym (ap lengthIn q)))
 
 -- the numbers of the variants but for a refusal's and a part's
 others : List ℕ
@@ -57,7 +57,7 @@ none R.Idle k = (refl, (refl, refl))
 none R.Opened k = (refl, (refl, refl))
 none R.Abandoned k = (refl, (refl, refl))
 none (R.Chosen c) k = (refl, (refl, refl))
-none (R.Part a n) k = absurd (miss others 10 tt k)
+none (R.Part a n v) k = absurd (miss others 10 tt k)
 
 returns-4 : tie.Need-returns-4
 unfolding others

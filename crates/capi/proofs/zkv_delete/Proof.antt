@@ -3,6 +3,7 @@
 -- calls (`stage_delete`, `told`) is that it meets its contract.
 -- Assumes nothing.
 use Rattle.spec.specs.Machine.{Delete}
+use Rattle.spec.specs.declared.Given.the-variants.{Absent}
 use Rattle.answers.specs.Answers.{answerOf}
 use Rattle.session.specs.Promise.{Does, memory}
 use mathlib.Core.Path.{_≡_}
@@ -75,7 +76,7 @@ abbrev Of-stage-delete′ : {M : Type 1} (𝓤 : URA M) (H : Heap 𝓤) (A : Ato
 Of-stage-delete′ 𝓤 H A mem run = tripleOf 𝓤 H A stage-delete′.signature (stage-delete′.spec 𝓤 H A mem run)
 
 abbrev Said-stage-delete′ : Report → Session → Session → List ℕ → List ℕ → ℕ → Type 0
-Said-stage-delete′ r x-s z-s x-image x-table key = Does (Delete key) (memory (x-s) (x-image) (x-table)) (memory (z-s) (x-image) (x-table)) r
+Said-stage-delete′ r x-s z-s x-image x-table key = Does (Delete Absent key) (memory (x-s) (x-image) (x-table)) (memory (z-s) (x-image) (x-table)) r
 
 -- the contract of `told`, and what it ensures
 abbrev Of-told′ : {M : Type 1} (𝓤 : URA M) (H : Heap 𝓤) (A : Atoms 𝓤) (mem : Memory → SProp 𝓤) (run : Routine → Fun 𝓤) → Contract 𝓤

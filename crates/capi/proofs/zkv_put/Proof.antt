@@ -3,6 +3,7 @@
 -- calls (`answer_put`) is that it meets its contract.
 -- Assumes nothing.
 use Rattle.spec.specs.Machine.{Put}
+use Rattle.spec.specs.declared.Given.the-variants.{Absent}
 use Rattle.answers.specs.Answers.{Told}
 use Rattle.session.specs.Promise.{Does, memory}
 use mathlib.Core.Path.{_≡_, refl}
@@ -67,7 +68,7 @@ abbrev Of-answer-put′ : {M : Type 1} (𝓤 : URA M) (H : Heap 𝓤) (A : Atoms
 Of-answer-put′ 𝓤 H A mem run = tripleOf 𝓤 H A answer-put′.signature (answer-put′.spec 𝓤 H A mem run)
 
 abbrev Said-answer-put′ : Answer → Session → Session → List ℕ → List ℕ → ℕ → List ℕ → Type 0
-Said-answer-put′ r x-s z-s x-image x-table key x-value = Told (Does (Put key (x-value)) (memory (x-s) (x-image) (x-table)) (memory (z-s) (x-image) (x-table))) r
+Said-answer-put′ r x-s z-s x-image x-table key x-value = Told (Does (Put Absent key (x-value)) (memory (x-s) (x-image) (x-table)) (memory (z-s) (x-image) (x-table))) r
 
 module _ {M : Type 1} (𝓤 : URA M) (H : Heap 𝓤) (A : Atoms 𝓤) (W : Given 𝓤 H A) (at-mem : Memory → SProp 𝓤) (run : Routine → Fun 𝓤) (κ-s κ-image κ-table κ-value : Lft) (bounds : AllOutlive 4 (self.signature .outlives) (κ-s, (κ-image, (κ-table, (κ-value, tt))))) (q-s q-image q-table q-value : Share) (b-s o-s : ℕ) (γ-s : GName) (x-s : Session) (b-image o-image : ℕ) (γ-image : GName) (x-image : List ℕ) (room-image : Room u8 (length x-image)) (b-table o-table : ℕ) (γ-table : GName) (x-table : List ℕ) (room-table : Room u64 (length x-table)) (x-key : ℕ) (fit-key : x-key < 2 ^ 64) (b-value o-value : ℕ) (γ-value : GName) (x-value : List ℕ) (room-value : Room u8 (length x-value)) where
   abbrev ref-s : RefT Session

@@ -26,14 +26,14 @@ add-if2 c = search needs
 sub-if2 : tie.Need-sub-if2
 sub-if2 c = search needs
 
-add-t13 : tie.Need-add-t13
-add-t13 c = search needs
+add-t14 : tie.Need-add-t14
+add-t14 c = search needs
 
 returns : tie.Need-returns
-returns c = let a = c .before .before .before .before .before .before .args in block-yes (length (a .image .now)) (wordsOf (a .image .now)) (a .unit .0) (c .before .before .before .before .byte-offset .result) (c .before .before .before .word-offset .result) (omega arith) (c .before .before .before .before .byte-offset .ensures) (c .before .before .before .word-offset .ensures) _ (omega arith) (c .before .load-leading .ensures) (omega arith)
+returns c = let a = c .before .before .before .before .before .before .args in block-yes (a .version) (length (a .image .now)) (wordsOf (a .image .now)) (a .unit .0) (c .before .before .before .before .byte-offset .result) (c .before .before .before .word-offset .result) (omega arith) (c .before .before .before .before .byte-offset .ensures) (c .before .before .before .word-offset .ensures) _ (omega arith) (c .before .load-leading .ensures) (omega arith)
 
 returns-2 : tie.Need-returns-2
-returns-2 c = let a = c .before .before .before .before .before .before .args in block-no (length (a .image .now)) (wordsOf (a .image .now)) (a .unit .0) (c .before .before .before .before .byte-offset .result) (c .before .before .before .word-offset .result) (omega arith) (c .before .before .before .before .byte-offset .ensures) (c .before .before .before .word-offset .ensures) _ (omega arith) (c .before .load-leading .ensures) (omega arith)
+returns-2 c = let a = c .before .before .before .before .before .before .args in block-no (a .version) (length (a .image .now)) (wordsOf (a .image .now)) (a .unit .0) (c .before .before .before .before .byte-offset .result) (c .before .before .before .word-offset .result) (omega arith) (c .before .before .before .before .byte-offset .ensures) (c .before .before .before .word-offset .ensures) _ (omega arith) (c .before .load-leading .ensures) (omega arith)
 
 add-within : tie.Need-add-within
 add-within c = search needs
@@ -45,7 +45,7 @@ within-requires : tie.Need-within-requires
 within-requires c κs = search needs
 
 returns-3 : tie.Need-returns-3
-returns-3 c = let a = c .before .before .before .before .before .before .args in block-any (length (a .image .now)) (wordsOf (a .image .now)) (a .unit .0) (c .before .before .before .before .byte-offset .result) (c .before .before .before .word-offset .result) (omega arith) (c .before .before .before .before .byte-offset .ensures) (c .before .before .before .word-offset .ensures) _ _ (c .before .load .ensures) (c .within .ensures)
+returns-3 c = let a = c .before .before .before .before .before .before .args in block-any (a .version) (length (a .image .now)) (wordsOf (a .image .now)) (a .unit .0) (c .before .before .before .before .byte-offset .result) (c .before .before .before .word-offset .result) (omega arith) (c .before .before .before .before .byte-offset .ensures) (c .before .before .before .word-offset .ensures) _ _ (c .before .load .ensures) (c .within .ensures)
 
 pub block-part-spec : {M : Type 1} → statement M
 block-part-spec =
@@ -57,7 +57,7 @@ block-part-spec =
     load-leading-requires
     add-if2
     sub-if2
-    add-t13
+    add-t14
     returns
     returns-2
     add-within

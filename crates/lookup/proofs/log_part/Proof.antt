@@ -16,10 +16,10 @@ add-if1 : tie.Need-add-if1
 add-if1 c = search needs
 
 returns : tie.Need-returns
-returns c = within-all _ _ _ (c .if1 .taken)
+returns c = within-all _ _ _ _ (c .if1 .taken)
 
 returns-2 : tie.Need-returns-2
-returns-2 c = within-no _ _ _ (c .if1 .left)
+returns-2 c = within-no _ _ _ _ (c .if1 .left)
 
 pub log-part-spec : {M : Type 1} → statement M
 log-part-spec = tie.close (tie.spec add-start mul-start add-if1 returns returns-2)

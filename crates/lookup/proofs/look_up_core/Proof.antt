@@ -13,7 +13,7 @@ enum-known-found : tie.Need-enum-known-found
 enum-known-found c = search needs
 
 add-end : tie.Need-add-end
-add-end c = omega (arith, part-inside _ _ _ _ _ _ (c .before .before .before .locate .ensures) _ _ (c .before .found .given .1))
+add-end c = omega (arith, part-inside _ _ _ _ _ _ (c .before .before .before .locate .ensures) _ _ _ (c .before .found .given .1))
 
 sub-result : tie.Need-sub-result
 sub-result c = search needs
@@ -22,7 +22,7 @@ part-result-start : tie.Need-part-result-start
 part-result-start c = search needs
 
 part-result-end : tie.Need-part-result-end
-part-result-end c = omega (arith, part-inside _ _ _ _ _ _ (c .before .before .before .locate .ensures) _ _ (c .before .found .given .1))
+part-result-end c = omega (arith, part-inside _ _ _ _ _ _ (c .before .before .before .locate .ensures) _ _ _ (c .before .found .given .1))
 
 enum-known-found-2 : tie.Need-enum-known-found-2
 enum-known-found-2 c = search needs
@@ -40,7 +40,7 @@ part-result-end-2 : tie.Need-part-result-end-2
 part-result-end-2 c = search needs
 
 returns : tie.Need-returns
-returns c = show-part _ _ _ _ _ _ (c .before .before .before .before .locate .ensures) _ _ (c .before .before .found .given .1)
+returns c = show-part _ _ _ _ _ _ (c .before .before .before .before .locate .ensures) _ _ _ (c .before .before .found .given .1)
 
 returns-2 : tie.Need-returns-2
 returns-2 c =

@@ -17,7 +17,7 @@ returns : tie.Need-returns
 returns c =
     let a = c .before .before .before .before .args in
     let w = c .before .before .first-word in
-    part-block (length (a .image .now)) (wordsOf (a .image .now)) (a .place) (w .result) (w .ensures) _ (c .before .if1 .taken) (c .block-part .ensures)
+    part-block (a .version) (length (a .image .now)) (wordsOf (a .image .now)) (a .place) (w .result) (w .ensures) _ (c .before .if1 .taken) (c .block-part .ensures)
 
 log-part-requires : tie.Need-log-part-requires
 log-part-requires c κs = search needs
@@ -26,13 +26,13 @@ returns-2 : tie.Need-returns-2
 returns-2 c =
     let a = c .before .before .before .before .before .args in
     let w = c .before .before .before .first-word in
-    part-log (length (a .image .now)) (wordsOf (a .image .now)) (a .place) (w .result) (w .ensures) _ (c .before .if2 .taken) (c .log-part .ensures)
+    part-log (a .version) (length (a .image .now)) (wordsOf (a .image .now)) (a .place) (w .result) (w .ensures) _ (c .before .if2 .taken) (c .log-part .ensures)
 
 returns-3 : tie.Need-returns-3
 returns-3 c =
     let a = c .before .before .before .before .args in
     let w = c .before .before .first-word in
-    part-none (length (a .image .now)) (wordsOf (a .image .now)) (a .place) (w .result) (w .ensures) (c .if2 .left) (c .before .if1 .left)
+    part-none (a .version) (length (a .image .now)) (wordsOf (a .image .now)) (a .place) (w .result) (w .ensures) (c .if2 .left) (c .before .if1 .left)
 
 pub part-at-spec : {M : Type 1} → statement M
 part-at-spec =

@@ -3,6 +3,7 @@
 -- that it calls (`is_short`, `stage_short`, `told`, `put_long`, `same`) is that it meets its contract.
 -- Assumes nothing.
 use Rattle.spec.specs.Machine.{Put}
+use Rattle.spec.specs.declared.Given.the-variants.{Absent}
 use Rattle.staging.specs.Staging.{PutWhere, Long, Short}
 use Rattle.answers.specs.Answers.{Told, answerOf}
 use Rattle.session.specs.Promise.{Does, memory}
@@ -113,7 +114,7 @@ abbrev Of-stage-short′ : {M : Type 1} (𝓤 : URA M) (H : Heap 𝓤) (A : Atom
 Of-stage-short′ 𝓤 H A mem run = tripleOf 𝓤 H A stage-short′.signature (stage-short′.spec 𝓤 H A mem run)
 
 abbrev Said-stage-short′ : Report → Session → Session → List ℕ → List ℕ → ℕ → List ℕ → Type 0
-Said-stage-short′ r x-s z-s x-image x-table key x-value = PutWhere Short key (x-value) (memory (x-s) (x-image) (x-table)) (memory (z-s) (x-image) (x-table)) r
+Said-stage-short′ r x-s z-s x-image x-table key x-value = PutWhere Short Absent key (x-value) (memory (x-s) (x-image) (x-table)) (memory (z-s) (x-image) (x-table)) r
 
 -- the contract of `told`, and what it ensures
 abbrev Of-told′ : {M : Type 1} (𝓤 : URA M) (H : Heap 𝓤) (A : Atoms 𝓤) (mem : Memory → SProp 𝓤) (run : Routine → Fun 𝓤) → Contract 𝓤
@@ -127,7 +128,7 @@ abbrev Of-put-long′ : {M : Type 1} (𝓤 : URA M) (H : Heap 𝓤) (A : Atoms �
 Of-put-long′ 𝓤 H A mem run = tripleOf 𝓤 H A put-long′.signature (put-long′.spec 𝓤 H A mem run)
 
 abbrev Said-put-long′ : Answer → Session → Session → List ℕ → List ℕ → ℕ → List ℕ → Type 0
-Said-put-long′ r x-s z-s x-image x-table key x-value = Told (PutWhere Long key (x-value) (memory (x-s) (x-image) (x-table)) (memory (z-s) (x-image) (x-table))) r
+Said-put-long′ r x-s z-s x-image x-table key x-value = Told (PutWhere Long Absent key (x-value) (memory (x-s) (x-image) (x-table)) (memory (z-s) (x-image) (x-table))) r
 
 -- the contract of `same`, and what it ensures
 abbrev Of-same′ : {M : Type 1} (𝓤 : URA M) (H : Heap 𝓤) (A : Atoms 𝓤) (mem : Memory → SProp 𝓤) (run : Routine → Fun 𝓤) → Contract 𝓤
@@ -208,7 +209,7 @@ module _ {M : Type 1} (𝓤 : URA M) (H : Heap 𝓤) (A : Atoms 𝓤) (W : Given
       → ent 𝓤 (⋆ 𝓤 H A (‵ (flft κ-s q-s) ∷ ‵ (flft κ-image q-image) ∷ ‵ (flft κ-table q-table) ∷ ‵ (flft κ-value q-value) ∷ ‵ (fres γ-s (T-Session.the-row .coded .code z-s)) ∷ ‵ (T-Answer.the-row .own r (w ∷ [])) ∷ [])) (Post w)
   exits-2 r-short r-answer r w z-s e-short failed e-answer e =
       qed W (‵ (flft κ-s q-s) ∷ ‵ (flft κ-image q-image) ∷ ‵ (flft κ-table q-table) ∷ ‵ (flft κ-value q-value) ∷ ‵ (fres γ-s (T-Session.the-row .coded .code z-s)) ∷ ‵ (T-Answer.the-row .own r (w ∷ [])) ∷ []) ∵
-      suffices ! _ (ends-at 𝓤 H A self.ended stayed (self.clauses 𝓤 H A at-mem run) W (((κ-s, (κ-image, (κ-table, (κ-value, tt)))), (q-s, (q-image, (q-table, (q-value, tt)))), bounds, a, vals), tt) w r (z-s, (tt, (tt, (tt, (tt, tt))))) (tt, (tt, (tt, (tt, (tt, tt)))))) $ says ! (subst (Told (Does (Put x-key x-value) (memory x-s x-image x-table) (memory z-s x-image x-table))) (sym e) (e-answer .0, (e-answer .1 .0 .within (e-short .1 (is-false r-short failed)), e-answer .1 .1))) $
+      suffices ! _ (ends-at 𝓤 H A self.ended stayed (self.clauses 𝓤 H A at-mem run) W (((κ-s, (κ-image, (κ-table, (κ-value, tt)))), (q-s, (q-image, (q-table, (q-value, tt)))), bounds, a, vals), tt) w r (z-s, (tt, (tt, (tt, (tt, tt))))) (tt, (tt, (tt, (tt, (tt, tt)))))) $ says ! (subst (Told (Does (Put Absent x-key x-value) (memory x-s x-image x-table) (memory z-s x-image x-table))) (sym e) (e-answer .0, (e-answer .1 .0 .within (e-short .1 (is-false r-short failed)), e-answer .1 .1))) $
       nothing ! $ move ! (4 ∷ 0 ∷ []) $ join ! $ move ! (3 ∷ 0 ∷ []) $ join ! $ move ! (2 ∷ 0 ∷ []) $ join ! $ move ! (1 ∷ 0 ∷ []) $ join ! $ frame ! $
       nothing ! $ nothing ! $ fjoin ! $ nothing ! $ fjoin ! $ nothing ! $ fjoin ! $ nothing ! $ fjoin ! $ move ! (1 ∷ 0 ∷ []) $ fjoin ! $ done !
 

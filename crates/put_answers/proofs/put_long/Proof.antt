@@ -2,6 +2,7 @@
 -- good to the functions that it calls, at their own lifetimes, shares and names. All that the proof knows of a function
 -- that it calls (`stage_long`, `told`) is that it meets its contract.
 -- Assumes nothing.
+use Rattle.spec.specs.declared.Given.the-variants.{Absent}
 use Rattle.staging.specs.Staging.{PutWhere, Long}
 use Rattle.answers.specs.Answers.{answerOf}
 use Rattle.session.specs.Promise.{memory}
@@ -75,7 +76,7 @@ abbrev Of-stage-long′ : {M : Type 1} (𝓤 : URA M) (H : Heap 𝓤) (A : Atoms
 Of-stage-long′ 𝓤 H A mem run = tripleOf 𝓤 H A stage-long′.signature (stage-long′.spec 𝓤 H A mem run)
 
 abbrev Said-stage-long′ : Report → Session → Session → List ℕ → List ℕ → ℕ → List ℕ → Type 0
-Said-stage-long′ r x-s z-s x-image x-table key x-value = PutWhere Long key (x-value) (memory (x-s) (x-image) (x-table)) (memory (z-s) (x-image) (x-table)) r
+Said-stage-long′ r x-s z-s x-image x-table key x-value = PutWhere Long Absent key (x-value) (memory (x-s) (x-image) (x-table)) (memory (z-s) (x-image) (x-table)) r
 
 -- the contract of `told`, and what it ensures
 abbrev Of-told′ : {M : Type 1} (𝓤 : URA M) (H : Heap 𝓤) (A : Atoms 𝓤) (mem : Memory → SProp 𝓤) (run : Routine → Fun 𝓤) → Contract 𝓤

@@ -4,7 +4,7 @@ use mathlib.Core.Path.{sym, _∙_}
 use native.Mathlib.Omega.{arith}
 use borrow.Author.Needs.{needs}
 use Rattle.staging.proofs.Shows.{at-gate}
-use Rattle.admitting.proofs.Admits.{admitted, told-room}
+use Rattle.admitting.proofs.Admits.{named-admitted, named-room}
 use Rattle.staging.proofs.Staging.{left, delete-absent, delete-refused, delete-done}
 use Rattle.staging.proofs.delete_core.Statement.{statement}
 use Rattle.staging.proofs.delete_core.Tie as tie
@@ -44,7 +44,7 @@ enum-known-a-2 c = search needs
 
 add-next : tie.Need-add-next
 add-next c =
-    let q = admitted _ _ _ _ _ _ (sym (c .before .before .before .before .admit .ensures) ∙ c .before .before .a2 .given .1) in
+    let q = named-admitted _ _ _ _ _ _ _ (sym (c .before .before .before .before .admit .ensures) ∙ c .before .before .a2 .given .1) in
     omega arith
 
 sub-none : tie.Need-sub-none
@@ -60,7 +60,7 @@ add-entry-requires : tie.Need-add-entry-requires
 add-entry-requires c κs = search needs
 
 one-more-requires : tie.Need-one-more-requires
-one-more-requires c κs = let q = admitted _ _ _ _ _ _ (sym (c .before .before .before .before .before .before .before .admit .ensures) ∙ c .before .before .before .before .before .a2 .given .1) in q .few
+one-more-requires c κs = let q = named-admitted _ _ _ _ _ _ _ (sym (c .before .before .before .before .before .before .before .admit .ensures) ∙ c .before .before .before .before .before .a2 .given .1) in q .few
 
 refused-requires-3 : tie.Need-refused-requires-3
 refused-requires-3 c κs = search needs
@@ -74,16 +74,16 @@ returns-2 c =
     let looked = asked .before .before .before in
     let told = looked .before .before .before in
     left _ _ _ _ _ _ _ _ (c .refused2 .ensures)
-    (delete-refused _ _ _ _ _ _ (told .before .before .gate .ensures) (told .enum-told .given .1) _ _ (looked .before .known-of .ensures)
-    (sym (looked .is-present .ensures) ∙ asked .before .before .if1 .taken) _ (told-room _ _ _ _ _ _ _ (asked .before .capacity .ensures) (asked .admit .ensures)) _ (c .before .before .a .given .1))
+    (delete-refused _ _ _ _ _ _ (told .before .before .gate .ensures) (told .enum-told .given .1) _ _ _ (looked .before .known-of .ensures)
+    (sym (looked .is-present .ensures) ∙ asked .before .before .if1 .taken) _ (named-room _ _ _ _ _ _ _ _ (asked .before .capacity .ensures) (asked .admit .ensures)) _ (c .before .before .a .given .1))
 
 returns-3 : tie.Need-returns-3
 returns-3 c =
     let asked = c .before .before .before .before .before .before .before .before in
     let looked = asked .before .before .before in
     let told = looked .before .before .before in
-    delete-done _ _ _ _ _ _ (told .before .before .gate .ensures) (told .enum-told .given .1) _ _ (looked .before .known-of .ensures)
-    (sym (looked .is-present .ensures) ∙ asked .before .before .if1 .taken) _ (told-room _ _ _ _ _ _ _ (asked .before .capacity .ensures) (asked .admit .ensures)) _
+    delete-done _ _ _ _ _ _ (told .before .before .gate .ensures) (told .enum-told .given .1) _ _ _ (looked .before .known-of .ensures)
+    (sym (looked .is-present .ensures) ∙ asked .before .before .if1 .taken) _ (named-room _ _ _ _ _ _ _ _ (asked .before .capacity .ensures) (asked .admit .ensures)) _
     (c .before .before .before .before .before .before .a2 .given .1) _ _ (c .before .add-entry .ensures) _ (c .one-more .ensures)
 
 returns-4 : tie.Need-returns-4
@@ -91,7 +91,7 @@ returns-4 c =
     let looked = c .before .before in
     let told = looked .before .before .before in
     left _ _ _ _ _ _ _ _ (c .refused3 .ensures)
-    (delete-absent _ _ _ _ _ _ (told .before .before .gate .ensures) (told .enum-told .given .1) _ _ (looked .before .known-of .ensures) (sym (looked .is-present .ensures) ∙ c .before .if1 .left))
+    (delete-absent _ _ _ _ _ _ (told .before .before .gate .ensures) (told .enum-told .given .1) _ _ _ (looked .before .known-of .ensures) (sym (looked .is-present .ensures) ∙ c .before .if1 .left))
 
 pub delete-core-spec : {M : Type 1} → statement M
 delete-core-spec =

@@ -4,7 +4,7 @@ use mathlib.Core.Path.{sym, _∙_}
 use native.Mathlib.Omega.{arith}
 use borrow.Author.Needs.{needs}
 use Rattle.staging.proofs.Shows.{at-gate}
-use Rattle.admitting.proofs.Admits.{admitted, told-room}
+use Rattle.admitting.proofs.Admits.{named-admitted, named-room}
 use Rattle.staging.proofs.Staging.{left, put-refused, put-done}
 use Rattle.staging.proofs.put_in_log.Statement.{statement}
 use Rattle.staging.proofs.put_in_log.Tie as tie
@@ -46,13 +46,13 @@ enum-known-a-2 : tie.Need-enum-known-a-2
 enum-known-a-2 c = search needs
 
 add-add-entry : tie.Need-add-add-entry
-add-add-entry c = let q = admitted _ _ _ _ _ _ (sym (c .before .before .before .before .admit .ensures) ∙ c .before .before .a2 .given .1) in omega arith
+add-add-entry c = let q = named-admitted _ _ _ _ _ _ _ (sym (c .before .before .before .before .admit .ensures) ∙ c .before .before .a2 .given .1) in omega arith
 
 add-entry-requires : tie.Need-add-entry-requires
 add-entry-requires c κs = search needs
 
 one-more-requires : tie.Need-one-more-requires
-one-more-requires c κs = let q = admitted _ _ _ _ _ _ (sym (c .before .before .before .before .before .admit .ensures) ∙ c .before .before .before .a2 .given .1) in q .few
+one-more-requires c κs = let q = named-admitted _ _ _ _ _ _ _ (sym (c .before .before .before .before .before .admit .ensures) ∙ c .before .before .before .a2 .given .1) in q .few
 
 returns : tie.Need-returns
 returns c = left _ _ _ _ _ _ _ _ (c .refused .ensures) (at-gate _ _ _ _ _ _ (c .before .before .before .before .gate .ensures) _ tt _ (c .before .before .g .given .1))
@@ -63,8 +63,8 @@ returns-2 c =
     let known = asked .before .before in
     let told = known .before .before in
     left _ _ _ _ _ _ _ _ (c .refused2 .ensures)
-    (put-refused _ _ _ _ _ _ (told .before .before .gate .ensures) (told .enum-told .given .1) _ _ (known .version-of .ensures) _ (c .before .before .before .before .before .before .before .before .before .before .before .before .before .before .pre) _
-    (told-room _ _ _ _ _ _ _ (asked .before .capacity .ensures) (asked .admit .ensures)) _ (c .before .before .a .given .1))
+    (put-refused _ _ _ _ _ _ (told .before .before .gate .ensures) (told .enum-told .given .1) _ _ _ (known .version-of .ensures) _ (c .before .before .before .before .before .before .before .before .before .before .before .before .before .before .pre) _
+    (named-room _ _ _ _ _ _ _ _ (asked .before .capacity .ensures) (asked .admit .ensures)) _ (c .before .before .a .given .1))
 
 returns-3 : tie.Need-returns-3
 returns-3 c =
@@ -72,8 +72,8 @@ returns-3 c =
     let known = asked .before .before in
     let told = known .before .before in
     let gated = told .before .before in
-    put-done _ _ _ _ _ _ (gated .gate .ensures) (told .enum-told .given .1) _ _ (known .version-of .ensures) _ (c .before .before .before .before .before .before .before .before .before .before .before .before .before .before .before .before .pre) _
-    (told-room _ _ _ _ _ _ _ (asked .before .capacity .ensures) (asked .admit .ensures))
+    put-done _ _ _ _ _ _ (gated .gate .ensures) (told .enum-told .given .1) _ _ _ (known .version-of .ensures) _ (c .before .before .before .before .before .before .before .before .before .before .before .before .before .before .before .before .pre) _
+    (named-room _ _ _ _ _ _ _ _ (asked .before .capacity .ensures) (asked .admit .ensures))
     (λ i. omega (arith, gated .before .shared-slice-known3 .given i)) _ (c .before .before .before .before .a2 .given .1) _ _ (c .before .add-entry .ensures) _ (c .one-more .ensures)
 
 pub put-in-log-spec : {M : Type 1} → statement M

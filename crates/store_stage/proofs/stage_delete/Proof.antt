@@ -1,9 +1,10 @@
 -- `store_stage::stage_delete` meets its contract: a walk of its MIR, made by walk_thin.py. The borrow of the record is
 -- opened and its control copied out; `buffer` is lent where it lies, for a lifetime made for the call; the other
--- references are given to `delete_core` for good; what it returns is taken apart, the control stored back, and the
--- borrow closed. All that the proof knows of `delete_core` is that it meets its contract.
+-- references are given to `delete_any` for good; what it returns is taken apart, the control stored back, and the
+-- borrow closed. All that the proof knows of `delete_any` is that it meets its contract.
 -- Assumes nothing.
 use Rattle.spec.specs.Machine.{Delete}
+use Rattle.spec.specs.declared.Given.the-variants.{Absent}
 use Rattle.session.specs.Promise.{Does, memoryOf}
 use mathlib.Core.Path.{_≡_}
 use mathlib.Core.Bool.{true, false}
@@ -71,10 +72,10 @@ use Rattle.lent_record.proofs.Lent as Lent
 use Rattle.session.specs.declared.Setup.{Setup}
 use Rattle.session.proofs.Setup as K-Setup
 use Rattle.session.proofs.Setup.Laws as K-Setup′
-use Rattle.staging.proofs.delete_core as core
-use Rattle.staging.proofs.delete_core.Symbol as core-def
-use Rattle.staging.proofs.delete_core.Symbol.{name as #core}
-use Rattle.staging.proofs.delete_core.Met as core-thm
+use Rattle.staging.proofs.delete_any as core
+use Rattle.staging.proofs.delete_any.Symbol as core-def
+use Rattle.staging.proofs.delete_any.Symbol.{name as #core}
+use Rattle.staging.proofs.delete_any.Met as core-thm
 use Rattle.store_stage.proofs.stage_delete.Key.{name as #step}
 use Rattle.store_stage.proofs.stage_delete as step
 use Rattle.store_stage.proofs.stage_delete.Statement as stated
@@ -89,7 +90,7 @@ Core 𝓤 H A mem run = tripleOf 𝓤 H A core.signature (core.spec 𝓤 H A mem
 
 -- what it ensures
 abbrev Said : Stepped → Control → Setup → List ℕ → List ℕ → List ℕ → List ℕ → ℕ → Type 0
-Said r control setup x-buffer z-buffer x-image x-table key = Does (Delete key) (memoryOf control setup (x-buffer) (x-image) (x-table)) (memoryOf (r .control) setup (z-buffer) (x-image) (x-table)) (r .report)
+Said r control setup x-buffer z-buffer x-image x-table key = Does (Delete Absent key) (memoryOf control setup (x-buffer) (x-image) (x-table)) (memoryOf (r .control) setup (z-buffer) (x-image) (x-table)) (r .report)
 
 -- machine values
 abbrev mach : Session → Val
@@ -207,4 +208,4 @@ stage-delete-spec 𝓤 H 𝓜 𝓖 𝓡 =
     entered 𝓤 H (tripleOf 𝓤 H (𝓖 .A) step.signature (step.spec 𝓤 H (𝓖 .A) (𝓜 .mem) (𝓡 .run)))
     (tables 𝓤 H 𝓜 𝓡 code.env .C) (tables 𝓤 H 𝓜 𝓡 code.env .Λ) #step code.function (code.unfolded 𝓤 H 𝓜 𝓡)
     (step-meets 𝓤 H (𝓖 .A) (givenOf 𝓤 H 𝓜 𝓖) (𝓜 .mem) (𝓡 .run) (tablesOf 𝓤 H 𝓜 (tables 𝓤 H 𝓜 𝓡 code.env))
-    (cited 𝓤 H (Core 𝓤 H (𝓖 .A) (𝓜 .mem) (𝓡 .run)) 𝓜 𝓡 code.env #core core-def.routine code.calls-staging·delete-core (core-thm.met 𝓤 H 𝓜 𝓖 𝓡)))
+    (cited 𝓤 H (Core 𝓤 H (𝓖 .A) (𝓜 .mem) (𝓡 .run)) 𝓜 𝓡 code.env #core core-def.routine code.calls-staging·delete-any (core-thm.met 𝓤 H 𝓜 𝓖 𝓡)))

@@ -3,6 +3,7 @@
 -- references are given to `put_long` for good; what it returns is taken apart, the control stored back, and the borrow
 -- closed. All that the proof knows of `put_long` is that it meets its contract.
 -- Assumes nothing.
+use Rattle.spec.specs.declared.Given.the-variants.{Absent}
 use Rattle.staging.specs.Staging.{PutWhere, Long}
 use Rattle.session.specs.Promise.{memoryOf}
 use mathlib.Core.Path.{_≡_}
@@ -89,7 +90,7 @@ Core 𝓤 H A mem run = tripleOf 𝓤 H A core.signature (core.spec 𝓤 H A mem
 
 -- what it ensures
 abbrev Said : Outcome → Control → Setup → List ℕ → List ℕ → List ℕ → List ℕ → ℕ → List ℕ → Type 0
-Said r control setup x-buffer z-buffer x-image x-table key x-value = PutWhere Long key (x-value) (memoryOf control setup (x-buffer) (x-image) (x-table)) (memoryOf (r .control) (r .setup) (z-buffer) (x-image) (x-table)) (r .report)
+Said r control setup x-buffer z-buffer x-image x-table key x-value = PutWhere Long Absent key (x-value) (memoryOf control setup (x-buffer) (x-image) (x-table)) (memoryOf (r .control) (r .setup) (z-buffer) (x-image) (x-table)) (r .report)
 
 -- machine values
 abbrev mach : Session → Val

@@ -1,9 +1,10 @@
 -- `store_stage::stage_put` meets its contract: a walk of its MIR, made by walk_thin.py. The borrow of the record is
 -- opened and its control copied out; `buffer` is lent where it lies, for a lifetime made for the call; the other
--- references are given to `put_core` for good; what it returns is taken apart, the control stored back, and the borrow
--- closed. All that the proof knows of `put_core` is that it meets its contract.
+-- references are given to `put_any` for good; what it returns is taken apart, the control stored back, and the borrow
+-- closed. All that the proof knows of `put_any` is that it meets its contract.
 -- Assumes nothing.
 use Rattle.spec.specs.Machine.{Put}
+use Rattle.spec.specs.declared.Given.the-variants.{Absent}
 use Rattle.session.specs.Promise.{Does, memoryOf}
 use mathlib.Core.Path.{_≡_}
 use mathlib.Core.Bool.{true, false}
@@ -71,10 +72,10 @@ use Rattle.lent_record.proofs.Lent as Lent
 use Rattle.session.specs.declared.Setup.{Setup}
 use Rattle.session.proofs.Setup as K-Setup
 use Rattle.session.proofs.Setup.Laws as K-Setup′
-use Rattle.staging.proofs.put_core as core
-use Rattle.staging.proofs.put_core.Symbol as core-def
-use Rattle.staging.proofs.put_core.Symbol.{name as #core}
-use Rattle.staging.proofs.put_core.Met as core-thm
+use Rattle.staging.proofs.put_any as core
+use Rattle.staging.proofs.put_any.Symbol as core-def
+use Rattle.staging.proofs.put_any.Symbol.{name as #core}
+use Rattle.staging.proofs.put_any.Met as core-thm
 use Rattle.store_stage.proofs.stage_put.Key.{name as #step}
 use Rattle.store_stage.proofs.stage_put as step
 use Rattle.store_stage.proofs.stage_put.Statement as stated
@@ -89,7 +90,7 @@ Core 𝓤 H A mem run = tripleOf 𝓤 H A core.signature (core.spec 𝓤 H A mem
 
 -- what it ensures
 abbrev Said : Outcome → Control → Setup → List ℕ → List ℕ → List ℕ → List ℕ → ℕ → List ℕ → Type 0
-Said r control setup x-buffer z-buffer x-image x-table key x-value = Does (Put key (x-value)) (memoryOf control setup (x-buffer) (x-image) (x-table)) (memoryOf (r .control) (r .setup) (z-buffer) (x-image) (x-table)) (r .report)
+Said r control setup x-buffer z-buffer x-image x-table key x-value = Does (Put Absent key (x-value)) (memoryOf control setup (x-buffer) (x-image) (x-table)) (memoryOf (r .control) (r .setup) (z-buffer) (x-image) (x-table)) (r .report)
 
 -- machine values
 abbrev mach : Session → Val
@@ -214,4 +215,4 @@ stage-put-spec 𝓤 H 𝓜 𝓖 𝓡 =
     entered 𝓤 H (tripleOf 𝓤 H (𝓖 .A) step.signature (step.spec 𝓤 H (𝓖 .A) (𝓜 .mem) (𝓡 .run)))
     (tables 𝓤 H 𝓜 𝓡 code.env .C) (tables 𝓤 H 𝓜 𝓡 code.env .Λ) #step code.function (code.unfolded 𝓤 H 𝓜 𝓡)
     (step-meets 𝓤 H (𝓖 .A) (givenOf 𝓤 H 𝓜 𝓖) (𝓜 .mem) (𝓡 .run) (tablesOf 𝓤 H 𝓜 (tables 𝓤 H 𝓜 𝓡 code.env))
-    (cited 𝓤 H (Core 𝓤 H (𝓖 .A) (𝓜 .mem) (𝓡 .run)) 𝓜 𝓡 code.env #core core-def.routine code.calls-staging·put-core (core-thm.met 𝓤 H 𝓜 𝓖 𝓡)))
+    (cited 𝓤 H (Core 𝓤 H (𝓖 .A) (𝓜 .mem) (𝓡 .run)) 𝓜 𝓡 code.env #core core-def.routine code.calls-staging·put-any (core-thm.met 𝓤 H 𝓜 𝓖 𝓡)))

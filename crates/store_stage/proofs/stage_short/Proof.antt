@@ -3,6 +3,7 @@
 -- references are given to `put_short` for good; what it returns is taken apart, the control stored back, and the borrow
 -- closed. All that the proof knows of `put_short` is that it meets its contract.
 -- Assumes nothing.
+use Rattle.spec.specs.declared.Given.the-variants.{Absent}
 use Rattle.staging.specs.Staging.{PutWhere, Short}
 use Rattle.session.specs.Promise.{memoryOf}
 use mathlib.Core.Path.{_≡_}
@@ -89,7 +90,7 @@ Core 𝓤 H A mem run = tripleOf 𝓤 H A core.signature (core.spec 𝓤 H A mem
 
 -- what it ensures
 abbrev Said : Stepped → Control → Setup → List ℕ → List ℕ → List ℕ → List ℕ → ℕ → List ℕ → Type 0
-Said r control setup x-buffer z-buffer x-image x-table key x-value = PutWhere Short key (x-value) (memoryOf control setup (x-buffer) (x-image) (x-table)) (memoryOf (r .control) setup (z-buffer) (x-image) (x-table)) (r .report)
+Said r control setup x-buffer z-buffer x-image x-table key x-value = PutWhere Short Absent key (x-value) (memoryOf control setup (x-buffer) (x-image) (x-table)) (memoryOf (r .control) setup (z-buffer) (x-image) (x-table)) (r .report)
 
 -- machine values
 abbrev mach : Session → Val

@@ -1,0 +1,141 @@
+-- A version in hand: what look-up hands out is the version that a staging must name, and of two windows that name the
+-- same version one is served: the item of the first has the version behind it, and the second gets 17, or 9 or 11
+-- before it.
+-- Assumes nothing.
+use mathlib.Core.Path.{_≡_, refl, sym, _∙_, ap}
+use mathlib.Core.Logic.{_⊎_, inl, inr}
+use mathlib.Core.Bool.{Bool, true, false}
+use mathlib.Core.Option.{Option, none, some}
+use mathlib.Core.List.{List, [], _∷_, _++_, append-assoc}
+use Prim.Native.Nat.{ℕ, suc, _+_, _*_, _<_}
+use native.Mathlib.Omega.{arith}
+use lib.Dec.{eqb, leb}
+use lib.ListN.{length, getD}
+use borrow.Author.Tests.{eqb-true, eq-eqb, ne-eqb, le-leb, lt-leb}
+use Rattle.spec.specs.Basics.{pick, larger}
+use Rattle.spec.specs.Words.{packed}
+use Rattle.spec.specs.Places.{unitWord}
+use Rattle.spec.specs.Medium.{Action}
+use Rattle.spec.specs.Log.{Entry, maxInLog}
+use Rattle.spec.specs.Blocks.{blockSize, pointed}
+use Rattle.spec.specs.Contents.{highest, chosen}
+use Rattle.spec.specs.Plans.{Task, Plan, Refuse, Begin, Slot, InData, InFree, Nowhere, Staging, need, nextVersion, present, fitsVersion, fitsBatch, fitsKeys, maxPutVersion, maxVersion, entry, slotFor, stageLarge, stagePut, putWords, planPut, planDelete, partOr, lookUp}
+use Rattle.spec.specs.declared.Given.the-variants as G
+use Rattle.spec.specs.declared.Refusal.{Refusal}
+use Rattle.spec.specs.declared.Refusal.the-variants as N
+use Rattle.spec.specs.declared.Report.the-variants as R
+use Rattle.theory_log.proofs.Contents.{versionOf, chosen-best, highest-best, highest-append}
+
+-- ## What look-up hands out
+
+pub looked-version : (ws : List ℕ) (es : List Entry) (k a n v : ℕ) → lookUp ws es k ≡ R.Part a n v → highest k es ≡ v
+unfolding lookUp
+looked-version ws es k a n v h = by (chosen k es) refl h
+  where
+    by : (o : Option Entry) → chosen k es ≡ o → partOr ws o ≡ R.Part a n v → highest k es ≡ v
+    by none q g = absurd (let z : _≡_ {A = ℕ} 0 1 = cc in omega arith)
+    by (some e) q g = sym (highest-best k es) ∙ ap versionOf (sym (chosen-best k es) ∙ q) ∙ go (eqb (e .op) 1) (pointed e) g
+      where
+        go : (b1 b2 : Bool) → pick b1 (pick b2 (R.Part (8 * (unitWord (e .field) + 1)) (getD ws (unitWord (e .field)) 0) (e .version)) (R.Part (8 * (e .at + 2)) (e .field) (e .version))) (R.Refused N.KeyAbsent) ≡ R.Part a n v
+            → e .version ≡ v
+        go true true r = cc
+        go true false r = cc
+        go false b2 r = absurd (let z : _≡_ {A = ℕ} 0 1 = cc in omega arith)
+
+-- ## One item more
+
+-- a plan that begins has met its first test
+met : (a : Bool) (x : Refusal) (q : Plan) (items : List Entry) (task : Task) (acts : List Action) → need a x q ≡ Begin items task acts → (a ≡ true) × (q ≡ Begin items task acts)
+met true x q items task acts h = (refl, h)
+met false x q items task acts h = absurd (let o : _≡_ {A = ℕ} 0 1 = cc in omega arith)
+
+-- an item that counts on is its key's highest
+counts-on : (k : ℕ) (es items : List Entry) (e : Entry) → e .key ≡ k → e .version ≡ suc (highest k (es ++ items)) → highest k (es ++ (items ++ (e ∷ []))) ≡ suc (highest k (es ++ items))
+counts-on k es items e of-key next =
+    ap (highest k) (sym (append-assoc es items (e ∷ [])))
+    ∙ highest-append k (es ++ items) (e ∷ [])
+    ∙ ap (λ (b : Bool). larger (highest k (es ++ items)) (pick b (larger (e .version) 0) 0)) (eq-eqb (e .key) k of-key)
+    ∙ last (highest k (es ++ items)) (e .version) (omega arith)
+    ∙ next
+  where
+    last : (h w : ℕ) → h < w → larger h (larger w 0) ≡ w
+    last h w l = rw (lt-leb w 0 (omega arith), le-leb h w (omega arith))
+
+-- the items of a plan that begins are one more: of the key, with the next version
+More : (k : ℕ) (es items items′ : List Entry) → Type 0
+More k es items items′ = highest k (es ++ items′) ≡ suc (highest k (es ++ items))
+
+one-more : (k : ℕ) (es items items₁ items′ : List Entry) (task task₁ : Task) (acts acts₁ : List Action) (e : Entry) → items₁ ≡ items ++ (e ∷ []) → e .key ≡ k → e .version ≡ suc (highest k (es ++ items))
+    → Begin items₁ task₁ acts₁ ≡ Begin items′ task acts → More k es items items′
+unfolding More
+one-more k es items items₁ items′ task task₁ acts acts₁ e is of-key next h =
+    let q : items₁ ≡ items′ = cc in
+    ap (λ (l : List Entry). highest k (es ++ l)) (sym q ∙ is) ∙ counts-on k es items e of-key next
+
+staged-more : (p n : ℕ) (ws : List ℕ) (k : ℕ) (es items items′ : List Entry) (task : Task) (acts : List Action) (bytes : List ℕ)
+    → stagePut p n ws es items (nextVersion k es items) k bytes ≡ Begin items′ task acts → More k es items items′
+staged-more p n ws k es items items′ task acts bytes h = go (leb (length bytes) maxInLog) (slotFor p n ws es items (blockSize p (length bytes))) h
+  where
+    go : (b : Bool) (q : Slot) → pick b (Begin (items ++ (entry 1 0 (nextVersion k es items) (length bytes) k (packed bytes) ∷ [])) Staging []) (stageLarge p ws items (nextVersion k es items) k bytes q) ≡ Begin items′ task acts
+        → More k es items items′
+    go true q g = one-more k es items _ items′ task _ acts _ (entry 1 0 (nextVersion k es items) (length bytes) k (packed bytes)) refl refl refl g
+    go false (InData u) g = one-more k es items _ items′ task _ acts _ (entry 1 1 (nextVersion k es items) u k []) refl refl refl g
+    go false (InFree c) g = one-more k es items _ items′ task _ acts _ _ refl refl refl g
+    go false Nowhere g = absurd (let o : _≡_ {A = ℕ} 0 1 = cc in omega arith)
+
+-- ## For a version named
+
+-- an accepted staging leaves the version behind the one that it named
+pub put-named : (p limit n : ℕ) (ws : List ℕ) (table : ℕ) (es items items′ : List Entry) (task : Task) (acts : List Action) (v k : ℕ) (bytes : List ℕ)
+    → planPut p limit n ws table es items (G.Number v) k bytes ≡ Begin items′ task acts → highest k (es ++ items′) ≡ v + 1
+unfolding planPut More
+put-named p limit n ws table es items items′ task acts v k bytes h =
+    let a = met (leb (length bytes) limit) N.TooLong _ items′ task acts h in
+    let b = met (fitsVersion (G.Number v) k es items) N.OtherVersion _ items′ task acts (a .1) in
+    let c = met (leb (nextVersion k es items) maxPutVersion) N.VersionSpent _ items′ task acts (b .1) in
+    let d = met (fitsBatch items (putWords (length bytes))) N.BatchFull _ items′ task acts (c .1) in
+    let e = met (fitsKeys table es items k) N.TableFull _ items′ task acts (d .1) in
+    let q : v ≡ highest k (es ++ items) = eqb-true v (highest k (es ++ items)) (b .0) in
+    let m = staged-more p n ws k es items items′ task acts bytes (e .1) in
+    m ∙ omega arith
+
+pub delete-named : (table : ℕ) (es items items′ : List Entry) (task : Task) (acts : List Action) (v k : ℕ)
+    → planDelete table es items (G.Number v) k ≡ Begin items′ task acts → highest k (es ++ items′) ≡ v + 1
+unfolding planDelete More
+delete-named table es items items′ task acts v k h =
+    let a = met (present k es items) N.KeyAbsent _ items′ task acts h in
+    let b = met (fitsVersion (G.Number v) k es items) N.OtherVersion _ items′ task acts (a .1) in
+    let c = met (leb (nextVersion k es items) maxVersion) N.VersionSpent _ items′ task acts (b .1) in
+    let d = met (fitsBatch items 2) N.BatchFull _ items′ task acts (c .1) in
+    let e = met (fitsKeys table es items k) N.TableFull _ items′ task acts (d .1) in
+    let q : v ≡ highest k (es ++ items) = eqb-true v (highest k (es ++ items)) (b .0) in
+    let m = one-more k es items _ items′ task _ acts _ (entry 2 0 (nextVersion k es items) 0 k []) refl refl refl (e .1) in
+    m ∙ omega arith
+
+-- and one that names another version than the highest is refused
+refused-either : (a b : Bool) (x y : Refusal) (q : Plan) → b ≡ false → (need a x (need b y q) ≡ Refuse x) ⊎ (need a x (need b y q) ≡ Refuse y)
+refused-either true true x y q h = absurd (let o : _≡_ {A = ℕ} 0 1 = cc in omega arith)
+refused-either true false x y q h = inr refl
+refused-either false b x y q h = inl refl
+
+module _ (es items : List Entry) (v k : ℕ) (other : highest k (es ++ items) ≡ v → ⊥) where
+  unlike : fitsVersion (G.Number v) k es items ≡ false
+  unlike = ne-eqb v (highest k (es ++ items)) (λ q. other (sym q))
+
+  pub put-other : (p limit n : ℕ) (ws : List ℕ) (table : ℕ) (bytes : List ℕ)
+      → (planPut p limit n ws table es items (G.Number v) k bytes ≡ Refuse N.TooLong) ⊎ (planPut p limit n ws table es items (G.Number v) k bytes ≡ Refuse N.OtherVersion)
+  unfolding planPut
+  put-other p limit n ws table bytes = refused-either (leb (length bytes) limit) (fitsVersion (G.Number v) k es items) N.TooLong N.OtherVersion _ unlike
+
+  pub delete-other : (table : ℕ) → (planDelete table es items (G.Number v) k ≡ Refuse N.KeyAbsent) ⊎ (planDelete table es items (G.Number v) k ≡ Refuse N.OtherVersion)
+  unfolding planDelete
+  delete-other table = refused-either (present k es items) (fitsVersion (G.Number v) k es items) N.KeyAbsent N.OtherVersion _ unlike
+
+-- TWO WINDOWS that name the same version: behind an accepted put or delete of the first the second gets 17, or 9 or 11
+pub second-put : (p limit n : ℕ) (ws : List ℕ) (table : ℕ) (es items : List Entry) (v k : ℕ) (bytes : List ℕ) → highest k (es ++ items) ≡ v + 1
+    → (planPut p limit n ws table es items (G.Number v) k bytes ≡ Refuse N.TooLong) ⊎ (planPut p limit n ws table es items (G.Number v) k bytes ≡ Refuse N.OtherVersion)
+second-put p limit n ws table es items v k bytes h = put-other es items v k (λ q. omega arith) p limit n ws table bytes
+
+pub second-delete : (table : ℕ) (es items : List Entry) (v k : ℕ) → highest k (es ++ items) ≡ v + 1
+    → (planDelete table es items (G.Number v) k ≡ Refuse N.KeyAbsent) ⊎ (planDelete table es items (G.Number v) k ≡ Refuse N.OtherVersion)
+second-delete table es items v k h = delete-other es items v k (λ q. omega arith) table
