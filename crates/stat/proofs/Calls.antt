@@ -134,7 +134,7 @@ module _ (b t : ℕ) (items : List Entry) (j : ℕ) (c : Action) (rest : List Ac
         go none true q = as-before (subst (Ended Abandon) q (d .outcome) .1 .0)
         go none false q = absurd (let ended = subst (Ended Abandon) q (d .outcome) .0 in let now : stepsLeft left ≡ 0 = ap stepsLeft (sym e) ∙ ended in omega arith)
     call-counts (LookUp k) d h =
-        elim (d .anyway) [ inl q ↦ as-before (subst (Ended (LookUp k)) (q .1) (d .outcome) .1 .0) | inr q ↦ as-before (subst (Ended (LookUp k)) (q .1 .1 .0) (d .outcome) .0) ]
+        elim (d .anyway) [ inl q ↦ as-before (subst (Ended (LookUp k)) (q .1) (d .outcome) .1 .0) | inr q ↦ as-before (subst (Ended (LookUp k)) (q .1 .1 .1 .0) (d .outcome) .0) ]
     call-counts Choose d h =
         elim (d .anyway) [ inl q ↦ as-before (subst (Ended Choose) (q .1) (d .outcome) .1 .0) | inr q ↦ as-before (subst (Ended Choose) (q .1 .0) (d .outcome) .0) ]
     call-counts (Clean x) d h =

@@ -109,7 +109,7 @@ module _ (p : ℕ) (lo : 12 ≤ p) (hi : p ≤ 16) (limit : ℕ) (fits : limit �
 
         -- exact on memory as our calls left it
         usual : (q : E.Usual p limit laws Proper stateOf Fits bytes k)
-            → ((σ : State) → σ ≡ stateOf s → Holds p bytes (w .least) (w .unfinished) b σ (w .medium) → RoomOf Φ σ (w .medium) → After p lo hi limit fits bytes Φ (w .least) (w .unfinished) b (w .medium) x k σ)
+            → ((σ : State) → σ ≡ stateOf s → Holds p bytes (w .least) (w .unfinished) b σ (w .medium) → RoomOf Φ σ (w .medium) → After p lo hi limit fits bytes Φ (w .least) (w .unfinished) b (w .medium) k σ)
             → RoomInv Φ (afterCall k w s′ image′ table′ r)
         usual q after =
             let y = q .ready s (wordsOf (w .image)) table (held .0) in
@@ -209,7 +209,7 @@ module _ (p : ℕ) (lo : 12 ≤ p) (hi : p ≤ 16) (limit : ℕ) (fits : limit �
         (λ σ q. abandon-after p lo hi limit fits bytes Φ (w .least) (w .unfinished) (i .book) (w .medium) σ))
     call-keeps Φ (LookUp k) w i s s′ image′ table table′ r l c small e o =
         (usual Φ w i s s′ image′ table table′ r (LookUp k) l c (record { ready = λ s ws t f. f; again = λ s ws t r f. f; least = λ t a. refl; kept = λ least u b m. K.look-kept p limit laws bytes least u b m k })
-        (λ σ q. look-after p lo hi limit fits bytes Φ (w .least) (w .unfinished) (i .book) (w .medium) x k σ))
+        (λ σ q. look-after p lo hi limit fits bytes Φ (w .least) (w .unfinished) (i .book) (w .medium) k σ))
     call-keeps Φ Choose w i s s′ image′ table table′ r l c small e o =
         (usual Φ w i s s′ image′ table table′ r Choose l c (record { ready = λ s ws t f. f; again = λ s ws t r f. f; least = λ t a. refl; kept = K.choose-kept p limit laws bytes })
         (λ σ q. choose-after p lo hi limit fits bytes Φ (w .least) (w .unfinished) (i .book) (w .medium) σ))
