@@ -335,16 +335,8 @@ pub fn put_at(
 ) -> Outcome
     ensures { λ r. ⌜ Does (Put (Number version) key (now (value .entry))) (memoryOf control setup (now (buffer .entry)) (now (image .entry)) (now (table .entry))) (memoryOf (r .control) (r .setup) (now (buffer .exit)) (now (image .entry)) (now (table .entry))) (r .report) ⌝ }
 {
-    put_core(
-        control,
-        setup,
-        buffer,
-        image,
-        table,
-        key,
-        value,
-        Given::Number(version),
-    )
+    let named = Given::Number(version);
+    put_core(control, setup, buffer, image, table, key, value, named)
 }
 
 // Stages a delete: 11, 17, 12, 10, 7.
@@ -416,13 +408,6 @@ pub fn delete_at(
 ) -> Stepped
     ensures { λ r. ⌜ Does (Delete (Number version) key) (memoryOf control setup (now (buffer .entry)) (now (image .entry)) (now (table .entry))) (memoryOf (r .control) setup (now (buffer .exit)) (now (image .entry)) (now (table .entry))) (r .report) ⌝ }
 {
-    delete_core(
-        control,
-        setup,
-        buffer,
-        image,
-        table,
-        key,
-        Given::Number(version),
-    )
+    let wanted = Given::Number(version);
+    delete_core(control, setup, buffer, image, table, key, wanted)
 }
