@@ -27,6 +27,7 @@ enum {
     IMAGE_MAX = (ZKV_CHUNKS_MAX + 1) * ZKV_CHUNK_BYTES,
     TABLE_MAX = 8192,
     VALUE_MAX = 8192,
+    VERSION_MAX = 1048575,
     KEYS_ROOM = 40,
     CHUNK_WORDS = 512,
     BUFFER = 21,              /* word of the record at which its buffer starts */
@@ -522,6 +523,9 @@ static void look_up_call(void)
     if (number == 0) {
         if (*s > image.bytes || *l > image.bytes - *s) {
             fault("a part outside the image");
+        }
+        if (with_version && v > VERSION_MAX) {
+            fault("a version that no entry has");
         }
     } else if (*s != 0 || *l != 0 || (with_version && v != 0)) {
         fault("a refusal with a part that is not empty, or with a version");
