@@ -24,10 +24,11 @@ pub enum Refusal {
     NothingStaged = 14,
     BatchStaged = 15,
     NotCleanable = 16,
+    OtherVersion = 17,
 }
 
 impl Refusal {
-    const ALL: [Refusal; 16] = [
+    const ALL: [Refusal; 17] = [
         Refusal::ImageLength,
         Refusal::NotOpen,
         Refusal::DirectoryWrong,
@@ -44,9 +45,10 @@ impl Refusal {
         Refusal::NothingStaged,
         Refusal::BatchStaged,
         Refusal::NotCleanable,
+        Refusal::OtherVersion,
     ];
 
-    /// The refusal of a number, 1 to 16.
+    /// The refusal of a number, 1 to 17.
     pub fn of_number(number: u64) -> Option<Refusal> {
         Refusal::ALL.into_iter().find(|r| r.number() == number)
     }

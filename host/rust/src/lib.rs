@@ -11,6 +11,28 @@
 //! # Ok(()) }
 //! ```
 //!
+//! Each put or delete of a key has a version, one above the key's highest. To change a value that others may change
+//! too: look it up with its version, change it, put it for that version, and start again if another came first.
+//!
+//! ```no_run
+//! use zitskvoze::{Error, Refusal, Register};
+//! # fn main() -> Result<(), Error> {
+//! # let mut labels = Register::open("labels.img")?;
+//! loop {
+//!     let Some((mut label, version)) = labels.get_with_version(4711)? else { break };
+//!     // others may write here: another thread that shares the register, or another program while it is closed
+//!     label.extend_from_slice(b", tested");
+//!     match labels.put_at(4711, &label, version) {
+//!         Err(Error::Refused(Refusal::OtherVersion)) => continue,
+//!         done => break done?,
+//!     }
+//! }
+//! # Ok(()) }
+//! ```
+//!
+//! An absent key has version 0; but a deleted one that still has an entry has its delete's version, the highest in
+//! [`Register::history`], until a cleaning drops its entries.
+//!
 //! It stands on the C archive: the proved calls of zitskvoze.h, and the file, in plain C, of zitskvoze_file.h. This crate
 //! itself is not proved. A register is one writer's: the file is locked while it is open. No reference into the file is
 //! handed out: values are copied.
@@ -32,11 +54,26 @@ pub const VALUE_MAX: usize = 4088;
 /// How many puts and deletes a batch may have.
 pub const BATCH_ITEMS: usize = 16;
 
+/// A version that no key has.
+const NO_VERSION: u64 = u64::MAX;
+
 /// One item of a batch.
 #[derive(Clone, Copy, Debug)]
 pub enum Change<'a> {
     Put(u64, &'a [u8]),
     Delete(u64),
+    /// Key, value, and the version that the key must have; each earlier item of the key in the batch adds one to it.
+    PutAt(u64, &'a [u8], u64),
+    /// Key, and the version that it must have.
+    DeleteAt(u64, u64),
+}
+
+impl Change<'_> {
+    fn key(&self) -> u64 {
+        match *self {
+            Change::Put(key, _) | Change::Delete(key) | Change::PutAt(key, ..) | Change::DeleteAt(key, _) => key,
+        }
+    }
 }
 
 /// How a register is opened.
@@ -195,8 +232,28 @@ impl Register {
         let (at, bytes, words) = self.lent();
         let (mut start, mut length) = (0, 0);
         // Safety: as above; the two numbers are this frame's.
-        match unsafe { sys::zkv_look_up(&*self.record, at, bytes, self.table.as_ptr(), words, key, &mut start, &mut length) } {
-            0 => Ok(Some(self.file.copy(start, length)?)),
+        let number = unsafe {
+            sys::zkv_look_up(&*self.record, at, bytes, self.table.as_ptr(), words, key, &mut start, &mut length)
+        };
+        self.found(number, start, length)
+    }
+
+    /// The bytes of a key and their version, by one look-up, or None where it is absent.
+    pub fn get_with_version(&self, key: u64) -> Result<Option<(Vec<u8>, u64)>, Error> {
+        let (at, bytes, words) = self.lent();
+        let (mut start, mut length, mut version) = (0, 0, 0);
+        // Safety: as above; the three numbers are this frame's.
+        let number = unsafe {
+            sys::zkv_look_up_version(&*self.record, at, bytes, self.table.as_ptr(), words, key,
+                &mut start, &mut length, &mut version)
+        };
+        Ok(self.found(number, start, length)?.map(|value| (value, version)))
+    }
+
+    /// What a look-up found that answered this number and this part of the image.
+    fn found(&self, number: u64, start: u64, length: u64) -> Result<Option<Vec<u8>>, Error> {
+        match number {
+            0 => self.file.copy(start, length).map(Some),
             number if number == Refusal::KeyAbsent.number() => Ok(None),
             number => Err(refused(number)),
         }
@@ -207,16 +264,35 @@ impl Register {
         self.batch(&[Change::Put(key, value)])
     }
 
+    /// The same, but only if the key has this version, as [`Register::get_with_version`] answered it; else it is
+    /// refused with [`Refusal::OtherVersion`], and nothing is changed. 0 is the version of a key without any entry; a
+    /// deleted key that still has one has its delete's version. The new value has the next version; or 1, if the key
+    /// was deleted and chunks were cleaned for space, which dropped its entries.
+    pub fn put_at(&mut self, key: u64, value: &[u8], version: u64) -> Result<(), Error> {
+        self.batch(&[Change::PutAt(key, value, version)])
+    }
+
     /// Makes a key absent; answers whether it was present.
     pub fn delete(&mut self, key: u64) -> Result<bool, Error> {
-        match self.batch(&[Change::Delete(key)]) {
+        self.delete_by(Change::Delete(key))
+    }
+
+    /// The same, but only if the key has this version; else it is refused with [`Refusal::OtherVersion`], and nothing
+    /// is changed. For an absent key it answers `Ok(false)`, as `delete` does, whatever the version.
+    pub fn delete_at(&mut self, key: u64, version: u64) -> Result<bool, Error> {
+        self.delete_by(Change::DeleteAt(key, version))
+    }
+
+    fn delete_by(&mut self, change: Change<'_>) -> Result<bool, Error> {
+        match self.batch(&[change]) {
             Err(Error::Refused(Refusal::KeyAbsent)) => Ok(false),
             other => other.map(|()| true),
         }
     }
 
     /// Makes up to 16 changes (4,096 bytes of entries: 16 and the value for each) in their order, all or none of them,
-    /// also where the power is cut. They last when this returns. Where no space is left, chunks are cleaned.
+    /// also where the power is cut. They last when this returns. Where no space is left, chunks are cleaned. The
+    /// versions that they name are compared with those before any such cleaning, earlier items of the batch counted.
     pub fn batch(&mut self, changes: &[Change<'_>]) -> Result<(), Error> {
         if self.access == Access::Read {
             return Err(Error::ReadOnly);
@@ -224,13 +300,37 @@ impl Register {
         if changes.is_empty() {
             return Ok(());
         }
-        let mut freed = 0;
-        while let Err(error) = self.commit(changes) {
-            if error != Error::Refused(Refusal::NoSpace) || self.clean_one(&mut freed)?.is_none() {
-                return Err(error);
+        let full = Err(Refusal::NoSpace.into());
+        let mut done = self.commit(changes);
+        if done == full {
+            let changes = self.with_versions_compared(changes); // before the first cleaning
+            let mut freed = 0;
+            while done == full && self.clean_one(&mut freed)?.is_some() {
+                done = self.commit(&changes);
             }
         }
+        done?;
         self.file.confirm()
+    }
+
+    /// The same changes, to be tried again after a cleaning. A cleaning may drop the entries of a deleted key, whose
+    /// version is then 0 although nobody changed it: so an item with the right version no longer names any, and one
+    /// with a wrong version names one that no cleaning makes right.
+    fn with_versions_compared<'a>(&self, changes: &[Change<'a>]) -> Vec<Change<'a>> {
+        let is_right = |item: usize, version: u64| {
+            let key = changes[item].key();
+            let committed = self.history(key).iter().map(|entry| entry.version).max().unwrap_or(0);
+            let staged = changes[..item].iter().filter(|change| change.key() == key).count() as u64;
+            version == committed + staged
+        };
+        let compared = |(item, change): (usize, &Change<'a>)| match *change {
+            Change::PutAt(key, value, version) if is_right(item, version) => Change::Put(key, value),
+            Change::PutAt(key, value, _) => Change::PutAt(key, value, NO_VERSION),
+            Change::DeleteAt(key, version) if is_right(item, version) => Change::Delete(key),
+            Change::DeleteAt(key, _) => Change::DeleteAt(key, NO_VERSION),
+            unnamed => unnamed,
+        };
+        changes.iter().enumerate().map(compared).collect()
     }
 
     /// Stages and commits; a refusal leaves nothing staged.
@@ -245,6 +345,10 @@ impl Register {
                     Change::Put(key, value) => sys::zkv_put(&mut *self.record, at, bytes, self.table.as_ptr(), words,
                         key, value.as_ptr(), value.len()),
                     Change::Delete(key) => sys::zkv_delete(&mut *self.record, at, bytes, self.table.as_ptr(), words, key),
+                    Change::PutAt(key, value, version) => sys::zkv_put_at(&mut *self.record, at, bytes,
+                        self.table.as_ptr(), words, key, value.as_ptr(), value.len(), version),
+                    Change::DeleteAt(key, version) => sys::zkv_delete_at(&mut *self.record, at, bytes,
+                        self.table.as_ptr(), words, key, version),
                 }
             };
             done = self.finish(begun).map(|_| ());

@@ -86,7 +86,14 @@ extern "C" {
         record: *mut Record, image: *const u8, bytes: usize, table: *const u64, words: usize,
         key: u64, value: *const u8, length: usize,
     ) -> Report;
+    pub fn zkv_put_at(
+        record: *mut Record, image: *const u8, bytes: usize, table: *const u64, words: usize,
+        key: u64, value: *const u8, length: usize, version: u64,
+    ) -> Report;
     pub fn zkv_delete(record: *mut Record, image: *const u8, bytes: usize, table: *const u64, words: usize, key: u64) -> Report;
+    pub fn zkv_delete_at(
+        record: *mut Record, image: *const u8, bytes: usize, table: *const u64, words: usize, key: u64, version: u64,
+    ) -> Report;
     pub fn zkv_commit(record: *mut Record, image: *const u8, bytes: usize, table: *const u64, words: usize) -> Report;
     pub fn zkv_abandon(record: *mut Record, image: *const u8, bytes: usize, table: *const u64, words: usize) -> Report;
     pub fn zkv_choose(record: *const Record, image: *const u8, bytes: usize, table: *const u64, words: usize) -> Report;
@@ -102,6 +109,10 @@ extern "C" {
     pub fn zkv_look_up(
         record: *const Record, image: *const u8, bytes: usize, table: *const u64, words: usize,
         key: u64, start: *mut u64, length: *mut u64,
+    ) -> u64;
+    pub fn zkv_look_up_version(
+        record: *const Record, image: *const u8, bytes: usize, table: *const u64, words: usize,
+        key: u64, start: *mut u64, length: *mut u64, version: *mut u64,
     ) -> u64;
     pub fn zkv_list_keys(
         record: *const Record, image: *const u8, bytes: usize, table: *const u64, words: usize,

@@ -1,5 +1,5 @@
-//! The register through the safe interface: what is put comes back, to the byte, after reopening; batches; refusals;
-//! cleaning, also one that was cut off; locks.
+//! The register through the safe interface: what is put comes back, to the byte, after reopening; batches; versions;
+//! refusals; cleaning, also one that was cut off; locks.
 use std::collections::BTreeMap;
 use std::fs;
 use std::path::{Path, PathBuf};
@@ -113,6 +113,286 @@ fn batches_are_all_or_none() {
     assert_eq!(all(&register), book);
     register.batch(&many[..16]).unwrap(); // nothing of what was refused is left staged
     assert_eq!(register.keys().unwrap().len(), 18);
+}
+
+/// The highest version of the entries that a key still has, 0 where it has none.
+fn highest(register: &Register, key: u64) -> u64 {
+    register.history(key).iter().map(|entry| entry.version).max().unwrap_or(0)
+}
+
+#[test]
+fn a_put_or_delete_may_be_for_a_version() {
+    let folder = Folder::new("version");
+    let other = Err(Error::Refused(Refusal::OtherVersion));
+    let mut register = Register::create(folder.file(), 8, None, None).unwrap();
+    assert_eq!(register.get_with_version(70), Ok(None));
+    for version in [1, 70, u64::MAX] {
+        assert_eq!(register.put_at(70, b"one", version), other, "an unknown key has version 0");
+    }
+    register.put_at(70, b"one", 0).unwrap();
+    assert_eq!(register.get_with_version(70), Ok(Some((b"one".to_vec(), 1))));
+    register.put(70, b"two").unwrap();
+    assert_eq!(register.get_with_version(70), Ok(Some((b"two".to_vec(), 2))));
+    let before = fs::read(folder.file()).unwrap();
+    for version in [0, 1, 3, 70, 2 + (1 << 20), 2 + (1 << 32), u64::MAX] {
+        assert_eq!(register.put_at(70, b"three", version), other);
+        assert_eq!(register.put_at(70, &[3; 1000], version), other);
+        assert_eq!(register.delete_at(70, version), Err(Error::Refused(Refusal::OtherVersion)));
+    }
+    assert_eq!(register.put_at(70, &[0; VALUE_MAX + 1], 1), Err(Error::Refused(Refusal::TooLong)));
+    assert_eq!(fs::read(folder.file()).unwrap(), before, "what was refused did not happen");
+    register.put_at(70, &[3; 1000], 2).unwrap();
+    assert_eq!(register.get_with_version(70), Ok(Some((vec![3; 1000], 3))));
+
+    drop(register);
+    let mut reader = Register::open_with(folder.file(), Access::Read, None).unwrap();
+    assert_eq!(reader.get_with_version(70), Ok(Some((vec![3; 1000], 3))));
+    assert_eq!((reader.put_at(70, b"", 3), reader.delete_at(70, 3)), (Err(Error::ReadOnly), Err(Error::ReadOnly)));
+    drop(reader);
+    let mut register = Register::open(folder.file()).unwrap();
+    register.put_at(70, b"", 3).unwrap();
+    assert_eq!(register.get_with_version(70), Ok(Some((vec![], 4))));
+    assert_eq!(register.delete_at(70, 4), Ok(true));
+    assert_eq!(register.get_with_version(70), Ok(None));
+
+    // a deleted key has its delete's version while it has an entry, also after reopening
+    drop(register);
+    let mut register = Register::open(folder.file()).unwrap();
+    assert_eq!(highest(&register, 70), 5);
+    for version in [0, 4, 5, 6] {
+        assert_eq!(register.delete_at(70, version), Ok(false), "an absent key is absent for every version");
+    }
+    for version in [0, 4, 6] {
+        assert_eq!(register.put_at(70, b"six", version), other);
+    }
+    register.put_at(70, b"six", 5).unwrap();
+    assert_eq!(register.get_with_version(70), Ok(Some((b"six".to_vec(), 6))));
+    assert_eq!(register.delete_at(70, 6), Ok(true));
+    register.clean().unwrap();
+    assert_eq!(highest(&register, 70), 0, "and 0 when it is cleaned away");
+    assert_eq!(register.put_at(70, b"one", 7), other);
+    register.put_at(70, b"one", 0).unwrap();
+    assert_eq!(register.get_with_version(70), Ok(Some((b"one".to_vec(), 1))));
+}
+
+#[test]
+fn a_batch_counts_its_items_in_the_versions() {
+    use Change::{Delete, DeleteAt, Put, PutAt};
+    let folder = Folder::new("items");
+    let other = Err(Error::Refused(Refusal::OtherVersion));
+    let mut register = Register::create(folder.file(), 8, None, None).unwrap();
+    let new = [PutAt(1, b"a", 0), PutAt(1, b"b", 1), PutAt(2, b"c", 0), DeleteAt(1, 2), PutAt(1, b"d", 3)];
+    register.batch(&new).unwrap();
+    assert_eq!(register.get_with_version(1), Ok(Some((b"d".to_vec(), 4))));
+    assert_eq!(register.get_with_version(2), Ok(Some((b"c".to_vec(), 1))));
+    register.batch(&[Put(1, b"e"), PutAt(1, b"f", 5), Delete(2), PutAt(2, &[9; 500], 2), DeleteAt(2, 3)]).unwrap();
+    assert_eq!(register.get_with_version(1), Ok(Some((b"f".to_vec(), 6))));
+    assert_eq!((register.get_with_version(2), highest(&register, 2)), (Ok(None), 4));
+
+    let lines = register.lines_used();
+    let refused: [&[Change]; 6] = [
+        &[Put(3, b"x"), PutAt(1, b"x", 5)],
+        &[Put(3, b"x"), PutAt(1, b"x", 6), PutAt(1, b"y", 6)],
+        &[Put(3, b"x"), PutAt(1, b"x", 6), DeleteAt(1, 6)],
+        &[Put(3, b"x"), PutAt(3, &[8; 600], 0)],
+        &[Put(3, b"x"), PutAt(2, b"x", 0)],
+        &[Put(3, b"x"), Put(2, b"x"), DeleteAt(2, 4)],
+    ];
+    for changes in refused {
+        assert_eq!(register.batch(changes), other, "{changes:?}");
+        assert_eq!((register.keys(), register.lines_used()), (Ok(vec![1]), lines));
+    }
+    let absent = [Put(3, b"x"), DeleteAt(2, 1)];
+    assert_eq!(register.batch(&absent), Err(Error::Refused(Refusal::KeyAbsent)), "that is asked before");
+    let mut many: Vec<_> = (10..26).map(|key| PutAt(key, b"x", 0)).collect();
+    many.push(PutAt(26, b"x", 1));
+    assert_eq!(register.batch(&many), other, "and a full batch behind it");
+    many[16] = PutAt(26, b"x", 0);
+    assert_eq!(register.batch(&many), Err(Error::Refused(Refusal::BatchFull)));
+    register.put(4, b"later").unwrap(); // with nothing that was left staged
+    assert_eq!(register.keys(), Ok(vec![1, 4]));
+    assert_eq!(register.get_with_version(1), Ok(Some((b"f".to_vec(), 6))));
+    register.batch(&many[..16]).unwrap();
+    assert_eq!(register.keys().unwrap().len(), 18);
+}
+
+/// A register whose next put needs a cleaning of chunk 1: that is full, and has all entries of key 7, which is deleted.
+fn full_with_a_deleted_key(path: &Path, chunks: usize) -> Register {
+    let mut register = Register::create(path, chunks, None, None).unwrap();
+    register.put(7, b"first").unwrap();
+    assert_eq!(register.delete(7), Ok(true));
+    for _ in 2..64 {
+        register.put(1, b"again").unwrap();
+    }
+    assert_eq!(register.chunk(1), Ok(Chunk::Log { lines: 64, live: 1, deletes: 1, superseded: 62 }));
+    assert_eq!(highest(&register, 7), 2);
+    register
+}
+
+/// The version is asked once: a cleaning for the put's own space drops the deleted key, and nobody else wrote.
+#[test]
+fn a_put_for_a_version_stays_right_when_its_call_cleans() {
+    let folder = Folder::new("forgotten");
+    let mut register = full_with_a_deleted_key(&folder.file(), 4);
+    let before = fs::read(folder.file()).unwrap();
+    for version in [0, 1, 3] {
+        assert_eq!(register.put_at(7, b"second", version), Err(Error::Refused(Refusal::OtherVersion)));
+    }
+    assert_eq!(fs::read(folder.file()).unwrap(), before, "nothing is cleaned for another version");
+    register.put_at(7, b"second", 2).unwrap();
+    assert_eq!(register.get_with_version(7), Ok(Some((b"second".to_vec(), 1))), "it was cleaned away in between");
+    assert_eq!(register.get_with_version(1), Ok(Some((b"again".to_vec(), 62))));
+}
+
+#[test]
+fn a_batch_for_versions_stays_right_when_its_call_cleans() {
+    use Change::{DeleteAt, PutAt};
+    let folder = Folder::new("forgotten-batch");
+    let mut register = full_with_a_deleted_key(&folder.file(), 4);
+    let changes = [PutAt(1, b"new", 62), PutAt(7, b"a", 2), DeleteAt(7, 3), PutAt(7, b"b", 4), PutAt(8, b"c", 0)];
+    register.batch(&changes).unwrap();
+    assert_eq!(register.get_with_version(1), Ok(Some((b"new".to_vec(), 63))));
+    assert_eq!(register.get_with_version(7), Ok(Some((b"b".to_vec(), 3))), "it was cleaned away in between");
+    assert_eq!(register.get_with_version(8), Ok(Some((b"c".to_vec(), 1))));
+}
+
+/// A large label finds no block, so that the item behind it is not staged before the cleaning, which drops key 7.
+#[test]
+fn versions_behind_a_large_label_are_those_before_the_cleaning() {
+    use Change::{Delete, DeleteAt, Put, PutAt};
+    let folder = Folder::new("behind");
+    let other = || Err(Error::Refused(Refusal::OtherVersion));
+    let second = |version| Some((b"second".to_vec(), version));
+    let large = [5; 1000];
+    for (key, behind, done, found) in [
+        (8, PutAt(7, b"second", 2), Ok(()), second(1)),
+        (8, PutAt(7, b"second", 0), other(), None),
+        (8, PutAt(7, b"second", 1), other(), None),
+        (7, PutAt(7, b"second", 3), Ok(()), second(2)),
+        (7, PutAt(7, b"second", 1), other(), None),
+        (7, PutAt(7, b"second", 2), other(), None),
+        (7, DeleteAt(7, 3), Ok(()), None),
+        (7, DeleteAt(7, 1), other(), None),
+        (7, Delete(7), Ok(()), None),
+        (8, DeleteAt(7, 2), Err(Error::Refused(Refusal::KeyAbsent)), None),
+    ] {
+        let mut register = full_with_a_deleted_key(&folder.file(), 5);
+        register.put(1, b"again").unwrap(); // in chunk 2, so that nothing of chunk 1 is needed
+        assert_eq!((register.free_chunks(), register.history(7).len()), (2, 2));
+        assert_eq!(register.batch(&[Put(key, &large), behind]), done, "{key} {behind:?}");
+        assert!(!matches!(register.chunk(1), Ok(Chunk::Log { .. })), "it was cleaned");
+        assert_eq!(register.get_with_version(7), Ok(found), "{key} {behind:?}");
+        register.put(9, b"later").unwrap();
+        assert_eq!(register.get(8).unwrap().is_some(), done.is_ok() && key == 8, "nothing was left staged");
+        drop(register);
+        fs::remove_file(folder.file()).unwrap();
+    }
+}
+
+/// The highest version of each known key, and its value where it is present.
+type Versions = BTreeMap<u64, (u64, Option<Vec<u8>>)>;
+
+/// What the rules make of a batch, where there is space.
+fn expected(book: &Versions, changes: &[Change]) -> Result<Versions, Refusal> {
+    let mut after = book.clone();
+    for change in changes {
+        let (key, value, named) = match *change {
+            Change::Put(key, value) => (key, Some(value), None),
+            Change::PutAt(key, value, version) => (key, Some(value), Some(version)),
+            Change::Delete(key) => (key, None, None),
+            Change::DeleteAt(key, version) => (key, None, Some(version)),
+        };
+        let (version, held) = after.entry(key).or_default();
+        if value.is_none() && held.is_none() {
+            return Err(Refusal::KeyAbsent);
+        }
+        if named.is_some_and(|named| named != *version) {
+            return Err(Refusal::OtherVersion);
+        }
+        (*version, *held) = (*version + 1, value.map(<[u8]>::to_vec));
+    }
+    Ok(after)
+}
+
+/// The changes by the calls for one of them, where it is one.
+fn make(register: &mut Register, changes: &[Change]) -> Result<(), Error> {
+    let present = |was| if was { Ok(()) } else { Err(Error::Refused(Refusal::KeyAbsent)) };
+    match *changes {
+        [Change::Put(key, value)] => register.put(key, value),
+        [Change::PutAt(key, value, version)] => register.put_at(key, value, version),
+        [Change::Delete(key)] => register.delete(key).and_then(present),
+        [Change::DeleteAt(key, version)] => register.delete_at(key, version).and_then(present),
+        _ => register.batch(changes),
+    }
+}
+
+/// A cleaning may drop all entries of a deleted key: before the batch, so that its first item has version 1 again, or
+/// after it. Every other version is the book's.
+#[test]
+fn drawn_changes_have_the_versions_of_the_book() {
+    const KEYS: u64 = 12;
+    let folder = Folder::new("drawn");
+    let mut draw = Draw(9);
+    let mut book = Versions::new();
+    let mut register = Register::create(folder.file(), 5, None, None).unwrap();
+    let (mut accepted, mut refused, mut forgotten_before, mut forgotten_after) = (0, 0, 0, 0);
+    for round in 0..4000 {
+        let lengths: Vec<_> = (0..5).map(|_| [0, 8, 20, 60, 256, 300][draw.below(6) as usize]).collect();
+        let values: Vec<_> = lengths.into_iter().map(|length| vec![round as u8; length]).collect();
+        let mut changes = Vec::new();
+        for value in &values[..[1, 1, 2, 3, 5][draw.below(5) as usize]] {
+            let key = draw.below(KEYS).wrapping_mul(0x9e37_79b9_7f4a_7c15); // small and large ones
+            let so_far = expected(&book, &changes).unwrap_or_default();
+            let (right, _) = so_far.get(&key).cloned().unwrap_or_default();
+            let wrong = [0, 1, right + 1, right.wrapping_sub(1)][draw.below(4) as usize];
+            let version = if draw.below(8) > 0 { right } else { wrong };
+            changes.push(match draw.below(8) {
+                0 => Change::Put(key, value),
+                1..=4 => Change::PutAt(key, value, version),
+                5 => Change::Delete(key),
+                _ => Change::DeleteAt(key, version),
+            });
+        }
+        let named = changes.iter().any(|change| matches!(change, Change::PutAt(..) | Change::DeleteAt(..)));
+        let after = match expected(&book, &changes) {
+            Ok(after) => {
+                assert_eq!(make(&mut register, &changes), Ok(()), "{round}: {changes:?}");
+                accepted += u32::from(named);
+                after
+            }
+            Err(refusal) => {
+                assert_eq!(make(&mut register, &changes), Err(Error::Refused(refusal)), "{round}: {changes:?}");
+                refused += u32::from(refusal == Refusal::OtherVersion);
+                book.clone()
+            }
+        };
+        if round % 100 == 99 {
+            drop(register);
+            register = Register::open(folder.file()).unwrap();
+        }
+        if round % 300 == 299 {
+            register.clean().unwrap();
+        }
+        let deleted = |key| book.get(&key).filter(|(_, value)| value.is_none()).map_or(0, |(version, _)| *version);
+        let mut known = Versions::new();
+        for (&key, (version, value)) in &after {
+            let found = highest(&register, key);
+            let again = *version > deleted(key) && found == *version - deleted(key);
+            let allowed = found == *version || again || (found == 0 && value.is_none());
+            assert!(allowed, "{round}: {key}: {found} and not {version}");
+            forgotten_before += u32::from(found != *version && again);
+            forgotten_after += u32::from(found == 0);
+            assert_eq!(register.get_with_version(key), Ok(value.clone().map(|value| (value, found))), "{round}: {key}");
+            assert_eq!(register.get(key).as_ref(), Ok(value));
+            assert_eq!(register.listed(key).unwrap().map(|l| l.version), value.as_ref().map(|_| found));
+            if found > 0 {
+                known.insert(key, (found, value.clone()));
+            }
+        }
+        book = known;
+    }
+    let reached = [accepted, refused, forgotten_before, forgotten_after];
+    assert!(reached.iter().zip([1000, 300, 50, 100]).all(|(&found, least)| found >= least), "{reached:?}");
 }
 
 #[test]
@@ -302,9 +582,10 @@ fn a_cleaning_that_was_cut_off_leaves_no_stuck_register() {
 
 #[test]
 fn refusals_have_numbers() {
-    assert_eq!((1..=16).map(|n| Refusal::of_number(n).unwrap().number()).collect::<Vec<_>>(), (1..=16).collect::<Vec<_>>());
-    assert_eq!((Refusal::of_number(0), Refusal::of_number(17)), (None, None));
+    assert_eq!((1..=17).map(|n| Refusal::of_number(n).unwrap().number()).collect::<Vec<_>>(), (1..=17).collect::<Vec<_>>());
+    assert_eq!((Refusal::of_number(0), Refusal::of_number(18)), (None, None));
     assert_eq!(Refusal::KeyAbsent.to_string(), "refused 11: the key is absent");
+    assert_eq!(Refusal::OtherVersion.to_string(), "refused 17: the key's version is not the one named");
 }
 
 #[test]
