@@ -62,7 +62,7 @@ static void lend(int to_record, int to_image, int to_table)
 }
 
 /* Every call that only reads. `number` is what the gate answers in this state; behind it (0) a register with the keys
- * 1, 2 and a large 3 is open, of which 2 was deleted. */
+ * 1, 2 and a large 3 is open, of which 1 was put twice and 2 was deleted. */
 static void read_all(uint64_t number)
 {
     uint64_t start = 9, length = 9, count = 9, version = 9, block = 9, named = 9, keys[KEYS] = {0}, entries[2 * ZKV_ENTRY_WORDS];
@@ -73,6 +73,8 @@ static void read_all(uint64_t number)
         uint64_t expected = number != 0 ? number : key == 1 || key == 3 ? 0 : ZKV_KEY_ABSENT;
         HOLD(MADE(zkv_look_up, LENT, key, &start, &length) == expected);
         HOLD(length == (expected != 0 ? 0 : key == 3 ? LARGE : 1));
+        HOLD(MADE(zkv_look_up_version, LENT, key, &start, &length, &version) == expected);
+        HOLD(length == (expected != 0 ? 0 : key == 3 ? LARGE : 1) && version == (expected != 0 ? 0 : key == 3 ? 1 : 2));
         HOLD(MADE(zkv_list_key, LENT, key, &version, &length, &block) == expected);
         HOLD(length == (expected != 0 ? 0 : key == 3 ? LARGE : 1) && block == (expected == 0 && key == 3));
     }
@@ -130,11 +132,12 @@ int main(void)
     BEGUN(zkv_commit, LENT);
     BEGUN(zkv_delete, LENT, 2);
     BEGUN(zkv_commit, LENT);
-    BEGUN(zkv_put, LENT, 1, value, 1);
+    BEGUN(zkv_put_at, LENT, 1, value, 1, 1);
     BEGUN(zkv_commit, LENT);
     read_all(0);
     lend(1, 0, 0);
     BEGUN(zkv_put, LENT, 4, value, 1);
+    BEGUN(zkv_delete_at, LENT, 3, 1);
     read_all(0);
     lend(1, 0, 0);
     HOLD(MADE(zkv_abandon, LENT).kind == ZKV_ABANDONED);
