@@ -159,9 +159,9 @@ pub fn shown_with(report: Report, start: &mut u64, length: &mut u64, version: &m
         Report::Part {
             start: at,
             length: n,
-            version: v,
+            version: named,
         } => {
-            *version = v;
+            *version = named;
             *length = n as u64;
             *start = at as u64;
             0
