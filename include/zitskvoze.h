@@ -61,6 +61,7 @@
  * - open, something staged: after the end of a staging. All of these may follow but zkv_clean, which gets 15.
  * - unfinished: after ZKV_BEGUN. zkv_step, zkv_run and zkv_open may follow; other calls get 8 (or 2, in a formatting
  *   that was begun on a closed record). In the other states a step or run answers ZKV_IDLE and changes nothing.
+ * What is said here of zkv_put, zkv_delete and zkv_look_up holds for zkv_put_at, zkv_delete_at and zkv_look_up_version.
  *
  * A new image: zkv_format, step to its end, zkv_open. An image from before: zkv_open. A put that lasts: zkv_put, step
  * to the end, zkv_commit, step to the end. Up to 16 puts and deletes (4,096 bytes of entries: 16 bytes and the value,
@@ -77,18 +78,23 @@
  * next power cut. zkv_make_room looks and does it: a host that calls it after each opening has kept the rule, and its
  * register is never stuck. An image that was made in another way may be stuck, or full, already.
  *
- * Two windows that change one value: zkv_look_up_version hands out the version with the value, and zkv_put_at or
- * zkv_delete_at stages for that version. It gets 17 where another has staged or committed an item of the key since:
- * abandon or commit what is staged, look the key up again, change what it says now, and stage for the new version. A
- * value that must not be there yet is put for version 0.
+ * Two windows that change one value, so that neither undoes what the other did:
+ * 1. zkv_look_up_version: the value, and its version v. While the value is being changed, others may make calls.
+ * 2. zkv_put_at (or zkv_delete_at) for v, stepped to the end, then zkv_commit, likewise.
+ * 3. Where 2 gets 17, another has staged or committed an item of the key since: commit or abandon what is staged, and
+ *    again from 1.
+ * A value that must not be there yet is put for version 0. An absent key has that version only where it is unknown: a
+ * deleted one that still has an entry has its delete's, the highest that zkv_entries says of the key.
+ * Where 2 gets 13, or 7, v was right. The cleaning that follows may drop the last entry of a deleted key, which then is
+ * unknown and has version 0, so that v would get 17: a host that has let nobody else change the register since (it has
+ * the lock) stages again by zkv_put. zkv_make_room may drop such an entry, too.
  *
  * REFUSALS
  *
  * What was refused did not happen: a host looks at every answer. A refusal leaves image, table and record as they were;
  * but a refused opening zeroes the table and closes the record. The numbers are the enum zkv_refusal, in the order of
  * the rules; zkv_sentence gives the words. Where several apply, the answer of an opening is the lowest; of zkv_format 1
- * before 8; of the other calls the first in the order 2, 1, 8, 15, 9, 11, 17, 12, 10, 7, 14, 16,
- * 13.
+ * before 8; of the other calls the first in the order 2, 1, 8, 15, 9, 11, 17, 12, 10, 7, 14, 16, 13.
  *
  * CAVEATS, AND WHAT TO DO
  *
@@ -117,8 +123,8 @@
  *   against the register, and keep a digest of the image elsewhere.
  * - A table too small for the image's keys makes a refused opening slow: up to some 70 times an accepted one, whatever
  *   the table's length. Lend one of ZKV_TABLE_WORDS_MAX words where memory allows.
- * - An opening takes some 64 KB of stack, and so does a cleaning's last step where a key's entries stand twice; zkv_fault
- *   takes some 115 KB.
+ * - An opening takes some 64 KB of stack, and so does a cleaning's last step where a key's entries stand twice;
+ *   zkv_fault takes some 115 KB.
  * - The log only grows until it is cleaned: superseded and deleted values take space until then, and known keys include
  *   deleted ones that still have an entry. Clean when time allows, or when 13 comes; it may take several cleanings
  *   until a commit finds space. Commits leave a free chunk to clean into (they take one only where three are free, two
@@ -129,6 +135,8 @@
  *   delete: a key at 1,048,574 gets 12 for a put and can be deleted. When its entries are cleaned away it begins at 1
  *   again. A put at the last version, which images from before this rule may hold, is opened and read, and gets 12 for
  *   both.
+ * - A version in hand says nothing across a delete and a cleaning: as the numbers begin at 1 again, the same one may
+ *   come to stand for another value. While the key is present, no cleaning changes its version.
  */
 #ifndef ZITSKVOZE_H
 #define ZITSKVOZE_H
@@ -357,7 +365,8 @@ uint64_t zkv_look_up(const zkv_record *record, const uint8_t *image, size_t byte
                      uint64_t key, uint64_t *start, uint64_t *length);
 
 /* The same, with the value's version in *version, 0 on a refusal: what zkv_put_at and zkv_delete_at are told. With an
- * item of the key staged they want the version that this item gets, one above, and for each further item one more. */
+ * item of the key staged they want the version that this item gets, one above, and for each further item one more. Of
+ * an absent key zkv_entries tells the version, if it is not 0. */
 uint64_t zkv_look_up_version(const zkv_record *record, const uint8_t *image, size_t bytes, const uint64_t *table,
                              size_t words, uint64_t key, uint64_t *start, uint64_t *length, uint64_t *version);
 
