@@ -16,7 +16,7 @@
 /* ---- options, by the commands that have them */
 
 enum { FORCE = 1, STATION = 2, CENTRE = 4, EMPTY = 8, NO_CLEAN = 16, PAUSE = 32, WAIT = 64, JSON = 128, AGAINST = 256, SVG = 512,
-       LINE = 1024 };
+       LINE = 1024, VERSION = 2048, IF_VERSION = 4096 };
 
 static const struct option {
     const char *name;
@@ -35,6 +35,8 @@ static const struct option {
     {"--against", AGAINST, "a digest: 64 hexadecimal digits", 0},
     {"--svg", SVG, "a file's name, or -", 0},
     {"--line", LINE, NULL, 0},
+    {"--version", VERSION, NULL, 0},
+    {"--if-version", IF_VERSION, "a version: decimal, below 2^64", UINT64_MAX},
 };
 
 static const struct command {
@@ -46,11 +48,12 @@ static const struct command {
 } commands[] = {
     {"format", 1, 0, FORCE | STATION | CENTRE | PAUSE | WAIT, command_format,
      "FILE CHUNKS [--station N] [--centre N] [--force] [--pause MICROSECONDS] [--wait SECONDS]"},
-    {"put", 2, 0, EMPTY | NO_CLEAN | PAUSE | WAIT, command_put,
-     "FILE KEY VALUEFILE|- [--empty] [--no-clean] [--pause MICROSECONDS] [--wait SECONDS]"},
-    {"get", 1, 0, WAIT, command_get, "FILE KEY [--wait SECONDS]"},
+    {"put", 2, 0, IF_VERSION | EMPTY | NO_CLEAN | PAUSE | WAIT, command_put,
+     "FILE KEY VALUEFILE|- [--if-version N] [--empty] [--no-clean] [--pause MICROSECONDS] [--wait SECONDS]"},
+    {"get", 1, 0, VERSION | WAIT, command_get, "FILE KEY [--version] [--wait SECONDS]"},
     {"scan", 2, 0, EMPTY | LINE | WAIT, command_scan, "FILE KEY SCANFILE|- [--line] [--empty] [--wait SECONDS]"},
-    {"delete", 1, 0, NO_CLEAN | PAUSE | WAIT, command_delete, "FILE KEY [--no-clean] [--pause MICROSECONDS] [--wait SECONDS]"},
+    {"delete", 1, 0, IF_VERSION | NO_CLEAN | PAUSE | WAIT, command_delete,
+     "FILE KEY [--if-version N] [--no-clean] [--pause MICROSECONDS] [--wait SECONDS]"},
     {"clean", 0, 1, PAUSE | WAIT, command_clean, "FILE [CHUNK] [--pause MICROSECONDS] [--wait SECONDS]"},
     {"list", 0, 0, JSON | WAIT, command_list, "FILE [--json] [--wait SECONDS]"},
     {"sheet", 0, 0, WAIT, command_sheet, "FILE [--wait SECONDS]"},
@@ -74,7 +77,8 @@ static void print_usage(FILE *to)
     }
     fputs("       zkv help | -h | --help | --version\n"
           "       zkv COMMAND --help\n"
-          "exit status: 0 done (of scan and check: a match), 1 the key is absent, 2 usage or system, 3 refused, 4 put aside\n", to);
+          "exit status: 0 done (of scan and check: a match), 1 the key is absent, 2 usage or system, 3 refused, 4 put aside,\n"
+          "             5 another version stands than --if-version names\n", to);
 }
 
 static void print_usage_of(FILE *to, const struct command *c)
@@ -146,6 +150,13 @@ static void set_option(struct options *o, unsigned bit, uint64_t n, const char *
         break;
     case LINE:
         o->line = true;
+        break;
+    case VERSION:
+        o->version = true;
+        break;
+    case IF_VERSION:
+        o->if_version_given = true;
+        o->if_version = n;
         break;
     default:
         o->wait = (long)n;

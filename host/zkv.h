@@ -8,13 +8,13 @@
 #include "zitskvoze_file.h"
 
 /* Exit statuses. */
-enum { DONE = 0, ABSENT = 1, TROUBLE = 2, REFUSED = 3, PUT_ASIDE = 4 };
+enum { DONE = 0, ABSENT = 1, TROUBLE = 2, REFUSED = 3, PUT_ASIDE = 4, OTHER_VERSION = 5 };
 
 /* What the command line says besides the command, its file and its words. */
 struct options {
-    bool force, empty, no_clean, json, line;
-    bool station_given, centre_given;
-    uint64_t station, centre;
+    bool force, empty, no_clean, json, line, version;
+    bool station_given, centre_given, if_version_given;
+    uint64_t station, centre, if_version;
     long pause_us;              /* between steps */
     long wait;                  /* seconds for the lock; -1: as long as it takes */
     const char *against;        /* a digest; NULL: none is given */
@@ -32,10 +32,18 @@ struct station {
     bool in_memory;             /* no file: a copy that is thrown away */
 };
 
-/* A label of an open register (its value lies in the image), or of a list. */
+/* A label of an open register (its value lies in the image), or of a list, which has no versions. */
 struct label {
-    uint64_t key, length;
+    uint64_t key, length, version;
     const uint8_t *value;
+};
+
+/* A put or, where value is NULL, a delete; for the version that it names, NULL where it names none. */
+struct item {
+    uint64_t key;
+    const uint8_t *value;
+    size_t length;
+    const uint64_t *version;
 };
 
 struct cleaned {
@@ -66,6 +74,7 @@ int need_register(struct station *s, const char *name, enum zkv_file_use use, co
  * can leave a register that is stuck for good (zitskvoze.h): where the opening finds none, a chunk is cleaned first,
  * and counted. Where none can be cleaned the register is open too: the commit says that there is no space. */
 int need_room(struct station *s, const char *name, const struct options *o, struct cleaned *done);
+int make_room(struct station *s, struct cleaned *done);                  /* the same of one that is open */
 int carry_out(struct station *s, zkv_report *report);                    /* to its end, or a refusal, left in *report */
 int confirmed(const struct station *s);                                  /* before a command says that it is done */
 int read_value(const char *from, bool empty_meant, const uint8_t **value, size_t *length);
@@ -73,10 +82,14 @@ int read_value(const char *from, bool empty_meant, const uint8_t **value, size_t
 enum { DIGEST_ROOM = 65 };      /* 64 digits and the end */
 enum { VALUE_ROOM = 65537 };    /* more than any value's limit, so that the library sees what is too long */
 
-/* zkv_labels.c: how many keys are present; the label of a key; the keys, rising, and the labels by rising key, until
- * `take` answers no DONE; the labels' digest; and what `print` prints, printed once it is whole. */
+/* zkv_labels.c: how many keys are present; the label of a key; the entries of a key by rising version, as zkv_entries
+ * writes them, in memory that the caller frees; the version that a put of a key has to name: the key's highest, its
+ * delete's where it is deleted, 0 where it is unknown; the keys, rising, and the labels by rising key, until `take`
+ * answers no DONE; the labels' digest; and what `print` prints, printed once it is whole. */
 uint64_t labels_in(struct station *s);
 int label_of_key(struct station *s, uint64_t key, struct label *l);
+int entries_of(struct station *s, uint64_t key, uint64_t **entry, size_t *count);
+int version_of_key(struct station *s, uint64_t key, uint64_t *version);
 int each_key(struct station *s, int (*take)(struct station *s, uint64_t key, void *to), void *to);
 int each_label(struct station *s, int (*take)(struct station *s, const struct label *l, void *to), void *to);
 int digest_of(struct station *s, char digest[DIGEST_ROOM]);
@@ -85,10 +98,10 @@ void print_json(FILE *to, const char *text, size_t length);     /* printable tex
 
 /* zkv_write.c: each leaves a refusal, if there is one, in *report. Cleans the chunk that is named, else the one that is
  * chosen, else one that holds no label, and counts it. Whether cleaning may help against a refusal. Stages and commits
- * a put or, where value is NULL, a delete; a refused commit leaves nothing staged, and as many chunks free as were. */
+ * an item; a refused commit leaves nothing staged, and as many chunks free as were. */
 int clean_one(struct station *s, const uint64_t *named, struct cleaned *done, zkv_report *report);
 bool cleaning_may_help(struct station *s, const zkv_report *report);
-int change(struct station *s, uint64_t key, const uint8_t *value, size_t length, zkv_report *report);
+int change(struct station *s, const struct item *item, zkv_report *report);
 /* Forgets the staged items of a refused commit, and frees chunks that were taken for their blocks until as many are
  * free as were before. */
 int give_up(struct station *s, uint64_t free_before);

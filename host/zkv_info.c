@@ -191,34 +191,6 @@ int command_info(const char *file, char **word, const struct options *o)
 
 /* ---- history */
 
-/* Of entries as zkv_entries writes them. */
-static int by_version(const void *a, const void *b)
-{
-    const uint64_t *x = a, *y = b;
-    int word = x[ZKV_ENTRY_VERSION] != y[ZKV_ENTRY_VERSION] ? ZKV_ENTRY_VERSION : ZKV_ENTRY_PLACE;
-    return x[word] < y[word] ? -1 : x[word] > y[word];
-}
-
-/* The key's entries by version, in memory that the caller frees. Where they do not fit they are asked for once more. */
-static int entries_of(struct station *s, uint64_t key, uint64_t **entry, size_t *count)
-{
-    enum { SIZE = ZKV_ENTRY_WORDS * sizeof **entry };
-    size_t room = 0;
-    *entry = NULL;
-    *count = 64;
-    while (room < *count) {
-        room = *count;
-        uint64_t *more = realloc(*entry, room * SIZE);
-        if (more == NULL) {
-            return trouble(s->file.name, "no memory for the entries");
-        }
-        *entry = more;
-        *count = zkv_entries(s->file.image, s->file.bytes, key, 0, *entry, room * ZKV_ENTRY_WORDS);
-    }
-    qsort(*entry, *count, SIZE, by_version);
-    return DONE;
-}
-
 static void print_value(FILE *to, const uint8_t *value, uint64_t length)
 {
     fprintf(to, " %" PRIu64 " bytes", length);

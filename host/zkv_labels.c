@@ -1,5 +1,5 @@
-/* zkv: the keys and the labels of an open register, one by one; the labels' digest; and text that is printed only once
- * it is whole. */
+/* zkv: the keys and the labels of an open register, one by one; the entries and the version of a key; the labels'
+ * digest; and text that is printed only once it is whole. */
 #define _GNU_SOURCE
 #include <inttypes.h>
 #include <stdio.h>
@@ -35,10 +35,48 @@ uint64_t labels_in(struct station *s)
 
 int label_of_key(struct station *s, uint64_t key, struct label *l)
 {
-    uint64_t start, number = zkv_look_up(LENT(s), key, &start, &l->length);
+    uint64_t start, number = zkv_look_up_version(LENT(s), key, &start, &l->length, &l->version);
     l->key = key;
     l->value = s->file.image + start;
     return number == 0 ? DONE : refused(s->file.name, number, "key %" PRIu64 ": ", key);
+}
+
+/* Of entries as zkv_entries writes them. */
+static int by_version(const void *a, const void *b)
+{
+    const uint64_t *x = a, *y = b;
+    int word = x[ZKV_ENTRY_VERSION] != y[ZKV_ENTRY_VERSION] ? ZKV_ENTRY_VERSION : ZKV_ENTRY_PLACE;
+    return x[word] < y[word] ? -1 : x[word] > y[word];
+}
+
+/* Where they do not fit they are asked for once more. */
+int entries_of(struct station *s, uint64_t key, uint64_t **entry, size_t *count)
+{
+    enum { SIZE = ZKV_ENTRY_WORDS * sizeof **entry };
+    size_t room = 0;
+    *entry = NULL;
+    *count = 64;
+    while (room < *count) {
+        room = *count;
+        uint64_t *more = realloc(*entry, room * SIZE);
+        if (more == NULL) {
+            return trouble(s->file.name, "no memory for the entries");
+        }
+        *entry = more;
+        *count = zkv_entries(s->file.image, s->file.bytes, key, 0, *entry, room * ZKV_ENTRY_WORDS);
+    }
+    qsort(*entry, *count, SIZE, by_version);
+    return DONE;
+}
+
+int version_of_key(struct station *s, uint64_t key, uint64_t *version)
+{
+    uint64_t *entry;
+    size_t count;
+    int status = entries_of(s, key, &entry, &count);
+    *version = status == DONE && count > 0 ? entry[(count - 1) * ZKV_ENTRY_WORDS + ZKV_ENTRY_VERSION] : 0;
+    free(entry);
+    return status;
 }
 
 int each_key(struct station *s, int (*take)(struct station *s, uint64_t key, void *to), void *to)

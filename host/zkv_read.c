@@ -8,7 +8,7 @@
 #include "zkv.h"
 
 /* The key's label, copied while the file was whole; then the lock is given back. To copy the label takes less time than
- * to copy the image. */
+ * to copy the image. Where the key is absent and its version is asked for, that is found under the same lock. */
 static int label_of(const char *file, const char *given_key, const struct options *o, struct label *l)
 {
     static struct station s = {.held = true};
@@ -22,22 +22,29 @@ static int label_of(const char *file, const char *given_key, const struct option
     if (status == DONE) {
         status = label_of_key(&s, key, l);
     }
-    if (status == DONE && l->length > sizeof value) {
+    bool absent = status == ABSENT && o->version;
+    if (absent) {
+        status = version_of_key(&s, key, &l->version);
+    } else if (status == DONE && l->length > sizeof value) {
         status = trouble(file, "was changed by another program while it was read");
-    }
-    if (status == DONE) {
+    } else if (status == DONE) {
         memcpy(value, l->value, l->length);
         l->value = value;
+    }
+    if (status == DONE) {
         status = confirmed(&s);
     }
     zkv_file_close(&s.file);
-    return status;
+    return status == DONE && absent ? ABSENT : status;
 }
 
 int command_get(const char *file, char **word, const struct options *o)
 {
     struct label l;
     int status = label_of(file, word[0], o, &l);
+    if (o->version && (status == DONE || status == ABSENT)) {
+        printf("%" PRIu64 "\n", l.version);
+    }
     if (status == DONE) {
         fwrite(l.value, 1, l.length, stdout);
     }

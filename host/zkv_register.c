@@ -37,7 +37,7 @@ int refused(const char *file, uint64_t number, const char *about, ...)
     }
     fputc('\n', stderr);
     va_end(arguments);
-    return number == ZKV_KEY_ABSENT ? ABSENT : REFUSED;
+    return number == ZKV_KEY_ABSENT ? ABSENT : number == ZKV_OTHER_VERSION ? OTHER_VERSION : REFUSED;
 }
 
 static void waiting(const char *file)
@@ -166,13 +166,9 @@ int carry_out(struct station *s, zkv_report *report)
     return ended(s, report);
 }
 
-int need_room(struct station *s, const char *name, const struct options *o, struct cleaned *done)
+int make_room(struct station *s, struct cleaned *done)
 {
     memset(done, 0, sizeof *done);
-    int status = need_register(s, name, ZKV_FILE_WRITE, o);
-    if (status != DONE) {
-        return status;
-    }
     zkv_report r = zkv_make_room(LENT(s), zkv_file_flush, zkv_file_fence, &s->file);
     if (r.kind == ZKV_IDLE) {
         return DONE;
@@ -182,6 +178,12 @@ int need_room(struct station *s, const char *name, const struct options *o, stru
         done->entries = r.first;
     }
     return ended(s, &r);
+}
+
+int need_room(struct station *s, const char *name, const struct options *o, struct cleaned *done)
+{
+    int status = need_register(s, name, ZKV_FILE_WRITE, o);
+    return status == DONE ? make_room(s, done) : status;
 }
 
 int confirmed(const struct station *s)

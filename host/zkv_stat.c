@@ -49,7 +49,7 @@ static int try_puts(struct trial *t, size_t length, uint64_t *puts)
         if (zkv_look_up(LENT(&t->s), key, &start, &bytes) == 0) {
             continue;
         }
-        int status = change(&t->s, key, value, length, &r);
+        int status = change(&t->s, &(struct item){key, value, length, NULL}, &r);
         if (status != DONE || r.kind == ZKV_REFUSED) {
             return status;
         }

@@ -149,10 +149,14 @@ int command_clean(const char *file, char **word, const struct options *o)
 
 /* ---- put and delete */
 
-/* Begins the staging of the put or, where value is NULL, of the delete. */
-static zkv_report stage(struct station *s, uint64_t key, const uint8_t *value, size_t length)
+/* Begins the staging of an item. */
+static zkv_report stage(struct station *s, const struct item *i)
 {
-    return value != NULL ? zkv_put(LENT(s), key, value, length) : zkv_delete(LENT(s), key);
+    if (i->value == NULL) {
+        return i->version != NULL ? zkv_delete_at(LENT(s), i->key, *i->version) : zkv_delete(LENT(s), i->key);
+    }
+    return i->version != NULL ? zkv_put_at(LENT(s), i->key, i->value, i->length, *i->version)
+                              : zkv_put(LENT(s), i->key, i->value, i->length);
 }
 
 int give_up(struct station *s, uint64_t free_before)
@@ -171,10 +175,10 @@ int give_up(struct station *s, uint64_t free_before)
     return status;
 }
 
-int change(struct station *s, uint64_t key, const uint8_t *value, size_t length, zkv_report *report)
+int change(struct station *s, const struct item *item, zkv_report *report)
 {
     uint64_t free_before = zkv_free_chunks(s->file.image, s->file.bytes);
-    *report = stage(s, key, value, length);
+    *report = stage(s, item);
     int status = carry_out(s, report);
     if (status != DONE || report->kind == ZKV_REFUSED) {
         return status;
@@ -184,17 +188,18 @@ int change(struct station *s, uint64_t key, const uint8_t *value, size_t length,
     return status == DONE && report->kind == ZKV_REFUSED ? give_up(s, free_before) : status;
 }
 
-/* The same; where cleaning may help, chunks are cleaned and it is tried again, until it is done or no cleaning is
- * left. */
-static int change_with_cleaning(struct station *s, uint64_t key, const uint8_t *value, size_t length, struct cleaned *done,
-                                zkv_report *report)
+/* The same; where cleaning may help, chunks are cleaned and it is tried again, until it is done or no cleaning is left.
+ * The version that an item names was the right one then, and is not named again: the lock is ours, so that nobody else
+ * changes the key, but a cleaning may drop the last entry of a deleted one, whose version is 0 from then on. */
+static int change_with_cleaning(struct station *s, struct item *item, struct cleaned *done, zkv_report *report)
 {
     for (;;) {
         zkv_report r;
-        int status = change(s, key, value, length, report);
+        int status = change(s, item, report);
         if (status != DONE || !cleaning_may_help(s, report)) {
             return status;
         }
+        item->version = NULL;
         status = clean_one(s, NULL, done, &r);
         if (status != DONE || r.kind != ZKV_END) {
             return status;
@@ -202,26 +207,76 @@ static int change_with_cleaning(struct station *s, uint64_t key, const uint8_t *
     }
 }
 
+static bool for_another_version(const zkv_report *report)
+{
+    return report->kind == ZKV_REFUSED && report->first == ZKV_OTHER_VERSION;
+}
+
+/* Where no chunk is free, one is cleaned before an item is staged and committed. For the reason above, the version that
+ * it names is tried before that: the item is staged and forgotten again. (No chunk is taken for its block: none is
+ * free.) */
+static int try_version(struct station *s, struct item *item, zkv_report *report)
+{
+    *report = stage(s, item);
+    int status = carry_out(s, report);
+    if (status == DONE && report->kind == ZKV_END) {
+        *report = zkv_abandon(LENT(s));
+    }
+    if (status == DONE && !for_another_version(report)) {
+        item->version = NULL;
+    }
+    return status;
+}
+
+/* Does the item, in a register that is open. */
+static int change_in(struct station *s, struct item *item, const struct options *o, zkv_report *report)
+{
+    struct cleaned done;
+    if (item->version != NULL && zkv_free_chunks(s->file.image, s->file.bytes) == 0) {
+        int tried = try_version(s, item, report);
+        if (tried != DONE || for_another_version(report)) {
+            return tried;
+        }
+    }
+    int status = make_room(s, &done);
+    if (status != DONE) {
+        return status;
+    }
+    return o->no_clean ? change(s, item, report) : change_with_cleaning(s, item, &done, report);
+}
+
+/* Says why the item was refused; for another version, which one stands. */
+static int item_refused(struct station *s, const struct item *i, uint64_t number, const struct options *o)
+{
+    const char *file = s->file.name;
+    uint64_t stands;
+    if (number == ZKV_OTHER_VERSION) {
+        int status = version_of_key(s, i->key, &stands);
+        return status != DONE ? status : refused(file, number, "key %" PRIu64 ": version %" PRIu64 " is named, and %" PRIu64 " stands: ",
+                                                 i->key, o->if_version, stands);
+    }
+    if (i->value != NULL) {
+        return refused(file, number, "key %" PRIu64 ": %zu bytes%s: ", i->key, i->length, i->length == VALUE_ROOM ? " or more" : "");
+    }
+    return refused(file, number, "key %" PRIu64 ": ", i->key);
+}
+
 static int change_key(const char *file, const char *given_key, const uint8_t *value, size_t length, const struct options *o)
 {
     static struct station s;
-    struct cleaned done;
-    uint64_t key;
+    struct item item = {0, value, length, o->if_version_given ? &o->if_version : NULL};
     zkv_report r;
-    int status = key_of(file, given_key, &key);
+    int status = key_of(file, given_key, &item.key);
     if (status == DONE) {
-        status = need_room(&s, file, o, &done);
+        status = need_register(&s, file, ZKV_FILE_WRITE, o);
     }
     if (status == DONE) {
-        status = o->no_clean ? change(&s, key, value, length, &r) : change_with_cleaning(&s, key, value, length, &done, &r);
+        status = change_in(&s, &item, o, &r);
     }
     if (status != DONE) {
         return status;
     }
-    if (r.kind == ZKV_REFUSED && value != NULL) {
-        return refused(file, r.first, "key %" PRIu64 ": %zu bytes%s: ", key, length, length == VALUE_ROOM ? " or more" : "");
-    }
-    return r.kind == ZKV_REFUSED ? refused(file, r.first, "key %" PRIu64 ": ", key) : confirmed(&s);
+    return r.kind == ZKV_REFUSED ? item_refused(&s, &item, r.first, o) : confirmed(&s);
 }
 
 int command_put(const char *file, char **word, const struct options *o)

@@ -2,7 +2,7 @@
 # The program zkv in bad company: closed descriptors, files exchanged or cut under it, full disks, locks held by others,
 # readers that do not read, signals, FIFOs, links, limits, empty and endless input, wrong lists and usage, a disk that
 # breaks; what its exit statuses and messages say; scans, lists, sheets, digests, loads and copies; what chunks and keys
-# hold, and where a fault is.
+# hold, and where a fault is; puts and deletes for a version in hand.
 #
 # tests/zkv.sh [PROGRAM]        host/build/zkv; says every check that does not hold, and ends with 1 if there is one;
 #                               needs host/build/cut_clean (make -C host)
@@ -49,16 +49,20 @@ fresh
 cp l.img before
 for closed in '' '0<&-' '1>&-' '2>&-' '0<&- 1>&-' '0<&- 2>&-' '1>&- 2>&-' '0<&- 1>&- 2>&-'; do
     for command in 'delete l.img 77' 'put l.img 77 -' 'put l.img 77 nofile' 'format l.img 16' 'get l.img 4711' 'get l.img 77' 'scan l.img 77 value' \
-        'dump l.img' 'sheet l.img' 'load l.img -' 'load l.img nofile' 'digest l.img' 'check l.img --json' 'copy l.img l.img' 'copy l.img c.img 5'; do
+        'dump l.img' 'sheet l.img' 'load l.img -' 'load l.img nofile' 'digest l.img' 'check l.img --json' 'copy l.img l.img' 'copy l.img c.img 5' \
+        'get l.img 4711 --version' 'get l.img 77 --version' 'put l.img 77 - --if-version 0' 'put l.img 4711 value --if-version 9' \
+        'delete l.img 4711 --if-version 9' 'delete l.img 77 --if-version 0'; do
         ( eval "exec $closed"; exec "$zkv" $command ) > /dev/null 2>&1 < /dev/null
         untouched l.img before
         cp before l.img
         rm -f c.img
     done
 done
-( exec 1>&-; exec "$zkv" get l.img 4711 2> /dev/null )
-status=$?
-hold "a get with nowhere to print ends with 2, not $status" [ "$status" -eq 2 ]
+for command in 'get l.img 4711' 'get l.img 4711 --version' 'get l.img 77 --version'; do
+    ( exec 1>&-; exec "$zkv" $command 2> /dev/null )
+    status=$?
+    hold "zkv $command with nowhere to print ends with 2, not $status" [ "$status" -eq 2 ]
+done
 ( exec 0<&-; exec "$zkv" put l.img 4711 - 2> /dev/null )
 status=$?
 hold "a put with no standard input ends with 2, not $status" [ "$status" -eq 2 ]
@@ -382,7 +386,7 @@ mkfifo pipe
 exec 7<> pipe
 dd if=/dev/zero of=pipe bs=4096 oflag=nonblock 2> /dev/null
 for command in 'get l.img 4711' 'list l.img' 'list l.img --json' 'sheet l.img' 'dump l.img' 'digest l.img' 'scan l.img 4711 value' 'stat l.img' \
-    'info l.img' 'info l.img --svg -' 'history l.img 4711' 'check l.img' 'check l.img --json'; do
+    'info l.img' 'info l.img --svg -' 'history l.img 4711' 'check l.img' 'check l.img --json' 'get l.img 4711 --version' 'get l.img 77 --version'; do
     "$zkv" $command > pipe 2> /dev/null &
     reader=$!
     sleep 0.2
@@ -413,7 +417,8 @@ says 'zkv: nofile: cannot be opened: No such file'
 ends 2 put l.img 77 nofile
 says 'zkv: nofile: No such file'
 printf '\1' | dd of=l.img bs=1 seek=65 conv=notrunc 2> /dev/null
-for command in 'get l.img 4711' 'put l.img 5 value' 'delete l.img 4711' 'stat l.img' 'scan l.img 4711 value' 'sheet l.img'; do
+for command in 'get l.img 4711' 'put l.img 5 value' 'delete l.img 4711' 'stat l.img' 'scan l.img 4711 value' 'sheet l.img' \
+    'get l.img 4711 --version' 'put l.img 5 value --if-version 0' 'delete l.img 4711 --if-version 1'; do
     ends 3 $command
     says 'zkv: l.img: 65536 bytes: refused 3: a directory word is wrong'
     prints ''
@@ -937,6 +942,211 @@ hold "a data chunk without a label becomes free: $(cat out)" [ -z "$(grep data o
 ends 0 history i.img 1
 prints 'entries 1
 3 put chunk '"$(awk '/^3 put/ { print $4 }' out)"' line 0 current 5 bytes three'
+
+# 12. A version in hand.
+# has STATUS KEY VERSION FILE: get --version prints a line with the version, then the file's bytes; must end with the
+# status.
+has() {
+    ends "$1" get "${image:-l.img}" "$2" --version
+    hold "key $2 has version $3 and the bytes of $4, not '$(head -c 100 out | tr -c ' -~' .)'" cmp -s out <(echo "$3"; cat "$4")
+}
+fresh
+: > nothing
+printf 'A\n\n\0\377\r\n' > binary
+head -c 4088 /dev/urandom > large
+has 0 4711 1 value
+has 1 77 0 nothing
+says 'zkv: l.img: key 77: refused 11: the key is absent'
+for label in binary large nothing value; do
+    ends 0 put l.img 5 "$label" --empty
+done
+has 0 5 4 value
+ends 0 put l.img 6 binary
+has 0 6 1 binary
+ends 0 put l.img 6 large
+has 0 6 2 large
+ends 0 put l.img 6 nothing --empty
+has 0 6 3 nothing
+ends 0 delete l.img 6
+has 1 6 4 nothing
+says 'zkv: l.img: key 6: refused 11: the key is absent'
+ends 0 get l.img 5
+hold "without --version the bytes come alone" cmp -s out value
+cp l.img before
+ends 0 get --version l.img 5                    # an option may stand anywhere behind the command
+hold "a get changes nothing" cmp -s l.img before
+
+# Every version but the one that stands is refused, and nothing changes: of present, deleted and unknown keys.
+for key_version in '5 4' '6 4' '77 0'; do
+    read -r key stands <<< "$key_version"
+    for version in 0 1 2 3 4 5 1048575 1048576 4294967300 18446744073709551615; do
+        [ "$version" != "$stands" ] || continue
+        for label in value large; do
+            ends 5 put l.img "$key" "$label" --if-version "$version"
+            says "zkv: l.img: key $key: version $version is named, and $stands stands: refused 17: the key's version is not the one named"
+        done
+        ends $((key == 5 ? 5 : 1)) delete l.img "$key" --if-version "$version"
+        [ "$key" -ne 5 ] || says "zkv: l.img: key 5: version $version is named, and 4 stands: refused 17: the key's version is not the one named"
+        [ "$key" -eq 5 ] || says "zkv: l.img: key $key: refused 11: the key is absent"
+    done
+done
+ends 3 put l.img 5 long --if-version 1          # too long comes before the version
+says 'zkv: l.img: key 5: 4089 bytes: refused 9'
+untouched l.img before
+ends 0 put l.img 5 binary --if-version 4
+has 0 5 5 binary
+ends 0 put l.img 5 large --if-version 5 --no-clean
+has 0 5 6 large
+ends 0 put l.img 6 value --if-version 4
+has 0 6 5 value
+ends 0 put l.img 77 nothing --empty --if-version 0
+has 0 77 1 nothing
+ends 0 delete l.img 77 --if-version 1 --no-clean
+has 1 77 2 nothing
+ends 1 delete l.img 77 --if-version 2
+ends 0 delete l.img 5 --if-version 006
+has 1 5 7 nothing
+ends 0 clean l.img
+has 1 5 0 nothing
+has 0 6 5 value
+ends 0 put l.img 5 value --if-version 0
+has 0 5 1 value
+
+# Numbers that are none, and places where the options have no meaning.
+cp l.img before
+for version in -1 18446744073709551616 '' x 1x ' 1' +1 0x1 1.0; do
+    for command in 'put l.img 5 value' 'delete l.img 5'; do
+        ends 2 $command --if-version "$version"
+        says "zkv: ${command%% *}: --if-version needs a version: decimal, below 2^64: $version"
+        says "usage: zkv ${command%% *} FILE KEY"
+    done
+done
+for command in 'put l.img 5 value --if-version' 'delete l.img 5 --if-version' 'get l.img 5 --if-version 1' 'scan l.img 5 value --if-version 1' \
+    'load l.img list --if-version 1' 'clean l.img --if-version 1' 'format l.img 4 --if-version 1' 'put l.img 5 value --version' \
+    'delete l.img 5 --version' 'scan l.img 5 value --version' 'list l.img --version' 'get l.img --version' 'get --version' '--version get l.img 5'; do
+    ends 2 $command
+    hold "zkv $command shows how it is used" grep -q '^usage: zkv' err
+    prints ''
+done
+ends 2 get l.img 5 --if-version 1
+says 'zkv: get: it has no such option: --if-version'
+untouched l.img before
+ends 0 --version
+hold "--version alone is the program's: $(cat out)" grep -qx 'zkv [0-9.]*' out
+ends 0 help
+hold "the usage tells status 5: $(tail -n 1 out)" grep -q '^ *5 another version' out
+hold "the manual page has status 5 and number 17" [ "$(grep -cx -e '\.B 5' -e '\.B 17' "$host/zkv.1")" -ge 2 ]
+
+# Two windows look the same label up. The one that puts first wins; the other is told, looks again, and wins.
+fresh
+ends 0 get l.img 4711 --version
+first=$(head -n 1 out) second=$(head -n 1 out)
+printf 'B- 450 ml' > theirs
+printf 'O+ 450 ml' > ours
+ends 0 put l.img 4711 theirs --if-version "$first"
+ends 5 put l.img 4711 ours --if-version "$second"
+says 'zkv: l.img: key 4711: version 1 is named, and 2 stands: refused 17'
+has 0 4711 2 theirs
+"$zkv" get l.img 4711 --version | { read -r version; cat > label; printf '\n' >> label; exec "$zkv" put l.img 4711 label --if-version "$version"; }
+hold "the put behind a look-up ends with 0" [ "${PIPESTATUS[1]}" -eq 0 ]
+has 0 4711 3 <(cat theirs; echo)
+# The version that counts is the one that stands when the lock is got.
+"$zkv" put l.img 4711 theirs --if-version 3 --pause 40000 &
+put=$!
+until_locked l.img
+ends 5 put l.img 4711 ours --if-version 3
+says 'version 3 is named, and 4 stands'
+wait "$put"
+status=$?
+hold "the put that had the lock ends with 0, not $status" [ "$status" -eq 0 ]
+has 0 4711 4 theirs
+# Many at once: each appends its letter to the label, again and again; no letter is lost, and each put has its version.
+# append LETTER TIMES
+append() {
+    local n tries=0 version status
+    for n in $(seq "$2"); do
+        status=5
+        while [ "$status" -eq 5 ] && [ "$tries" -lt 1000 ]; do
+            status=0 tries=$((tries + 1))
+            "$zkv" get l.img 9 --version > "found.$1" 2> /dev/null
+            { read -r version; cat > "label.$1"; } < "found.$1"
+            printf %s "$1" >> "label.$1"
+            "$zkv" put l.img 9 "label.$1" --if-version "$version" 2> /dev/null || status=$?
+        done
+        [ "$status" -eq 0 ] || return "$status"
+    done
+}
+jobs=
+for letter in a b c d; do
+    append "$letter" 10 &
+    jobs="$jobs $!"
+done
+for job in $jobs; do
+    wait "$job"
+    status=$?
+    hold "a loop ends with 0, not $status" [ "$status" -eq 0 ]
+done
+ends 0 get l.img 9 --version
+hold "40 letters were put, one at a time: $(head -c 100 out | tr '\n' ' ')" [ "$(head -n 1 out)" = 40 ]
+hold "no letter is lost: $(sed 1d out)" [ "$(sed 1d out | fold -w 1 | sort | uniq -c | tr -d ' \n')" = 10a10b10c10d ]
+
+# A put that has to clean first, of a deleted key whose entries stand in the chunk that is cleaned: they are dropped,
+# and the key has version 0. Its version was right when the lock was got, so that it is put.
+rm -f full.img
+ends 0 format full.img 4
+ends 0 put full.img 7 value
+ends 0 delete full.img 7
+for _ in $(seq 200); do "$zkv" put full.img 1 value --no-clean 2> err || break; done
+says 'refused 13'
+cp full.img before
+for version in 0 1 3; do
+    ends 5 put full.img 7 value --if-version "$version"
+    says "key 7: version $version is named, and 2 stands"
+done
+ends 3 put full.img 7 value --if-version 2 --no-clean
+says 'key 7: 9 bytes: refused 13'
+untouched full.img before
+cp before cleaned.img
+ends 0 clean cleaned.img
+image=cleaned.img has 1 7 0 nothing
+ends 0 put full.img 7 value --if-version 2
+image=full.img has 0 7 1 value
+ends 0 get full.img 1
+# The same where a cut in a cleaning has left no chunk free, so that one is freed before anything is staged.
+seq 101 164 | sed 's/$/\t/' > list
+# fill_two: fills the chunk that is in use with labels, and another one with deletes alone.
+fill_two() {
+    ends 0 load cut.img list
+    for _ in $(seq 200); do "$zkv" put cut.img 1 value --no-clean 2> /dev/null || break; done
+    for key in $(seq 101 164); do "$zkv" delete cut.img "$key" --no-clean || return; done
+}
+rm -f cut.img
+ends 0 format cut.img 4
+fill_two
+ends 0 clean cut.img                            # one label is left, in chunk 3
+ends 0 put cut.img 7 value
+ends 0 delete cut.img 7
+fill_two
+ends 0 history cut.img 7
+hold "the entries of key 7 stand in chunk 3: $(cat out)" [ "$(grep -c 'chunk 3 ' out)" -eq 2 ]
+cp cut.img uncut.img
+ends 0 clean cut.img 3
+hold "one entry was copied: $(cat out)" grep -qx 'entries copied 1' out
+dd if=uncut.img of=cut.img bs=8 skip=11 seek=11 count=1 conv=notrunc status=none    # chunk 3 is not yet free
+ends 0 stat cut.img
+hold "no chunk is free: $(cat out)" grep -qx 'free chunks 0' out
+image=cut.img has 1 7 2 nothing
+cp cut.img before
+for label in value large; do
+    ends 5 put cut.img 7 "$label" --if-version 1
+    says 'key 7: version 1 is named, and 2 stands'
+    untouched cut.img before
+done
+for option in '' --no-clean; do
+    cp before cut.img
+    ends 0 put cut.img 7 value --if-version 2 $option
+    image=cut.img has 0 7 1 value
+done
 
 if [ "$failures" -gt 0 ]; then
     echo "zkv: $failures of $checks checks do not hold" >&2
