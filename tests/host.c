@@ -113,6 +113,43 @@ static void write_with_trouble(void)
     HOLD(ends(stopped) && zkv_look_up(LENT, 6, &start, &length) == 0 && length == 1);
 }
 
+/* The highest version that the entries of a key have, 0 where it has none: what a put of an absent key names. */
+static uint64_t version_of(uint64_t key)
+{
+    uint64_t entry[8 * ZKV_ENTRY_WORDS], highest = 0;
+    size_t i, count = zkv_entries(file.image, file.bytes, key, 0, entry, sizeof entry / sizeof *entry);
+    HOLD(count <= 8);
+    for (i = 0; i < count; i++) {
+        uint64_t version = entry[i * ZKV_ENTRY_WORDS + ZKV_ENTRY_VERSION];
+        highest = version > highest ? version : highest;
+    }
+    return highest;
+}
+
+/* Two windows look the same label up, and both put it for its version: the second looks again. Then a deleted key. */
+static void two_windows(void)
+{
+    const uint8_t label[] = "O+ 450 ml";
+    uint64_t start, length, ours, theirs;
+    HOLD(zkv_look_up_version(LENT, 4711, &start, &length, &ours) == 0 && ours == version_of(4711));
+    theirs = ours;
+    HOLD(ends(zkv_put_at(LENT, 4711, label, 2, theirs)) && ends(zkv_commit(LENT)));
+    HOLD(zkv_put_at(LENT, 4711, label, 9, ours).first == ZKV_OTHER_VERSION && zkv_commit(LENT).first == ZKV_NOTHING_STAGED);
+    HOLD(zkv_look_up_version(LENT, 4711, &start, &length, &ours) == 0 && ours == theirs + 1 && length == 2);
+    HOLD(ends(zkv_put_at(LENT, 4711, label, 9, ours)) && ends(zkv_commit(LENT)) && version_of(4711) == ours + 1);
+    HOLD(version_of(5) == 2 && zkv_put_at(LENT, 5, label, 9, 0).first == ZKV_OTHER_VERSION);
+    HOLD(ends(zkv_put_at(LENT, 5, label, 9, 2)) && zkv_abandon(LENT).kind == ZKV_ABANDONED);
+}
+
+/* The cleaning has dropped the entries of key 5, which is unknown now; a present key has its version still. */
+static void versions_after_clean(void)
+{
+    uint64_t start, length, version;
+    HOLD(version_of(5) == 0 && zkv_put_at(LENT, 5, (const uint8_t *)"B", 1, 2).first == ZKV_OTHER_VERSION);
+    HOLD(ends(zkv_put_at(LENT, 5, (const uint8_t *)"B", 1, 0)) && zkv_abandon(LENT).kind == ZKV_ABANDONED);
+    HOLD(zkv_look_up_version(LENT, 4711, &start, &length, &version) == 0 && version == 3 && length == 9);
+}
+
 /* By steps and by runs, as a host does it that needs more than zkv_finish; then by the two functions for memory. */
 static void clean(void)
 {
@@ -158,7 +195,9 @@ int main(int count, char **argument)
     write_labels();
     look_inside();
     write_with_trouble();
+    two_windows();
     clean();
+    versions_after_clean();
     HOLD(zkv_file_confirm(&file) == NULL);
     zkv_file_close(&file);
     return 0;

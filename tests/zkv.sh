@@ -1090,6 +1090,21 @@ ends 0 get l.img 9 --version
 hold "40 letters were put, one at a time: $(head -c 100 out | tr '\n' ' ')" [ "$(head -n 1 out)" = 40 ]
 hold "no letter is lost: $(sed 1d out)" [ "$(sed 1d out | fold -w 1 | sort | uniq -c | tr -d ' \n')" = 10a10b10c10d ]
 
+# The loop of the manual page, as it stands there; before its first put another window puts the label.
+sed -n '/^status=5$/,/^done$/p' "$host/zkv.1" | sed 's/\\-/-/g' > loop
+mkdir bin
+printf '%s\n' '#!/bin/sh' '[ "$1" != put ] || ! rm other 2> /dev/null || printf theirs | $ZKV put labels.img 4711 -' 'exec $ZKV "$@"' > bin/zkv
+chmod 700 bin/zkv
+rm -f labels.img
+ends 0 format labels.img 5
+ends 0 put labels.img 4711 value
+: > other
+status=0
+ZKV=$zkv PATH=$work/bin:$PATH sh -c '. ./loop; exit $status' 2> err || status=$?
+hold "the manual page's loop ends with 0, not $status" [ "$status" -eq 0 ]
+says 'version 1 is named, and 2 stands'
+image=labels.img has 0 4711 3 <(printf 'theirs, checked')
+
 # A put that has to clean first, of a deleted key whose entries stand in the chunk that is cleaned: they are dropped,
 # and the key has version 0. Its version was right when the lock was got, so that it is put.
 rm -f full.img
