@@ -1,4 +1,5 @@
 pub mod Examples
 pub mod Slips
+pub mod NamedVersions
 pub mod Registers
 pub mod Stuck
