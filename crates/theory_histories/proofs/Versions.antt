@@ -19,12 +19,13 @@ use Rattle.spec.specs.Medium.{Action}
 use Rattle.spec.specs.Log.{Entry, maxInLog}
 use Rattle.spec.specs.Blocks.{blockSize, pointed}
 use Rattle.spec.specs.Contents.{highest, chosen}
-use Rattle.spec.specs.Plans.{Task, Plan, Refuse, Begin, Slot, InData, InFree, Nowhere, Staging, need, nextVersion, present, fitsVersion, fitsBatch, fitsKeys, maxPutVersion, maxVersion, entry, slotFor, stageLarge, stagePut, putWords, planPut, planDelete, partOr, lookUp}
+use Rattle.spec.specs.Plans.{Task, Plan, Refuse, Begin, Slot, InData, InFree, Nowhere, Staging, need, nextVersion, present, fitsVersion, entry, slotFor, stageLarge, stagePut, planPut, planDelete, partOr, lookUp}
 use Rattle.spec.specs.declared.Given.the-variants as G
 use Rattle.spec.specs.declared.Refusal.{Refusal}
 use Rattle.spec.specs.declared.Refusal.the-variants as N
 use Rattle.spec.specs.declared.Report.the-variants as R
 use Rattle.theory_log.proofs.Contents.{versionOf, chosen-best, highest-best, highest-append}
+use Rattle.theory_plans.proofs.Begun.{put-begun, delete-begun}
 
 -- ## What look-up hands out
 
@@ -43,11 +44,6 @@ looked-version ws es k a n v h = by (chosen k es) refl h
         go false b2 r = absurd (let z : _≡_ {A = ℕ} 0 1 = cc in omega arith)
 
 -- ## One item more
-
--- a plan that begins has met its first test
-met : (a : Bool) (x : Refusal) (q : Plan) (items : List Entry) (task : Task) (acts : List Action) → need a x q ≡ Begin items task acts → (a ≡ true) × (q ≡ Begin items task acts)
-met true x q items task acts h = (refl, h)
-met false x q items task acts h = absurd (let o : _≡_ {A = ℕ} 0 1 = cc in omega arith)
 
 -- an item that counts on is its key's highest
 counts-on : (k : ℕ) (es items : List Entry) (e : Entry) → e .key ≡ k → e .version ≡ suc (highest k (es ++ items)) → highest k (es ++ (items ++ (e ∷ []))) ≡ suc (highest k (es ++ items))
@@ -88,28 +84,20 @@ staged-more p n ws k es items items′ task acts bytes h = go (leb (length bytes
 -- an accepted staging leaves the version behind the one that it named
 pub put-named : (p limit n : ℕ) (ws : List ℕ) (table : ℕ) (es items items′ : List Entry) (task : Task) (acts : List Action) (v k : ℕ) (bytes : List ℕ)
     → planPut p limit n ws table es items (G.Number v) k bytes ≡ Begin items′ task acts → highest k (es ++ items′) ≡ v + 1
-unfolding planPut More
+unfolding More
 put-named p limit n ws table es items items′ task acts v k bytes h =
-    let a = met (leb (length bytes) limit) N.TooLong _ items′ task acts h in
-    let b = met (fitsVersion (G.Number v) k es items) N.OtherVersion _ items′ task acts (a .1) in
-    let c = met (leb (nextVersion k es items) maxPutVersion) N.VersionSpent _ items′ task acts (b .1) in
-    let d = met (fitsBatch items (putWords (length bytes))) N.BatchFull _ items′ task acts (c .1) in
-    let e = met (fitsKeys table es items k) N.TableFull _ items′ task acts (d .1) in
-    let q : v ≡ highest k (es ++ items) = eqb-true v (highest k (es ++ items)) (b .0) in
-    let m = staged-more p n ws k es items items′ task acts bytes (e .1) in
+    let b = put-begun p limit n ws table es items (G.Number v) k bytes items′ task acts h in
+    let q : v ≡ highest k (es ++ items) = eqb-true v (highest k (es ++ items)) (b .named) in
+    let m = staged-more p n ws k es items items′ task acts bytes (b .staged) in
     m ∙ omega arith
 
 pub delete-named : (table : ℕ) (es items items′ : List Entry) (task : Task) (acts : List Action) (v k : ℕ)
     → planDelete table es items (G.Number v) k ≡ Begin items′ task acts → highest k (es ++ items′) ≡ v + 1
-unfolding planDelete More
+unfolding More
 delete-named table es items items′ task acts v k h =
-    let a = met (present k es items) N.KeyAbsent _ items′ task acts h in
-    let b = met (fitsVersion (G.Number v) k es items) N.OtherVersion _ items′ task acts (a .1) in
-    let c = met (leb (nextVersion k es items) maxVersion) N.VersionSpent _ items′ task acts (b .1) in
-    let d = met (fitsBatch items 2) N.BatchFull _ items′ task acts (c .1) in
-    let e = met (fitsKeys table es items k) N.TableFull _ items′ task acts (d .1) in
-    let q : v ≡ highest k (es ++ items) = eqb-true v (highest k (es ++ items)) (b .0) in
-    let m = one-more k es items _ items′ task _ acts _ (entry 2 0 (nextVersion k es items) 0 k []) refl refl refl (e .1) in
+    let b = delete-begun table es items (G.Number v) k items′ task acts h in
+    let q : v ≡ highest k (es ++ items) = eqb-true v (highest k (es ++ items)) (b .named) in
+    let m = one-more k es items _ items′ task _ acts _ (entry 2 0 (nextVersion k es items) 0 k []) refl refl refl (b .staged) in
     m ∙ omega arith
 
 -- and one that names another version than the highest is refused

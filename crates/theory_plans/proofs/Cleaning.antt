@@ -13,7 +13,6 @@ use lib.Seq.{slice}
 use borrow.Author.Tests.{eq-eqb, leb-true, ltb-true}
 use Rattle.spec.specs.declared.LogStep.{LogStep}
 use Rattle.spec.specs.declared.LogStep.the-variants as S
-use Rattle.spec.specs.declared.Refusal.{Refusal}
 use Rattle.spec.specs.declared.Refusal.the-variants as N
 use Rattle.spec.specs.Basics.{pick, both, negate, filter, any}
 use Rattle.spec.specs.Places.{base, chunkLines, unitChunk, directoryWord}
@@ -23,7 +22,7 @@ use Rattle.spec.specs.Log.{Entry, Wrong, Entries, stepOf, after, parse, encode,
 use Rattle.spec.specs.Blocks.{pointed}
 use Rattle.spec.specs.Contents.{Held, isTop, capacity, keysOf, entriesIn, liveBlocks, isKept, keptIn}
 use Rattle.spec.specs.Actions.{linesFor}
-use Rattle.spec.specs.Plans.{Task, Cleaning, Plan, Begin, need, logPlace, appendTo, inUse, hasLive, free, cleanTo, cleanLog, cleanData, planClean}
+use Rattle.spec.specs.Plans.{Task, Cleaning, Begin, need, logPlace, appendTo, inUse, hasLive, free, cleanTo, cleanLog, cleanData, planClean}
 use Rattle.spec.specs.Book.{Item}
 use Rattle.theory_base.proofs.Lists.{both-l, both-r, either-no, not-both}
 use Rattle.theory_base.proofs.Through.{Through}
@@ -40,6 +39,7 @@ use Rattle.theory_crash.proofs.Clean.{clean-free-through}
 use Rattle.theory_crash.proofs.Directory.{log-says, not-log-says}
 use Rattle.theory_crash.proofs.Free.{free-data}
 use Rattle.theory_plans.specs.Standing.{Standing, Going}
+use Rattle.theory_plans.proofs.Begun.{need-begin}
 use Rattle.theory_plans.proofs.LogPlace.{negate-true, log-place}
 use Rattle.theory_plans.proofs.Committing.{rests-going}
 
@@ -161,11 +161,6 @@ module _ (p : ℕ) (lo : 12 ≤ p) (hi : p ≤ 16) (n table : ℕ) (C : ℕ → 
       go : (b : Bool) → isLog (roleAt p ws c) ≡ b → pick b (cleanLog p n ws c kept) (cleanData p ws es c) ≡ Begin items′ task acts → Goal items′ task acts
       go true e k = log-goes items′ task acts used e k
       go false e k = data-goes items′ task acts e k
-
--- what was begun had its needs
-pub need-begin : (b : Bool) (r : Refusal) (q : Plan) (items : List Entry) (task : Task) (acts : List Action) → need b r q ≡ Begin items task acts → (b ≡ true) × (q ≡ Begin items task acts)
-need-begin true r q items task acts h = (refl, h)
-need-begin false r q items task acts h = absurd (let z : _≡_ {A = ℕ} 0 1 = cc in omega arith)
 
 pub in-use : (p n : ℕ) (ws : List ℕ) (c : ℕ) → inUse p n ws c ≡ true → (1 ≤ c) × (c < n) × (isFree (roleAt p ws c) ≡ false)
 in-use p n ws c h =

@@ -1,3 +1,4 @@
+pub mod Begun
 pub mod Between
 pub mod Looking
 pub mod Formatted

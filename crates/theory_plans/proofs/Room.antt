@@ -22,7 +22,7 @@ use Rattle.spec.specs.Log.{Entry, encodeAll, maxInLog}
 use Rattle.spec.specs.Blocks.{blockLimit, blockSize}
 use Rattle.spec.specs.Contents.{Held, capacity, keysOf, entriesIn, keptIn}
 use Rattle.spec.specs.Actions.{linesFor, takeOf, blockOf}
-use Rattle.spec.specs.Plans.{Task, Staging, Begin, Slot, InData, InFree, Nowhere, nextVersion, present, fitsVersion, maxPutVersion, maxVersion, fitsBatch, fitsKeys, putWords, entry, freeChunk, orFree, slotFor, stageLarge, planPut, planDelete, isDelete, freeNeeded, hasSpace, orElse, logPlace, appendTo, commitAt, planCommit, free}
+use Rattle.spec.specs.Plans.{Task, Staging, Begin, Slot, InData, InFree, Nowhere, nextVersion, entry, freeChunk, orFree, slotFor, stageLarge, planPut, planDelete, isDelete, freeNeeded, hasSpace, orElse, logPlace, appendTo, commitAt, planCommit}
 use Rattle.spec.specs.Book.{Item, doneItems}
 use Rattle.spec.specs.Unstuck.{FreeStands}
 use Rattle.spec.specs.declared.Given.{Given}
@@ -51,7 +51,7 @@ use Rattle.theory_plans.proofs.Slots.{spare, slot-free, slot-data}
 use Rattle.theory_plans.proofs.Large.{block-words, words-fit}
 use Rattle.theory_plans.proofs.Committing.{commit-begun}
 use Rattle.theory_plans.proofs.Unstuck.{free-stands}
-use Rattle.theory_plans.proofs.Cleaning.{need-begin}
+use Rattle.theory_plans.proofs.Begun.{need-begin, put-begun, delete-begun}
 
 pub begun-acts : (items items′ : List Entry) (task task′ : Task) (acts acts′ : List Action) → Begin items task acts ≡ Begin items′ task′ acts′ → acts′ ≡ acts
 begun-acts items items′ task task′ acts acts′ h = cc
@@ -211,14 +211,9 @@ module _ (p : ℕ) (lo : 12 ≤ p) (hi : p ≤ 16) (n table : ℕ) (C : ℕ → 
       → ((c size : ℕ) (words : List ℕ) → 1 ≤ c → c < n → isFree (roleAt p ws c) ≡ true → 3 ≤ length (freeChunks p n ws) → isSize p size ≡ true → length words ≤ 32 * size
       → G (takeOf c (getD ws (directoryWord c) 0) size ++ blockOf (firstUnit p c) words))
       → (limit : ℕ) → limit ≤ blockLimit p → (items′ : List Entry) (task : Task) (acts : List Action) (x : Given) (k : ℕ) (v : List ℕ) → AreBytes v → planPut p limit n ws table es items x k v ≡ Begin items′ task acts → G acts
-  unfolding planPut
   put-cases G nothing block take limit fits items′ task acts x k v bytes h =
-      let a = need-begin (leb (length v) limit) N.TooLong _ items′ task acts h in
-      let o = need-begin (fitsVersion x k es items) N.OtherVersion _ items′ task acts (a .1) in
-      let b = need-begin (leb (nextVersion k es items) maxPutVersion) N.VersionSpent _ items′ task acts (o .1) in
-      let c = need-begin (fitsBatch items (putWords (length v))) N.BatchFull _ items′ task acts (b .1) in
-      let d = need-begin (fitsKeys table es items k) N.TableFull _ items′ task acts (c .1) in
-      go (leb-true (length v) limit (a .0)) (leb (length v) maxInLog) refl (d .1)
+      let b = put-begun p limit n ws table es items x k v items′ task acts h in
+      go (leb-true (length v) limit (b .short)) (leb (length v) maxInLog) refl (b .staged)
     where
       size : ℕ
       size = blockSize p (length v)
@@ -247,14 +242,7 @@ module _ (p : ℕ) (lo : 12 ≤ p) (hi : p ≤ 16) (n table : ℕ) (C : ℕ → 
   put-plan = put-cases Goes room data-room taken-room
 
   delete-plan : (items′ : List Entry) (task : Task) (acts : List Action) (x : Given) (k : ℕ) → planDelete table es items x k ≡ Begin items′ task acts → Goes acts
-  unfolding planDelete
-  delete-plan items′ task acts x k h =
-      let a = need-begin (present k es items) N.KeyAbsent _ items′ task acts h in
-      let o = need-begin (fitsVersion x k es items) N.OtherVersion _ items′ task acts (a .1) in
-      let b = need-begin (leb (nextVersion k es items) maxVersion) N.VersionSpent _ items′ task acts (o .1) in
-      let c = need-begin (fitsBatch items 2) N.BatchFull _ items′ task acts (b .1) in
-      let d = need-begin (fitsKeys table es items k) N.TableFull _ items′ task acts (c .1) in
-      rw (begun-acts _ _ _ _ _ _ (d .1)) room
+  delete-plan items′ task acts x k h = rw (begun-acts _ _ _ _ _ _ (delete-begun table es items x k items′ task acts h .staged)) room
 
   -- A COMMIT, begun while a free chunk stands: another stays free all the way
   commit-plan : (items′ : List Entry) (task : Task) (acts : List Action) → FreeStands p n ws → planCommit p n ws items ≡ Begin items′ task acts → Going p n table C (doneItems book C) [] [] acts m → Goes acts
@@ -374,15 +362,7 @@ module _ (p : ℕ) (lo : 12 ≤ p) (hi : p ≤ 16) (n table : ℕ) (C : ℕ → 
       ∙ h)
 
   pub delete-free : FreeStands p n (latest m) → (x : Given) (k : ℕ) → planDelete table (entriesIn p n (latest m)) items x k ≡ Begin items′ task acts → FreeStands p n (latest (run acts m))
-  unfolding planDelete
-  delete-free f x k h =
-      let es = entriesIn p n (latest m) in
-      let a = need-begin (present k es items) N.KeyAbsent _ items′ task acts h in
-      let o = need-begin (fitsVersion x k es items) N.OtherVersion _ items′ task acts (a .1) in
-      let b = need-begin (leb (nextVersion k es items) maxVersion) N.VersionSpent _ items′ task acts (o .1) in
-      let c = need-begin (fitsBatch items 2) N.BatchFull _ items′ task acts (b .1) in
-      let d = need-begin (fitsKeys table es items k) N.TableFull _ items′ task acts (c .1) in
-      rw (begun-acts _ _ _ _ _ _ (d .1)) f
+  delete-free f x k h = rw (begun-acts _ _ _ _ _ _ (delete-begun table (entriesIn p n (latest m)) items x k items′ task acts h .staged)) f
 
   pub commit-free : FreeStands p n (latest m) → planCommit p n (latest m) items ≡ Begin items′ task acts → FreeStands p n (latest (run acts m))
   commit-free f h = commit-stays p lo hi n table C book items m s room (rw (s .rest .now) at f) items′ task acts (rw (s .rest .now) at h)

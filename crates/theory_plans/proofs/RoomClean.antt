@@ -42,7 +42,8 @@ use Rattle.theory_crash.proofs.Room.{Says, StoresAs, says-fresh, append-stores,
 use Rattle.theory_plans.specs.Standing.{Standing}
 use Rattle.theory_plans.proofs.Between.{known-few}
 use Rattle.theory_plans.proofs.LogPlace.{negate-true, log-place}
-use Rattle.theory_plans.proofs.Cleaning.{need-begin, in-use, kept-fits, no-live}
+use Rattle.theory_plans.proofs.Cleaning.{in-use, kept-fits, no-live}
+use Rattle.theory_plans.proofs.Begun.{need-begin}
 use Rattle.spec.specs.Unstuck.{FreeStands}
 use Rattle.theory_plans.proofs.Unstuck.{freed-stands}
 use Rattle.theory_plans.proofs.Room.{begun-acts}

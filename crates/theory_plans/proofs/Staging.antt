@@ -18,33 +18,17 @@ use Rattle.spec.specs.Log.{Entry, filled, maxInLog}
 use Rattle.spec.specs.Blocks.{blockLimit, blockSize}
 use Rattle.spec.specs.Contents.{Held, Absent, Value, highest, entriesIn}
 use Rattle.spec.specs.Actions.{takeOf, blockOf}
-use Rattle.spec.specs.Plans.{Task, Staging, Plan, Begin, need, nextVersion, present, fitsVersion, fitsBatch, fitsKeys, maxPutVersion, maxVersion, entry, Slot as Found, InData, InFree, Nowhere, slotFor, putWords, stageLarge, stagePut, planPut, planDelete}
+use Rattle.spec.specs.Plans.{Task, Staging, Begin, nextVersion, fitsBatch, maxPutVersion, maxVersion, entry, Slot as Found, InData, InFree, Nowhere, slotFor, stageLarge, planPut, planDelete}
 use Rattle.spec.specs.Book.{Item}
 use Rattle.spec.specs.declared.Given.{Given}
-use Rattle.spec.specs.declared.Refusal.{Refusal}
-use Rattle.spec.specs.declared.Refusal.the-variants as N
 use Rattle.words.proofs.Values.{length-packed, packed-filled, bytes-packed}
 use Rattle.theory_base.proofs.Sizes as Z
 use Rattle.theory_log.specs.Batch.{put, block, delete, Right}
 use Rattle.theory_plans.specs.Standing.{Standing, Going}
+use Rattle.theory_plans.proofs.Begun.{PutBegun, put-begun, DeleteBegun, delete-begun}
 use Rattle.theory_plans.proofs.Between.{stand-entries}
 use Rattle.theory_plans.proofs.Item.{Admitted, log-ready, stand-more}
 use Rattle.theory_plans.proofs.Large.{block-words, data-goes, free-goes}
-
--- A plan that begins has met its four tests.
-met : (a b c d : Bool) (x y z w : Refusal) (q : Plan) (items : List Entry) (task : Task) (acts : List Action) → need a x (need b y (need c z (need d w q))) ≡ Begin items task acts
-    → (a ≡ true) × (b ≡ true) × (c ≡ true) × (d ≡ true) × (q ≡ Begin items task acts)
-met true true true true x y z w q items task acts h = (refl, refl, refl, refl, h)
-met true true true false x y z w q items task acts h = absurd (let o : _≡_ {A = ℕ} 0 1 = cc in omega arith)
-met true true false d x y z w q items task acts h = absurd (let o : _≡_ {A = ℕ} 0 1 = cc in omega arith)
-met true false c d x y z w q items task acts h = absurd (let o : _≡_ {A = ℕ} 0 1 = cc in omega arith)
-met false b c d x y z w q items task acts h = absurd (let o : _≡_ {A = ℕ} 0 1 = cc in omega arith)
-
--- A plan that begins has met its second test: what is left is the plan without it.
-past-second : (a b : Bool) (x y : Refusal) (q : Plan) (items : List Entry) (task : Task) (acts : List Action) → need a x (need b y q) ≡ Begin items task acts → need a x q ≡ Begin items task acts
-past-second true true x y q items task acts h = h
-past-second true false x y q items task acts h = absurd (let o : _≡_ {A = ℕ} 0 1 = cc in omega arith)
-past-second false b x y q items task acts h = absurd (let o : _≡_ {A = ℕ} 0 1 = cc in omega arith)
 
 -- The new entries are right; h, k: the words before the value's.
 module _ (v : List ℕ) (bytes : AreBytes v) where
@@ -83,8 +67,7 @@ module _ (p : ℕ) (lo : 12 ≤ p) (hi : p ≤ 16) (n table : ℕ) (C : ℕ → 
   -- A PUT of at most the bytes that a block can hold
   planned-put : (limit : ℕ) → limit ≤ blockLimit p → (items′ : List Entry) (task : Task) (acts : List Action) (x : Given) (k : ℕ) (v : List ℕ) → AreBytes v → planPut p limit n ws table es items x k v ≡ Begin items′ task acts
       → (task ≡ Staging) × Going p n table C C (book ++ (record { key = k; gets = Value v } ∷ [])) items′ acts m
-  unfolding planPut
-  planned-put limit fits items′ task acts x k v bytes h = go (leb (length v) maxInLog) refl (tests .2) (tests .4)
+  planned-put limit fits items′ task acts x k v bytes h = go (leb (length v) maxInLog) refl (begun .batch) (begun .staged)
     where
       version : ℕ
       version = nextVersion k es items
@@ -98,20 +81,17 @@ module _ (p : ℕ) (lo : 12 ≤ p) (hi : p ≤ 16) (n table : ℕ) (C : ℕ → 
       Goal : Type 0
       Goal = (task ≡ Staging) × Going p n table C C book′ items′ acts m
 
-      tests : (leb (length v) limit ≡ true) × (leb version maxPutVersion ≡ true) × (fitsBatch items (putWords (length v)) ≡ true) × (fitsKeys table es items k ≡ true)
-          × (stagePut p n ws es items version k v ≡ Begin items′ task acts)
-      tests = met (leb (length v) limit) (leb version maxPutVersion) (fitsBatch items (putWords (length v))) (fitsKeys table es items k) N.TooLong N.VersionSpent N.BatchFull N.TableFull
-          (stagePut p n ws es items version k v) items′ task acts
-          (past-second (leb (length v) limit) (fitsVersion x k es items) N.TooLong N.OtherVersion _ items′ task acts h)
+      begun : PutBegun p limit n ws table es items x k v items′ task acts
+      begun = put-begun p limit n ws table es items x k v items′ task acts h
 
       spent : version ≤ maxPutVersion
-      spent = leb-true version maxPutVersion (tests .1)
+      spent = leb-true version maxPutVersion (begun .unspent)
 
       admitted : (u : ℕ) → fitsBatch items 2 ≡ true → Admitted table es items (entry 1 1 version u k [])
-      admitted u b = record { counts = refl; right = block-right (highest k (es ++ items)) u k spent; batch = b; keys = tests .3 }
+      admitted u b = record { counts = refl; right = block-right (highest k (es ++ items)) u k spent; batch = b; keys = begun .keys }
 
       block′ : 257 ≤ length v → (isSize p size ≡ true) × (length v + 8 ≤ 256 * size)
-      block′ l = let a = leb-true (length v) limit (tests .0) in Z.block-size p (length v) l (omega arith)
+      block′ l = let a = leb-true (length v) limit (begun .short) in Z.block-size p (length v) l (omega arith)
 
       large : 257 ≤ length v → fitsBatch items 2 ≡ true → (q : Found) → slotFor p n ws es items size ≡ q → stageLarge p ws items version k v q ≡ Begin items′ task acts → Goal
       large l b (InData u) e g =
@@ -127,17 +107,16 @@ module _ (p : ℕ) (lo : 12 ≤ p) (hi : p ≤ 16) (n table : ℕ) (C : ℕ → 
       go true q b g =
           begins book′ (items ++ (entry 1 0 version (length v) k (packed v) ∷ [])) items′ task [] acts g
           (stand-more p n table C book items m s (entry 1 0 version (length v) k (packed v)) (Value v)
-          (record { counts = refl; right = put-right v bytes (highest k (es ++ items)) k spent (leb-true (length v) maxInLog q); batch = rw (length-packed v) b; keys = tests .3 })
+          (record { counts = refl; right = put-right v bytes (highest k (es ++ items)) k spent (leb-true (length v) maxInLog q); batch = rw (length-packed v) b; keys = begun .keys })
           (log-ready p n ws es items m (entry 1 0 version (length v) k (packed v)) refl) (ap Value (bytes-packed v bytes)))
       go false q b g = large (leb-false (length v) maxInLog q) b (slotFor p n ws es items size) refl g
 
   planned-delete : (items′ : List Entry) (task : Task) (acts : List Action) (x : Given) (k : ℕ) → planDelete table es items x k ≡ Begin items′ task acts
       → (task ≡ Staging) × Going p n table C C (book ++ (record { key = k; gets = Absent } ∷ [])) items′ acts m
-  unfolding planDelete
   planned-delete items′ task acts x k h =
-      begins (book ++ (record { key = k; gets = Absent } ∷ [])) (items ++ (e ∷ [])) items′ task [] acts (tests .4)
+      begins (book ++ (record { key = k; gets = Absent } ∷ [])) (items ++ (e ∷ [])) items′ task [] acts (begun .staged)
       (stand-more p n table C book items m s e Absent
-      (record { counts = refl; right = delete-right (highest k (es ++ items)) k (leb-true version maxVersion (tests .1)); batch = tests .2; keys = tests .3 })
+      (record { counts = refl; right = delete-right (highest k (es ++ items)) k (leb-true version maxVersion (begun .unspent)); batch = begun .batch; keys = begun .keys })
       (log-ready p n ws es items m e refl) refl)
     where
       version : ℕ
@@ -146,9 +125,8 @@ module _ (p : ℕ) (lo : 12 ≤ p) (hi : p ≤ 16) (n table : ℕ) (C : ℕ → 
       e : Entry
       e = entry 2 0 version 0 k []
 
-      tests : (present k es items ≡ true) × (leb version maxVersion ≡ true) × (fitsBatch items 2 ≡ true) × (fitsKeys table es items k ≡ true) × (Begin (items ++ (e ∷ [])) Staging [] ≡ Begin items′ task acts)
-      tests = met (present k es items) (leb version maxVersion) (fitsBatch items 2) (fitsKeys table es items k) N.KeyAbsent N.VersionSpent N.BatchFull N.TableFull (Begin (items ++ (e ∷ [])) Staging []) items′ task acts
-          (past-second (present k es items) (fitsVersion x k es items) N.KeyAbsent N.OtherVersion _ items′ task acts h)
+      begun : DeleteBegun table es items x k items′ task acts
+      begun = delete-begun table es items x k items′ task acts h
 
 module _ (p : ℕ) (lo : 12 ≤ p) (hi : p ≤ 16) where
   pub put-goes : (limit : ℕ) → limit ≤ blockLimit p → (n table : ℕ) (C : ℕ → Held) (book : List Item) (items items′ : List Entry) (task : Task) (acts : List Action) (m : Medium) (x : Given) (k : ℕ) (v : List ℕ)
