@@ -3,7 +3,7 @@
 use mathlib.Core.Path.{_≡_, refl, sym, _∙_, ap}
 use mathlib.Core.Logic.{_⊎_, inl, inr}
 use mathlib.Core.Bool.{Bool, true, false}
-use mathlib.Core.List.{List, _++_}
+use mathlib.Core.List.{List, _∷_, _++_}
 use Prim.Native.Nat.{ℕ, suc, _+_, _≤_, _<_}
 use native.Mathlib.Omega.{arith}
 use lib.Dec.{eqb, leb, ltb}
@@ -12,8 +12,11 @@ use Rattle.spec.specs.Basics.{pick, both, negate}
 use Rattle.spec.specs.Log.{Entry}
 use Rattle.spec.specs.Contents.{highest, capacity}
 use Rattle.spec.specs.Plans.{isNamed, fitsVersion, Plan, Refuse, need, nextVersion, fitsBatch, fitsKeys, maxItems}
+use Rattle.spec.specs.Machine.{versionAsked}
+use Rattle.spec.specs.Contract.{MemRefusal}
 use Rattle.session.specs.declared.Control.{Control}
 use Rattle.spec.specs.declared.Given.{Given}
+use Rattle.spec.specs.declared.Given.the-variants as G
 use Rattle.spec.specs.declared.Refusal.{Refusal}
 use Rattle.spec.specs.declared.Refusal.the-variants as N
 use Rattle.theory_base.proofs.Lists.{both-l, both-r}
@@ -162,13 +165,17 @@ module _ (named : Given) (c : Control) (most version more room : ℕ) where
       go true e = admitted c most version more room fresh e
       go false e = absurd (let o : _≡_ {A = ℕ} 0 1 = cc in omega arith)
 
-  pub named-turned : {T : Type 0} (n : Refusal) → admitNamed named c most version more room ≡ A.Refused n → (n ≡ N.OtherVersion) ⊎ ((n ≡ N.VersionSpent) ⊎ ((n ≡ N.BatchFull) ⊎ ((n ≡ N.TableFull) ⊎ T)))
+  pub named-turned : (rest : List Refusal) (n : Refusal) → admitNamed named c most version more room ≡ A.Refused n → MemRefusal n (versionAsked named (N.VersionSpent ∷ N.BatchFull ∷ N.TableFull ∷ rest))
   unfolding admitNamed
-  named-turned {T} n h = go (isNamed named version) h
+  named-turned rest n h = by named h
     where
-      go : (t : Bool) → pick t (admitOf c most version more room) (A.Refused N.OtherVersion) ≡ A.Refused n → (n ≡ N.OtherVersion) ⊎ ((n ≡ N.VersionSpent) ⊎ ((n ≡ N.BatchFull) ⊎ ((n ≡ N.TableFull) ⊎ T)))
-      go true e = inr (turned c most version more room n e)
-      go false e = inl cc
+      asked : (v : ℕ) (t : Bool) → pick t (admitOf c most version more room) (A.Refused N.OtherVersion) ≡ A.Refused n → MemRefusal n (versionAsked (G.Number v) (N.VersionSpent ∷ N.BatchFull ∷ N.TableFull ∷ rest))
+      asked v true e = inr (turned c most version more room n e)
+      asked v false e = inl cc
+
+      by : (x : Given) → pick (isNamed x version) (admitOf c most version more room) (A.Refused N.OtherVersion) ≡ A.Refused n → MemRefusal n (versionAsked x (N.VersionSpent ∷ N.BatchFull ∷ N.TableFull ∷ rest))
+      by G.Absent e = turned c most version more room n e
+      by (G.Number v) e = asked v (eqb v version) e
 
   -- what the code shows
   pub named-yes : (a : Admission) → isNamed named version ≡ true → a ≡ admitOf c most version more room → a ≡ admitNamed named c most version more room
@@ -197,3 +204,8 @@ module _ (named : Given) (c : Control) (b : List ℕ) (n : ℕ) (ws : List ℕ) 
           ≡ planBy (pick t (admitOf c most version more (capacity table)) (A.Refused N.OtherVersion)) q
       go true = plan-admits c b n ws es items fits most key version more table highest-is old-is q
       go false = refl
+
+-- what is asked behind 17 may be answered, a version named or not
+pub asked-behind : (x : Given) (n : Refusal) (rs : List Refusal) → MemRefusal n rs → MemRefusal n (versionAsked x rs)
+asked-behind G.Absent n rs h = h
+asked-behind (G.Number v) n rs h = inr h

@@ -159,9 +159,9 @@ pub fn shown_with(report: Report, start: &mut u64, length: &mut u64, version: &m
         Report::Part {
             start: at,
             length: n,
-            version: named,
+            version: handed,
         } => {
-            *version = named;
+            *version = handed;
             *length = n as u64;
             *start = at as u64;
             0

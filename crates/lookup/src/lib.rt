@@ -153,7 +153,7 @@ pub fn find(control: Control, setup: Setup, image: &[u8], table: &[u64], key: u6
     }
 }
 
-// Look-up: the part itself, the empty part on a refusal; `answer` gets 0 or the refusal's number, `named` the value's
+// Look-up: the part itself, the empty part on a refusal; `answer` gets 0 or the refusal's number, `handed` the value's
 // version, 0 on a refusal.
 pub fn look_up_core<'a>(
     control: Control,
@@ -162,9 +162,9 @@ pub fn look_up_core<'a>(
     table: &[u64],
     key: u64,
     answer: &mut u64,
-    named: &mut u64,
+    handed: &mut u64,
 ) -> &'a [u8]
-    ensures { λ r. ⌜ Showing control setup key (now (image .entry)) (now (table .entry)) (now r) (now (answer .exit)) (now (named .exit)) ⌝ }
+    ensures { λ r. ⌜ Showing control setup key (now (image .entry)) (now (table .entry)) (now r) (now (answer .exit)) (now (handed .exit)) ⌝ }
 {
     let found = locate(control, setup, image, table, key);
     match found {
@@ -175,12 +175,12 @@ pub fn look_up_core<'a>(
         } => {
             let end = start + length;
             *answer = 0;
-            *named = version;
+            *handed = version;
             &image[start..end]
         }
         Located::Refused(n) => {
             *answer = session::number(n);
-            *named = 0;
+            *handed = 0;
             &image[0..0]
         }
     }

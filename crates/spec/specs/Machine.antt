@@ -15,6 +15,7 @@ use Rattle.spec.specs.Contents.{entriesIn}
 use Rattle.spec.specs.Opening.{Opening, Refused, Accepted, opening}
 use Rattle.spec.specs.Actions.{formatOf}
 use Rattle.spec.specs.declared.Given.{Given}
+use Rattle.spec.specs.declared.Given.the-variants as G
 use Rattle.spec.specs.declared.Refusal.{Refusal}
 use Rattle.spec.specs.declared.Refusal.the-variants as N
 use Rattle.spec.specs.declared.Report.{Report}
@@ -232,12 +233,17 @@ unfoldable pub next : ℕ → ℕ → Call → State → List ℕ → ℕ → �
 next p limit k σ ws bytes table =
     pick (both (isRefused (answer p limit k σ ws bytes table)) (negate (isOpening (kindOf k)))) σ (change p limit k σ ws bytes table)
 
--- the numbers that a call may refuse with, whatever memory holds, in the order in which they are asked
+-- the numbers that a call may refuse with, whatever memory holds, in the order in which they are asked; 17 only where a
+-- version is named
+abbrev pub versionAsked : Given → List Refusal → List Refusal
+versionAsked G.Absent rs = rs
+versionAsked (G.Number n) rs = N.OtherVersion ∷ rs
+
 abbrev pub refusals : Call → List Refusal
 refusals (Format s c) = N.ImageLength ∷ N.Unfinished ∷ []
 refusals Open = N.ImageLength ∷ N.NotOpen ∷ N.DirectoryWrong ∷ N.EntryWrong ∷ N.BlockWrong ∷ N.TopsDisagree ∷ N.TableFull ∷ []
-refusals (Put x k v) = N.NotOpen ∷ N.ImageLength ∷ N.Unfinished ∷ N.TooLong ∷ N.OtherVersion ∷ N.VersionSpent ∷ N.BatchFull ∷ N.TableFull ∷ N.NoSpace ∷ []
-refusals (Delete x k) = N.NotOpen ∷ N.ImageLength ∷ N.Unfinished ∷ N.KeyAbsent ∷ N.OtherVersion ∷ N.VersionSpent ∷ N.BatchFull ∷ N.TableFull ∷ []
+refusals (Put x k v) = N.NotOpen ∷ N.ImageLength ∷ N.Unfinished ∷ N.TooLong ∷ versionAsked x (N.VersionSpent ∷ N.BatchFull ∷ N.TableFull ∷ N.NoSpace ∷ [])
+refusals (Delete x k) = N.NotOpen ∷ N.ImageLength ∷ N.Unfinished ∷ N.KeyAbsent ∷ versionAsked x (N.VersionSpent ∷ N.BatchFull ∷ N.TableFull ∷ [])
 refusals Commit = N.NotOpen ∷ N.ImageLength ∷ N.Unfinished ∷ N.NothingStaged ∷ N.NoSpace ∷ []
 refusals Abandon = N.NotOpen ∷ N.ImageLength ∷ N.Unfinished ∷ N.NothingStaged ∷ []
 refusals (LookUp k) = N.NotOpen ∷ N.ImageLength ∷ N.Unfinished ∷ N.KeyAbsent ∷ []

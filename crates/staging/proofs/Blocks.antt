@@ -50,7 +50,7 @@ use Rattle.admitting.specs.declared.Admission.the-variants as A
 use Rattle.admitting.specs.declared.Newest.{Newest}
 use Rattle.admitting.specs.Admitting.{NewestOf, VersionOf, admitNamed}
 use Rattle.staging.proofs.Staging as S
-use Rattle.admitting.proofs.Admits.{planBy, Admitting, named-admitted, named-turned, fresh-then, plan-named}
+use Rattle.admitting.proofs.Admits.{planBy, Admitting, named-admitted, named-turned, asked-behind, fresh-then, plan-named}
 use Rattle.session.specs.Promise.{Does, memory, memoryOf}
 use Rattle.session.specs.Numbers.{stagedMore}
 
@@ -113,7 +113,7 @@ module _ (c : Control) (k : Setup) (b bytes table : List ℕ) (g : Gated) (asks 
   pub block-refused : (x : Refusal) → a ≡ A.Refused x → Does (Put named key v) (memory s bytes table) (memory s bytes table) (R.Refused x)
   block-refused x e =
       refused 12 limit s bytes table x (Put named key v) refl (λ f. f) (λ f. sym (rw (S.opened c k b bytes table g asks passes, block-plan f, sym told ∙ e)))
-      (S.barred c k b bytes table g asks passes (R.Refused x)) (inr (inr (inr (inr (named-turned named c maxPutVersion last 2 room x (sym told ∙ e)))))) (refl, refl) (inl (x, refl))
+      (S.barred c k b bytes table g asks passes (R.Refused x)) (inr (inr (inr (inr (named-turned named c maxPutVersion last 2 room (N.NoSpace ∷ []) x (sym told ∙ e)))))) (refl, refl) (inl (x, refl))
 
   -- ADMITTED, and its block looked for
   module _ (fresh : ℕ) (e : a ≡ A.Admitted fresh) (are : AreBytes v) (after : List ℕ) (r : Large) (staged : LargeStaged bytes b after k (c .words) (last + 1) key v r) where
@@ -149,7 +149,7 @@ module _ (c : Control) (k : Setup) (b bytes table : List ℕ) (g : Gated) (asks 
     block-nowhere z =
         rw (staged .nothing z .0)
         (refused 12 limit s bytes table N.NoSpace (Put named key v) refl (λ f. f) (λ f. sym (rw (S.opened c k b bytes table g asks passes, plan-is f, none-found f)))
-        (S.barred c k b bytes table g asks passes (R.Refused N.NoSpace)) (inr (inr (inr (inr (inr (inr (inr (inr (inl refl))))))))) (refl, refl) (inl (N.NoSpace, refl)))
+        (S.barred c k b bytes table g asks passes (R.Refused N.NoSpace)) (inr (inr (inr (inr (asked-behind named N.NoSpace _ (inr (inr (inr (inl refl))))))))) (refl, refl) (inl (N.NoSpace, refl)))
       where
         none-found : (f : Fits s ws table) → placing n (last + 1) f ≡ Refuse N.NoSpace
         none-found f = subst (λ (x : Bool). Planned x (placing n (last + 1) f) after (items f) r) z (shown f)

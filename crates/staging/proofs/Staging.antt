@@ -246,7 +246,7 @@ module _ (c : Control) (k : Setup) (b bytes table : List ℕ) where
           pub put-refused : (x : Refusal) → a ≡ A.Refused x → Does (Put named key v) (memory s bytes table) (memory s bytes table) (R.Refused x)
           put-refused x e =
               refused 12 limit s bytes table x (Put named key v) refl (λ f. f) (λ f. sym (rw (opened, put-plan l f, sym told ∙ e)))
-              (barred (R.Refused x)) (inr (inr (inr (inr (named-turned named c maxPutVersion last need-words room x (sym told ∙ e)))))) (refl, refl) (inl (x, refl))
+              (barred (R.Refused x)) (inr (inr (inr (inr (named-turned named c maxPutVersion last need-words room (N.NoSpace ∷ []) x (sym told ∙ e)))))) (refl, refl) (inl (x, refl))
 
           pub put-done : (small : AreBytes v) (fresh : ℕ) → a ≡ A.Admitted fresh → (after : List ℕ) (words : ℕ)
               → Added b after (c .words) words (entry 1 0 (last + 1) (length v) key (packed v)) → (r : Stepped) → r ≡ oneMore c words fresh
@@ -298,7 +298,7 @@ module _ (c : Control) (k : Setup) (b bytes table : List ℕ) where
         pub delete-refused : (x : Refusal) → a ≡ A.Refused x → Does (Delete named key) (memory s bytes table) (memory s bytes table) (R.Refused x)
         delete-refused x e =
             refused 12 limit s bytes table x (Delete named key) refl (λ f. f) (λ f. sym (rw (opened, delete-plan h f, sym told ∙ e)))
-            (barred (R.Refused x)) (inr (inr (inr (inr (named-turned named c maxVersion (n .version) 2 room x (sym told ∙ e)))))) (refl, refl) (inl (x, refl))
+            (barred (R.Refused x)) (inr (inr (inr (inr (named-turned named c maxVersion (n .version) 2 room [] x (sym told ∙ e)))))) (refl, refl) (inl (x, refl))
 
         pub delete-done : (fresh : ℕ) → a ≡ A.Admitted fresh → (after : List ℕ) (words : ℕ)
             → Added b after (c .words) words (entry 2 0 (n .version + 1) 0 key []) → (r : Stepped) → r ≡ oneMore c words fresh

@@ -20,9 +20,9 @@ use Rattle.theory_log.specs.Batch.{AllRight}
 use Rattle.theory_log.specs.Contents.{Mem, Top}
 use Rattle.theory_base.proofs.Through.{Through}
 use Rattle.theory_crash.specs.Accepted.{Needs}
-use Rattle.theory_crash.specs.Rest.{AtRest, Flushed, Rests, Cuts, CutsTo}
+use Rattle.theory_crash.specs.Rest.{AtRest, Flushed, Rests, Cuts, CutsTo, Joined}
 use Rattle.theory_crash.specs.Batch.{entryWords, Effect, Place}
-use Rattle.theory_crash.proofs.Commit.{commit-through, commit-count}
+use Rattle.theory_crash.proofs.Commit.{commit-joins, commit-count}
 use Rattle.theory_crash.proofs.Clean.{clean-through, clean-to}
 
 -- The padding.
@@ -66,10 +66,10 @@ module _ (p : ℕ) (lo : 12 ≤ p) (hi : p ≤ 16) (n keys : ℕ) (C : ℕ → H
       → ((e : Entry) → Mem e (placed (base p d + 8 * linesOf p ws d) fs) → fine p n ws e ≡ true)
       → ((e f : Entry) → Mem e (placed (base p d + 8 * linesOf p ws d) fs) → Mem f (placed (base p d + 8 * linesOf p ws d) fs) ⊎ Top es f → pointed e ≡ true → pointed f ≡ true → e .field ≡ f .field → e .key ≡ f .key)
       → ((e : Entry) → Mem e (placed (base p d + 8 * linesOf p ws d) fs) → (k : ℕ) → Needs p ws e k → (cellAt m k) .newer ≡ [])
-      → Through (Cuts p n keys C (E (meaning ws) C)) (Rests p n keys (E (meaning ws) C)) (appendOf p d old (linesOf p ws d) (encodeAll fs)) m
+      → Through (Cuts p n keys C (E (meaning ws) C)) (λ m′. Rests p n keys (E (meaning ws) C) m′ × Joined p n es (placed (base p d + 8 * linesOf p ws d) fs) m′) (appendOf p d old (linesOf p ws d) (encodeAll fs)) m
   commit-append d old fs E place some′ right few effect staged own ready =
       rw (append-is p d old (linesOf p ws d) fs)
-      (commit-through p lo hi n d old (linesOf p ws d) (linesFor (length (encodeAll fs))) (padding fs) keys C ws es fs E m rest holds (record {
+      (commit-joins p lo hi n d old (linesOf p ws d) (linesFor (length (encodeAll fs))) (padding fs) keys C ws es fs E m rest holds (record {
         low = place .low;
         high = place .high;
         lines = refl;

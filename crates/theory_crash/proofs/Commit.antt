@@ -12,7 +12,7 @@ use Rattle.spec.specs.Places.{chunkWords, base, unitWord, directoryWord, maxChu
 use Rattle.spec.specs.Medium.{Cell, fresh, Action, Medium, run, cellAt, CanCutTo}
 use Rattle.spec.specs.Directory.{roleOf, linesIn, sizeIn, linesOf, sizeOf, logWord}
 use Rattle.spec.specs.Log.{Entry, Entries, entriesOf, chunkEntries, imageEntries, placed}
-use Rattle.spec.specs.Contents.{Held, contentsBy, meaning, keysOf}
+use Rattle.spec.specs.Contents.{Held, contentsBy, meaning, keysOf, listed, entriesIn}
 use Rattle.spec.specs.Opening.{fine}
 use Rattle.spec.specs.Actions.{bodyOf, sealOf, commitOf}
 use Rattle.theory_log.specs.Contents.{Mem, Top}
@@ -25,7 +25,7 @@ use Rattle.theory_log.proofs.Contents.{mem-l, mem-r}
 use Rattle.theory_log.proofs.Directory.{lines-is, size-is, lines-most}
 use Rattle.theory_log.proofs.Keys.{known-mem, mem-known, keys-fewer}
 use Rattle.theory_crash.specs.Accepted.{Needs, Ok, Support}
-use Rattle.theory_crash.specs.Rest.{AtRest, Ready, Flushed, Holds, Rests, Cuts, CutsTo}
+use Rattle.theory_crash.specs.Rest.{AtRest, Ready, Flushed, Holds, Rests, Cuts, CutsTo, Joined}
 use Rattle.theory_crash.specs.Batch.{entryWords, Batch}
 use Rattle.theory_crash.proofs.Directory.{log-no-size}
 use Rattle.theory_crash.proofs.Blocks.{needs-first, needs-move, needs-only}
@@ -317,10 +317,15 @@ module _ (p : ℕ) (lo : 12 ≤ p) (hi : p ≤ 16) (n d old l b z keys : ℕ) (C
   pub commit-ends : Flushed p n m → Through (Cuts p n keys C D) (λ m′. Ended m′ × Flushed p n m′) acts m
   commit-ends f = through-map (Cuts p n keys C D) (Cuts p n keys C D) Ended (λ m′. Ended m′ × Flushed p n m′) acts m (λ m′ t. t) (λ t. (t, acts-flushed f t)) acts-end
 
+  -- at rest with the new contents, and the batch among the entries
+  pub commit-joins : Flushed p n m → Through (Cuts p n keys C D) (λ m′. Rests p n keys D m′ × Joined p n es batch m′) acts m
+  commit-joins f =
+      through-map (Cuts p n keys C D) (Cuts p n keys C D) (λ m′. Ended m′ × Flushed p n m′) (λ m′. Rests p n keys D m′ × Joined p n es batch m′) acts m (λ m′ t. t)
+      (λ t. (((t .0 .image, t .0 .entries, t .0 .rests, t .0 .few′, t .0 .holds′), t .1), (t .0 .before, (t .0 .behind, (t .0 .split, ap (entriesIn p n) (t .0 .rests .now) ∙ ap listed (t .0 .rests .ok .parsed) ∙ t .0 .joined)))))
+      (commit-ends f)
+
   pub commit-through : Flushed p n m → Through (Cuts p n keys C D) (Rests p n keys D) acts m
-  commit-through f =
-      through-map (Cuts p n keys C D) (Cuts p n keys C D) (λ m′. Ended m′ × Flushed p n m′) (Rests p n keys D) acts m (λ m′ t. t)
-      (λ t. ((t .0 .image, t .0 .entries, t .0 .rests, t .0 .few′, t .0 .holds′), t .1)) (commit-ends f)
+  commit-through f = through-map (Cuts p n keys C D) (Cuts p n keys C D) (λ m′. Rests p n keys D m′ × Joined p n es batch m′) (Rests p n keys D) acts m (λ m′ t. t) (λ t. t .0) (commit-joins f)
 
   -- read at any prefix: cut there, the image holds the old contents or the new
   pub commit-cut : Flushed p n m → (done′ todo : List Action) → acts ≡ done′ ++ todo → (xs : List ℕ) → CanCutTo (run done′ m) xs → Holds p n keys C xs ⊎ Holds p n keys D xs

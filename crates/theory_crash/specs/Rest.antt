@@ -2,14 +2,14 @@
 -- Assumes nothing.
 use mathlib.Core.Path.{_≡_}
 use mathlib.Core.Logic.{_⊎_}
-use mathlib.Core.List.{List, []}
+use mathlib.Core.List.{List, [], _++_}
 use Prim.Native.Nat.{ℕ, _*_, _≤_, _<_}
 use lib.ListN.{length, getD}
 use Rattle.spec.specs.Places.{base, directoryWord, maxChunks}
 use Rattle.spec.specs.Medium.{fresh, values, Medium, latest, cellAt, Mem as Among, CanCutTo}
 use Rattle.spec.specs.Directory.{linesOf, sizeOf}
 use Rattle.spec.specs.Log.{Entry}
-use Rattle.spec.specs.Contents.{Held, Absent, contentsBy, meaning, keysOf}
+use Rattle.spec.specs.Contents.{Held, Absent, contentsBy, meaning, keysOf, entriesIn}
 use Rattle.spec.specs.Opening.{Refused, opening}
 use Rattle.spec.specs.declared.Refusal.the-variants as N
 use Rattle.theory_crash.specs.Accepted.{Calm, Ok, Support}
@@ -56,6 +56,10 @@ Stays p n keys C m = (ws : List ℕ) × (es : List Entry) × AtRest p n ws es m 
 -- what holds when a call has ended
 abbrev pub Rests : ℕ → ℕ → ℕ → (ℕ → Held) → Medium → Type 0
 Rests p n keys C m = Stays p n keys C m × Flushed p n m
+
+-- the entries that a medium has are es with a batch among them
+abbrev pub Joined : ℕ → ℕ → (es batch : List Entry) → Medium → Type 0
+Joined p n es batch m = (before : List Entry) × ((behind : List Entry) × ((es ≡ before ++ behind) × (entriesIn p n (latest m) ≡ before ++ (batch ++ behind))))
 
 -- every cut leaves an image with the old contents or one with the new
 abbrev pub Cuts : ℕ → ℕ → ℕ → (ℕ → Held) → (ℕ → Held) → Medium → Type 0

@@ -1,13 +1,13 @@
 -- A version in hand: what look-up hands out is the version that a staging must name, and of two windows that name the
--- same version one is served: the item of the first has the version behind it, and the second gets 17, or 9 or 11
--- before it.
+-- same version at most one is served: the item of the first has the version behind it, and the second gets 17, or 9 or
+-- 11 before it, while that item is staged and when its commit has ended.
 -- Assumes nothing.
 use mathlib.Core.Path.{_≡_, refl, sym, _∙_, ap}
 use mathlib.Core.Logic.{_⊎_, inl, inr}
 use mathlib.Core.Bool.{Bool, true, false}
 use mathlib.Core.Option.{Option, none, some}
 use mathlib.Core.List.{List, [], _∷_, _++_, append-assoc}
-use Prim.Native.Nat.{ℕ, suc, _+_, _*_, _<_}
+use Prim.Native.Nat.{ℕ, suc, _+_, _*_, _≤_, _<_}
 use native.Mathlib.Omega.{arith}
 use lib.Dec.{eqb, leb}
 use lib.ListN.{length, getD}
@@ -15,17 +15,21 @@ use borrow.Author.Tests.{eqb-true, eq-eqb, ne-eqb, le-leb, lt-leb}
 use Rattle.spec.specs.Basics.{pick, larger}
 use Rattle.spec.specs.Words.{packed}
 use Rattle.spec.specs.Places.{unitWord}
-use Rattle.spec.specs.Medium.{Action}
+use Rattle.spec.specs.Medium.{Action, Medium, run, latest}
 use Rattle.spec.specs.Log.{Entry, maxInLog}
 use Rattle.spec.specs.Blocks.{blockSize, pointed}
-use Rattle.spec.specs.Contents.{highest, chosen}
-use Rattle.spec.specs.Plans.{Task, Plan, Refuse, Begin, Slot, InData, InFree, Nowhere, Staging, need, nextVersion, present, fitsVersion, entry, slotFor, stageLarge, stagePut, planPut, planDelete, partOr, lookUp}
+use Rattle.spec.specs.Contents.{Held, highest, chosen, entriesIn}
+use Rattle.spec.specs.Plans.{Task, Plan, Refuse, Begin, Slot, InData, InFree, Nowhere, Staging, need, nextVersion, present, fitsVersion, entry, slotFor, stageLarge, stagePut, planPut, planDelete, planCommit, partOr, lookUp}
+use Rattle.spec.specs.Book.{Item}
 use Rattle.spec.specs.declared.Given.the-variants as G
 use Rattle.spec.specs.declared.Refusal.{Refusal}
 use Rattle.spec.specs.declared.Refusal.the-variants as N
 use Rattle.spec.specs.declared.Report.the-variants as R
-use Rattle.theory_log.proofs.Contents.{versionOf, chosen-best, highest-best, highest-append}
+use Rattle.theory_log.specs.Contents.{Mem}
+use Rattle.theory_log.proofs.Contents.{versionOf, larger-zero, chosen-best, highest-best, highest-append, highest-none}
+use Rattle.theory_plans.specs.Standing.{Standing}
 use Rattle.theory_plans.proofs.Begun.{put-begun, delete-begun}
+use Rattle.theory_plans.proofs.Committing.{commit-versions}
 
 -- ## What look-up hands out
 
@@ -42,6 +46,11 @@ looked-version ws es k a n v h = by (chosen k es) refl h
         go true true r = cc
         go true false r = cc
         go false b2 r = absurd (let z : _≡_ {A = ℕ} 0 1 = cc in omega arith)
+
+-- so the one that a staging has to name while no item of the key is staged
+pub looked-named : (ws : List ℕ) (es items : List Entry) (k a n v : ℕ) → lookUp ws es k ≡ R.Part a n v → ((e : Entry) → Mem e items → e .key ≡ k → ⊥) → highest k (es ++ items) ≡ v
+looked-named ws es items k a n v h unstaged =
+    highest-append k es items ∙ ap (larger (highest k es)) (highest-none k items unstaged) ∙ larger-zero (highest k es) ∙ looked-version ws es k a n v h
 
 -- ## One item more
 
@@ -127,3 +136,24 @@ second-put p limit n ws table es items v k bytes h = put-other es items v k (λ 
 pub second-delete : (table : ℕ) (es items : List Entry) (v k : ℕ) → highest k (es ++ items) ≡ v + 1
     → (planDelete table es items (G.Number v) k ≡ Refuse N.KeyAbsent) ⊎ (planDelete table es items (G.Number v) k ≡ Refuse N.OtherVersion)
 second-delete table es items v k h = delete-other es items v k (λ q. omega arith) table
+
+-- ## Behind a commit
+
+-- what counted as staged counts when the commit has ended: the version that its item was staged for is refused, too
+module _ (p : ℕ) (lo : 12 ≤ p) (hi : p ≤ 16) (n table : ℕ) (C : ℕ → Held) (book : List Item) (items items′ : List Entry) (task : Task) (acts : List Action) (m : Medium)
+    (s : Standing p n table C book items m) (h : planCommit p n (latest m) items ≡ Begin items′ task acts) (v k : ℕ) (next : highest k (entriesIn p n (latest m) ++ items) ≡ v + 1) where
+  abbrev ws′ : List ℕ
+  ws′ = latest (run acts m)
+
+  abbrev es′ : List Entry
+  es′ = entriesIn p n ws′
+
+  counted : highest k (es′ ++ []) ≡ v + 1
+  counted = highest-append k es′ [] ∙ larger-zero (highest k es′) ∙ commit-versions p lo hi n table C book items items′ task acts m s h k ∙ next
+
+  pub committed-put : (limit : ℕ) (bytes : List ℕ)
+      → (planPut p limit n ws′ table es′ [] (G.Number v) k bytes ≡ Refuse N.TooLong) ⊎ (planPut p limit n ws′ table es′ [] (G.Number v) k bytes ≡ Refuse N.OtherVersion)
+  committed-put limit bytes = second-put p limit n ws′ table es′ [] v k bytes counted
+
+  pub committed-delete : (planDelete table es′ [] (G.Number v) k ≡ Refuse N.KeyAbsent) ⊎ (planDelete table es′ [] (G.Number v) k ≡ Refuse N.OtherVersion)
+  committed-delete = second-delete table es′ [] v k counted

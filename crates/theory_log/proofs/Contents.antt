@@ -8,10 +8,11 @@ use mathlib.Core.List.{List, [], _∷_, _++_}
 use Prim.Native.Nat.{ℕ, suc, _+_, _≤_, _<_}
 use native.Mathlib.Omega.{arith}
 use lib.Dec.{eqb, leb, leb·zero}
+use lib.ListN.{length}
 use lib.Seq.{append-snoc}
 use borrow.Author.Tests.{eqb-true, eqb-false, leb-true, leb-false, eq-eqb, ne-eqb, le-leb, lt-leb}
 use Rattle.spec.specs.Basics.{pick, larger, both, filter, first}
-use Rattle.spec.specs.Log.{Entry, moved}
+use Rattle.spec.specs.Log.{Entry, moved, placed}
 use Rattle.spec.specs.Contents.{highest, Held, Absent, isTopOf, tops, chosen, held, contentsBy}
 use Rattle.theory_log.specs.Contents.{done, CountsOn, Mem, Same, Agree}
 
@@ -252,6 +253,24 @@ pub record Chosen (k : ℕ) (es : List Entry) (e : Entry) : Type 0 where
   pub in-list : Mem e es
   pub of-key : e .key ≡ k
   pub above : (f : Entry) → Mem f es → f .key ≡ k → f .version ≤ e .version
+
+-- entries have their versions wherever they are put, and stand among others as behind them
+pub highest-placed : (k at : ℕ) (es : List Entry) → highest k (placed at es) ≡ highest k es
+highest-placed k at [] = refl
+highest-placed k at (e ∷ es) = ap (λ (h : ℕ). pick (eqb (e .key) k) (larger (e .version) h) h) (highest-placed k (at + (2 + length (e .value))) es)
+
+pub highest-among : (k : ℕ) (xs batch ys : List Entry) → highest k (xs ++ (batch ++ ys)) ≡ highest k ((xs ++ ys) ++ batch)
+highest-among k xs batch ys =
+    highest-append k xs (batch ++ ys)
+    ∙ ap (larger (highest k xs)) (highest-append k batch ys ∙ larger-comm (highest k batch) (highest k ys))
+    ∙ larger-assoc (highest k xs) (highest k ys) (highest k batch)
+    ∙ ap (λ (h : ℕ). larger h (highest k batch)) (sym (highest-append k xs ys))
+    ∙ sym (highest-append k (xs ++ ys) batch)
+
+-- where no entry is of the key it is 0
+pub highest-none : (k : ℕ) (es : List Entry) → ((e : Entry) → Mem e es → e .key ≡ k → ⊥) → highest k es ≡ 0
+highest-none k [] none-of = refl
+highest-none k (e ∷ es) none-of = ap (λ (b : Bool). pick b (larger (e .version) (highest k es)) (highest k es)) (ne-eqb (e .key) k (none-of e (inl refl))) ∙ highest-none k es (λ f t. none-of f (inr t))
 
 pub below-highest : (k : ℕ) (es : List Entry) (f : Entry) → Mem f es → f .key ≡ k → f .version ≤ highest k es
 below-highest k [] f m q = absurd m

@@ -8,28 +8,29 @@ use mathlib.Core.List.{List, [], _∷_, _++_, map, map-append}
 use Prim.Native.Nat.{ℕ, suc, _+_, _*_, _≤_}
 use native.Mathlib.Omega.{arith}
 use lib.ListN.{length, getD}
-use Rattle.spec.specs.Basics.{distinct}
+use Rattle.spec.specs.Basics.{distinct, larger}
 use Rattle.spec.specs.Places.{base, chunkLines, directoryWord}
 use Rattle.spec.specs.Medium.{Action, Medium, run, latest, cellAt}
 use Rattle.spec.specs.Directory.{linesOf}
 use Rattle.spec.specs.Log.{Entry, encodeAll, moved, placed}
 use Rattle.spec.specs.Blocks.{pointed}
-use Rattle.spec.specs.Contents.{Held, highest, meaning, capacity, keysOf}
+use Rattle.spec.specs.Contents.{Held, highest, meaning, capacity, keysOf, entriesIn}
 use Rattle.spec.specs.Opening.{fine}
 use Rattle.spec.specs.Actions.{linesFor, appendOf}
 use Rattle.spec.specs.Plans.{Task, Committing, Begin, appendTo, freeNeeded, logPlace, commitAt, planCommit}
 use Rattle.spec.specs.Book.{Item, doneItems}
 use Rattle.theory_base.proofs.Places.{lines-least}
-use Rattle.theory_base.proofs.Through.{Through, through-map}
+use Rattle.theory_base.proofs.Through.{Through, through-map, through-end}
 use Rattle.theory_log.specs.Contents.{Mem, Top, CountsOn, done}
 use Rattle.theory_log.proofs.Clean.{mem-placed}
+use Rattle.theory_log.proofs.Contents.{highest-append, highest-placed, highest-among}
 use Rattle.theory_crash.specs.Accepted.{Needs}
 use Rattle.theory_crash.specs.Batch.{Place}
-use Rattle.theory_crash.specs.Rest.{Holds, Rests, Cuts}
+use Rattle.theory_crash.specs.Rest.{Holds, Rests, Cuts, Joined}
 use Rattle.theory_crash.proofs.Append.{some-lines, commit-append}
 use Rattle.theory_crash.proofs.Effects as E
 use Rattle.theory_plans.specs.Standing.{keyList, itemOf, Standing, Going}
-use Rattle.theory_plans.proofs.Between.{rests-stand}
+use Rattle.theory_plans.proofs.Between.{rests-stand, stand-entries}
 use Rattle.theory_plans.proofs.LogPlace.{log-place}
 
 -- Contents that are the same at each key.
@@ -97,16 +98,43 @@ module _ (p : ℕ) (lo : 12 ≤ p) (hi : p ≤ 16) (n table : ℕ) (C : ℕ → 
         let same = s .staged .own (o .0) (v .0) (o .1) (v .1) (sym (ap pointed (o .3)) ∙ a) (sym (ap pointed (v .3)) ∙ b) (sym (ap (λ (y : Entry). y .field) (o .3)) ∙ q ∙ ap (λ (y : Entry). y .field) (v .3)) in
         ap (λ (y : Entry). y .key) (o .3) ∙ ap (λ (y : Entry). y .key) same ∙ sym (ap (λ (y : Entry). y .key) (v .3))
 
-    append-going : Going p n table C (doneItems book C) [] [] (appendOf p d old (linesOf p ws d) (encodeAll items)) m
-    append-going =
-        rests-going p n table C (done (meaning ws) (placed at′ items) C) (doneItems book C) (appendOf p d old (linesOf p ws d) (encodeAll items)) m (λ k. done-placed ws items at′ C k ∙ ap (λ (b : List Item). doneItems b C k) (s .booked))
-        (commit-append p lo hi n (capacity table) C ws es m (s .rest) (s .holds) (s .flushed) d old items (λ mean c. done mean (placed at′ items) c)
-        place (some-lines f fs) (s .staged .right) few (E.items es (placed at′ items) (counts-placed es es items at′ (λ k. refl) (s .staged .counts))) blocks own flushed)
+    abbrev acts′ : List Action
+    acts′ = appendOf p d old (linesOf p ws d) (encodeAll items)
 
+    abbrev D : ℕ → Held
+    D = done (meaning ws) (placed at′ items) C
+
+    abbrev Joins : Medium → Type 0
+    Joins m′ = Rests p n (capacity table) D m′ × Joined p n es (placed at′ items) m′
+
+    append-joins : Through (Cuts p n (capacity table) C D) Joins acts′ m
+    append-joins =
+        commit-append p lo hi n (capacity table) C ws es m (s .rest) (s .holds) (s .flushed) d old items (λ mean c. done mean (placed at′ items) c)
+        place (some-lines f fs) (s .staged .right) few (E.items es (placed at′ items) (counts-placed es es items at′ (λ k. refl) (s .staged .counts))) blocks own flushed
+
+    append-going : Going p n table C (doneItems book C) [] [] acts′ m
+    append-going =
+        rests-going p n table C D (doneItems book C) acts′ m (λ k. done-placed ws items at′ C k ∙ ap (λ (b : List Item). doneItems b C k) (s .booked))
+        (through-map (Cuts p n (capacity table) C D) (Cuts p n (capacity table) C D) Joins (Rests p n (capacity table) D) acts′ m (λ m′ t. t) (λ t. t .0) append-joins)
+
+    append-versions : (k : ℕ) → highest k (entriesIn p n (latest (run acts′ m))) ≡ highest k (es ++ items)
+    append-versions k =
+        let (before, (behind, (split, joined))) = through-end (Cuts p n (capacity table) C D) Joins acts′ m append-joins .1 in
+        ap (highest k) joined
+        ∙ highest-among k before (placed at′ items) behind
+        ∙ ap (λ (l : List Entry). highest k (l ++ placed at′ items)) (sym split)
+        ∙ highest-append k es (placed at′ items)
+        ∙ ap (larger (highest k es)) (highest-placed k at′ items)
+        ∙ sym (highest-append k es items)
+
+  -- a commit of these items, whose end has their versions among its entries' as among the staged ones
   abbrev Goal : (items items′ : List Entry) → Task → List Action → Type 0
   Goal items items′ task acts = (items′ ≡ items) × ((task ≡ Committing) × Going p n table C (doneItems book C) [] [] acts m)
 
-  commit-plan : (items items′ : List Entry) (task : Task) (acts : List Action) → (s : Standing p n table C book items m) → planCommit p n (s .words) items ≡ Begin items′ task acts → Goal items items′ task acts
+  abbrev Versions : (es items : List Entry) → List Action → Type 0
+  Versions es items acts = (k : ℕ) → highest k (entriesIn p n (latest (run acts m))) ≡ highest k (es ++ items)
+
+  commit-plan : (items items′ : List Entry) (task : Task) (acts : List Action) → (s : Standing p n table C book items m) → planCommit p n (s .words) items ≡ Begin items′ task acts → Goal items items′ task acts × Versions (s .entries) items acts
   unfolding planCommit
   commit-plan [] items′ task acts s h = absurd (let z : _≡_ {A = ℕ} 0 1 = cc in omega arith)
   commit-plan (f ∷ fs) items′ task acts s h = go (logPlace p n (s .words) (linesFor (length (encodeAll (f ∷ fs)))) 0 (freeNeeded (f ∷ fs))) refl h
@@ -114,20 +142,28 @@ module _ (p : ℕ) (lo : 12 ≤ p) (hi : p ≤ 16) (n table : ℕ) (C : ℕ → 
       fits : linesFor (length (encodeAll (f ∷ fs))) ≤ chunkLines p
       fits = let a = s .staged .small in let b = lines-least p lo hi in omega arith
 
-      go : (q : Option ℕ) → logPlace p n (s .words) (linesFor (length (encodeAll (f ∷ fs)))) 0 (freeNeeded (f ∷ fs)) ≡ q → commitAt p (s .words) (f ∷ fs) q ≡ Begin items′ task acts → Goal (f ∷ fs) items′ task acts
+      go : (q : Option ℕ) → logPlace p n (s .words) (linesFor (length (encodeAll (f ∷ fs)))) 0 (freeNeeded (f ∷ fs)) ≡ q → commitAt p (s .words) (f ∷ fs) q ≡ Begin items′ task acts → Goal (f ∷ fs) items′ task acts × Versions (s .entries) (f ∷ fs) acts
       go none e k = absurd (let z : _≡_ {A = ℕ} 0 1 = cc in omega arith)
       go (some d) e k =
           let a : items′ ≡ f ∷ fs = cc in
           let b : task ≡ Committing = cc in
           let c : acts ≡ appendTo p (s .words) (encodeAll (f ∷ fs)) d = cc in
           let place = log-place p n (s .words) _ 0 _ d fits e .0 in
-          (a, (b, rw c (append-going f fs s d (getD (s .words) (directoryWord d) 0) place)))
+          ((a, (b, rw c (append-going f fs s d (getD (s .words) (directoryWord d) 0) place))), rw c (append-versions f fs s d (getD (s .words) (directoryWord d) 0) place))
 
 -- COMMIT: the items stay as they are, and what goes on does them
 pub commit-begun : (p : ℕ) → 12 ≤ p → p ≤ 16 → (n table : ℕ) (C : ℕ → Held) (book : List Item) (items items′ : List Entry) (task : Task) (acts : List Action) (m : Medium)
     → Standing p n table C book items m → planCommit p n (latest m) items ≡ Begin items′ task acts
     → (items′ ≡ items) × ((task ≡ Committing) × Going p n table C (doneItems book C) [] [] acts m)
-commit-begun p lo hi n table C book items items′ task acts m s h = commit-plan p lo hi n table C book m items items′ task acts s (rw (s .rest .now) at h)
+commit-begun p lo hi n table C book items items′ task acts m s h = commit-plan p lo hi n table C book m items items′ task acts s (rw (s .rest .now) at h) .0
+
+-- its end has the highest versions that stood with the staged items counted
+pub commit-versions : (p : ℕ) → 12 ≤ p → p ≤ 16 → (n table : ℕ) (C : ℕ → Held) (book : List Item) (items items′ : List Entry) (task : Task) (acts : List Action) (m : Medium)
+    → Standing p n table C book items m → planCommit p n (latest m) items ≡ Begin items′ task acts
+    → (k : ℕ) → highest k (entriesIn p n (latest (run acts m))) ≡ highest k (entriesIn p n (latest m) ++ items)
+commit-versions p lo hi n table C book items items′ task acts m s h k =
+    commit-plan p lo hi n table C book m items items′ task acts s (rw (s .rest .now) at h) .1 k
+    ∙ ap (λ (l : List Entry). highest k (l ++ items)) (sym (stand-entries p lo hi n table C book items m s))
 
 pub commit-goes : (p : ℕ) → 12 ≤ p → p ≤ 16 → (n table : ℕ) (C : ℕ → Held) (book : List Item) (items items′ : List Entry) (task : Task) (acts : List Action) (m : Medium)
     → Standing p n table C book items m → planCommit p n (latest m) items ≡ Begin items′ task acts

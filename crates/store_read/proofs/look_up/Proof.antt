@@ -72,7 +72,7 @@ Core 𝓤 H A mem run = tripleOf 𝓤 H A core.signature (core.spec 𝓤 H A mem
 
 -- what it ensures
 abbrev Said : RefT (List ℕ) → Control → Setup → List ℕ → List ℕ → ℕ → ℕ → ℕ → ℕ → ℕ → Type 0
-Said r control setup x-image x-table key x-answer z-answer x-named z-named = Showing control setup key (x-image) (x-table) (now r) (z-answer) (z-named)
+Said r control setup x-image x-table key x-answer z-answer x-handed z-handed = Showing control setup key (x-image) (x-table) (now r) (z-answer) (z-handed)
 
 -- the record's machine value, and what is known of its parts
 abbrev mach : Session → Val
