@@ -22,6 +22,7 @@ use Rattle.theory_base.proofs.Through.{Through}
 use Rattle.theory_crash.specs.Accepted.{Needs}
 use Rattle.theory_crash.specs.Rest.{AtRest, Flushed, Rests, Cuts, CutsTo, Joined}
 use Rattle.theory_crash.specs.Batch.{entryWords, Effect, Place}
+use Rattle.theory_crash.specs.Clean.{Carries}
 use Rattle.theory_crash.proofs.Commit.{commit-joins, commit-count}
 use Rattle.theory_crash.proofs.Clean.{clean-through, clean-to}
 
@@ -98,7 +99,7 @@ module _ (p : ℕ) (lo : 12 ≤ p) (hi : p ≤ 16) (n keys : ℕ) (C : ℕ → H
       → (Q : List Entry → Type 0) → Q es
       → ((ys : List ℕ) (before behind : List Entry) → es ≡ before ++ behind → imageEntries p n ys ≡ Entries (before ++ (placed (base p d + 8 * linesOf p ws d) (keptIn p s es) ++ behind))
       → Q (before ++ (placed (base p d + 8 * linesOf p ws d) (keptIn p s es) ++ behind)))
-      → ((hs : List Entry) → ((f : Entry) → Mem f hs → (f .at < base p s) ⊎ (base p s + chunkWords p ≤ f .at)) → Q hs)
+      → ((hs : List Entry) → ((f : Entry) → Mem f hs → (f .at < base p s) ⊎ (base p s + chunkWords p ≤ f .at)) → Carries es hs → Q hs)
       → Through (CutsTo p n Q) (CutsTo p n Q) (appendOf p d old (linesOf p ws d) (encodeAll (keptIn p s es)) ++ freeOf s old′) m
   clean-append-to s d old old′ low high no-data few ne place some′ =
       rw (append-is p d old (linesOf p ws d) (keptIn p s es))

@@ -3,7 +3,7 @@
 -- Assumes nothing.
 use mathlib.Core.Path.{_≡_, refl, sym, _∙_, ap}
 use mathlib.Core.Logic.{_⊎_, inl, inr}
-use mathlib.Core.Bool.{true}
+use mathlib.Core.Bool.{true, false}
 use mathlib.Core.List.{List, [], _∷_, _++_}
 use Prim.Native.Nat.{ℕ, _+_, _-_, _*_, _≤_, _<_}
 use native.Mathlib.Omega.{arith}
@@ -32,7 +32,7 @@ use Rattle.theory_log.proofs.Kept.{Parts, parts, kept-is}
 use Rattle.theory_crash.specs.Accepted.{Ok, Needs}
 use Rattle.theory_crash.specs.Rest.{AtRest, Flushed, Rests, Cuts, CutsTo}
 use Rattle.theory_crash.specs.Batch.{entryWords, Batch}
-use Rattle.theory_crash.specs.Clean.{Covers}
+use Rattle.theory_crash.specs.Clean.{Covers, Carries}
 use Rattle.theory_crash.proofs.Effects.{copies}
 use Rattle.theory_crash.proofs.Commit.{commit-to, keys-from, Ended, commit-ends}
 use Rattle.theory_crash.proofs.Free.{free-to, lines-this, free-ok, free-through}
@@ -63,6 +63,14 @@ pub placed-in : (at : ℕ) (es : List Entry) (f : Entry) → Mem f (placed at es
 placed-in at [] f m = absurd m
 placed-in at (e ∷ es) f (inl q) = let b : f .at ≡ at = ap (λ (y : Entry). y .at) q in (omega arith, rw length-append (omega arith))
 placed-in at (e ∷ es) f (inr m) = let r = placed-in (at + (2 + length (e .value))) es f m in let a = r .0 in let b = r .1 in (omega arith, rw length-append (omega arith))
+
+-- a put that is covered stands there
+put-covered : (es gs : List Entry) → Covers es gs → (e : Entry) → Top es e → eqb (e .op) 1 ≡ true → (f : Entry) × (Mem f gs × ((f .key ≡ e .key) × (f .version ≡ e .version)))
+put-covered es gs cov e t o = go (cov e t)
+  where
+    go : ((f : Entry) × Mem f gs × (f .key ≡ e .key) × (f .version ≡ e .version)) ⊎ ((eqb (e .op) 1 ≡ false) × ((f : Entry) → Mem f gs → f .key ≡ e .key → ⊥)) → (f : Entry) × (Mem f gs × ((f .key ≡ e .key) × (f .version ≡ e .version)))
+    go (inl (f, mf, fk, fv)) = (f, (mf, (fk, fv)))
+    go (inr (a, gone)) = absurd (let z : true ≡ false = sym o ∙ a in let y : _≡_ {A = ℕ} 0 1 = cc in omega arith)
 
 -- THE IMAGES OF A CLEANING: in `vs` the kept entries are published from word `at` on, in chunk d, among `before` and
 -- `behind`; then chunk s is freed
@@ -120,6 +128,9 @@ module _ (p : ℕ) (lo : 12 ≤ p) (hi : p ≤ 16) (n s old′ keys : ℕ) (C : 
 
     clean-none : kept ≡ [] → Through (Cuts p n keys C C) (Rests p n keys C) (freeOf s old′) m
     clean-none e = free-through p lo hi n s old′ ws es (r .ok) low high no-data xs chunk ys t (none-covers e) keys C m r holds few flushed
+
+    none-carries : kept ≡ [] → Carries es rest
+    none-carries e = record { there = put-covered es rest (none-covers e); from = λ f mf. (f, (rest-es f mf, (refl, refl))) }
 
     clean-none-to : kept ≡ [] → (Q : List Entry → Type 0) → Q es → Q rest → Through (CutsTo p n Q) (CutsTo p n Q) (freeOf s old′) m
     clean-none-to e Q a b = free-to p lo hi n s old′ ws es (r .ok) low high no-data xs chunk ys t (none-covers e) Q a b m r
@@ -264,6 +275,22 @@ module _ (p : ℕ) (lo : 12 ≤ p) (hi : p ≤ 16) (n s old′ keys : ℕ) (C : 
             covers es gs rest chunk new at′ es-cases chunk-es gs-cases es-gs (λ f mf. to-new f (es-gs f (rest-es f mf)) (t .outside f mf))
             (λ f mf. to-new f (copy-gs f mf) (side f mf)) new-cases es-apart (mid .rests .ok .agree)
 
+        -- an entry of gs is one of es, or a copy of one
+        gs-from : (f : Entry) → Mem f gs → (e : Entry) × (Mem e es × ((f .key ≡ e .key) × (f .version ≡ e .version)))
+        gs-from f mf = go (gs-cases f mf)
+          where
+            go : Mem f es ⊎ Mem f (placed at′ kept) → (e : Entry) × (Mem e es × ((f .key ≡ e .key) × (f .version ≡ e .version)))
+            go (inl x) = (f, (x, (refl, refl)))
+            go (inr x) =
+                let o = mem-placed f at′ kept x in
+                (o .0, (chunk-es (o .0) (mem-filter (isKept es rest) (o .0) chunk (o .1) .0), (ap (λ (y : Entry). y .key) (o .3), ap (λ (y : Entry). y .version) (o .3))))
+
+        top-gs : (e : Entry) → Top es e → Top gs e
+        top-gs e t = (es-gs e (t .0), λ g mg gk. let u = gs-from g mg in let above = t .1 (u .0) (u .1 .0) (sym (u .1 .1 .0) ∙ gk) in let v = u .1 .1 .1 in omega arith)
+
+        carries : Carries es new
+        carries = record { there = λ e t o. put-covered gs new cov e (top-gs e t) o; from = λ f mf. gs-from f (new-gs f mf) }
+
         copied : Copied p lo hi n s old′ keys at′ d ws vs es kept
         copied = record {
           entries = gs;
@@ -292,13 +319,13 @@ module _ (p : ℕ) (lo : 12 ≤ p) (hi : p ≤ 16) (n s old′ keys : ℕ) (C : 
           rw (e .rests .now) (copied (run acts m) e)
 
       clean-some-to : (Q : List Entry → Type 0) → Q es → ((ys : List ℕ) (before behind : List Entry) → es ≡ before ++ behind → imageEntries p n ys ≡ Entries (before ++ (placed at′ kept ++ behind)) → Q (before ++ (placed at′ kept ++ behind)))
-          → ((hs : List Entry) → ((f : Entry) → Mem f hs → (f .at < base p s) ⊎ (base p s + chunkWords p ≤ f .at)) → Q hs)
+          → ((hs : List Entry) → ((f : Entry) → Mem f hs → (f .at < base p s) ⊎ (base p s + chunkWords p ≤ f .at)) → Carries es hs → Q hs)
           → Through (CutsTo p n Q) (CutsTo p n Q) (acts ++ freeOf s old′) m
       clean-some-to Q a q o =
           let e : Mid (run acts m) = through-end (Cuts p n keys C C) (λ m′. Mid m′ × Flushed p n m′) acts m (commit-ends p lo hi n d old l b z keys C ws es kept (λ mean c. c) m r holds batch few-both settled flushed) .0 in
           let u = parts′ (run acts m) e in
           let here : Q (e .entries) = rw (e .joined) (q (e .image) (e .before) (e .behind) (e .split) (rw (e .joined) at (e .rests .ok .parsed))) in
-          let last = free-to p lo hi n s old′ (e .image) (e .entries) (e .rests .ok) low high (no-data′ (run acts m) e) (u .0) (u .1) (u .2) (u .3) (cov (run acts m) e) Q here (o (u .0 ++ u .2) (u .3 .outside)) (run acts m) (e .rests) in
+          let last = free-to p lo hi n s old′ (e .image) (e .entries) (e .rests .ok) low high (no-data′ (run acts m) e) (u .0) (u .1) (u .2) (u .3) (cov (run acts m) e) Q here (o (u .0 ++ u .2) (u .3 .outside) (carries (run acts m) e)) (run acts m) (e .rests) in
           through-append (CutsTo p n Q) (CutsTo p n Q) acts (freeOf s old′) m
           (through-map (CutsTo p n Q) (CutsTo p n Q) (λ m′. Unit {0}) (Through (CutsTo p n Q) (CutsTo p n Q) (freeOf s old′)) acts m (λ m′ x. x) (λ x. last)
           (commit-to p lo hi n d old l b z keys C ws es kept (λ mean c. c) m r holds batch few-both settled Q a q))
@@ -322,16 +349,17 @@ module _ (p : ℕ) (lo : 12 ≤ p) (hi : p ≤ 16) (n s old′ keys : ℕ) (C : 
       rw e (clean-some (q .0) (q .1) (q .2) (q .3) d old l b z ne d-low d-high lines d-no-data some′ fit (rw e at size))
 
   -- BY ENTRIES: what a cut in a cleaning finds: before the copies, with them, or without the chunk that is cleaned
-  pub clean-free-to : keptIn p s es ≡ [] → (Q : List Entry → Type 0) → Q es → ((hs : List Entry) → ((f : Entry) → Mem f hs → (f .at < base p s) ⊎ (base p s + chunkWords p ≤ f .at)) → Q hs)
+  pub clean-free-to : keptIn p s es ≡ [] → (Q : List Entry → Type 0) → Q es → ((hs : List Entry) → ((f : Entry) → Mem f hs → (f .at < base p s) ⊎ (base p s + chunkWords p ≤ f .at)) → Carries es hs → Q hs)
       → Through (CutsTo p n Q) (CutsTo p n Q) (freeOf s old′) m
   clean-free-to e Q a o =
       let q = parts p lo hi n s ws es low high (r .ok .parsed) in
-      clean-none-to (q .0) (q .1) (q .2) (q .3) (sym (kept-is p lo hi n s ws es (q .0) (q .1) (q .2) (q .3)) ∙ e) Q a (o (q .0 ++ q .2) (q .3 .outside))
+      let none-kept = sym (kept-is p lo hi n s ws es (q .0) (q .1) (q .2) (q .3)) ∙ e in
+      clean-none-to (q .0) (q .1) (q .2) (q .3) none-kept Q a (o (q .0 ++ q .2) (q .3 .outside) (none-carries (q .0) (q .1) (q .2) (q .3) none-kept))
 
   pub clean-to : (d old l b z : ℕ) → (s ≡ d → ⊥) → 1 ≤ d → d < n → linesOf p ws d ≡ l → sizeOf p ws d ≡ 0 → 1 ≤ b → l + b ≤ chunkLines p → length (entryWords (keptIn p s es) z) ≡ 8 * b
       → (Q : List Entry → Type 0) → Q es → ((ys : List ℕ) (before behind : List Entry) → es ≡ before ++ behind → imageEntries p n ys ≡ Entries (before ++ (placed (base p d + 8 * l) (keptIn p s es) ++ behind))
       → Q (before ++ (placed (base p d + 8 * l) (keptIn p s es) ++ behind)))
-      → ((hs : List Entry) → ((f : Entry) → Mem f hs → (f .at < base p s) ⊎ (base p s + chunkWords p ≤ f .at)) → Q hs)
+      → ((hs : List Entry) → ((f : Entry) → Mem f hs → (f .at < base p s) ⊎ (base p s + chunkWords p ≤ f .at)) → Carries es hs → Q hs)
       → Through (CutsTo p n Q) (CutsTo p n Q) (commitOf p d old l b (entryWords (keptIn p s es) z) ++ freeOf s old′) m
   clean-to d old l b z ne d-low d-high lines d-no-data some′ fit size Q a j o =
       let q = parts p lo hi n s ws es low high (r .ok .parsed) in

@@ -15,37 +15,53 @@ use borrow.Author.Tests.{eqb-true, eq-eqb, ne-eqb, le-leb, lt-leb}
 use Rattle.spec.specs.Basics.{pick, larger}
 use Rattle.spec.specs.Words.{packed}
 use Rattle.spec.specs.Places.{unitWord}
-use Rattle.spec.specs.Medium.{Action, Medium, run, latest}
-use Rattle.spec.specs.Log.{Entry, maxInLog}
+use Rattle.spec.specs.Medium.{Action, Medium, run, latest, CanCutTo}
+use Rattle.spec.specs.Log.{Entry, Parsed, maxInLog}
 use Rattle.spec.specs.Blocks.{blockSize, pointed}
-use Rattle.spec.specs.Contents.{Held, highest, chosen, entriesIn}
-use Rattle.spec.specs.Plans.{Task, Plan, Refuse, Begin, Slot, InData, InFree, Nowhere, Staging, need, nextVersion, present, fitsVersion, entry, slotFor, stageLarge, stagePut, planPut, planDelete, planCommit, partOr, lookUp}
+use Rattle.spec.specs.Contents.{Held, highest, chosen, listed, entriesIn}
+use Rattle.spec.specs.Plans.{Task, Plan, Refuse, Begin, Slot, InData, InFree, Nowhere, Staging, need, nextVersion, present, fitsVersion, entry, slotFor, stageLarge, stagePut, planPut, planDelete, planCommit, planClean, partOr, lookUp}
 use Rattle.spec.specs.Book.{Item}
 use Rattle.spec.specs.declared.Given.the-variants as G
 use Rattle.spec.specs.declared.Refusal.{Refusal}
 use Rattle.spec.specs.declared.Refusal.the-variants as N
 use Rattle.spec.specs.declared.Report.the-variants as R
 use Rattle.theory_log.specs.Contents.{Mem}
-use Rattle.theory_log.proofs.Contents.{versionOf, larger-zero, chosen-best, highest-best, highest-append, highest-none}
+use Rattle.theory_log.proofs.Contents.{versionOf, larger-zero, chosen-best, highest-best, highest-append, highest-none, chosen-is}
+use Rattle.theory_log.proofs.Tops.{chosen-top}
+use Rattle.theory_base.proofs.Through.{through-end, through-prefix}
+use Rattle.theory_crash.specs.Accepted.{Ok}
+use Rattle.theory_crash.specs.Rest.{CutsTo}
+use Rattle.theory_crash.proofs.Room.{can-latest}
 use Rattle.theory_plans.specs.Standing.{Standing}
 use Rattle.theory_plans.proofs.Begun.{put-begun, delete-begun}
 use Rattle.theory_plans.proofs.Committing.{commit-versions}
+use Rattle.theory_plans.proofs.KeptVersions.{SameVersions, clean-versions}
 
 -- ## What look-up hands out
 
-pub looked-version : (ws : List ℕ) (es : List Entry) (k a n v : ℕ) → lookUp ws es k ≡ R.Part a n v → highest k es ≡ v
+-- the entry whose part it is: a put, and the key's chosen one
+pub record Looked (es : List Entry) (k v : ℕ) : Type 0 where
+  pub entry′ : Entry
+  pub is-chosen : chosen k es ≡ some entry′
+  pub is-put : eqb (entry′ .op) 1 ≡ true
+  pub has : entry′ .version ≡ v
+
+looked : (ws : List ℕ) (es : List Entry) (k a n v : ℕ) → lookUp ws es k ≡ R.Part a n v → Looked es k v
 unfolding lookUp
-looked-version ws es k a n v h = by (chosen k es) refl h
+looked ws es k a n v h = by (chosen k es) refl h
   where
-    by : (o : Option Entry) → chosen k es ≡ o → partOr ws o ≡ R.Part a n v → highest k es ≡ v
+    by : (o : Option Entry) → chosen k es ≡ o → partOr ws o ≡ R.Part a n v → Looked es k v
     by none q g = absurd (let z : _≡_ {A = ℕ} 0 1 = cc in omega arith)
-    by (some e) q g = sym (highest-best k es) ∙ ap versionOf (sym (chosen-best k es) ∙ q) ∙ go (eqb (e .op) 1) (pointed e) g
+    by (some e) q g = go (eqb (e .op) 1) refl (pointed e) g
       where
-        go : (b1 b2 : Bool) → pick b1 (pick b2 (R.Part (8 * (unitWord (e .field) + 1)) (getD ws (unitWord (e .field)) 0) (e .version)) (R.Part (8 * (e .at + 2)) (e .field) (e .version))) (R.Refused N.KeyAbsent) ≡ R.Part a n v
-            → e .version ≡ v
-        go true true r = cc
-        go true false r = cc
-        go false b2 r = absurd (let z : _≡_ {A = ℕ} 0 1 = cc in omega arith)
+        go : (b1 : Bool) → eqb (e .op) 1 ≡ b1 → (b2 : Bool)
+            → pick b1 (pick b2 (R.Part (8 * (unitWord (e .field) + 1)) (getD ws (unitWord (e .field)) 0) (e .version)) (R.Part (8 * (e .at + 2)) (e .field) (e .version))) (R.Refused N.KeyAbsent) ≡ R.Part a n v → Looked es k v
+        go true o true r = record { entry′ = e; is-chosen = q; is-put = o; has = cc }
+        go true o false r = record { entry′ = e; is-chosen = q; is-put = o; has = cc }
+        go false o b2 r = absurd (let z : _≡_ {A = ℕ} 0 1 = cc in omega arith)
+
+pub looked-version : (ws : List ℕ) (es : List Entry) (k a n v : ℕ) → lookUp ws es k ≡ R.Part a n v → highest k es ≡ v
+looked-version ws es k a n v h = let l = looked ws es k a n v h in sym (highest-best k es) ∙ ap versionOf (sym (chosen-best k es) ∙ l .is-chosen) ∙ l .has
 
 -- so the one that a staging has to name while no item of the key is staged
 pub looked-named : (ws : List ℕ) (es items : List Entry) (k a n v : ℕ) → lookUp ws es k ≡ R.Part a n v → ((e : Entry) → Mem e items → e .key ≡ k → ⊥) → highest k (es ++ items) ≡ v
@@ -157,3 +173,28 @@ module _ (p : ℕ) (lo : 12 ≤ p) (hi : p ≤ 16) (n table : ℕ) (C : ℕ → 
 
   pub committed-delete : (planDelete table es′ [] (G.Number v) k ≡ Refuse N.KeyAbsent) ⊎ (planDelete table es′ [] (G.Number v) k ≡ Refuse N.OtherVersion)
   committed-delete = second-delete table es′ [] v k counted
+
+-- ## Behind a cleaning
+
+-- what look-up handed out is the key's version in whatever a cut in a cleaning leaves, and when it has ended
+module _ (p : ℕ) (lo : 12 ≤ p) (hi : p ≤ 16) (n table : ℕ) (C : ℕ → Held) (book : List Item) (items items′ : List Entry) (task : Task) (acts : List Action) (m : Medium) (c : ℕ)
+    (s : Standing p n table C book items m) (h : planClean p n (latest m) (entriesIn p n (latest m)) items c ≡ Begin items′ task acts) (k a l v : ℕ)
+    (found : lookUp (latest m) (entriesIn p n (latest m)) k ≡ R.Part a l v) where
+  abbrev es : List Entry
+  es = entriesIn p n (latest m)
+
+  same : (xs : List ℕ) (fs : List Entry) → Ok p n xs fs → SameVersions es fs → highest k (entriesIn p n xs) ≡ v
+  same xs fs ok kept =
+      let e = looked (latest m) es k a l v found in
+      let of-key = chosen-is k es (e .entry′) (e .is-chosen) .of-key in
+      ap (λ (q : Parsed). highest k (listed q)) (ok .parsed) ∙ ap (λ (j : ℕ). highest j fs) (sym of-key) ∙ kept (e .entry′) (chosen-top k es (e .entry′) (e .is-chosen)) (e .is-put) ∙ e .has
+
+  pub cut-cleaned : (done todo : List Action) → acts ≡ done ++ todo → (xs : List ℕ) → CanCutTo (run done m) xs → highest k (entriesIn p n xs) ≡ v
+  cut-cleaned done todo split xs can =
+      let t = through-prefix (CutsTo p n (SameVersions es)) (CutsTo p n (SameVersions es)) (λ m′ x. x) done todo m (rw split at (clean-versions p lo hi n table C book items items′ task acts m c s h)) xs can in
+      same xs (t .0) (t .1 .0) (t .1 .1)
+
+  pub cleaned-version : highest k (entriesIn p n (latest (run acts m))) ≡ v
+  cleaned-version =
+      let t = through-end (CutsTo p n (SameVersions es)) (CutsTo p n (SameVersions es)) acts m (clean-versions p lo hi n table C book items items′ task acts m c s h) (latest (run acts m)) (can-latest (run acts m)) in
+      same (latest (run acts m)) (t .0) (t .1 .0) (t .1 .1)

@@ -267,6 +267,15 @@ highest-among k xs batch ys =
     ∙ ap (λ (h : ℕ). larger h (highest k batch)) (sym (highest-append k xs ys))
     ∙ sym (highest-append k (xs ++ ys) batch)
 
+-- no entry of the key is above it
+pub highest-most : (k most : ℕ) (es : List Entry) → ((e : Entry) → Mem e es → e .key ≡ k → e .version ≤ most) → highest k es ≤ most
+highest-most k most [] below = omega arith
+highest-most k most (e ∷ es) below = go (eqb (e .key) k) (eqb-true (e .key) k) (highest-most k most es (λ f t. below f (inr t)))
+  where
+    go : (b : Bool) → (b ≡ true → e .key ≡ k) → highest k es ≤ most → pick b (larger (e .version) (highest k es)) (highest k es) ≤ most
+    go true h rest = larger-is (e .version) (highest k es) most (below e (inl refl) (h refl)) rest
+    go false h rest = rest
+
 -- where no entry is of the key it is 0
 pub highest-none : (k : ℕ) (es : List Entry) → ((e : Entry) → Mem e es → e .key ≡ k → ⊥) → highest k es ≡ 0
 highest-none k [] none-of = refl

@@ -12,5 +12,6 @@ pub mod Staging
 pub mod Hold
 pub mod Room
 pub mod RoomClean
+pub mod KeptVersions
 pub mod Unstuck
 pub mod RoomStarts

@@ -119,7 +119,7 @@ module _ (p : ℕ) (lo : 12 ≤ p) (hi : p ≤ 16) (n table : ℕ) (C : ℕ → 
     none-plan : keptIn p c es ≡ [] → Goes (free c ws)
     none-plan e =
         two-through p lo hi n c c low high low high (free c ws) m
-        (clean-free-to p lo hi n c old (capacity table) C ws es m (s .rest) (s .holds) few (s .flushed) low high no-data e (OneNone p c c) (inl e) (λ hs o. inl (gone hs o)))
+        (clean-free-to p lo hi n c old (capacity table) C ws es m (s .rest) (s .holds) few (s .flushed) low high no-data e (OneNone p c c) (inl e) (λ hs o k. inl (gone hs o)))
         (freed-stores c inside) (freed-stores c inside) says says (sure-freed p n most c old m long high (room .0))
 
     -- what is kept goes to chunk d
@@ -203,7 +203,7 @@ module _ (p : ℕ) (lo : 12 ≤ p) (hi : p ≤ 16) (n table : ℕ) (C : ℕ → 
       some-plan =
           two-through p lo hi n z c (z-is .0) (z-is .1 .0) low high (appendTo p ws (encodeAll kept) d ++ free c ws) m
           (clean-append-to p lo hi n (capacity table) C ws es m (s .rest) (s .holds) (s .flushed) c d (getD ws (directoryWord d) 0) old low high no-data few ne place b-some (OneNone p z c) (inl (z-is .1 .1 .1))
-          with-copies (λ hs o. inr (gone hs o)))
+          with-copies (λ hs o k. inr (gone hs o)))
           (append-data z z-in) (append-data c inside) (z-is .1 .1 .0) says sure
 
     log-plan : (items′ : List Entry) (task : Task) (acts : List Action) → cleanLog p n ws c (keptIn p c es) ≡ Begin items′ task acts → Goes acts
