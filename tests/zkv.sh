@@ -1035,7 +1035,10 @@ ends 0 --version
 hold "--version alone is the program's: $(cat out)" grep -qx 'zkv [0-9.]*' out
 ends 0 help
 hold "the usage tells status 5: $(tail -n 1 out)" grep -q '^ *5 another version' out
-hold "the manual page has status 5 and number 17" [ "$(grep -cx -e '\.B 5' -e '\.B 17' "$host/zkv.1")" -ge 2 ]
+# section HEADING: the lines of the manual page from the heading on, up to the next one.
+section() { awk -v heading=".SH $1" '/^\.SH / { inside = $0 == heading } inside' "$host/zkv.1"; }
+hold "the manual page has status 5" grep -qx '\.B 5' <(section 'EXIT STATUS')
+hold "the manual page has number 17" grep -qx '\.B 17' <(section NUMBERS)
 
 # Two windows look the same label up. The one that puts first wins; the other is told, looks again, and wins.
 fresh
@@ -1061,16 +1064,17 @@ status=$?
 hold "the put that had the lock ends with 0, not $status" [ "$status" -eq 0 ]
 has 0 4711 4 theirs
 # Many at once: each appends its letter to the label, again and again; no letter is lost, and each put has its version.
-# append LETTER TIMES
+# append LETTER TIMES: an absent key, which get ends with 1 for, has an empty label; else a loop ends where get fails.
 append() {
     local n tries=0 version status
     for n in $(seq "$2"); do
         status=5
         while [ "$status" -eq 5 ] && [ "$tries" -lt 1000 ]; do
             status=0 tries=$((tries + 1))
-            "$zkv" get l.img 9 --version > "found.$1" 2> /dev/null
-            { read -r version; cat > "label.$1"; } < "found.$1"
-            printf %s "$1" >> "label.$1"
+            "$zkv" get l.img 9 --version > "found.$1" 2> /dev/null || status=$?
+            [ "$status" -le 1 ] || return "$status"
+            { read -r version && cat > "label.$1"; } < "found.$1" && printf %s "$1" >> "label.$1" || return
+            status=0
             "$zkv" put l.img 9 "label.$1" --if-version "$version" 2> /dev/null || status=$?
         done
         [ "$status" -eq 0 ] || return "$status"
@@ -1090,20 +1094,54 @@ ends 0 get l.img 9 --version
 hold "40 letters were put, one at a time: $(head -c 100 out | tr '\n' ' ')" [ "$(head -n 1 out)" = 40 ]
 hold "no letter is lost: $(sed 1d out)" [ "$(sed 1d out | fold -w 1 | sort | uniq -c | tr -d ' \n')" = 10a10b10c10d ]
 
-# The loop of the manual page, as it stands there; before its first put another window puts the label.
+# The loop of the manual page, as it stands there. Before its first put another window does what the file other says.
 sed -n '/^status=5$/,/^done$/p' "$host/zkv.1" | sed 's/\\-/-/g' > loop
 mkdir bin
-printf '%s\n' '#!/bin/sh' '[ "$1" != put ] || ! rm other 2> /dev/null || printf theirs | $ZKV put labels.img 4711 -' 'exec $ZKV "$@"' > bin/zkv
+printf '%s\n' '#!/bin/sh' '[ "$1" != put ] || ! mv other meanwhile 2> /dev/null || . ./meanwhile' 'exec $ZKV "$@"' > bin/zkv
 chmod 700 bin/zkv
+# plays BEFORE: runs the loop in a shell that has done BEFORE; its status to status.
+plays() {
+    status=0
+    ZKV=$zkv PATH=$work/bin:$PATH timeout 20 sh -c "$1"'
+        . ./loop; exit $status' > out 2> err || status=$?
+}
 rm -f labels.img
-ends 0 format labels.img 5
+ends 0 format labels.img 16
 ends 0 put labels.img 4711 value
-: > other
-status=0
-ZKV=$zkv PATH=$work/bin:$PATH sh -c '. ./loop; exit $status' 2> err || status=$?
+echo 'printf theirs | $ZKV put labels.img 4711 -' > other
+plays ''
 hold "the manual page's loop ends with 0, not $status" [ "$status" -eq 0 ]
 says 'version 1 is named, and 2 stands'
 image=labels.img has 0 4711 3 <(printf 'theirs, checked')
+# Where get does not end with 0 the loop ends, and nothing is put: of a key that was deleted meanwhile, or before, or
+# never put, and of a label that is not written as a whole; likewise where a command between get and put fails.
+echo '$ZKV delete labels.img 4711' > other
+plays ''
+hold "the loop ends with 1 where the label was deleted meanwhile, not $status" [ "$status" -eq 1 ]
+says 'version 3 is named, and 4 stands'
+image=labels.img has 1 4711 4 nothing
+# stays BEFORE WHAT: the loop ends, with the status of a command that failed, and puts nothing.
+stays() {
+    cp labels.img before
+    plays "$1"
+    hold "the loop ends with 1, 2 or 3 where $2, not $status" [ "$status" -ge 1 -a "$status" -le 3 ]
+    untouched labels.img before
+}
+stays '' 'the label was deleted before'
+ends 0 clean labels.img
+image=labels.img has 1 4711 0 nothing
+stays '' 'the key is unknown'
+head -c 4000 large > label_4000
+ends 0 put labels.img 4711 label_4000
+stays 'trap "" XFSZ; ulimit -f 2' 'get cannot write all of the label'
+says 'zkv: standard output: '
+for command in read cat printf; do
+    stays "$command() { return 1; }" "$command fails"
+done
+image=labels.img has 0 4711 1 label_4000
+plays ''
+hold "the loop ends with 0 again, not $status" [ "$status" -eq 0 ]
+image=labels.img has 0 4711 2 <(cat label_4000; printf ', checked')
 
 # A put that has to clean first, of a deleted key whose entries stand in the chunk that is cleaned: they are dropped,
 # and the key has version 0. Its version was right when the lock was got, so that it is put.
@@ -1124,10 +1162,16 @@ untouched full.img before
 cp before cleaned.img
 ends 0 clean cleaned.img
 image=cleaned.img has 1 7 0 nothing
+ends 5 put cleaned.img 7 value --if-version 2   # another command has cleaned: clean, or a put of another key
+says 'key 7: version 2 is named, and 0 stands'
+cp before cleaned.img
+ends 0 put cleaned.img 1 value
+ends 5 put cleaned.img 7 value --if-version 2
+says 'key 7: version 2 is named, and 0 stands'
 ends 0 put full.img 7 value --if-version 2
 image=full.img has 0 7 1 value
 ends 0 get full.img 1
-# The same where a cut in a cleaning has left no chunk free, so that one is freed before anything is staged.
+# The same where a cut in a cleaning has left no chunk free, so that one is freed first.
 seq 101 164 | sed 's/$/\t/' > list
 # fill_two: fills the chunk that is in use with labels, and another one with deletes alone.
 fill_two() {
