@@ -80,9 +80,13 @@
  *
  * Two windows that change one value, so that neither undoes what the other did:
  * 1. zkv_look_up_version: the value, and its version v. While the value is being changed, others may make calls.
- * 2. zkv_put_at (or zkv_delete_at) for v, stepped to the end, then zkv_commit, likewise.
- * 3. Where 2 gets 17, another has staged or committed an item of the key since: commit or abandon what is staged, and
- *    again from 1.
+ * 2. zkv_put_at (or zkv_delete_at) for v, stepped to the end, then zkv_commit, likewise. The host makes all of this one
+ *    unit, under its lock: no call of another window comes in between.
+ * 3. Where 2 gets 17, another has staged or committed an item of the key since: again from 1. (Or the key was deleted
+ *    already, and a cleaning has dropped its entries since.)
+ * What is staged belongs to the window that staged it, which commits or abandons it; another one that gets 17 waits for
+ * that, then begins again from 1. If it abandoned the item and staged its own for v instead, the first window's
+ * zkv_commit would end as if its change were there, and would have committed the other one.
  * A value that must not be there yet is put for version 0. An absent key has that version only where it is unknown: a
  * deleted one that still has an entry has its delete's, the highest that zkv_entries says of the key.
  * Where 2 gets 13, or 7, v was right. The cleaning that follows may drop the last entry of a deleted key, which then is

@@ -126,7 +126,8 @@ static uint64_t version_of(uint64_t key)
     return highest;
 }
 
-/* Two windows look the same label up, and both put it for its version: the second looks again. Then a deleted key. */
+/* Two windows look the same label up, and both put it for its version: the second looks again. The same while the
+ * first one's item is only staged: the second leaves it alone until it is committed. Then a deleted key. */
 static void two_windows(void)
 {
     const uint8_t label[] = "O+ 450 ml";
@@ -136,6 +137,12 @@ static void two_windows(void)
     HOLD(ends(zkv_put_at(LENT, 4711, label, 2, theirs)) && ends(zkv_commit(LENT)));
     HOLD(zkv_put_at(LENT, 4711, label, 9, ours).first == ZKV_OTHER_VERSION && zkv_commit(LENT).first == ZKV_NOTHING_STAGED);
     HOLD(zkv_look_up_version(LENT, 4711, &start, &length, &ours) == 0 && ours == theirs + 1 && length == 2);
+    HOLD(ends(zkv_put_at(LENT, 4711, label, 9, ours)) && ends(zkv_commit(LENT)) && version_of(4711) == ours + 1);
+    theirs = ++ours;
+    HOLD(ends(zkv_put_at(LENT, 4711, label, 3, theirs)) && zkv_put_at(LENT, 4711, label, 9, ours).first == ZKV_OTHER_VERSION);
+    HOLD(zkv_look_up_version(LENT, 4711, &start, &length, &ours) == 0 && ours == theirs && length == 9);
+    HOLD(zkv_put_at(LENT, 4711, label, 9, ours).first == ZKV_OTHER_VERSION && ends(zkv_commit(LENT)));
+    HOLD(zkv_look_up_version(LENT, 4711, &start, &length, &ours) == 0 && ours == theirs + 1 && length == 3);
     HOLD(ends(zkv_put_at(LENT, 4711, label, 9, ours)) && ends(zkv_commit(LENT)) && version_of(4711) == ours + 1);
     HOLD(version_of(5) == 2 && zkv_put_at(LENT, 5, label, 9, 0).first == ZKV_OTHER_VERSION);
     HOLD(ends(zkv_put_at(LENT, 5, label, 9, 2)) && zkv_abandon(LENT).kind == ZKV_ABANDONED);
@@ -147,7 +154,7 @@ static void versions_after_clean(void)
     uint64_t start, length, version;
     HOLD(version_of(5) == 0 && zkv_put_at(LENT, 5, (const uint8_t *)"B", 1, 2).first == ZKV_OTHER_VERSION);
     HOLD(ends(zkv_put_at(LENT, 5, (const uint8_t *)"B", 1, 0)) && zkv_abandon(LENT).kind == ZKV_ABANDONED);
-    HOLD(zkv_look_up_version(LENT, 4711, &start, &length, &version) == 0 && version == 3 && length == 9);
+    HOLD(zkv_look_up_version(LENT, 4711, &start, &length, &version) == 0 && version == 5 && length == 9);
 }
 
 /* By steps and by runs, as a host does it that needs more than zkv_finish; then by the two functions for memory. */
