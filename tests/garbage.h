@@ -113,7 +113,7 @@ struct area {
     size_t room, bytes;
 };
 
-static struct area image, table, record, value, start, length, keys;
+static struct area image, table, record, value, start, length, version_word, keys;
 static uint8_t *image_before;
 static uint64_t *table_before;
 static zkv_record record_before;
@@ -511,10 +511,10 @@ static void look_up_call(void)
 {
     bool with_version = one_in(2);
     call = with_version ? "zkv_look_up_version" : "zkv_look_up";
-    uint64_t *s = (uint64_t *)(void *)start.at, *l = (uint64_t *)(void *)length.at, v = 1;
-    *s = *l = 1;
+    uint64_t *s = (uint64_t *)(void *)start.at, *l = (uint64_t *)(void *)length.at, *v = (uint64_t *)(void *)version_word.at;
+    *s = *l = *v = 1;
     remember();
-    uint64_t number = with_version ? zkv_look_up_version(the_record(), image.at, image.bytes, the_table(), table_words(), some_key(), s, l, &v)
+    uint64_t number = with_version ? zkv_look_up_version(the_record(), image.at, image.bytes, the_table(), table_words(), some_key(), s, l, v)
                                    : zkv_look_up(the_record(), image.at, image.bytes, the_table(), table_words(), some_key(), s, l);
     tally[with_version ? LOOK_UP_VERSION : LOOK_UP][number != 0]++;
     image_kept();
@@ -524,10 +524,10 @@ static void look_up_call(void)
         if (*s > image.bytes || *l > image.bytes - *s) {
             fault("a part outside the image");
         }
-        if (with_version && v > VERSION_MAX) {
+        if (with_version && *v > VERSION_MAX) {
             fault("a version that no entry has");
         }
-    } else if (*s != 0 || *l != 0 || (with_version && v != 0)) {
+    } else if (*s != 0 || *l != 0 || (with_version && *v != 0)) {
         fault("a refusal with a part that is not empty, or with a version");
     } else {
         refused(number, N(1) | N(2) | N(8) | N(11));
@@ -990,9 +990,11 @@ static void set_up(void)
     make_area(&value, VALUE_MAX);
     make_area(&start, 8);
     make_area(&length, 8);
+    make_area(&version_word, 8);
     make_area(&keys, 8 * KEYS_ROOM);
     place(&start, 8);
     place(&length, 8);
+    place(&version_word, 8);
     image_before = malloc(IMAGE_MAX);
     table_before = malloc(8 * TABLE_MAX);
     if (image_before == NULL || table_before == NULL) {
@@ -1011,6 +1013,7 @@ static void play_cases(uint64_t number, const char *name, void (*play)(void), ui
     }
     around(&start);
     around(&length);
+    around(&version_word);
 }
 
 /* Prints how often each call was accepted and refused. Whether each was both. */
