@@ -207,23 +207,15 @@ static int change_with_cleaning(struct station *s, struct item *item, struct cle
     }
 }
 
-static bool for_another_version(const zkv_report *report)
-{
-    return report->kind == ZKV_REFUSED && report->first == ZKV_OTHER_VERSION;
-}
-
 /* Where no chunk is free, one is cleaned before an item is staged and committed. For the reason above, the version that
  * it names is tried before that: the item is staged and forgotten again. (No chunk is taken for its block: none is
  * free.) */
-static int try_version(struct station *s, struct item *item, zkv_report *report)
+static int try_version(struct station *s, const struct item *item, zkv_report *report)
 {
     *report = stage(s, item);
     int status = carry_out(s, report);
     if (status == DONE && report->kind == ZKV_END) {
         *report = zkv_abandon(LENT(s));
-    }
-    if (status == DONE && !for_another_version(report)) {
-        item->version = NULL;
     }
     return status;
 }
@@ -234,9 +226,10 @@ static int change_in(struct station *s, struct item *item, const struct options 
     struct cleaned done;
     if (item->version != NULL && zkv_free_chunks(s->file.image, s->file.bytes) == 0) {
         int tried = try_version(s, item, report);
-        if (tried != DONE || for_another_version(report)) {
+        if (tried != DONE || (report->kind == ZKV_REFUSED && report->first == ZKV_OTHER_VERSION)) {
             return tried;
         }
+        item->version = NULL;
     }
     int status = make_room(s, &done);
     if (status != DONE) {

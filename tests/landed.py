@@ -12,7 +12,7 @@ import register_model                                                           
 
 CARDS = {1, 4, 5, 6, 8, 9, 14}
 
-REFUSALS = range(1, 18)           # the numbers that a call may refuse with
+REFUSALS = range(1, 18)  # the numbers that a call may refuse with
 
 RULES = register_model.Model(CARDS)
 

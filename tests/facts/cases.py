@@ -548,8 +548,8 @@ def call_facts(rng, sheet, ws, keys, table, n):
             st.format(ws, None, 3)
             del st.pending.actions[:rng.choice([582, 581, 579, 575])]
         k = rng.choice(keys + [UNKNOWN])
-        n, named = rng.choice([0, 3, 256, 257]), rng.choice([0, 1, 2, 3])
-        c = rng.choice([('put', k, 1, n), ('put', k, 1, n, named), ('delete', k), ('delete', k, named), ('commit',), ('abandon',), ('look', k), ('choose',),
+        length, named = rng.choice([0, 3, 256, 257]), rng.choice([0, 1, 2, 3])
+        c = rng.choice([('put', k, 1, length), ('put', k, 1, length, named), ('delete', k), ('delete', k, named), ('commit',), ('abandon',), ('look', k), ('choose',),
                         ('clean', rng.randrange(count + 2)), ('format', 9, None), ('step',), ('step',)])
         m = Machine(ws, table, rng.choice(LIMITS), st)
         if c[0] != 'format':
