@@ -12,7 +12,7 @@ use lib.Dec.{eqb}
 use lib.ListN.{length, getD}
 use Rattle.spec.specs.Basics.{pick, negate, filter}
 use Rattle.spec.specs.Places.{base, directoryWord}
-use Rattle.spec.specs.Medium.{Action, Medium, latest, run}
+use Rattle.spec.specs.Medium.{Action, Medium, latest}
 use Rattle.spec.specs.Directory.{isFree, isLog, roleAt, linesOf, sizeOf}
 use Rattle.spec.specs.Log.{Entry, encodeAll, placed}
 use Rattle.spec.specs.Contents.{Held, highest, capacity, keysOf, entriesIn, inChunk, elsewhere, isKept, keptIn}
