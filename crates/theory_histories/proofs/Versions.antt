@@ -1,6 +1,7 @@
 -- A version in hand: what look-up hands out is the version that a staging must name, and of two windows that name the
 -- same version at most one is served: the item of the first has the version behind it, and the second gets 17, or 9 or
--- 11 before it, while that item is staged and when its commit has ended.
+-- 11 before it, while that item is staged and when its commit has ended, whatever was staged with it. A cleaning leaves
+-- a present key its version.
 -- Assumes nothing.
 use mathlib.Core.Path.{_≡_, refl, sym, _∙_, ap}
 use mathlib.Core.Logic.{_⊎_, inl, inr}
@@ -155,24 +156,25 @@ second-delete table es items v k h = delete-other es items v k (λ q. omega arit
 
 -- ## Behind a commit
 
--- what counted as staged counts when the commit has ended: the version that its item was staged for is refused, too
+-- what counted as staged counts when the commit has ended: every version but the highest, staged items counted, is
+-- refused then, too; so is the one that an item of the batch was staged for, however many stood behind it
 module _ (p : ℕ) (lo : 12 ≤ p) (hi : p ≤ 16) (n table : ℕ) (C : ℕ → Held) (book : List Item) (items items′ : List Entry) (task : Task) (acts : List Action) (m : Medium)
-    (s : Standing p n table C book items m) (h : planCommit p n (latest m) items ≡ Begin items′ task acts) (v k : ℕ) (next : highest k (entriesIn p n (latest m) ++ items) ≡ v + 1) where
+    (s : Standing p n table C book items m) (h : planCommit p n (latest m) items ≡ Begin items′ task acts) (v k : ℕ) (other : highest k (entriesIn p n (latest m) ++ items) ≡ v → ⊥) where
   abbrev ws′ : List ℕ
   ws′ = latest (run acts m)
 
   abbrev es′ : List Entry
   es′ = entriesIn p n ws′
 
-  counted : highest k (es′ ++ []) ≡ v + 1
-  counted = highest-append k es′ [] ∙ larger-zero (highest k es′) ∙ commit-versions p lo hi n table C book items items′ task acts m s h k ∙ next
+  counted : highest k (es′ ++ []) ≡ highest k (entriesIn p n (latest m) ++ items)
+  counted = highest-append k es′ [] ∙ larger-zero (highest k es′) ∙ commit-versions p lo hi n table C book items items′ task acts m s h k
 
   pub committed-put : (limit : ℕ) (bytes : List ℕ)
       → (planPut p limit n ws′ table es′ [] (G.Number v) k bytes ≡ Refuse N.TooLong) ⊎ (planPut p limit n ws′ table es′ [] (G.Number v) k bytes ≡ Refuse N.OtherVersion)
-  committed-put limit bytes = second-put p limit n ws′ table es′ [] v k bytes counted
+  committed-put limit bytes = put-other es′ [] v k (λ q. other (sym counted ∙ q)) p limit n ws′ table bytes
 
   pub committed-delete : (planDelete table es′ [] (G.Number v) k ≡ Refuse N.KeyAbsent) ⊎ (planDelete table es′ [] (G.Number v) k ≡ Refuse N.OtherVersion)
-  committed-delete = second-delete table es′ [] v k counted
+  committed-delete = delete-other es′ [] v k (λ q. other (sym counted ∙ q)) table
 
 -- ## Behind a cleaning
 
