@@ -1,12 +1,14 @@
 /* Plays a script of tests/model/PROTOCOL.md on the library and prints what each call answered, so that the output can be
  * compared with the model's. It holds each refusal to its word: image, table and record before and after are compared
  * (a refused opening: the table is all zero and a step then says idle), and `changed` follows the answer if something
- * changed. So it does where a choosing changed something, whatever it answered.
+ * changed. So it does where a choosing, a look-up or a list changed something, whatever it answered.
  *
  * With --twin it runs twins along: wherever a register is open with nothing staged or unfinished, a copy of the image
  * is opened with a record and a table of garbage, and every later call is made on it too. Its answers and its image are
  * compared with the station's, call by call, and so are the known keys; at some calls also what is asked of a chunk,
- * the list of the keys, and a run. `twin` follows an answer that is unlike, and the exit status is then 1. */
+ * the list of the keys, and a run. `twin` follows an answer that is unlike, and the exit status is then 1. At the end
+ * it writes to standard error how many twins were started and calls compared, and how many look-ups and lists were
+ * answered while a call was unfinished. */
 #include <inttypes.h>
 #include <stdbool.h>
 #include <stdio.h>
@@ -28,9 +30,13 @@ static struct lent now, before;
 static size_t bytes, words;
 static uint8_t value[VALUE_ROOM];
 static bool cleaning;              /* the call begun last is a cleaning, and has not ended */
+static bool unfinished;            /* the call begun last has not ended */
+static uint64_t reprints;          /* look-ups and lists answered in unfinished calls */
 
 /* A call with its arguments, to be made on the station and on its twins. */
-enum call { FORMAT, OPEN, PUT, PUT_AT, DELETE, DELETE_AT, COMMIT, ABANDON, CHOOSE, CLEAN, STEP, LOOK, LOOK_VERSION };
+enum call {
+    FORMAT, OPEN, PUT, PUT_AT, DELETE, DELETE_AT, COMMIT, ABANDON, CHOOSE, CLEAN, STEP, RUN, LOOK, LOOK_VERSION, LIST
+};
 
 struct asked {
     enum call call;
@@ -40,6 +46,24 @@ struct asked {
 };
 
 static uint64_t looked;            /* the version that the look-up made last handed out */
+
+/* The list of the present keys: the refusal's number or 0, how many they are, and a sum over what is listed of each. */
+static zkv_report listed(const struct lent *l)
+{
+    static uint64_t keys[TABLE_MAX / 4];
+    zkv_report found = {0, 1, 0};
+    const zkv_record *r = &l->record;
+    found.kind = zkv_list_keys(r, l->image, bytes, l->table, words, keys, TABLE_MAX / 4, &found.first);
+    for (uint64_t i = 0; i < found.first && found.kind == 0; i++) {
+        uint64_t version, length, block;
+        found.kind = zkv_list_key(r, l->image, bytes, l->table, words, keys[i], &version, &length, &block);
+        found.second = 3 * found.second + keys[i];
+        found.second = 3 * found.second + version;
+        found.second = 3 * found.second + length;
+        found.second = 3 * found.second + block;
+    }
+    return found;
+}
 
 /* What it answers; of a look-up the number, and where the part is. */
 static zkv_report made(struct lent *l, struct asked a)
@@ -69,6 +93,10 @@ static zkv_report made(struct lent *l, struct asked a)
         return zkv_clean(r, l->image, bytes, l->table, words, a.first);
     case STEP:
         return zkv_step(r, l->image, bytes, l->table, words);
+    case RUN:
+        return zkv_run(r, l->image, bytes, l->table, words);
+    case LIST:
+        return listed(l);
     case LOOK:
         found.kind = zkv_look_up(r, l->image, bytes, l->table, words, a.first, &found.first, &found.second);
         return found;
@@ -275,7 +303,15 @@ static zkv_report ask(struct asked a)
 {
     remember();
     zkv_report r = made(&now, a);
+    bool reading = a.call == LOOK || a.call == LOOK_VERSION || a.call == LIST;
     altered = altered && !(a.call == OPEN && r.kind == ZKV_OPENED);
+    if (reading) {
+        reprints += unfinished && r.kind == 0;
+    } else if (a.call == OPEN || r.kind == ZKV_END) {
+        unfinished = false;
+    } else {
+        unfinished = unfinished || r.kind == ZKV_BEGUN;
+    }
     if (with_twins) {
         follow(a, r);
     }
@@ -318,16 +354,22 @@ static void run(uint64_t most)
     answer(r);
 }
 
+/* Prints whether a look-up or a list changed something, or was refused and handed something out. */
+static void tell_reading(bool handed_out)
+{
+    if (!all_same() || handed_out) {
+        puts("changed");
+    }
+    tell_twins();
+}
+
 static void look(uint64_t key, bool with_version)
 {
     zkv_report r = ask((struct asked){.call = with_version ? LOOK_VERSION : LOOK, .first = key});
     uint64_t number = r.kind, start = r.first, length = r.second, sum = 0;
     if (number != 0) {
         printf("refused %" PRIu64 "\n", number);
-        if (!all_same() || start != 0 || length != 0 || (with_version && looked != 0)) {
-            puts("changed");
-        }
-        tell_twins();
+        tell_reading(start != 0 || length != 0 || (with_version && looked != 0));
         return;
     }
     if (start > bytes || length > bytes - start) {
@@ -342,7 +384,19 @@ static void look(uint64_t key, bool with_version)
         printf(" %" PRIu64, looked);
     }
     puts("");
-    tell_twins();
+    tell_reading(false);
+}
+
+static void list(void)
+{
+    zkv_report r = ask((struct asked){.call = LIST});
+    if (r.kind != 0) {
+        printf("refused %" PRIu64 "\n", r.kind);
+        tell_reading(r.first != 0);
+        return;
+    }
+    printf("list %" PRIu64 " %" PRIu64 "\n", r.first, r.second);
+    tell_reading(false);
 }
 
 static void sum_words(void)
@@ -434,6 +488,7 @@ static bool play(char *line)
     } else if (COMMAND("record", 0)) {
         memset(&now.record, 0, sizeof now.record);
         cleaning = false;
+        unfinished = false;
         memset(running, 0, sizeof running);
         puts("record");
     } else if (COMMAND("poke", 2) && n[0] < bytes / 8) {
@@ -478,8 +533,12 @@ static bool play(char *line)
         look(n[0], false);
     } else if (COMMAND("lookv", 1)) {
         look(n[0], true);
+    } else if (COMMAND("list", 0)) {
+        list();
     } else if (COMMAND("step", 0)) {
         answer(step());
+    } else if (COMMAND("stores", 0)) {
+        answer(ask((struct asked){.call = RUN}));
     } else if (COMMAND("run", 0)) {
         run(UINT64_MAX);
     } else if (COMMAND("steps", 1) && n[0] >= 1) {
@@ -515,7 +574,7 @@ int main(int argc, char **argv)
         }
     }
     if (with_twins) {
-        fprintf(stderr, "%" PRIu64 " %" PRIu64 "\n", started, compared);
+        fprintf(stderr, "%" PRIu64 " %" PRIu64 " %" PRIu64 "\n", started, compared, reprints);
     }
     return differs;
 }

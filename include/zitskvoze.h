@@ -27,10 +27,10 @@
  *
  * A call that writes is begun (zkv_format, zkv_put, zkv_put_at, zkv_delete, zkv_delete_at, zkv_commit, zkv_clean answer
  * ZKV_BEGUN with a number of actions a) and then stepped: exactly a + 1 calls of zkv_step, the last of which answers
- * ZKV_END. Until then every other call but an opening is refused with 8. A staging has 0 actions, so one step, but for
- * a value of more than 256 bytes, which is written to a block of its own now: a store for the length and for each 8
- * bytes, a flush for each line, and two actions more where a free chunk is taken. A commit of b lines has 9 b + 4
- * actions; a cleaning that copies b lines has 9 b + 7, and 3 where it copies none; a formatting has 582.
+ * ZKV_END. Until then no other call can be begun (8). A staging has 0 actions, so one step, but for a value of more
+ * than 256 bytes, which is written to a block of its own now: a store for the length and for each 8 bytes, a flush for
+ * each line, and two actions more where a free chunk is taken. A commit of b lines has 9 b + 4 actions; a cleaning that
+ * copies b lines has 9 b + 7, and 3 where it copies none; a formatting has 582.
  *
  * What a step answers, and what the host does before the next step:
  * - ZKV_STORE, first = word, second = value: nothing. The word at byte 8 * first of the image is already stored.
@@ -59,9 +59,12 @@
  * - open, nothing staged: after ZKV_OPENED, the end of a commit or cleaning, or ZKV_ABANDONED. zkv_put, zkv_delete,
  *   zkv_look_up, zkv_choose, zkv_clean, zkv_open and zkv_format may follow; zkv_commit and zkv_abandon get 14.
  * - open, something staged: after the end of a staging. All of these may follow but zkv_clean, which gets 15.
- * - unfinished: after ZKV_BEGUN. zkv_step, zkv_run and zkv_open may follow; other calls get 8 (or 2, in a formatting
- *   that was begun on a closed record). In the other states a step or run answers ZKV_IDLE and changes nothing.
- * What is said here of zkv_put, zkv_delete and zkv_look_up holds for zkv_put_at, zkv_delete_at and zkv_look_up_version.
+ * - unfinished: after ZKV_BEGUN. zkv_step, zkv_run and zkv_open may follow, and zkv_look_up but in a formatting; other
+ *   calls get 8 (or 2, in a formatting that was begun on a closed record). In the other states a step or run answers
+ *   ZKV_IDLE and changes nothing.
+ * What is said here of zkv_put and zkv_delete holds for zkv_put_at and zkv_delete_at; of zkv_look_up, for
+ * zkv_look_up_version, zkv_list_keys and zkv_list_key; of zkv_choose, for zkv_chunk and zkv_empty_chunk. The calls that
+ * are lent no table answer in every state.
  *
  * A new image: zkv_format, step to its end, zkv_open. An image from before: zkv_open. A put that lasts: zkv_put, step
  * to the end, zkv_commit, step to the end. Up to 16 puts and deletes (4,096 bytes of entries: 16 bytes and the value,
@@ -81,7 +84,7 @@
  * Two windows that change one value, so that neither undoes what the other did:
  * 1. zkv_look_up_version: the value, and its version v. While the value is being changed, others may make calls.
  * 2. zkv_put_at (or zkv_delete_at) for v, stepped to the end, then zkv_commit, likewise. The host makes all of this one
- *    unit, under its lock: no call of another window comes in between.
+ *    unit, by a lock of those who write: no call of another window comes in between, but one that looks up or lists.
  * 3. Where 2 gets 17, another has staged or committed an item of the key since: again from 1. (Or the key was deleted
  *    already, and a cleaning has dropped its entries since.)
  * What is staged belongs to the window that staged it, which commits or abandons it; another one that gets 17 waits for
@@ -91,7 +94,26 @@
  * deleted one that still has an entry has its delete's, the highest that zkv_entries says of the key.
  * Where 2 gets 13, or 7, v was right. The cleaning that follows may drop the last entry of a deleted key, which then is
  * unknown and has version 0, so that v would get 17: a host that has let nobody else change the register since (it has
- * the lock) stages again by zkv_put. zkv_make_room may drop such an entry, too.
+ * that lock) stages again by zkv_put. zkv_make_room may drop such an entry, too.
+ *
+ * LOOKING UP WHILE A CALL IS UNFINISHED
+ *
+ * Between the steps of a staging, a commit or a cleaning zkv_look_up, zkv_look_up_version, zkv_list_keys and
+ * zkv_list_key answer, so that a label can be reprinted while others are put:
+ * - until the call's last fence is reported: from the register as it was before the call, with the places, lengths and
+ *   versions of then;
+ * - from that report on, before and after the ZKV_END: from the register that the call makes.
+ * The last fence of a commit or a cleaning is its last action, so the report before the ZKV_END; with zkv_run the
+ * register changes in the run that answers it. A staging has no fence: the register before it is also the one that it
+ * makes, as staged items are unseen. A cleaning changes places alone. In a formatting of an open register these calls
+ * get 8. Each answer is that of a register which a power cut at that point may leave.
+ * What a host with a second thread does:
+ * - It takes a lock round every call, steps and look-ups too, and may give it back between any two of them.
+ * - It copies a value out under the lock, or looks it up again. The part that a look-up answered stays unaltered until
+ *   the next last fence of a commit or cleaning, of the unfinished call or a later one, or the end of a formatting is
+ *   reported. From then on a superseded value's block, or a cleaned chunk, may be written again.
+ * - It keeps the lock from the report of a fence until that fence is carried out, if it is to hand out only what lasts:
+ *   after the report of the last fence look-up answers what the call makes, and only the fence makes that durable.
  *
  * REFUSALS
  *
@@ -116,8 +138,8 @@
  * - The archive is for x86-64 Linux. Words are little-endian, so an image may be moved between machines of that kind.
  * - One call at a time, one writer to an image. But calls that are lent a const record, or an image alone, only read
  *   record, image and table, so that several threads may make them at once, each with words of its own for what they
- *   answer, while no other call runs. The library has no lock: the host needs one, also between processes (the program
- *   zkv takes a lock on the image's file).
+ *   answer, while no other call runs, a step included. The library has no lock: the host needs one, also between
+ *   processes (the program zkv takes a lock on the image's file).
  * - Where only the pages of a file stand behind the image, a fence is an msync; hosts on persistent memory map it with
  *   MAP_SYNC, else a flushed line may be durable in a page that the file does not have yet.
  * - A word must reach the medium whole. Aligned 8-byte stores do; tests/one_move.sh looks at the compiled code. Do not
@@ -134,7 +156,8 @@
  *   until a commit finds space. Commits leave a free chunk to clean into (they take one only where three are free, two
  *   for deletes alone), so that cleaning a chosen chunk gets 13 only where the host did not keep the rule above, or in
  *   an image that was made in another way. In an image full of present values even a delete may get 13.
- * - A cleaning changes no value, and the parts that zkv_look_up answered before it are no longer the values' places.
+ * - A cleaning changes no value; after its last fence the parts that zkv_look_up answered before are no longer the
+ *   values' places.
  * - Each put or delete of a key has a version, one above the key's highest. The last one, 1,048,575, is kept for a
  *   delete: a key at 1,048,574 gets 12 for a put and can be deleted. When its entries are cleaned away it begins at 1
  *   again. A put at the last version, which images from before this rule may hold, is opened and read, and gets 12 for
@@ -310,11 +333,11 @@ zkv_report zkv_format(zkv_record *record, const uint8_t *image, size_t bytes, co
  * unfinished call. ZKV_OPENED, or refused: 1 to 7; the table is then all zero and the record closed. */
 zkv_report zkv_open(zkv_record *record, const uint8_t *image, size_t bytes, uint64_t *table, size_t words);
 
-/* Begins staging a put of `length` bytes, which are copied into the record. Look-up does not see it before its commit
- * has ended. ZKV_BEGUN with 0 actions for a value of at most ZKV_LOG_VALUE_MAX bytes, else with those that write its
- * block; or refused: 2, 1, 8, 9, 12, 10, 7, 13. A block that was staged and then abandoned, or superseded, is used
- * again. A put that gets 13 (no block is to be had) leaves staged what was staged before it: commit that, or forget it
- * by zkv_abandon where all or none of the batch is to last; then clean, and stage again what is missing. */
+/* Begins staging a put of `length` bytes, which are copied into the record. Look-up does not see it before the last
+ * fence of its commit. ZKV_BEGUN with 0 actions for a value of at most ZKV_LOG_VALUE_MAX bytes, else with those that
+ * write its block; or refused: 2, 1, 8, 9, 12, 10, 7, 13. A block that was staged and then abandoned, or superseded, is
+ * used again. A put that gets 13 (no block is to be had) leaves staged what was staged before it: commit that, or
+ * forget it by zkv_abandon where all or none of the batch is to last; then clean, and stage again what is missing. */
 zkv_report zkv_put(zkv_record *record, const uint8_t *image, size_t bytes, const uint64_t *table, size_t words,
                    uint64_t key, const uint8_t *value, size_t length);
 
@@ -362,9 +385,10 @@ zkv_report zkv_step(zkv_record *record, uint8_t *image, size_t bytes, uint64_t *
  * already in the image. At most 513 steps; idle and refused as zkv_step. */
 zkv_report zkv_run(zkv_record *record, uint8_t *image, size_t bytes, uint64_t *table, size_t words);
 
-/* Looks a key up: 0, with the part of the image that holds its value (*length bytes from byte *start on; no copy, so
- * read it before the next call that is begun); or the refusal's number 2, 1, 8 or 11, with 0 in both. Staged items
- * are unseen. An empty value is a part of length 0 and not a refusal. */
+/* Looks a key up: 0, with the part of the image that holds its value (*length bytes from byte *start on; no copy, and
+ * unaltered only until the last fence of a commit or cleaning is reported); or the refusal's number 2, 1, 8 (in a
+ * formatting alone) or 11, with 0 in both. Staged items are unseen. An empty value is a part of length 0 and not a
+ * refusal. */
 uint64_t zkv_look_up(const zkv_record *record, const uint8_t *image, size_t bytes, const uint64_t *table, size_t words,
                      uint64_t key, uint64_t *start, uint64_t *length);
 
@@ -375,13 +399,14 @@ uint64_t zkv_look_up_version(const zkv_record *record, const uint8_t *image, siz
                              size_t words, uint64_t key, uint64_t *start, uint64_t *length, uint64_t *version);
 
 /* Lists the present keys: 0, with the keys in rising order in `keys`, as far as its `room` words reach, and in *count
- * how many there are (ZKV_KEYS_MAX at most); the words behind them stay. Or the refusal's number 2, 1 or 8, with 0 in
- * *count and no key. Staged items are unseen. */
+ * how many there are (ZKV_KEYS_MAX at most); the words behind them stay. Or the refusal's number 2, 1 or 8 (in a
+ * formatting alone), with 0 in *count and no key. The keys are those that zkv_look_up finds. */
 uint64_t zkv_list_keys(const zkv_record *record, const uint8_t *image, size_t bytes, const uint64_t *table, size_t words,
                        uint64_t *keys, size_t room, uint64_t *count);
 
 /* What is listed of a present key: 0, with its version, its value's length, and 1 in *block where the value stands in
- * a block, 0 where it stands in the log; or the refusal's number 2, 1, 8 or 11, with 0 in all three. */
+ * a block, 0 where it stands in the log; or the refusal's number 2, 1, 8 (in a formatting alone) or 11, with 0 in all
+ * three. */
 uint64_t zkv_list_key(const zkv_record *record, const uint8_t *image, size_t bytes, const uint64_t *table, size_t words,
                       uint64_t key, uint64_t *version, uint64_t *length, uint64_t *block);
 
@@ -440,8 +465,9 @@ const char *zkv_version(void);
  *     r = zkv_finish(LENT, zkv_put(LENT, key, value, length), flush, fence, context);
  * `flush` starts the write-back of the 64 bytes at `line`. `fence` waits until all that was started is durable and
  * answers 0, or another number where it could not. Then that ZKV_FENCE is answered: the call is unfinished, and nothing
- * may be acknowledged. zkv_finish with this report tries the fence again and goes on; but where a sync of a file failed
- * the pages may be lost (fsync(2)): open the file again and look at what is there. */
+ * may be acknowledged, though look-up may answer it already. zkv_finish with this report tries the fence again and goes
+ * on; but where a sync of a file failed the pages may be lost (fsync(2)): open the file again and look at what is
+ * there. While one of the two functions runs no call does, so that it may give back the lock and take it again. */
 zkv_report zkv_finish(zkv_record *record, uint8_t *image, size_t bytes, uint64_t *table, size_t words, zkv_report report,
                       void (*flush)(void *context, const uint8_t *line), int (*fence)(void *context), void *context);
 

@@ -1,11 +1,13 @@
 /* Records altered behind the library's back, through zkv_finish: the host's functions are given no address outside the
- * image, and every call ends. tests/library.sh builds it with sanitizers.
+ * image, look-ups between the steps answer no part outside it, and every call ends. tests/library.sh builds it with
+ * sanitizers.
  *
  * A format, a put of a large value, a commit and a cleaning are begun; then each word of the record in turn, and words
  * by chance, are altered, and the call is carried out. The image lies between pages that cannot be touched.
  *
  * altered [CASES]      CASES (20,000) of altering by chance, from a fixed seed; exit status 1 and a message at the
- *                      first fault, or where no step reported a line past the image, so that too little was tried */
+ *                      first fault, or where no step reported a line past the image or no look-up in an unfinished call
+ *                      was answered, so that too little was tried */
 #define _GNU_SOURCE
 #include <inttypes.h>
 #include <stdbool.h>
@@ -28,7 +30,7 @@ struct state {
 static uint8_t *image;
 static uint64_t table[WORDS];
 static zkv_record record;
-static uint64_t lines, fences, past, cases;
+static uint64_t lines, fences, past, cases, found;
 static const char *what = "";
 
 #define LENT &record, image, BYTES, table, WORDS
@@ -49,11 +51,19 @@ static void flush(void *unused, const uint8_t *line)
     lines++;
 }
 
+/* While the host waits, another thread may look up. */
 static int fence(void *unused)
 {
     (void)unused;
     if (++fences > STEPS_MAX) {
         fault("no end");
+    }
+    for (uint64_t key = 0; key <= 60; key += 10) {
+        uint64_t start, length, number = zkv_look_up(LENT, key, &start, &length);
+        if (start > BYTES || length > BYTES - start) {
+            fault("a part outside the image");
+        }
+        found += number == 0;
     }
     return 0;
 }
@@ -210,9 +220,11 @@ int main(int count, char **argument)
         }
         play(s);
     }
-    if (past == 0) {
-        fault("no step reported a line past the image: too little was tried");
+    if (past == 0 || found == 0) {
+        fault("no step reported a line past the image, or no look-up in an unfinished call was answered: too little was tried");
     }
-    printf("altered: %" PRIu64 " altered records, %" PRIu64 " lines written back, %" PRIu64 " past the image passed over\n", cases, lines, past);
+    printf("altered: %" PRIu64 " altered records, %" PRIu64 " lines written back, %" PRIu64 " past the image passed over, %" PRIu64
+           " labels found meanwhile\n",
+           cases, lines, past, found);
     return 0;
 }

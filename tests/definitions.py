@@ -3,9 +3,9 @@
 python3 tests/definitions.py SEED COUNT [--only PATTERN] [--show N] [--keep] [--spec FOLDER]
 
 Makes COUNT images (whole, damaged in each clause, foreign, after power cuts) with calls and histories of calls, and beside them numbers,
-logs, media and desk books; writes what the model says of each as a fact of a throw-away crate over a copy of crates/spec; has `rt check`
-compute them. A fact that does not hold is named, the first N (2) with both values, and the exit status is 1. So it is where no call was
-refused with one of the numbers in force (unless --only is given).
+logs, media and desk books, and look-ups between the steps of each call; writes what the model says of each as a fact of a throw-away
+crate over a copy of crates/spec; has `rt check` compute them. A fact that does not hold is named, the first N (2) with both values, and
+the exit status is 1. So it is where no call was refused with one of the numbers in force (unless --only is given).
 --only checks the facts whose names have the pattern; --keep leaves the throw-away repository behind and says where it is; --spec takes
 another copy of crates/spec.
 """
@@ -146,6 +146,7 @@ def main():
     args = args.parse_args()
     seed, count = args.seed, args.count
     sheets = [cases.example_sheet(), cases.order_sheet(), cases.number_sheet(seed), cases.log_sheet(seed, count // 2), cases.medium_sheet(seed, count // 2), cases.book_sheet(seed, count)]
+    sheets += cases.reprint_sheets(seed)
     sheets += [cases.image_sheet(seed, i) for i in range(count)]
     sheet_of = {f: s for s in sheets for f in s.facts if re.search(args.only, f.name)}
     if not sheet_of:

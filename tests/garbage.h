@@ -31,6 +31,7 @@ enum {
     KEYS_ROOM = 40,
     CHUNK_WORDS = 512,
     BUFFER = 21,              /* word of the record at which its buffer starts */
+    REFORMAT = 5,             /* the record's first word in a formatting that was begun on an open register */
     BLOCK_ACTIONS_MAX = 2 + 512 + 64,
     CLEAN_ACTIONS_MAX = 9 * 64 + 7,
     STEPS_MAX = CLEAN_ACTIONS_MAX + 1,
@@ -44,10 +45,12 @@ static const char *kind_of_case = "", *call = "";
 static uint64_t case_number;
 
 /* How often each call was accepted and refused; each must have been both. */
-enum { FORMAT, OPEN, PUT, PUT_AT, DELETE, DELETE_AT, COMMIT, ABANDON, CHOOSE, CLEAN, STEP, RUN, LOOK_UP, LOOK_UP_VERSION, LIST, CALLS };
+enum {
+    FORMAT, OPEN, PUT, PUT_AT, DELETE, DELETE_AT, COMMIT, ABANDON, CHOOSE, CLEAN, STEP, RUN, LOOK_UP, LOOK_UP_VERSION, LIST, LIST_KEY, CALLS
+};
 
-static const char *const call_name[CALLS] = {"format", "open", "put", "put_at", "delete", "delete_at", "commit", "abandon",
-                                            "choose", "clean", "step", "run", "look_up", "look_up_version", "list_keys"};
+static const char *const call_name[CALLS] = {"format", "open", "put", "put_at", "delete", "delete_at", "commit", "abandon", "choose",
+                                            "clean", "step", "run", "look_up", "look_up_version", "list_keys", "list_key"};
 static uint64_t tally[CALLS][2];
 
 __attribute__((noreturn, format(printf, 1, 2))) static void fault(const char *format, ...)
@@ -318,6 +321,9 @@ static zkv_report run_call(uint64_t *steps)
 /* Goes on with what is begun, by zkv_step or zkv_run as the program likes; the number of steps is added to *steps. */
 static zkv_report go_on(uint64_t *steps);
 
+/* Now and then between two steps: a look-up or a list. */
+static void looks_between(void);
+
 /* Alters some bytes of image and table behind the calls' back, unless they are to be left as the calls made them. */
 static bool altering = true;
 
@@ -342,6 +348,7 @@ static void run(uint64_t actions)
     zkv_report r;
     do {
         alter();
+        looks_between();
         r = go_on(&steps);
         if (steps > actions + 1 || (r.kind == ZKV_END) != (steps == actions + 1)) {
             fault("step %" PRIu64 " of a call of %" PRIu64 " actions answered kind %" PRIu64, steps, actions, r.kind);
@@ -507,6 +514,18 @@ static void clean_call(uint64_t chunk)
           N(1) | N(2) | N(8) | N(13) | N(15) | N(16));
 }
 
+/* A look-up or list answers, or is refused with 1, 2 or one of `numbers`; in a formatting of an open register, and only
+ * there, with 8 instead. */
+static void looked(uint64_t number, uint64_t numbers)
+{
+    bool formatting = the_record()->word[0] == REFORMAT;
+    if (number != 0) {
+        refused(number, N(1) | N(2) | (formatting ? N(8) : numbers));
+    } else if (formatting) {
+        fault("answered in a formatting");
+    }
+}
+
 static void look_up_call(void)
 {
     bool with_version = one_in(2);
@@ -520,6 +539,7 @@ static void look_up_call(void)
     image_kept();
     table_kept();
     record_kept();
+    looked(number, N(11));
     if (number == 0) {
         if (*s > image.bytes || *l > image.bytes - *s) {
             fault("a part outside the image");
@@ -529,8 +549,6 @@ static void look_up_call(void)
         }
     } else if (*s != 0 || *l != 0 || (with_version && *v != 0)) {
         fault("a refusal with a part that is not empty, or with a version");
-    } else {
-        refused(number, N(1) | N(2) | N(8) | N(11));
     }
 }
 
@@ -550,11 +568,9 @@ static void list_call(void)
     table_kept();
     record_kept();
     around(&keys);
-    if (number != 0) {
-        refused(number, N(1) | N(2) | N(8));
-        if (*count != 0) {
-            fault("a refusal with a count");
-        }
+    looked(number, 0);
+    if (number != 0 && *count != 0) {
+        fault("a refusal with a count");
     }
     if (*count > table_words()) {
         fault("%" PRIu64 " keys in a table of %zu words", *count, table_words());
@@ -563,6 +579,41 @@ static void list_call(void)
         if (i >= *count && key[i] != 0x5A5A5A5A5A5A5A5Aull) {
             fault("a word behind the keys was changed");
         }
+    }
+}
+
+static void list_key_call(void)
+{
+    call = "zkv_list_key";
+    uint64_t *v = (uint64_t *)(void *)version_word.at, *l = (uint64_t *)(void *)length.at, *b = (uint64_t *)(void *)start.at;
+    *v = *l = *b = 1;
+    remember();
+    uint64_t number = zkv_list_key(the_record(), image.at, image.bytes, the_table(), table_words(), some_key(), v, l, b);
+    tally[LIST_KEY][number != 0]++;
+    image_kept();
+    table_kept();
+    record_kept();
+    looked(number, N(11));
+    if (number == 0 ? *v > VERSION_MAX || *b > 1 : *v != 0 || *l != 0 || *b != 0) {
+        fault("answered %" PRIu64 " with version %" PRIu64 ", %" PRIu64 " bytes, block %" PRIu64, number, *v, *l, *b);
+    }
+}
+
+static void looks_between(void)
+{
+    switch (below(48)) {
+    case 0:
+        list_call();
+        break;
+    case 1:
+        list_key_call();
+        break;
+    case 2:
+    case 3:
+        look_up_call();
+        break;
+    default:
+        break;
     }
 }
 
@@ -657,6 +708,7 @@ static void inside_calls(void)
 static void finish(void)
 {
     for (uint64_t steps = 0; steps < STEPS_MAX;) {
+        looks_between();
         zkv_report r = go_on(&steps);
         if (r.kind != ZKV_STORE && r.kind != ZKV_FLUSH && r.kind != ZKV_FENCE) {
             return;
@@ -700,6 +752,7 @@ static void all_calls(bool openings)
                 inside_calls();
             }
             list_call();
+            list_key_call();
             entries_call();
             finish();
             break;

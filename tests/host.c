@@ -14,7 +14,7 @@ enum { CHUNKS = 4, WORDS = 1024 };
 static uint64_t table[WORDS];
 static zkv_record record;
 static zkv_file file;
-static int fences_to_fail;
+static int fences_to_do = -1;           /* then one fails; below 0: none does */
 
 #define LENT &record, file.image, file.bytes, table, WORDS
 #define HOLD(what)                                                                      \
@@ -27,7 +27,7 @@ static int fences_to_fail;
 
 static int fence(void *context)
 {
-    return fences_to_fail-- > 0 ? -1 : zkv_file_fence(context);
+    return fences_to_do >= 0 && fences_to_do-- == 0 ? -1 : zkv_file_fence(context);
 }
 
 static zkv_report finish(zkv_report begun)
@@ -94,7 +94,9 @@ static void look_inside(void)
     HOLD(zkv_fault(file.image, file.bytes).refusal == 0);
 }
 
-/* A fence that failed leaves the call unfinished; with its report it goes on. Reports that ask for nothing go through. */
+/* A fence that failed leaves the call unfinished: no other can be begun, and look-up shows the register before it, or,
+ * where it was the last fence, the one that it makes. With its report the call goes on. Reports that ask for nothing go
+ * through. */
 static void write_with_trouble(void)
 {
     static const uint64_t through[] = {ZKV_REFUSED, ZKV_END, ZKV_IDLE, ZKV_OPENED, ZKV_ABANDONED, ZKV_CHOSEN, ZKV_PART, 99};
@@ -107,9 +109,14 @@ static void write_with_trouble(void)
         HOLD(answered.kind == given.kind && answered.first == 3 && answered.second == 4);
     }
     HOLD(ends(zkv_put(LENT, 6, (const uint8_t *)"B", 1)));
-    fences_to_fail = 1;
+    fences_to_do = 0;
     zkv_report stopped = finish(zkv_commit(LENT));
-    HOLD(stopped.kind == ZKV_FENCE && zkv_look_up(LENT, 6, &start, &length) == ZKV_UNFINISHED);
+    HOLD(stopped.kind == ZKV_FENCE && zkv_commit(LENT).first == ZKV_UNFINISHED);
+    HOLD(zkv_look_up(LENT, 6, &start, &length) == ZKV_KEY_ABSENT && zkv_look_up(LENT, 4711, &start, &length) == 0 && length == 9);
+    fences_to_do = 1;
+    stopped = finish(stopped);
+    HOLD(stopped.kind == ZKV_FENCE && zkv_commit(LENT).first == ZKV_UNFINISHED);
+    HOLD(zkv_look_up(LENT, 6, &start, &length) == 0 && length == 1);
     HOLD(ends(stopped) && zkv_look_up(LENT, 6, &start, &length) == 0 && length == 1);
 }
 

@@ -1,6 +1,7 @@
 #!/usr/bin/env bash
 # What the library has beside the proved calls (host/library.c, host/image_file.c), as hosts use it that have threads,
-# signal handlers, several files, power cuts and altered memory: tests/files.c, tests/room.c, tests/altered.c and zkv.
+# signal handlers, several files, power cuts and altered memory: tests/files.c, tests/room.c, tests/altered.c and zkv; and
+# look-ups while a call is unfinished, by a second thread too: tests/reprint.c.
 #
 # tests/library.sh      needs host/build/libzitskvoze.a and zkv (make -C host), and gcc with its sanitizers
 set -euo pipefail
@@ -38,6 +39,28 @@ races=("$work/files_races")
 play "files locked, as the sanitizer is to see it" bash -c '"$1" locked || setarch -R "$1" locked' - "$work/files_races"
 ! grep -q 'unexpected memory mapping' "$work/out" || races=(setarch -R "$work/files_races")
 play "files threads without data races" "${races[@]}" threads
+races=("${races[@]/files_races/reprint_races}")
+
+# Look-ups between the steps of unfinished calls. The test is first shown to find that the new register is expected a
+# report before the last fence, or only at the end.
+for wrong in -1 1; do
+    build -DWRONG="$wrong" -o "$work/reprint_wrong" tests/reprint.c "$library"
+    for test in worked steps threads; do
+        status=0
+        timeout 120 "$work/reprint_wrong" "$test" > "$work/out" 2>&1 || status=$?
+        [ "$status" -eq 1 ] && grep -q '^reprint: line [0-9]*: not so: .*, in a ' "$work/out" ||
+            fail "reprint $test does not find that the register changes elsewhere than expected ($wrong): $(cat "$work/out")"
+    done
+done
+build -o "$work/reprint" tests/reprint.c "$library"
+build $safe -o "$work/reprint_safe" tests/reprint.c host/library.c "$archive"
+build -fsanitize=thread -o "$work/reprint_races" tests/reprint.c host/library.c "$archive"
+for test in worked formatting steps threads; do
+    play "reprint $test" "$work/reprint" "$test"
+    play "reprint $test under sanitizers" "$work/reprint_safe" "$test"
+done
+play "reprint threads without data races" "${races[@]}" threads
+cat "$work/out"
 
 # zkv leaves no file without its name where a signal ends it.
 for signal in INT TERM HUP; do
@@ -63,4 +86,4 @@ for test in room altered; do
     play "$test" "$work/$test"
     cat "$work/out"
 done
-echo "library: locks, waits, page faults, signals and names are as zitskvoze_file.h says, with threads too"
+echo "library: locks, waits, page faults, signals and names are as zitskvoze_file.h says, with threads too; look-ups in unfinished calls as zitskvoze.h says"

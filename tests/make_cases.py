@@ -84,6 +84,36 @@ class Script:
         self.say(line, f'refused {number}')
         self.say('kept', 'kept')
 
+    def looks(self, register, calls=('lookv',)):
+        """Look-ups of each key: where its value starts, its bytes counted up from the first, its version; or it is absent."""
+        for k, held in register.items():
+            for call in calls:
+                answer = 'refused 11'
+                if held is not None:
+                    start, nbytes, first, version = held
+                    answer = f'value {start} {nbytes} {sum((i + 1) * ((first + i) % 256) for i in range(nbytes))}'
+                    answer += f' {version}' if call == 'lookv' else ''
+                self.say(f'{call} {k}', answer)
+        self.say('kept', 'kept')
+
+    def reprints(self, line, actions, before, after, end='end', inside=()):
+        """A call with look-ups between its steps (of a large value, the first and the last ones): they answer from the
+        register before it, and behind its last action from the one that it makes. Other calls in it get 8."""
+        self.say(line, f'begun {actions}')
+        for i in range(actions):
+            if i in (0, 11, actions - 1):
+                self.looks(before, ('look', 'lookv'))
+                for other in inside:
+                    self.refused(other, 8)
+            elif actions < 25 or i < 4:
+                self.looks(before)
+            self.say('step')
+        self.looks(after, ('look', 'lookv'))
+        for other in inside:
+            self.refused(other, 8)
+        self.say('step', end)
+        self.looks(after)
+
     def directory(self, *words):
         for c, word in enumerate(words, 1):
             self.say(f'word {8 + c}', f'word {8 + c} {word}')
@@ -261,12 +291,12 @@ def blocks(s):
     s.block('put 12 1000 1', 1000, False)
     s.say('sum')
 
-    s.note('a staging in a block step by step: directory word, its line, length, value, lines; then the end; other calls get 8')
+    s.note('a staging in a block step by step: directory word, its line, length, value, lines, end; but for look-up calls get 8')
     s.fresh(65536)
     s.say('put 7 257 0', 'begun 41')
     for answer in ('store 9 514', 'flush 1', 'store 512 257', 'store 513 506097522914230528'):
         s.say('step', answer)
-        s.refused('look 7', 8)
+        s.refused('look 7', 11)
     for line in ('commit', 'abandon', 'put 8 0 0', 'delete 7', 'format - -'):
         s.refused(line, 8)
     s.run(38)
@@ -326,16 +356,16 @@ def refusals(s):
     s.say('table 3')
     s.refused('open', 7)
 
-    s.note('8: look-up in a commit; other calls too, and in a staging and a formatting')
+    s.note('8: a commit in a commit; other calls but look-up too, and in a staging; look-up too in a formatting')
     s.fresh()
     s.say('put 7 5 97', 'begun 0')
-    for line in ('look 7', 'commit', 'abandon', 'put 8 0 0', 'delete 7', 'format - -'):
+    for line in ('commit', 'abandon', 'put 8 0 0', 'delete 7', 'format - -'):
         s.refused(line, 8)
     s.run(1)
     s.say('commit', 'begun 13')
     for i in range(6):
         s.say('step')
-        s.refused('look 7', 8)
+        s.refused('commit', 8)
     for line in ('commit', 'abandon', 'put 8 0 0', 'delete 7', 'format - -'):
         s.refused(line, 8)
     s.run(8)
@@ -472,6 +502,127 @@ def two_windows(s):
     s.refused('putat 5 1048573 1 1', 17)
     s.refused('putat 5 1048574 1 1', 12)
     s.stage('deleteat 5 1048574')
+
+
+BUSY = 'commit', 'abandon', 'put 8 0 0', 'putat 8 0 0 0', 'delete 7', 'deleteat 7 1', 'choose', 'clean 1', 'format - -'
+
+
+def reprints(s):
+    s.note('Reprints in an unfinished call: look-up answers from the register before it, old places and versions included,')
+    s.note('and from its last fence on from the one that it makes; every other call gets 8. A staging shows nothing of itself')
+    s.fresh()
+    s.reprints('put 7 5 97', 0, {7: None, 8: None}, {7: None, 8: None}, inside=BUSY)
+    for line in ('put 8 3 10', 'put 9 0 0'):
+        s.reprints(line, 0, {7: None, 8: None, 9: None}, {7: None, 8: None, 9: None})
+    s.reprints('commit', 13, {7: None, 9: None}, {7: (4112, 5, 97, 1), 8: (4136, 3, 10, 1), 9: (4160, 0, 0, 1)})
+    s.directory(257, 0, 0)
+    s.note('behind the lines of a log chunk: 7 is put again, 8 deleted, 10 is new, 9 is not in the batch and 11 is known to none')
+    before = {7: (4112, 5, 97, 1), 8: (4136, 3, 10, 1), 9: (4160, 0, 0, 1), 10: None, 11: None}
+    for line in ('put 7 9 1', 'delete 8', 'put 10 1 65'):
+        s.reprints(line, 0, before, before)
+    s.reprints('commit', 22, before, {7: (4176, 9, 1, 2), 8: None, 9: (4160, 0, 0, 1), 10: (4224, 1, 65, 1), 11: None}, inside=BUSY)
+    s.directory(769, 0, 0)
+    s.say('show 7', 'value 7 9 285 010203040506070809')
+    s.note('the same batch is put back by another: 7 by a shorter value, 8 put anew behind its delete, 10 deleted')
+    before = {7: (4176, 9, 1, 2), 8: None, 10: (4224, 1, 65, 1)}
+    for line in ('put 7 0 0', 'put 8 1 4', 'delete 10'):
+        s.stage(line)
+    s.say('commit', 'begun 13')
+    for i in range(11):
+        s.say('step')
+    s.say('word 9', 'word 9 1025')                  # the directory word is stored, the last fence not reported
+    s.looks(before)
+    s.say('show 8', 'absent 8')
+    s.say('show 10', 'value 10 1 65 41')
+    s.run(3)
+    s.looks({7: (4304, 0, 0, 3), 8: (4320, 1, 4, 3), 10: None})
+    s.say('show 8', 'value 8 1 4 04')
+    s.note('in a free chunk, where the log has no space')
+    s.fresh(20480)
+    s.pokes({9: 1 | 64 << 8, 512: first_word(1, 0, 4, 0), 513: 7, 514: first_word(1, 0, 1, 0), 515: 8})
+    s.open()
+    for line in ('put 7 3 40', 'put 9 0 0', 'delete 8'):
+        s.stage(line)
+    s.reprints('commit', 13, {7: (4112, 0, 0, 4), 8: (4128, 0, 0, 1), 9: None}, {7: (8208, 3, 40, 5), 8: None, 9: (8232, 0, 0, 1)})
+    s.directory(1 | 64 << 8, 257, 0, 0)
+    s.note('a commit of two puts of one key shows neither before its last fence, and the last from then on')
+    s.stage('put 7 2 1')
+    s.stage('put 7 1 9')
+    s.reprints('commit', 13, {7: (8208, 3, 40, 5)}, {7: (8296, 1, 9, 7)})
+    s.note('a call left unfinished, and opened anew behind its last fence or before it')
+    s.stage('put 7 0 0')
+    s.say('commit', 'begun 13')
+    s.say('step')
+    s.looks({7: (8296, 1, 9, 7)})
+    s.open()
+    s.looks({7: (8296, 1, 9, 7)})
+    s.stage('put 7 0 0')
+    s.say('commit', 'begun 13')
+    for i in range(13):
+        s.say('step')
+    s.looks({7: (8336, 0, 0, 8)})
+    s.open()
+    s.looks({7: (8336, 0, 0, 8)})
+    s.note('1 before the answer: a lent length unlike that at opening, in a commit')
+    s.stage('put 7 0 0')
+    s.say('commit', 'begun 13')
+    s.say('step')
+    s.say('table 65')
+    for line in ('look 7', 'lookv 7', 'look 8', 'commit'):
+        s.refused(line, 1)
+    s.note('a formatting of an open register: 8 until its end, 1 before it; then 2')
+    s.fresh()
+    s.stage('put 7 5 97')
+    s.commit(1)
+    s.say('format - -', 'begun 582')
+    for i in range(4):
+        for line in ('look 7', 'lookv 7', 'look 8'):
+            s.refused(line, 8)
+        s.say('step')
+    s.say('table 63')
+    for line in ('look 7', 'lookv 8', 'step'):
+        s.refused(line, 1)
+    s.say('table 64')
+    for line in ('look 7', 'lookv 7', *BUSY):
+        s.refused(line, 8)
+    s.run(579)
+    for line in ('look 7', 'lookv 7'):
+        s.refused(line, 2)
+    s.note('a formatting with no register open: 2 throughout, whatever is lent')
+    s.say('format - -', 'begun 582')
+    for i in range(2):
+        for line in ('look 7', 'lookv 7'):
+            s.refused(line, 2)
+        s.say('step')
+    s.say('table 63')
+    s.refused('look 7', 2)
+    s.refused('format - -', 8)
+
+
+def reprints_large(s):
+    s.note('Reprints in a put of a large value: its block is written, and look-up shows the register before it; likewise in its commit')
+    s.fresh(24576)
+    s.stage('put 7 5 97')
+    s.commit(1)
+    before = {7: (4112, 5, 97, 1), 8: None}
+    s.reprints('put 7 257 3', 41, before, before, inside=BUSY)
+    s.block('put 8 300 5', 300, False)
+    after = {7: (8200, 257, 3, 2), 8: (8712, 300, 5, 1)}
+    s.reprints('commit', 13, before, after)
+    s.directory(513, 514, 0, 0, 0)
+    s.note('in another block of the chunk, and of another size; then a commit that leaves both blocks free, and the lowest taken again')
+    s.block('put 7 504 1', 504, False)
+    s.block('put 8 505 2', 505, True)
+    s.reprints('commit', 13, after, {7: (9224, 504, 1, 3), 8: (12296, 505, 2, 2)})
+    s.directory(769, 514, 770, 0, 0)
+    after = {7: (9224, 504, 1, 3), 8: (12296, 505, 2, 2)}
+    s.reprints('put 7 400 9', 58, after, after)
+    s.reprints('delete 8', 0, after, after)
+    s.reprints('commit', 13, after, {7: (8200, 400, 9, 4), 8: None})
+    s.note('in a cleaning of the log chunk the entry moves and the block stays; in that of the data chunk that holds none any more')
+    s.reprints('clean 1', 16, {7: (8200, 400, 9, 4), 8: None}, {7: (8200, 400, 9, 4), 8: None}, 'end 1')
+    s.reprints('clean 3', 3, {7: (8200, 400, 9, 4), 8: None}, {7: (8200, 400, 9, 4), 8: None}, 'end 0')
+    s.directory(0, 514, 0, 257, 0)
 
 
 # ---- choosing and cleaning
@@ -618,6 +769,45 @@ def interrupted(s):
     s.refused('choose', 16)
 
 
+def reprints_cleaning(s):
+    s.note('Reprints in a cleaning: the old place until the fence of the freeing, though the copy is committed and fenced before it')
+    s.fresh()
+    for line in ('put 7 5 97', 'put 9 0 0'):
+        s.stage(line)
+    s.commit(1)
+    s.stage('delete 9')
+    s.commit(1)
+    s.reprints('clean 1', 16, {7: (4112, 5, 97, 1), 9: None, 11: None}, {7: (8208, 5, 97, 1), 9: None, 11: None}, 'end 1', BUSY)
+    s.directory(0, 257, 0)
+    s.note('back into the chunk before it, which is free')
+    s.reprints('clean 2', 16, {7: (8208, 5, 97, 1), 9: None}, {7: (4112, 5, 97, 1), 9: None}, 'end 1')
+    s.directory(257, 0, 0)
+    s.note('into a log chunk before the cleaned one; of 8, in both, the later version is kept, of 9 the delete')
+    s.fresh(20480)
+    s.pokes({10: 257, 1024: first_word(1, 0, 1, 3), 1025: 8, 1026: 0x030201, 1027: first_word(1, 0, 1, 0), 1028: 9,
+             11: 513, 1536: first_word(1, 0, 2, 0), 1537: 8, 1538: first_word(1, 0, 6, 2), 1539: 7, 1540: 0x0201,
+             1541: first_word(2, 0, 2, 0), 1542: 9})
+    s.open()
+    s.reprints('clean 3', 16, {7: (12320, 2, 1, 6), 8: (12304, 0, 0, 2), 9: None},
+               {7: (8288, 2, 1, 6), 8: (8272, 0, 0, 2), 9: None}, 'end 3')
+    s.directory(0, 513, 0, 0)
+    s.note('a cleaning that only frees: a log chunk whose keys stand later elsewhere, and one whose deletes are dropped')
+    s.fresh(20480)
+    s.pokes({9: 257, 512: first_word(1, 0, 1, 0), 513: 7, 10: 257, 1024: first_word(1, 0, 2, 0), 1025: 7,
+             11: 257, 1536: first_word(2, 0, 3, 0), 1537: 9})
+    s.open()
+    for chunk in (1, 3):
+        s.reprints(f'clean {chunk}', 3, {7: (8208, 0, 0, 2), 9: None}, {7: (8208, 0, 0, 2), 9: None}, 'end 0')
+    s.directory(0, 257, 0, 0)
+    s.note('left when the chunk is freed but not fenced: the old place; opened anew, the new one')
+    s.say('clean 2', 'begun 16')
+    for i in range(15):
+        s.say('step')
+    s.looks({7: (8208, 0, 0, 2)})
+    s.open()
+    s.looks({7: (4112, 0, 0, 2)})
+
+
 def version_cleaned(s):
     s.note("a deleted key has its delete's version until its entries are cleaned away; then it is neither known nor staged, which is 0")
     s.fresh()
@@ -658,7 +848,7 @@ def centre_refusals(s):
     s.say('image 20480')
     for line in ('choose', 'clean 1'):
         s.refused(line, 1)
-    s.note('8: in a staging, a commit, a cleaning and a formatting; every other call in a cleaning')
+    s.note('8: in a staging, a commit, a cleaning and a formatting; every other call but a look-up in a cleaning')
     s.fresh()
     s.say('put 7 5 97', 'begun 0')
     for line in ('choose', 'clean 1'):
@@ -671,7 +861,7 @@ def centre_refusals(s):
     s.say('clean 1', 'begun 16')
     for i in range(3):
         s.say('step')
-        for line in ('choose', 'clean 1', 'look 7', 'put 7 0 0', 'delete 7', 'commit', 'abandon', 'format - -'):
+        for line in ('choose', 'clean 1', 'put 7 0 0', 'delete 7', 'commit', 'abandon', 'format - -'):
             s.refused(line, 8)
     s.say('run')
     s.say('look 7', 'value 8208 5 1495')
@@ -709,9 +899,9 @@ def centre_refusals(s):
     s.say('sum')
 
 
-COUNTER = (four_chunks, steps, numbered_header, abandoned, full_batch, refusals, two_windows)
-CENTRE = (four_chunks_cleaned, deletes_kept, chosen, data_chunks, interrupted, version_cleaned, centre_refusals)
-ARCHIVE = (blocks,)
+COUNTER = (four_chunks, steps, numbered_header, abandoned, full_batch, refusals, two_windows, reprints)
+CENTRE = (four_chunks_cleaned, deletes_kept, chosen, data_chunks, interrupted, reprints_cleaning, version_cleaned, centre_refusals)
+ARCHIVE = (blocks, reprints_large)
 
 
 def script(parts):

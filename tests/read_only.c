@@ -1,7 +1,7 @@
 /* What the header lends a call as const is never written, not even with what stands there: record, image and table lie
  * in pages of their own, and whichever of them a call is lent as const is read-only while it runs. Every such call is
- * made in every state of the record: closed, open, staged, in a staging, a commit, a cleaning and a formatting. Built
- * and run by tests/hosts.sh.
+ * made in every state of the record: closed, open, staged, in a staging, a commit, a cleaning and a formatting; look-ups
+ * and lists answer in a staging, a commit and a cleaning too. Built and run by tests/hosts.sh.
  *
  * read_only        exit status 1 and a message at the first call that writes, or answers other than the header says */
 #define _DEFAULT_SOURCE
@@ -61,27 +61,36 @@ static void lend(int to_record, int to_image, int to_table)
     HOLD(mprotect(table, WORDS * 8, to_table ? PROT_READ | PROT_WRITE : PROT_READ) == 0);
 }
 
-/* Every call that only reads. `number` is what the gate answers in this state; behind it (0) a register with the keys
- * 1, 2 and a large 3 is open, of which 1 was put twice and 2 was deleted. */
-static void read_all(uint64_t number)
+/* The labels of keys 1 to 4 as look-up shows them now, and as the staged items will make them. Version 0: absent. */
+static struct label {
+    uint64_t length, version;
+} shown[5], staged[5];
+
+/* Every call that only reads. `number` is what they get in this state, 0 where a register is open and at rest, with
+ * something to clean; look-ups and lists get `looks`, or where that is 0 the labels shown. */
+static void read_all(uint64_t number, uint64_t looks)
 {
-    uint64_t start = 9, length = 9, count = 9, version = 9, block = 9, named = 9, keys[KEYS] = {0}, entries[2 * ZKV_ENTRY_WORDS];
+    uint64_t start = 9, length = 9, count = 9, version = 9, block = 9, named = 9, entries[2 * ZKV_ENTRY_WORDS];
+    uint64_t keys[KEYS] = {0}, present[KEYS] = {0}, presents = 0;
     lend(0, 0, 0);
     zkv_report report = MADE(zkv_choose, LENT);
     HOLD(number == 0 ? report.kind == ZKV_CHOSEN : report.kind == ZKV_REFUSED && report.first == number);
     for (uint64_t key = 1; key <= 4; key++) {
-        uint64_t expected = number != 0 ? number : key == 1 || key == 3 ? 0 : ZKV_KEY_ABSENT;
-        HOLD(MADE(zkv_look_up, LENT, key, &start, &length) == expected);
-        HOLD(length == (expected != 0 ? 0 : key == 3 ? LARGE : 1));
+        struct label label = looks == 0 ? shown[key] : (struct label){0, 0};
+        uint64_t expected = looks != 0 ? looks : label.version > 0 ? 0 : ZKV_KEY_ABSENT;
+        HOLD(MADE(zkv_look_up, LENT, key, &start, &length) == expected && length == label.length);
         HOLD(MADE(zkv_look_up_version, LENT, key, &start, &length, &version) == expected);
-        HOLD(length == (expected != 0 ? 0 : key == 3 ? LARGE : 1) && version == (expected != 0 ? 0 : key == 3 ? 1 : 2));
+        HOLD(length == label.length && version == label.version);
         HOLD(MADE(zkv_list_key, LENT, key, &version, &length, &block) == expected);
-        HOLD(length == (expected != 0 ? 0 : key == 3 ? LARGE : 1) && block == (expected == 0 && key == 3));
+        HOLD(length == label.length && version == label.version && block == (label.length == LARGE));
+        if (label.version > 0) {
+            present[presents++] = key;
+        }
     }
     for (size_t room = 0; room <= KEYS; room++) {
-        HOLD(MADE(zkv_list_keys, LENT, keys, room, &count) == number && count == (number == 0 ? 2 : 0));
+        HOLD(MADE(zkv_list_keys, LENT, keys, room, &count) == looks && count == presents);
     }
-    HOLD(number != 0 || (keys[0] == 1 && keys[1] == 3 && keys[2] == 0));
+    HOLD(memcmp(keys, present, sizeof keys) == 0);
     HOLD(MADE(zkv_keys, record) <= 3);
     for (size_t chunk = 0; chunk <= CHUNKS; chunk++) {
         uint64_t none = chunk == 0 || chunk == CHUNKS ? ZKV_NOT_CLEANABLE : 0;
@@ -99,20 +108,25 @@ static void read_all(uint64_t number)
 }
 
 /* A call that is begun is lent image and table as const; then all three, for its steps. At each rest behind an action
- * all that only read are made, which get `number`. */
-static void done(zkv_report begun, uint64_t number)
+ * all that only read are made, which get `number` and `looks`. With the fence number `last` the staged labels are shown. */
+static void done(zkv_report begun, uint64_t number, uint64_t looks, int last)
 {
+    int fences = 0;
     HOLD(begun.kind == ZKV_BEGUN);
     do {
-        read_all(number);
+        read_all(number, looks);
         lend(1, 1, 1);
         begun = MADE(zkv_run, LENT);
         HOLD(begun.kind == ZKV_FLUSH || begun.kind == ZKV_FENCE || begun.kind == ZKV_END);
+        if (begun.kind == ZKV_FENCE && ++fences == last) {
+            memcpy(shown, staged, sizeof shown);
+        }
     } while (begun.kind != ZKV_END);
+    HOLD(last == 0 || fences == last);
     lend(1, 0, 0);
 }
 
-#define BEGUN(name, ...) done((lend(1, 0, 0), MADE(name, __VA_ARGS__)), ZKV_UNFINISHED)
+#define BEGUN(name, ...) done((lend(1, 0, 0), MADE(name, __VA_ARGS__)), ZKV_UNFINISHED, 0, strcmp(#name, "zkv_commit") == 0 ? 2 : 0)
 
 int main(void)
 {
@@ -120,31 +134,35 @@ int main(void)
     memset(value, 7, sizeof value);
     record = pages(sizeof *record), image = pages(BYTES), table = pages(WORDS * 8);
     HOLD(signal(SIGSEGV, faulted) != SIG_ERR && signal(SIGBUS, faulted) != SIG_ERR);
-    read_all(ZKV_NOT_OPEN);
+    read_all(ZKV_NOT_OPEN, ZKV_NOT_OPEN);
     lend(1, 0, 0);
-    done(MADE(zkv_format, LENT, 1, 7, 1, 8), ZKV_NOT_OPEN);
-    read_all(ZKV_NOT_OPEN);
+    done(MADE(zkv_format, LENT, 1, 7, 1, 8), ZKV_NOT_OPEN, ZKV_NOT_OPEN, 0);
+    read_all(ZKV_NOT_OPEN, ZKV_NOT_OPEN);
     lend(1, 0, 1);
     HOLD(MADE(zkv_open, LENT).kind == ZKV_OPENED);
     BEGUN(zkv_put, LENT, 1, value, 1);
     BEGUN(zkv_put, LENT, 2, value, 1);
     BEGUN(zkv_put, LENT, 3, value, LARGE);
+    staged[1] = staged[2] = (struct label){1, 1}, staged[3] = (struct label){LARGE, 1};
     BEGUN(zkv_commit, LENT);
     BEGUN(zkv_delete, LENT, 2);
+    staged[2] = (struct label){0, 0};
     BEGUN(zkv_commit, LENT);
     BEGUN(zkv_put_at, LENT, 1, value, 1, 1);
+    staged[1] = (struct label){1, 2};
     BEGUN(zkv_commit, LENT);
-    read_all(0);
+    read_all(0, 0);
     lend(1, 0, 0);
     BEGUN(zkv_put, LENT, 4, value, 1);
     BEGUN(zkv_delete_at, LENT, 3, 1);
-    read_all(0);
+    read_all(0, 0);
     lend(1, 0, 0);
     HOLD(MADE(zkv_abandon, LENT).kind == ZKV_ABANDONED);
     size_t chosen = MADE(zkv_choose, LENT).first;
     BEGUN(zkv_clean, LENT, chosen);
-    BEGUN(zkv_format, LENT, 0, 0, 0, 0);
-    read_all(ZKV_NOT_OPEN);
+    lend(1, 0, 0);
+    done(MADE(zkv_format, LENT, 0, 0, 0, 0), ZKV_UNFINISHED, ZKV_UNFINISHED, 0);
+    read_all(ZKV_NOT_OPEN, ZKV_NOT_OPEN);
     printf("read_only: no call writes to what it is lent as const\n");
     return 0;
 }

@@ -4,7 +4,8 @@
 # image is opened anew beside the station, and from then on both must answer and write alike. That comparison is first
 # shown to find twins whose record has a wrong hint (replay_wrong).
 # The model plays the changes that have landed (tests/landed.py). At the levels with cleanings the key table and entries
-# of other chunks are altered between the steps of cleanings too.
+# of other chunks are altered between the steps of cleanings too. In every fourth script look-ups and lists stand
+# between all the steps of stagings, commits and cleanings, which are taken one by one, by zkv_run, or by both.
 #
 # tests/replay.sh [FIRST [COUNT [TURNS [LEVEL...]]]]   seeds FIRST .. FIRST + COUNT - 1 (1, 100), scripts of TURNS turns
 #                                                      (60), for each level: counter, centre, archive (all, if none is
@@ -67,8 +68,9 @@ for level in "$@"; do
         grep -v '^xargs:' "$work/errors" >&2
         exit 1
     fi
-    set -- $(awk '{ n += $1; t += $2; c += $3 } END { print n, t, c }' "$work/lines")
+    set -- $(awk '{ n += $1; t += $2; c += $3; r += $4 } END { print n, t, c, r }' "$work/lines")
     [ "$2" -gt 0 ] || { echo "replay: $level: no twin was opened" >&2; exit 1; }
-    echo "replay: $level: $count scripts (seeds $first to $((first + count - 1))), $1 answers, all equal;" \
-        "$2 twins, $3 calls, all alike"
+    [ "$4" -gt 0 ] || { echo "replay: $level: no look-up was answered in an unfinished call" >&2; exit 1; }
+    echo "replay: $level: $count scripts (seeds $first to $((first + count - 1))), $1 answers, all equal," \
+        "$4 of look-ups and lists in unfinished calls; $2 twins, $3 calls, all alike"
 done

@@ -45,7 +45,7 @@ ZKV_LAYOUT=$("$work/layout")
 cd host/rust
 cargo test --offline --locked > "$work/log" 2>&1 || { cat "$work/log" >&2; fail "the tests do not hold"; }
 tests=$(grep -c '^test .* ok$' "$work/log")
-[ "$tests" -ge 21 ] || fail "only $tests tests were run"
+[ "$tests" -ge 22 ] || fail "only $tests tests were run"
 cargo build --offline --locked --example labels > "$work/log" 2>&1 || { cat "$work/log" >&2; fail "the example does not build"; }
 cd ../..
 

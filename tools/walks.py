@@ -13,34 +13,33 @@ import textwrap
 
 TOLD = '(r-report, (e-report, e))'
 LISTED = '(r-listed, (e-listed, e))'
-FAST = '(r-report, ((e-report .0 .within (e-fast .0 (is-true r-fast held)), e-report .1), e))'
-STAGING = '(r-report, ((e-report .0 .within (e-staging .0 (is-true r-staging held)), e-report .1), e))'
-LATE = 'e-report .0 .within (e-late .0 (is-true r-late held))'
-LATE_STEP = f'(r-report, (({LATE} .0, e-report .1), e))'
-LATE_RUN = f'(r-report, ((((0, {LATE} .0), {LATE} .1), e-report .1), e))'
+FAST = '(r-report, (e-report .within (e-fast .0 (is-true r-fast held)), e))'
+STAGING = '(r-report, (e-report .within (e-staging .0 (is-true r-staging held)), e))'
+LATE = 'e-report .within (e-late .0 (is-true r-late held))'
+LATE_STEP = f'(r-report, ({LATE} .0, e))'
+LATE_RUN = f'(r-report, (((0, {LATE} .0), {LATE} .1), e))'
 SHORT = '(r-report, (e-report .within (e-short .0 (is-true r-short held)), e))'
 LONG = 'subst (Told (Does (Put Absent x-key x-value) (memory x-s x-image x-table) (memory z-s x-image x-table))) (sym e) (e-answer .0, (e-answer .1 .0 .within (e-short .1 (is-false r-short failed)), e-answer .1 .1))'
-RUNS = 'subst (Told (SetupKept RunsOn (memory x-s x-image x-table) (memory z-s z-image z-table))) (sym e) e-answer'
-STEPS = 'subst (Told (SetupKept (Does Step) (memory x-s x-image x-table) (memory z-s z-image z-table))) (sym e) e-answer'
-KEPT = '(e, refl)'
+RUNS = 'subst (Told (RunsOn (memory x-s x-image x-table) (memory z-s z-image z-table))) (sym e) e-answer'
+STEPS = 'subst (Told (Does Step (memory x-s x-image x-table) (memory z-s z-image z-table))) (sym e) e-answer'
 WALKS = [
     ('thin', 'store_stage', 'abandon', ['e'], []),
     ('thin', 'store', 'clean', ['e'], []),
     ('thin', 'store', 'commit', ['e'], []),
     ('thin', 'store', 'format', ['e'], []),
     ('thin', 'store', 'open_register', ['e'], []),
-    ('thin', 'store_run', 'run_fast', [KEPT], []),
-    ('thin', 'store_run', 'run_rest', [KEPT], []),
-    ('thin', 'store_run', 'run_staging', [KEPT], []),
+    ('thin', 'store_run', 'run_fast', ['e'], []),
+    ('thin', 'store_run', 'run_rest', ['e'], []),
+    ('thin', 'store_run', 'run_staging', ['e'], []),
     ('thin', 'store_stage', 'stage_delete', ['e'], []),
     ('thin', 'store_stage', 'stage_delete_at', ['e'], []),
     ('thin', 'store_stage', 'stage_long', ['e'], []),
     ('thin', 'store_stage', 'stage_put', ['e'], []),
     ('thin', 'store_stage', 'stage_put_at', ['e'], []),
     ('thin', 'store_stage', 'stage_short', ['e'], []),
-    ('thin', 'store_step', 'step', [KEPT], []),
-    ('thin', 'store_step', 'step_fast', [KEPT], []),
-    ('thin', 'store_step', 'step_late', [KEPT], []),
+    ('thin', 'store_step', 'step', ['e'], []),
+    ('thin', 'store_step', 'step_fast', ['e'], []),
+    ('thin', 'store_step', 'step_late', ['e'], []),
     ('read', 'chunk_stat', 'describe_chunk', ['e (h .buffer)'], []),
     ('read', 'chunk_stat', 'empty_chunk', ['e (h .buffer)'], []),
     ('read', 'stat', 'keys', ['e (h .setup) (h .buffer)'], []),

@@ -4,8 +4,8 @@ import random
 from landed import RULES, Station, View
 from register_model import Book, Image, Item, MAX_VERSION, Medium, Refused, SIZES, WORD, block_size, capacity, first_word, format_actions, header_words, words_of
 
-from facts.codes import (Fact, actions_code, actions_text, call_text, entries_code, given_text, held_code, items_text, listed, named_in, of_entry, of_item, opening_code,
-                         poked_text, refused, report_code, report_text, sum_of, words_text)
+from facts.codes import (Fact, actions_code, actions_text, call_text, entries_code, given_text, held_code, items_text, listed, named_in, of_entry, of_item, olds_of, opening_code,
+                         poked_text, refused, report_code, report_text, sum_of, task_code, words_text)
 from facts.images import (CHUNKS, LARGE, LENGTHS, accepted, crowded, cut_short, foreign, fresh, has_block_twins, has_live, has_twins, large_length, old_versions, ours,
                           pattern, pick_keys, put_words, some_damages, spare_sizes)
 
@@ -55,7 +55,7 @@ class Machine:
                 return [1] + report_code(('idle',))
             return [1] + report_code(('refused', 1)) if st._unlike(image) else [0]
         try:
-            st._ready(image)
+            st._ready(image, reading=c[0] == 'look')
             return [0]
         except Refused as r:
             return [1] + report_code(('refused', r.number))
@@ -91,10 +91,10 @@ class Machine:
     def state_code(self):
         st, items = self.st, entries_code([of_item(i) for i in self.st.staged])
         if st.pending:
-            kind, acts, result, (nbytes, table, _) = st.pending.kind, st.pending.actions, st.pending.result, st.pending.lengths
+            kind, acts, (nbytes, table, _) = st.pending.kind, st.pending.actions, st.pending.lengths
             if kind == 'format':
                 return [3, nbytes, table, int(st.open_length is not None)] + actions_code(acts)
-            return [2, st.open_length, st.table_words, {'stage': 1, 'commit': 2, 'clean': 3 + (result or 0)}[kind]] + items + actions_code(acts)
+            return [2, st.open_length, st.table_words] + task_code(st.pending, self.memory) + items + actions_code(acts)
         return [0] if st.open_length is None else [1, st.open_length, st.table_words] + items
 
     def state_text(self):
@@ -103,7 +103,8 @@ class Machine:
             kind, acts, result, (nbytes, table, _) = st.pending.kind, st.pending.actions, st.pending.result, st.pending.lengths
             if kind == 'format':
                 return f'(Formatting {"true" if st.open_length is not None else "false"} {nbytes} {table} {actions_text(acts)})'
-            task = {'stage': 'Staging', 'commit': 'Committing', 'clean': f'(Cleaning {result})'}[kind]
+            olds = listed(olds_of(st.pending, self.memory))
+            task = {'stage': 'Staging', 'commit': f'(Committing {olds})', 'clean': f'(Cleaning {result} {olds})'}[kind]
             return f'(Busy {st.open_length} {st.table_words} {items_text(st.staged)} {task} {actions_text(acts)})'
         return 'Closed' if st.open_length is None else f'(Rest {st.open_length} {st.table_words} {items_text(st.staged)})'
 
@@ -144,6 +145,23 @@ class Machine:
         self.nbytes, self.table = nbytes, table
         self.commands.append((f'Lend {nbytes} {table}', [], f'lend {nbytes} bytes, {table} words'))
 
+    def looks(self, keys):
+        for k in keys:
+            self.do('look', k)
+
+    def reprints(self, keys):
+        """Look-ups in the unfinished call: at its begin, behind its first action and each one from its first fence on, at
+        its end."""
+        acts, done = list(self.st.pending.actions), 0
+        fence = next((i for i, a in enumerate(acts) if a[0] == 'fence'), len(acts) - 1)
+        self.looks(keys)
+        for i in sorted({0, *range(fence, len(acts))}) if acts else ():
+            self.steps(i + 1 - done)
+            self.looks(keys)
+            done = i + 1
+        self.finish()
+        self.looks(keys)
+
     def total(self):
         self.commands.append(('Total', [sum_of(self.memory)], 'the sum of the words'))
 
@@ -170,12 +188,18 @@ def some_version(rng, m, k):
 
 
 def begun(rng, m, keys, count):
-    """If a call was begun, it runs to its end, now and then with another call inside it."""
+    """If a call was begun, it runs to its end, now and then with another call inside it, or with look-ups on both sides
+    of its last fence."""
     if m.st.pending and rng.random() < .3:
         left = len(m.st.pending.actions)
         if left and rng.random() < .5:
             m.steps(rng.randrange(1, min(left, 40) + 1))
         m.do(*any_call(rng, keys, count))
+    if m.st.pending and m.st.pending.kind != 'format' and rng.random() < .4:
+        for left in rng.choice([(2, 1, 0), (5, 0), (4, 1), (1, 0)]):
+            if left < len(m.st.pending.actions):
+                m.steps(len(m.st.pending.actions) - left)
+            m.do('look', rng.choice(keys))
     m.finish()
 
 
@@ -480,7 +504,7 @@ def meaning_facts(rng, sheet, v, keys, table):
         st.pending = None
         try:
             st.clean(ws, c)
-            parts.append((f'chunk {c}', [1, 3 + st.pending.result] + entries_code([]) + actions_code(st.pending.actions)))
+            parts.append((f'chunk {c}', [1] + task_code(st.pending, ws) + entries_code([]) + actions_code(st.pending.actions)))
         except Refused as r:
             refused(r.number, 'clean')
             parts.append((f'chunk {c}', [0, r.number]))
@@ -523,25 +547,28 @@ def staged_on(rng, ws, table, keys, n, value=None):
 
 
 def call_fact(sheet, what, m, c):
-    """A call on a state that is written out."""
-    text = f'call {m.limit} {call_text(c)} {m.state_text()} words {m.nbytes} {m.table}'
+    """A call on a state that is written out, on the image with the words that were stored since."""
+    words = poked_text([(w, x) for w, x in enumerate(m.memory) if x != m.words[w]])
+    text = f'call {m.limit} {call_text(c)} {m.state_text()} {words} {m.nbytes} {m.table}'
     sheet.add(what, text, m.call(c))
 
 
 def call_facts(rng, sheet, ws, keys, table, n):
-    """On states at rest with items, unfinished, formatting or closed; lent the right lengths or others."""
+    """On states at rest with items, unfinished after some steps, formatting or closed; lent the right lengths or others."""
     b, count = len(ws) * 8, len(ws) // 512
     for j in range(n):
-        st, x = staged_on(rng, ws, table, keys, rng.choice([0, 1, 2, 3])), rng.random()
+        st, x, memory = staged_on(rng, ws, table, keys, rng.choice([0, 1, 2, 3])), rng.random(), list(ws)
         if x < .15:
             st = Station()
-        elif x < .4:
+        elif x < .5:
             try:
-                st.commit(ws) if st.staged and rng.random() < .6 else st.clean(ws, rng.randrange(1, count))
-                del st.pending.actions[:rng.randrange(len(st.pending.actions) + 1)]
+                begin_some(rng, st, memory, rng.choice(keys), count)
+                left = min(len(st.pending.actions), rng.choice([0, 1, 2, 3, 5, rng.randrange(len(st.pending.actions) + 1)]))
+                while len(st.pending.actions) > left:
+                    st.step(memory)
             except Refused:
                 pass
-        elif x < .55:
+        elif x < .65:
             if rng.random() < .5:
                 st = Station()
                 st.lent_table = table
@@ -551,10 +578,25 @@ def call_facts(rng, sheet, ws, keys, table, n):
         length, named = rng.choice([0, 3, 256, 257]), rng.choice([0, 1, 2, 3])
         c = rng.choice([('put', k, 1, length), ('put', k, 1, length, named), ('delete', k), ('delete', k, named), ('commit',), ('abandon',), ('look', k), ('choose',),
                         ('clean', rng.randrange(count + 2)), ('format', 9, None), ('step',), ('step',)])
+        if st.pending and rng.random() < .4:
+            c = 'look', rng.choice([i.key for i in st.staged] + [k])
         m = Machine(ws, table, rng.choice(LIMITS), st)
+        m.memory = memory
         if c[0] != 'format':
             m.nbytes, m.table = rng.choice([(b, table)] * 5 + [(b, table + 4), (b - 4096, table), (b - 8, table)])
         call_fact(sheet, f'call-{j}-{c[0]}', m, c)
+
+
+def begin_some(rng, st, image, key, count):
+    """A commit, a cleaning or a large put."""
+    x = rng.random()
+    if st.staged and x < .5:
+        st.commit(image)
+    elif x < .6:
+        st.stage(image, key, pattern(rng.randrange(256), 300))
+    else:
+        st.staged = []
+        st.clean(image, rng.randrange(1, count))
 
 
 def batch_facts(rng, sheet, ws, keys, table, small):
@@ -650,7 +692,7 @@ def example_sheet():
     opens(5, 16384, log, (512, first_word(1, 1, 1, 0)), (513, 7))
     opens(6, 16384, log, (512, first_word(1, 0, 2, 0)), (513, 7), (514, 34), (515, 7))
     calls('refusal-7', [0, 7], put, table=3)
-    calls('refusal-8', [0, 8], ('look', 7), one, busy=' Committing (Fence ∷ [])')
+    calls('refusal-8', [0, 8], ('commit',), one, busy=' (Committing []) (Fence ∷ [])')
     calls('refusal-9', [0, 9], ('put', 7, 1, 4089))
     calls('refusal-10', [0, 10], put, [Item(7, 1, v, b'') for v in range(1, 17)])
     calls('refusal-11', [0, 11], ('delete', 5))
@@ -705,6 +747,86 @@ def order_sheet():
             st.staged = list(items)
             call_fact(s, f'{name}-{"-".join(str(x) for x in c)}', Machine(ws, 16, 256 if c[0] == 'delete' else 4088, st), c)
     return s
+
+
+def with_words(count, directory, logs):
+    """An image with directory words, and with words in chunks."""
+    ws = header_words(count) + [0] * (count * 512 - 8)
+    for c, word in directory.items():
+        ws[8 + c] = word
+    for c, log in logs.items():
+        ws[c * 512:c * 512 + len(log)] = log
+    return ws
+
+
+def reprint_sheets(seed):
+    """Look-ups between the steps of each call that may be unfinished: of keys that the call is about, of one that it is
+    not about, of an unknown one."""
+    rng = random.Random(f'{seed}/reprints')
+    changed, gone, new, still = pick_keys(rng, 4)
+    one, two, three = (pattern(rng.randrange(256), n) for n in rng.sample(LENGTHS[:7], 3))
+    nine, sheets = 1 | 9 << 8, []                       # a log chunk of nine lines
+
+    def begun_on(name, kind, ws, *calls):
+        m = Machine(ws, 64, 4088)
+        m.do('open')
+        for c in calls[:-1]:
+            m.done(*c)
+        m.do(*calls[-1])
+        assert m.last[0] == 'begun', (name, m.last)
+        sheets.append((Sheet(f'reprint-{name}', f'Look-ups in {kind}', ws), m))
+        return m
+
+    # a commit: a key put again, one deleted, a new one; behind the lines of a log chunk, and in a free chunk
+    old = put_words(changed, 1, one) + put_words(gone, 3, two) + put_words(still, 1, three)
+    batch = [('put', changed, 5, 9), ('delete', gone), ('put', new, 7, 3)]
+    begun_on('commit-log', 'a commit', with_words(4, {2: nine}, {2: old}), *batch, ('commit',)).reprints([changed, gone, new, still, UNKNOWN])
+    begun_on('commit-free', 'a commit', with_words(6, {1: 1 | 64 << 8, 2: 514}, {1: old}), *batch, ('commit',)).reprints([changed, new])
+    m = begun_on('commit-inside', 'a commit, beside other calls', with_words(4, {1: 257}, {1: put_words(changed, 1, b'')}), batch[0], ('commit',))
+    for left in (12, 1, 0):
+        m.steps(len(m.st.pending.actions) - left)
+        for c in (('commit',), ('put', changed, 1, 1), ('delete', changed), ('abandon',), ('choose',), ('clean', 1), ('format', None, None)):
+            m.do(*c)
+        for nbytes, table in ((16384, 63), (20480, 64), (16384, 64)):
+            m.lend(nbytes, table)
+            m.looks([changed])
+    # a cleaning: copies to a chunk before and behind the cleaned one, a log chunk or a free one; frees only
+    some, last = put_words(changed, 1, one) + put_words(gone, 2, two), put_words(still, 1, one)
+    others = put_words(changed, 2, three) + [first_word(2, 0, 3, 0), gone] + put_words(new, 1, two)
+    for name, ws, c in (('to-log-before', with_words(5, {2: nine, 3: nine}, {2: some, 3: others}), 3),
+                        ('to-log-behind', with_words(5, {1: nine, 3: nine, 4: 257}, {1: others, 3: some, 4: last}), 1),
+                        ('to-free-before', with_words(4, {3: nine}, {3: others}), 3),
+                        ('to-free-behind', with_words(4, {1: nine}, {1: others}), 1),
+                        ('frees-log', with_words(4, {1: nine, 2: nine}, {1: some, 2: others}), 1),
+                        ('frees-data', with_words(4, {1: nine, 2: 770}, {1: others}), 2)):
+        begun_on(f'clean-{name}', 'a cleaning', ws, ('clean', c)).reprints([changed, gone, new])
+    # a put: of a value in the log; in a block, of a chunk that has one and of a free one
+    large = {1: nine, 2: 514}, {1: [first_word(1, 1, 1, 34), changed] + last, 2: [0] * 64 + [300, *words_of(pattern(3, 300))]}
+    for name, put in (('log', ('put', changed, 3, 9)), ('block', ('put', changed, 9, 257)), ('free', ('put', new, 9, 505))):
+        m = begun_on(f'put-{name}', 'a put', with_words(6, *large), put)
+        m.reprints([changed, new])
+        m.do('commit')
+        m.reprints([put[1]])
+    # a formatting of an open register, with other lengths lent too; then with none open
+    ws = with_words(4, {1: 257}, {1: put_words(changed, 1, b'')})
+    m = begun_on('format', 'a formatting', ws, ('format', None, 5))
+    for left in (581, 73, 1, 0):
+        m.steps(len(m.st.pending.actions) - left)
+        m.looks([changed, UNKNOWN])
+        m.lend(m.nbytes, 65)
+        m.looks([changed])
+        m.lend(m.nbytes, 64)
+    m.finish()
+    m.looks([changed])
+    m.do('format', None, None)
+    m.lend(m.nbytes, 65)
+    m.looks([changed])
+    m.lend(m.nbytes, 64)
+    m.looks([changed])
+    for sheet, m in sheets:
+        m.total()
+        m.history(sheet)
+    return [sheet for sheet, _ in sheets]
 
 
 def header_right(words, count):

@@ -18,7 +18,7 @@ use Rattle.spec.specs.Directory.{freeChunks}
 use Rattle.spec.specs.Log.{Entry, Parsed, Wrong, Entries}
 use Rattle.spec.specs.Contents.{Held, Absent, Value, highest, tops, chosen, meaning, contentsBy, keysOf, liveBlocks}
 use Rattle.spec.specs.Opening.{Opening, Refused, Accepted, opening}
-use Rattle.spec.specs.Plans.{Task, Staging, Committing, Cleaning, Plan, Refuse, Begin}
+use Rattle.spec.specs.Plans.{Olds, Task, Staging, Committing, Cleaning, Plan, Refuse, Begin}
 use Rattle.spec.specs.Machine.{Call, Step, State, Closed, Rest, Busy, Formatting}
 use Rattle.spec.specs.Reports.{number, numbersOf, wordsAfter, mediumAfter, asReport}
 use Rattle.spec.specs.Plans.{planClean, chosenChunk, lookUp}
@@ -116,20 +116,24 @@ reportTag (R.Part a n v) = 10
 abbrev pub reportCode : Report → List ℕ
 reportCode r = reportTag r ∷ numbersOf r
 
-abbrev pub taskCode : Task → ℕ
-taskCode Staging = 1
-taskCode Committing = 2
-taskCode (Cleaning n) = 3 + n
+abbrev pub oldsSum : Olds → ℕ
+oldsSum [] = 0
+oldsSum ((c, w) ∷ olds) = mix (mix 0 c) w + oldsSum olds
+
+abbrev pub taskCode : Task → List ℕ
+taskCode Staging = 1 ∷ 0 ∷ []
+taskCode (Committing olds) = 2 ∷ oldsSum olds ∷ []
+taskCode (Cleaning n olds) = (3 + n) ∷ oldsSum olds ∷ []
 
 abbrev pub stateCode : State → List ℕ
 stateCode Closed = 0 ∷ []
 stateCode (Rest b t items) = 1 ∷ b ∷ t ∷ entriesCode items
-stateCode (Busy b t items task rest) = 2 ∷ b ∷ t ∷ taskCode task ∷ (entriesCode items ++ actionsCode rest)
+stateCode (Busy b t items task rest) = 2 ∷ b ∷ t ∷ (taskCode task ++ (entriesCode items ++ actionsCode rest))
 stateCode (Formatting o b t rest) = 3 ∷ b ∷ t ∷ bit o ∷ actionsCode rest
 
 abbrev pub planCode : Plan → List ℕ
 planCode (Refuse n) = 0 ∷ number n ∷ []
-planCode (Begin items task acts) = 1 ∷ taskCode task ∷ (entriesCode items ++ actionsCode acts)
+planCode (Begin items task acts) = 1 ∷ (taskCode task ++ (entriesCode items ++ actionsCode acts))
 
 abbrev pub chunkCode : Option ℕ → List ℕ
 chunkCode none = 0 ∷ 0 ∷ []
@@ -324,6 +328,18 @@ def of_entry(view, e):
 def of_item(i):
     ws = i.words()
     return i.op, int(i.pointer is not None), i.version, ws[0] >> 24, i.key, ws[2:], 0
+
+
+def olds_of(begun, memory):
+    """The directory words that a begun call stores to, with the words of memory now: of each the chunk, and the word before the call."""
+    before, stores = begun.before.words, [a[1] for a in begun.actions if a[0] == 'store']
+    return [(w - 8, before[w]) for w in range(9, 512) if w in stores or memory[w] != before[w]]
+
+
+def task_code(begun, memory):
+    if begun.kind == 'stage':
+        return [1, 0]
+    return [2 if begun.kind == 'commit' else 3 + begun.result, sum(sum_of(old) for old in olds_of(begun, memory))]
 
 
 def held_code(value):

@@ -25,7 +25,7 @@ use Rattle.session.specs.declared.Session.{Session}
 use Rattle.spec.specs.declared.Refusal.the-variants as N
 use Rattle.spec.specs.declared.Report.{Report}
 use Rattle.spec.specs.declared.Report.the-variants as R
-use Rattle.session.specs.State.{batchItems, commitActions, formatActions, cleanActions, blockActions, stateBy, stateAt, stateOf, limit}
+use Rattle.session.specs.State.{commitOlds, cleanOlds, batchItems, commitActions, formatActions, cleanActions, blockActions, stateBy, stateAt, stateOf, limit}
 use Rattle.session.specs.Fits.{Fits}
 use Rattle.actions.proofs.Nth.{report-by}
 use Rattle.session.specs.Promise.{Does, memory}
@@ -68,7 +68,7 @@ module _ (c : Control) (k : Setup) (b : List ℕ) where
   unfolding stateAt
   at-2 e = rw e
 
-  pub at-3 : c .phase ≡ 3 → stateAt c k b ≡ Busy (k .image) (k .table) (batchItems c b) Committing (drop (c .next) (commitActions c k b))
+  pub at-3 : c .phase ≡ 3 → stateAt c k b ≡ Busy (k .image) (k .table) (batchItems c b) (Committing (commitOlds k)) (drop (c .next) (commitActions c k b))
   unfolding stateAt
   at-3 e = rw e
 
@@ -80,7 +80,7 @@ module _ (c : Control) (k : Setup) (b : List ℕ) where
   unfolding stateAt
   at-5 e = rw e
 
-  pub at-6 : c .phase ≡ 6 → stateAt c k b ≡ Busy (k .image) (k .table) [] (Cleaning (k .source .entries)) (drop (c .next) (cleanActions k (k .source) b))
+  pub at-6 : c .phase ≡ 6 → stateAt c k b ≡ Busy (k .image) (k .table) [] (Cleaning (k .source .entries) (cleanOlds k (k .source))) (drop (c .next) (cleanActions k (k .source) b))
   unfolding stateAt
   at-6 e = rw e
 
@@ -110,10 +110,10 @@ module _ (c : Control) (k : Setup) (b : List ℕ) where
   call-by zero l h = absurd (omega arith)
   call-by (suc zero) l h = absurd (omega arith)
   call-by (suc (suc zero)) l h = going _ _ _ (busy (k .image) (k .table) (batchItems c b) Staging) (drop (c .next) (blockActions k b))
-  call-by (suc (suc (suc zero))) l h = going _ _ _ (busy (k .image) (k .table) (batchItems c b) Committing) (drop (c .next) (commitActions c k b))
+  call-by (suc (suc (suc zero))) l h = going _ _ _ (busy (k .image) (k .table) (batchItems c b) (Committing (commitOlds k))) (drop (c .next) (commitActions c k b))
   call-by (suc (suc (suc (suc zero)))) l h = going _ _ _ (formatting false (k .image) (k .table)) (drop (c .next) (formatActions k))
   call-by (suc (suc (suc (suc (suc zero))))) l h = going _ _ _ (formatting true (k .image) (k .table)) (drop (c .next) (formatActions k))
-  call-by (suc (suc (suc (suc (suc (suc zero)))))) l h = going _ _ _ (busy (k .image) (k .table) [] (Cleaning (k .source .entries))) (drop (c .next) (cleanActions k (k .source) b))
+  call-by (suc (suc (suc (suc (suc (suc zero)))))) l h = going _ _ _ (busy (k .image) (k .table) [] (Cleaning (k .source .entries) (cleanOlds k (k .source)))) (drop (c .next) (cleanActions k (k .source) b))
   call-by (suc (suc (suc (suc (suc (suc (suc n))))))) l h = absurd (omega arith)
 
   pub in-call : 2 ≤ c .phase → c .phase ≤ 6 → InCall k (stateAt c k b)

@@ -11,7 +11,7 @@ use native.Mathlib.Omega.{arith}
 use lib.Dec.{eqb}
 use lib.ListN.{length, getD, length-set}
 use Rattle.spec.specs.Basics.{both, distinct}
-use Rattle.spec.specs.Places.{basePower, chunkLines, base, directoryWord, chunksIn}
+use Rattle.spec.specs.Places.{basePower, chunkLines, base, directoryWord, chunksIn, maxChunks}
 use Rattle.spec.specs.Medium.{Cell, Action, Store, Flush, Fence, Medium, apply, run, latest, cellAt, settledAt}
 use Rattle.spec.specs.Directory.{linesOf}
 use Rattle.spec.specs.Log.{Entry, encodeAll, moved, placed}
@@ -20,7 +20,7 @@ use Rattle.spec.specs.Contents.{Held, highest, contentsBy, meaning, keysOf, cap
 use Rattle.spec.specs.Opening.{Accepted, opening, fine}
 use Rattle.spec.specs.Actions.{linesFor, commitOf, appendOf}
 use Rattle.spec.specs.Reports.{asReport, wordsAfter, runWords}
-use Rattle.spec.specs.Plans.{logPlace}
+use Rattle.spec.specs.Plans.{oldOf, logPlace}
 use Rattle.theory_base.proofs.Words as W
 use Rattle.theory_base.proofs.Places.{lines-least}
 use Rattle.theory_base.proofs.Through.{through-end}
@@ -38,8 +38,10 @@ use Rattle.theory_crash.proofs.Effects as E
 use Rattle.theory_crash.proofs.Commit as C
 use Rattle.theory_plans.proofs.LogPlace.{log-place}
 use Rattle.session.specs.State.{batchRoom}
-use Rattle.session.specs.Fits.{keyList, ItemsFit, BlocksApart}
-use Rattle.ahead.proofs.Staged.{run-settled, lo, hi}
+use Rattle.session.specs.Fits.{keyList, ItemsFit, BlocksApart, Shown}
+use Rattle.theory_crash.proofs.View.{append-shy}
+use Rattle.ahead.proofs.Shown.{lo, hi, begin-ok, shown-by}
+use Rattle.ahead.proofs.Staged.{run-settled}
 
 counts-placed : (es fs items : List Entry) (at : ℕ) → ((k : ℕ) → highest k es ≡ highest k fs) → CountsOn es items → CountsOn fs (placed at items)
 counts-placed es fs [] at h c = tt
@@ -72,6 +74,7 @@ pub record Forward (bytes table : ℕ) (ws : List ℕ) (es items : List Entry) (
   pub fit : ItemsFit (chunksIn basePower bytes) (runWords (appendOf basePower d old (linesOf basePower ws d) (encodeAll items)) ws) es items
   pub accepted : opening basePower bytes (runWords (appendOf basePower d old (linesOf basePower ws d) (encodeAll items)) ws) table
       ≡ Accepted (front ++ (placed (base basePower d + 8 * linesOf basePower ws d) items ++ back))
+  pub shown : Shown bytes table (oldOf ws d ∷ []) es (appendOf basePower d old (linesOf basePower ws d) (encodeAll items)) ws
   pub kept : (c : ℕ) → 1 ≤ c → c < chunksIn basePower bytes → (c ≡ d → ⊥) → getD (runWords (appendOf basePower d old (linesOf basePower ws d) (encodeAll items)) ws) (directoryWord c) 0 ≡ getD ws (directoryWord c) 0
 
 module _ (bytes table : ℕ) (ws : List ℕ) (es : List Entry) (f : Entry) (fs : List Entry) (accepted : opening basePower bytes ws table ≡ Accepted es) (long : length ws ≡ bytes / 8)
@@ -166,5 +169,9 @@ module _ (bytes table : ℕ) (ws : List ℕ) (es : List Entry) (f : Entry) (fs :
     accepted =
         rw (← image-is)
         (ok-opens basePower lo hi n bytes table (ended .image) (ended .entries) size (ended .rests .ok) (fits-keys table (ended .entries) (ended .few′)) ∙ ap Accepted (ended .joined));
+    shown =
+        let low : d < maxChunks = (let a = place .high in let q = ok .most in omega arith) in
+        shown-by bytes table ws es accepted long (oldOf ws d ∷ []) (appendOf basePower d old l (encodeAll items)) (refl, tt)
+        (append-shy basePower lo hi n ws es (begin-ok bytes table ws es accepted long) (oldOf ws d ∷ []) (low, tt) d old (encodeAll items) place (inl refl));
     kept = λ c l u o. rw (← image-is) (ended .chunks c l u o .1);
   }

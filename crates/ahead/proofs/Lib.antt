@@ -1,3 +1,4 @@
+pub mod Shown
 pub mod Staged
 pub mod Steps
 pub mod Commits

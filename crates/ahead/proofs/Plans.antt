@@ -20,7 +20,8 @@ use Rattle.theory_crash.specs.Stage.{BlockWords}
 use Rattle.theory_plans.proofs.Large.{block-words}
 use Rattle.session.specs.Fits.{ItemsFit}
 use Rattle.ahead.specs.Ahead.{Ahead}
-use Rattle.ahead.proofs.Staged.{lo, hi, data-ahead, free-ahead}
+use Rattle.ahead.proofs.Staged.{data-ahead, free-ahead}
+use Rattle.ahead.proofs.Shown.{lo, hi}
 
 module _ (bytes table : ℕ) (ws : List ℕ) (es items : List Entry) (accepted : opening basePower bytes ws table ≡ Accepted es) (long : length ws ≡ bytes / 8)
     (fit : ItemsFit (chunksIn basePower bytes) ws es items) (v : List ℕ) (are : AreBytes v) (low : 257 ≤ length v) (high : length v ≤ blockLimit basePower) (version key : ℕ) where

@@ -11,7 +11,7 @@ use native.Mathlib.Decide.{ℕ-discrete}
 use lib.ListN.{length, getD, length-set}
 use Rattle.spec.specs.Basics.{both}
 use Rattle.spec.specs.Words.{AreBytes, packed}
-use Rattle.spec.specs.Places.{basePower, chunkUnits, base, firstUnit, unitChunk, unitWord, directoryWord, chunksIn}
+use Rattle.spec.specs.Places.{basePower, chunkUnits, base, firstUnit, unitChunk, unitWord, directoryWord, chunksIn, maxChunks}
 use Rattle.spec.specs.Medium.{Cell, Action, Store, Flush, Fence, Medium, apply, run, latest, cellAt, settledAt}
 use Rattle.spec.specs.Directory.{isSize, roleOf, sizeIn, isLog, isFree, roleAt, sizeOf, dataWord}
 use Rattle.spec.specs.declared.Role.{Role}
@@ -37,11 +37,15 @@ use Rattle.theory_crash.proofs.Directory.{free-says, data-word}
 use Rattle.theory_crash.proofs.Blocks.{block-fits}
 use Rattle.theory_crash.proofs.Opening.{fits-keys, keys-fit, opens-ok, ok-opens}
 use Rattle.theory_crash.proofs.Rest.{latest-quiet, settled-rest}
-use Rattle.theory_crash.proofs.Stage.{slot-moves, stage-through, take-stage-through, first-slot}
+use Rattle.theory_crash.proofs.Stage.{slot-moves, stage-through, take-stage-through, first-slot, out, says}
 use Rattle.theory_crash.proofs.Staged.{staged-prepared, prepared-stays}
 use Rattle.theory_plans.proofs.Slots.{slot-data, slot-free}
 use Rattle.space.proofs.Hint.{same-space}
-use Rattle.session.specs.Fits.{ItemsFit, Hint}
+use Rattle.session.specs.Fits.{ItemsFit, Hint, Shown}
+use Rattle.theory_crash.proofs.View.{Shy, slot-shy, free-shy}
+use Rattle.theory_crash.proofs.Cells.{each-append}
+use Rattle.theory_crash.proofs.Frame.{directory-in}
+use Rattle.ahead.proofs.Shown.{lo, hi, begin-ok, shown-by}
 use Rattle.ahead.specs.Ahead.{Ahead}
 
 -- WORDS are what the processor reads.
@@ -61,12 +65,6 @@ action-length Fence ws = refl
 
 pub run-settled : (acts : List Action) (ws : List ℕ) → latest (run acts (settledAt ws)) ≡ runWords acts ws
 run-settled acts ws = run-latest acts (settledAt ws) ∙ ap (runWords acts) (W.latest-settled ws)
-
-pub lo : 12 ≤ basePower
-lo = omega arith
-
-pub hi : basePower ≤ 16
-hi = omega arith
 
 -- a data chunk is no log chunk
 no-space : (r : Role) (b : Bool) → 1 ≤ sizeIn r → both (isLog r) b ≡ false
@@ -127,7 +125,7 @@ module _ (bytes table : ℕ) (ws : List ℕ) (es items : List Entry) (accepted :
 
     -- THE VALUE STORED, in a block that no item points to
     module _ (u w : ℕ) (acts : List Action) (st : Stored basePower n es C ws m u w words (run acts m)) (sl : Slot basePower n (st .image) es u s)
-        (here : (e : Entry) → Mem e items → pointed e ≡ true → unitChunk basePower (e .field) ≡ unitChunk basePower u → (w ≡ getD ws (directoryWord (unitChunk basePower u)) 0) × (e .field ≡ u → ⊥)) where
+        (here : (e : Entry) → Mem e items → pointed e ≡ true → unitChunk basePower (e .field) ≡ unitChunk basePower u → (w ≡ getD ws (directoryWord (unitChunk basePower u)) 0) × (e .field ≡ u → ⊥)) (shown : Shown bytes table [] es acts ws) where
       abbrev new : Entry
       new = entry 1 1 version u key []
 
@@ -206,6 +204,7 @@ module _ (bytes table : ℕ) (ws : List ℕ) (es items : List Entry) (accepted :
       stored-ahead : Ahead bytes table ws es (items ++ (new ∷ [])) acts
       stored-ahead = record {
         accepted = rw (← image-is) (ok-opens basePower lo hi n bytes table (st .image) es size (st .rests .ok) (fits-keys table es few));
+        shown = shown;
         placed = rw (← image-is) placed;
         long = rw (← image-is) (st .rests .ok .long ∙ sym (ok .long) ∙ long);
         hint = λ first least h. rw (← image-is) (hinted first least h);
@@ -219,6 +218,7 @@ module _ (bytes table : ℕ) (ws : List ℕ) (es items : List Entry) (accepted :
         let st = through-end (Cuts basePower n (capacity table) C C) (Stored basePower n es C ws m u w words) (blockOf u words) m
         (stage-through basePower lo hi n (capacity table) es C ws m u s words rest (λ k. refl) few flushed (sl .0) fits) in
         stored-ahead u w (blockOf u words) st (slot-moves basePower n ws (st .image) es u s (st .word) (sl .0)) (λ e t q o. (refl, sl .1 e t q))
+        (shown-by bytes table ws es accepted long [] (blockOf u words) tt (slot-shy basePower lo hi n ws es (begin-ok bytes table ws es accepted long) [] tt u s words (sl .0) fits))
 
     -- INTO THE FIRST BLOCK OF A FREE CHUNK
     pub free-ahead : (c : ℕ) → slotFor basePower n ws es items s ≡ InFree c
@@ -226,7 +226,7 @@ module _ (bytes table : ℕ) (ws : List ℕ) (es items : List Entry) (accepted :
     free-ahead c h =
         let st = through-end (Cuts basePower n (capacity table) C C) (Stored basePower n es C ws m u w words) (takeOf c old s ++ blockOf u words) m
         (take-stage-through basePower lo hi n (capacity table) es C ws m c old s rest (λ k. refl) few flushed low high free is words fits) in
-        stored-ahead u w (takeOf c old s ++ blockOf u words) st (moved (st .image) (st .word)) (λ e t q o. absurd (none e t q o))
+        stored-ahead u w (takeOf c old s ++ blockOf u words) st (moved (st .image) (st .word)) (λ e t q o. absurd (none e t q o)) shown
       where
         u : ℕ
         u = firstUnit basePower c
@@ -261,6 +261,25 @@ module _ (bytes table : ℕ) (ws : List ℕ) (es items : List Entry) (accepted :
               aligned = f .aligned;
               dead = f .dead;
             }
+
+        shown : Shown bytes table [] es (takeOf c old s ++ blockOf u words) ws
+        shown =
+            let here : c < maxChunks = (let x = high in let y = ok .most in omega arith) in
+            shown-by bytes table ws es accepted long [] (takeOf c old s ++ blockOf u words) tt
+            (each-append (Shy basePower lo hi n ws es (begin-ok bytes table ws es accepted long) []) (takeOf c old s) (blockOf u words) (
+              inr (
+                (λ x. x),
+                (
+                  directory-in basePower lo hi n ws es ok c here,
+                  (
+                    out basePower lo hi n (capacity table) es C ws m c old s rest (λ k. refl) few flushed low high free is,
+                    says basePower lo hi n (capacity table) es C ws m c old s rest (λ k. refl) few flushed low high free is,
+                  ),
+                ),
+              ),
+              (tt, tt),
+            )
+            (free-shy basePower lo hi n ws es (begin-ok bytes table ws es accepted long) [] tt c s words low high free (Z.size-is basePower s is .1) fits))
 
         -- no staged item points into a free chunk
         none : (e : Entry) → Mem e items → pointed e ≡ true → unitChunk basePower (e .field) ≡ unitChunk basePower u → ⊥

@@ -8,7 +8,6 @@ ghost use Rattle.formatting.specs.Begun.{given};
 ghost use Rattle.fast_path.specs.Run.{RunsOn};
 ghost use Rattle.answers.specs.Answers.{Told, isGiven};
 ghost use Rattle.session.specs.Promise.{Does, memory};
-ghost use Rattle.store_step.specs.Kept.{SetupKept};
 use answers::Answer;
 use session::Session;
 
@@ -93,7 +92,7 @@ pub extern "C" fn zkv_clean(s: &mut Session, image: &[u8], table: &[u64], chunk:
 // One step of the call that is begun (`step_answers::answer_step`).
 #[no_mangle]
 pub extern "C" fn zkv_step(s: &mut Session, image: &mut [u8], table: &mut [u64]) -> Answer
-    ensures { λ r. ⌜ Told (SetupKept (Does Step) (memory (now (s .entry)) (now (image .entry)) (now (table .entry))) (memory (now (s .exit)) (now (image .exit)) (now (table .exit)))) r ⌝ }
+    ensures { λ r. ⌜ Told (Does Step (memory (now (s .entry)) (now (image .entry)) (now (table .entry))) (memory (now (s .exit)) (now (image .exit)) (now (table .exit)))) r ⌝ }
 {
     step_answers::answer_step(s, image, table)
 }
@@ -102,7 +101,7 @@ pub extern "C" fn zkv_step(s: &mut Session, image: &mut [u8], table: &mut [u64])
 // (`run_answers::answer_run`).
 #[no_mangle]
 pub extern "C" fn zkv_run(s: &mut Session, image: &mut [u8], table: &mut [u64]) -> Answer
-    ensures { λ r. ⌜ Told (SetupKept RunsOn (memory (now (s .entry)) (now (image .entry)) (now (table .entry))) (memory (now (s .exit)) (now (image .exit)) (now (table .exit)))) r ⌝ }
+    ensures { λ r. ⌜ Told (RunsOn (memory (now (s .entry)) (now (image .entry)) (now (table .entry))) (memory (now (s .exit)) (now (image .exit)) (now (table .exit)))) r ⌝ }
 {
     run_answers::answer_run(s, image, table)
 }

@@ -6,6 +6,7 @@ use mathlib.Core.List.{List}
 use Prim.Native.Nat.{ℕ}
 use Rattle.spec.specs.Words.{wordsOf}
 use Rattle.spec.specs.Reports.{number}
+use Rattle.spec.specs.Machine.{gate}
 use Rattle.spec.specs.Reopening.{Same}
 use Rattle.spec.specs.declared.Refusal.{Refusal}
 use Rattle.spec.specs.declared.Report.{Report}
@@ -29,9 +30,9 @@ module _ (s t : Session) (image other table beside : List ℕ) (w : Same Proper 
 
   pub chunk-alike : (chunk : ℕ) (r q : ChunkRow) → Described s chunk image table r → Described t chunk other beside q → r ≡ q
   chunk-alike chunk r q x y =
-      gated-alike s t image other table beside w (λ (n : Refusal). plainRow (number n) 0) (row image chunk) r q (x .gated) (λ e. x .exact e (w .fits)) (y .gated)
+      gated-alike gate s t image other table beside w (λ (n : Refusal). plainRow (number n) 0) (row image chunk) r q (x .gated) (λ e. x .exact e (w .fits)) (y .gated)
       (λ e. y .exact e (w .also) ∙ rw (w .bytes))
 
   pub empty-chunk-alike : (from : ℕ) (r q : Report) → Emptied s from image table r → Emptied t from other beside q → r ≡ q
   empty-chunk-alike from r q x y =
-      gated-alike s t image other table beside w R.Refused (found image from) r q (x .gated) (λ e. x .exact e (w .fits)) (y .gated) (λ e. y .exact e (w .also) ∙ rw (w .bytes))
+      gated-alike gate s t image other table beside w R.Refused (found image from) r q (x .gated) (λ e. x .exact e (w .fits)) (y .gated) (λ e. y .exact e (w .also) ∙ rw (w .bytes))

@@ -16,16 +16,22 @@ use Rattle.spec.specs.Log.{Entry, encodeAll}
 use Rattle.spec.specs.Contents.{keptIn}
 use Rattle.spec.specs.Actions.{linesFor}
 use Rattle.spec.specs.Reports.{runWords}
-use Rattle.spec.specs.Plans.{logPlace, appendTo, hasLive, free}
+use Rattle.spec.specs.Plans.{Olds, oldOf, logPlace, appendTo, hasLive, free}
 use Rattle.session.specs.declared.Control.{Control}
 use Rattle.session.specs.declared.Setup.{Setup}
 use Rattle.theory_crash.specs.Accepted.{Ok}
 use Rattle.theory_crash.proofs.Opening.{opens-ok}
 use Rattle.theory_crash.proofs.Append.{padding}
 use Rattle.blocks.specs.Bits.{hasBit}
-use Rattle.session.specs.State.{batchRoom, sourceIn, keptWords, appendActions, cleanActions}
-use Rattle.session.specs.Fits.{NoneBelow, soleMark, RestFits, batchPlace, CleanFits}
-use Rattle.session.proofs.Kept.{plain-hint}
+use Rattle.session.specs.State.{batchRoom, sourceIn, keptWords, appendActions, cleanActions, cleanOlds}
+use Rattle.session.specs.Fits.{NoneBelow, soleMark, Built, RestFits, batchPlace, CleanFits, Shown, Reads}
+use Rattle.session.proofs.Kept.{plain-hint, reads-from}
+use Rattle.theory_base.proofs.Through.{Each}
+use Rattle.theory_crash.proofs.Cells.{each-append}
+use Rattle.theory_base.proofs.PutBack.{AreOf, AreLow}
+use Rattle.theory_crash.proofs.View.{Shy, append-shy, seal-shy}
+use Rattle.ahead.proofs.Shown.{begin-ok, shown-by}
+use borrow.Author.Tests.{ne-eqb}
 use Rattle.session.proofs.Part.{chunk-in, lines-in}
 use Rattle.actions.specs.Nth.{nth}
 use Rattle.keeping.proofs.Freed.{lines-few, cleaned, stands-here, stands-copied}
@@ -48,6 +54,11 @@ back-bits b b′ back u = rw (back (1024 + u / 64) (omega arith))
 some-words : (es : List Entry) → (es ≡ [] → ⊥) → length (encodeAll es) ≡ 0 → ⊥
 some-words [] h e = h refl
 some-words (f ∷ fs) h e = let l = length-append (f .value) (encodeAll fs) in absurd (omega arith)
+
+-- as the code's words, they fit into a chunk
+lines-kept : (words : ℕ) (ws : List ℕ) → words ≤ batchRoom → words ≡ length ws → linesFor (length ws) ≤ chunkLines 12
+unfolding chunkLines
+lines-kept words ws h e = omega arith
 
 module _ (c : Control) (k : Setup) (b ws table : List ℕ) (r : RestFits (record { control = c; setup = k; buffer = b }) ws table []) (s : ℕ) (low : 1 ≤ s) (high : s < chunksIn 12 (k .image))
     (words entries : ℕ) (room : words ≤ batchRoom) (b′ : List ℕ) (back : (i : ℕ) → 1024 ≤ i → getD b′ i 0 ≡ getD b i 0) (g : Source) where
@@ -116,6 +127,18 @@ module _ (c : Control) (k : Setup) (b ws table : List ℕ) (r : RestFits (record
     fits-all : Ahead lo hi (k .image) (k .table) s (batchPlace k′) (linesFor words) z d ws (runWords acts ws) es → CleanFits (cleaning c) k′ f b′ ws table (nth acts 0 ∷ drop 1 acts)
     fits-all a = fits-by (nth acts 0) (drop 1 acts) (subst (λ (l : List Action). Ahead lo hi (k .image) (k .table) s (batchPlace k′) (linesFor words) z d ws (runWords l ws) es) begun-first a)
 
+  -- WHAT LOOK-UP READS, by the actions
+  built-then : Built (cleaning c) b′ table es
+  built-then = record { indexed = r .built .indexed; blocks = λ u. back-bits b b′ back u ∙ r .built .blocks u; sums = summed-same b b′ es (λ i l. back i (omega arith)) (r .built .sums) }
+
+  reads-by : (k′ : Setup) → k′ .image ≡ k .image → k′ .table ≡ k .table → (olds olds′ : Olds) → olds′ ≡ olds → (acts acts′ : List Action) → acts′ ≡ acts → AreOf ws olds → AreLow olds
+      → Each (Shy 12 lo hi (chunksIn 12 (k .image)) ws es (begin-ok (k .image) (k .table) ws es (r .accepted) (r .long)) olds) acts → Reads (record { control = cleaning c; setup = k′; buffer = b′ }) olds′ acts′ ws table
+  reads-by k′ ei et olds olds′ eo acts acts′ ea of below shy =
+      reads-from (record { control = cleaning c; setup = k′; buffer = b′ }) olds′ es acts′ ws table (rw eo below) (rw ei (r .long))
+      (subst (λ (x : ℕ). Shown x (k′ .table) olds′ es acts′ ws) (sym ei) (subst (λ (y : ℕ). Shown (k .image) y olds′ es acts′ ws) (sym et)
+      (subst (λ (o : Olds). Shown (k .image) (k .table) o es acts′ ws) (sym eo) (subst (λ (l : List Action). Shown (k .image) (k .table) olds es l ws) (sym ea)
+      (shown-by (k .image) (k .table) ws es (r .accepted) (r .long) olds acts of shy))))) built-then
+
   -- SOME COPIED, to chunk d
   module _ (log : isLog (roleAt 12 ws s) ≡ true) (some-kept : kept ≡ [] → ⊥) (written : keptWords words b′ ≡ encodeAll kept) (d : ℕ)
       (found : logPlace 12 (chunksIn 12 (k .image)) ws (linesFor (length (encodeAll kept))) s 1 ≡ some d) (first least : ℕ) (below : NoneBelow (chunksIn 12 (k .image)) ws first least) (under : first ≤ d) (plain : first < soleMark) where
@@ -152,6 +175,23 @@ module _ (c : Control) (k : Setup) (b ws table : List ℕ) (r : RestFits (record
         fits-all d old lines first least in-chunks (lines-few ws d) space (inl counted) d (padding kept) below under plain
         (rw (copies-acts, counted) (clean-forward (k .image) (k .table) ws es (r .accepted) (r .long) s (getD ws (directoryWord s) 0) low high log d old some-kept found))
 
+    pub copies-olds : cleanOlds k-copies f ≡ oldOf ws d ∷ oldOf ws s ∷ []
+    copies-olds =
+        let z : min words batchRoom ≡ words = omega arith in
+        rw (z, ne-eqb words 0 (λ e. some-words kept some-kept (sym counted ∙ e)), chunk-in k-copies in-chunks, source-is)
+
+    pub copies-reads : Reads (record { control = cleaning c; setup = k-copies; buffer = b′ }) (cleanOlds k-copies f) (cleanActions k-copies f b′) ws table
+    copies-reads =
+        let olds : Olds = oldOf ws d ∷ oldOf ws s ∷ [] in
+        let a = in-chunks in
+        let o = small in
+        let below : AreLow olds = (omega arith, (omega arith, tt)) in
+        let p = log-place 12 (chunksIn 12 (k .image)) ws (linesFor (length (encodeAll kept))) s 1 d (lines-kept words (encodeAll kept) room counted) found .0 in
+        let e = begin-ok (k .image) (k .table) ws es (r .accepted) (r .long) in
+        reads-by k-copies refl refl olds (cleanOlds k-copies f) copies-olds (appendTo 12 ws (encodeAll kept) d ++ free s ws) (cleanActions k-copies f b′) copies-acts (refl, (refl, tt)) below
+        (each-append (Shy 12 lo hi (chunksIn 12 (k .image)) ws es e olds) (appendTo 12 ws (encodeAll kept) d) (free s ws)
+        (append-shy 12 lo hi (chunksIn 12 (k .image)) ws es e olds below d old (encodeAll kept) p (inl refl)) (seal-shy 12 lo hi (chunksIn 12 (k .image)) ws es e olds below s _ (inr (inl refl))))
+
   -- NOTHING COPIED
   module _ (none : words ≡ 0) (chunk old lines : ℕ) (in-chunks : chunk ≤ 503) (in-lines : lines ≤ 64) where
     abbrev k-none : Setup
@@ -160,6 +200,16 @@ module _ (c : Control) (k : Setup) (b ws table : List ℕ) (r : RestFits (record
     pub none-acts : cleanActions k-none f b′ ≡ free s ws
     unfolding cleanActions
     none-acts = rw (copied-none k-none words b′ none, source-is)
+
+    pub none-olds : cleanOlds k-none f ≡ oldOf ws s ∷ []
+    none-olds = rw (none, source-is)
+
+    pub none-reads : Reads (record { control = cleaning c; setup = k-none; buffer = b′ }) (cleanOlds k-none f) (cleanActions k-none f b′) ws table
+    none-reads =
+        let o = small in
+        let below : AreLow (oldOf ws s ∷ []) = (omega arith, tt) in
+        reads-by k-none refl refl (oldOf ws s ∷ []) (cleanOlds k-none f) none-olds (free s ws) (cleanActions k-none f b′) none-acts (refl, tt) below
+        (seal-shy 12 lo hi (chunksIn 12 (k .image)) ws es (begin-ok (k .image) (k .table) ws es (r .accepted) (r .long)) (oldOf ws s ∷ []) below s _ (inl refl))
 
     freed-fits : Ahead lo hi (k .image) (k .table) s (batchPlace k-none) 0 0 (k .first % soleMark) ws (runWords (free s ws) ws) es
         → CleanFits (cleaning c) k-none f b′ ws table (nth (cleanActions k-none f b′) 0 ∷ drop 1 (cleanActions k-none f b′))

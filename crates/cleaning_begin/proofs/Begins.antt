@@ -23,7 +23,7 @@ use Rattle.spec.specs.declared.Report.{Report}
 use Rattle.spec.specs.declared.Report.the-variants as R
 use Rattle.theory_crash.specs.Accepted.{Ok}
 use Rattle.theory_crash.proofs.Opening.{opens-ok}
-use Rattle.session.specs.State.{cleanActions, stateAt, stateOf, limit}
+use Rattle.session.specs.State.{cleanOlds, cleanActions, stateAt, stateOf, limit}
 use Rattle.session.specs.Fits.{CleanFits, Fits}
 use Rattle.session.specs.declared.Gated.{Gated}
 use Rattle.session.specs.declared.Gated.the-variants as G
@@ -37,7 +37,7 @@ use Rattle.session.specs.Promise.{Does, memory, memoryOf}
 use Rattle.session.specs.Fits.{Proper}
 
 -- the record at the begin, read as a state
-begun-state : (c : Control) (k : Setup) (b : List ℕ) → stateAt (cleaning c) k b ≡ Busy (k .image) (k .table) [] (Cleaning (k .source .entries)) (cleanActions k (k .source) b)
+begun-state : (c : Control) (k : Setup) (b : List ℕ) → stateAt (cleaning c) k b ≡ Busy (k .image) (k .table) [] (Cleaning (k .source .entries) (cleanOlds k (k .source))) (cleanActions k (k .source) b)
 unfolding stateAt
 begun-state c k b = refl
 
@@ -91,18 +91,18 @@ module _ (c : Control) (k : Setup) (b bytes table : List ℕ) (s : ℕ) (g : Gat
       abbrev m′ : Session
       m′ = record { control = cleaning c; setup = k′; buffer = b′ }
 
-      state′ : stateOf m′ ≡ Busy (k .image) (k .table) [] (Cleaning (k′ .source .entries)) acts
+      state′ : stateOf m′ ≡ Busy (k .image) (k .table) [] (Cleaning (k′ .source .entries) (cleanOlds k′ (k′ .source))) acts
       state′ = begun-state c k′ b′ ∙ rw (t .image-same, t .table-same)
 
       -- of any memory, with the lent lengths
-      began : stateOf m′ ≡ Busy (length bytes) (length table) [] (Cleaning (k′ .source .entries)) acts
+      began : stateOf m′ ≡ Busy (length bytes) (length table) [] (Cleaning (k′ .source .entries) (cleanOlds k′ (k′ .source))) acts
       began =
           let l = Gates.gate-passed m (length bytes) (length table) opened in
-          state′ ∙ ap (λ (x : ℕ). Busy x (k .table) [] (Cleaning (k′ .source .entries)) acts) (l .same-bytes)
-          ∙ ap (λ (x : ℕ). Busy (length bytes) x [] (Cleaning (k′ .source .entries)) acts) (l .same-words)
+          state′ ∙ ap (λ (x : ℕ). Busy x (k .table) [] (Cleaning (k′ .source .entries) (cleanOlds k′ (k′ .source))) acts) (l .same-bytes)
+          ∙ ap (λ (x : ℕ). Busy (length bytes) x [] (Cleaning (k′ .source .entries) (cleanOlds k′ (k′ .source))) acts) (l .same-words)
 
       module _ (q : Fits m ws table) (h : (rests q .items ≡ []) × Begun c k′ (k′ .source) b′ ws table (rests q .fits .entries) (chunksIn 12 (k .image)) s (t .actions)) where
-        plan : planClean 12 n ws (entriesIn 12 n ws) (itemsOf (stateOf m)) s ≡ Begin [] (Cleaning (k′ .source .entries)) acts
+        plan : planClean 12 n ws (entriesIn 12 n ws) (itemsOf (stateOf m)) s ≡ Begin [] (Cleaning (k′ .source .entries) (cleanOlds k′ (k′ .source))) acts
         plan = plan-is q ∙ ap (λ (l : List Entry). planClean 12 (chunksIn 12 (k .image)) ws (rests q .fits .entries) l s) (h .0) ∙ h .1 .plan
 
         exactly : Exact Proper stateOf Fits 12 limit (Clean s) m m′ bytes bytes table table (R.Begun (t .actions))
@@ -112,7 +112,7 @@ module _ (c : Control) (k : Setup) (b bytes table : List ℕ) (s : ℕ) (g : Gat
           became = rw (opened, plan, rests q .state) state′;
           fits = (
             t .kept ∙ q .0,
-            rw (begun-state c k′ b′) (subst (λ (l : List Action). CleanFits (cleaning c) k′ (k′ .source) b′ ws table l) (sym (h .1 .first)) (h .1 .fits)),
+            rw (begun-state c k′ b′) (subst (λ (l : List Action). CleanFits (cleaning c) k′ (k′ .source) b′ ws table l) (sym (h .1 .first)) (h .1 .fits), h .1 .reads),
           );
         }
 
@@ -123,7 +123,7 @@ module _ (c : Control) (k : Setup) (b bytes table : List ℕ) (s : ℕ) (g : Gat
         image = refl;
         sized = refl;
         outcome = (rw (begun-state c k′ b′) (ap suc (sym (t .count))), refl);
-        anyway = inr (acts, ((k′ .source .entries, began), ap R.Begun (t .count)));
+        anyway = inr (acts, ((k′ .source .entries, (cleanOlds k′ (k′ .source), began)), ap R.Begun (t .count)));
       })
 
     pub cleans : (c′ : Control) (k′ : Setup) (b′ : List ℕ) (r : Report) → Outsets c c′ k k′ b b′ bytes table s r

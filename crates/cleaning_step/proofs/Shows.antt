@@ -25,6 +25,7 @@ use Rattle.cleaning.proofs.Acting.{clean-done, clean-next}
 use Rattle.cleaning.proofs.Keeping.{acted, action-kept, last-kept, end-kept}
 use Rattle.cleaning_step.specs.Moves.{ChunkLeft, CleanStepped}
 use Rattle.session.specs.Numbers.{emptied}
+use Rattle.session.proofs.Kept.{reads-kept}
 
 pub shows-left : (k : Setup) (f : Source) (ws b b′ table table′ : List ℕ) (keys keys′ kept at end from until count : ℕ) → kept ≡ min (f .words) batchRoom
     → at ≡ 512 * sourceIn f → end ≡ at + 8 * sourceLines f → from ≡ 512 * chunkIn k + 8 * linesIn k → until ≡ from + 8 * linesFor kept → count ≡ k .image / 4096
@@ -71,6 +72,7 @@ module _ (c : Control) (k : Setup) (f : Source) (b image table : List ℕ) where
           sized = refl;
           kept = refl;
           fits = λ t. rw (more, words) (action-kept c k f b (wordsOf image) table (nth acts (c .next)) (nth acts (c .next + 1)) (drop (c .next + 1 + 1) acts) (rw (here, more) at t));
+          reads = λ olds t. rw words (reads-kept c (acted c (c .keys)) k b table (wordsOf image) olds (nth acts (c .next)) (drop (c .next + 1) acts) refl (rw here at t));
         })
       where
         here : drop (c .next) acts ≡ nth acts (c .next) ∷ drop (c .next + 1) acts
@@ -91,6 +93,7 @@ module _ (c : Control) (k : Setup) (f : Source) (b image table : List ℕ) where
           sized = l .empties .sized;
           kept = l .empties .kept;
           fits = λ t. rw (none b′, words) (last-kept c k f b (wordsOf image) table (nth acts (c .next)) (rw (here, none b) at t) (k .image / 4096) (l .at) (l .end) (l .from) (l .until) refl (l .ends) b′ table′ keys (rw words at (l .empties)));
+          reads = λ olds t. rw (none b′) tt;
         })
       where
         here : drop (c .next) acts ≡ nth acts (c .next) ∷ drop (c .next + 1) acts

@@ -7,11 +7,12 @@ use Prim.Native.Nat.{ℕ, _+_, _/_, _≤_, _<_}
 use lib.ListN.{length, drop}
 use Rattle.spec.specs.Words.{wordsOf}
 use Rattle.spec.specs.Contract.{Changed}
+use Rattle.spec.specs.Plans.{Olds}
 use Rattle.session.specs.declared.Control.{Control}
 use Rattle.session.specs.declared.Setup.{Setup}
 use Rattle.spec.specs.declared.Report.{Report}
 use Rattle.spec.specs.declared.Report.the-variants as R
-use Rattle.session.specs.Fits.{RestFits, CleanFits}
+use Rattle.session.specs.Fits.{RestFits, CleanFits, Reads}
 use Rattle.actions.specs.Nth.{nthReport}
 use Rattle.leaving.specs.Passes.{Emptying}
 use Rattle.session.specs.declared.Source.{Source}
@@ -41,6 +42,8 @@ pub record Acts (c c′ : Control) (k : Setup) (f : Source) (b b′ image image�
   pub sized : length table′ ≡ length table
   pub kept : length b′ ≡ length b
   pub fits : CleanFits c k f b (wordsOf image) table (drop (c .next) (cleanActions k f b)) → CleanFits c′ k f b′ (wordsOf image′) table′ (drop (c .next + 1) (cleanActions k f b′))
+  pub reads : (olds : Olds) → Reads (record { control = c; setup = k; buffer = b }) olds (drop (c .next) (cleanActions k f b)) (wordsOf image) table
+      → Reads (record { control = c′; setup = k; buffer = b′ }) olds (drop (c .next + 1) (cleanActions k f b′)) (wordsOf image′) table′
 
 -- THE END
 pub record Over (c c′ : Control) (k : Setup) (f : Source) (b b′ image image′ table table′ : List ℕ) (r : Report) : Type 0 where

@@ -18,7 +18,7 @@ use Rattle.spec.specs.Log.{Entry, encodeAll}
 use Rattle.spec.specs.Actions.{linesFor, appendOf}
 use Rattle.spec.specs.Opening.{opening}
 use Rattle.spec.specs.Reports.{runWords}
-use Rattle.spec.specs.Plans.{Committing, Begin, Refuse, planned, appendTo, freeNeeded, logPlace, planCommit}
+use Rattle.spec.specs.Plans.{Committing, Olds, oldOf, Begin, Refuse, planned, appendTo, freeNeeded, logPlace, planCommit}
 use Rattle.spec.specs.Machine.{Commit, Rest, Busy, gate, refusedBy, next, itemsOf}
 use Rattle.spec.specs.Contract.{Exact}
 use Rattle.session.specs.declared.Control.{Control}
@@ -29,8 +29,8 @@ use Rattle.spec.specs.declared.Refusal.the-variants as N
 use Rattle.spec.specs.declared.Report.{Report}
 use Rattle.spec.specs.declared.Report.the-variants as R
 use Rattle.theory_base.proofs.Lists.{not-both}
-use Rattle.session.specs.State.{batchRoom, batchWords, batchItems, commitActions, stateOf, limit}
-use Rattle.session.specs.Fits.{ItemsFit, Hint, soleMark, RestFits, CommitFits, Fits}
+use Rattle.session.specs.State.{batchRoom, batchWords, batchItems, commitActions, commitOlds, stateOf, limit}
+use Rattle.session.specs.Fits.{ItemsFit, Hint, soleMark, RestFits, CommitFits, Shown, Reads, Fits}
 use Rattle.session.proofs.Phases.{rest-items}
 use Rattle.session.proofs.Part.{length-part, chunk-in, lines-in, words-counted}
 use Rattle.batch.specs.Items.{OnlyDeletes}
@@ -140,6 +140,21 @@ module _ (c : Control) (k : Setup) (b ws table : List ℕ) (f : Entry) (fs : Lis
     hint = subst (λ (l : List Action). Hint (chunksIn basePower (k .image)) (runWords l ws) first′ least′) (sym todo) still;
   }
 
+  -- the directory word of chunk d is put back
+  pub begun-olds : commitOlds k′ ≡ oldOf ws d ∷ []
+  begun-olds = rw (chunk-in k′ (ahead .chunk))
+
+  pub begun-reads : Reads (record { control = c′; setup = k′; buffer = b }) (commitOlds k′) (nth (commitActions c′ k′ b) 0 ∷ drop 1 (commitActions c′ k′ b)) ws table
+  begun-reads = record {
+    entries = r .entries;
+    low = rw (chunk-in k′ (ahead .chunk)) (let a = ahead .chunk in omega arith, tt);
+    long = r .long;
+    shown =
+        subst (λ (o : Olds). Shown (k .image) (k .table) o (r .entries) (nth (commitActions c′ k′ b) 0 ∷ drop 1 (commitActions c′ k′ b)) ws) (sym begun-olds)
+        (subst (λ (l : List Action). Shown (k .image) (k .table) (oldOf ws d ∷ []) (r .entries) l ws) (sym todo) (ahead .shown));
+    built = record { indexed = r .built .indexed; blocks = r .built .blocks; sums = r .built .sums };
+  }
+
 -- THE PLAN, by the place that was found
 plan-none : (n : ℕ) (ws : List ℕ) (items : List Entry) → length items ≡ 0 → planCommit 12 n ws items ≡ Refuse N.NothingStaged
 unfolding planCommit
@@ -152,7 +167,7 @@ unfolding planCommit
 plan-full n ws f fs h = rw h
 
 plan-at : (n : ℕ) (ws : List ℕ) (f : Entry) (fs : List Entry) (d : ℕ) → logPlace 12 n ws (linesFor (length (encodeAll (f ∷ fs)))) 0 (freeNeeded (f ∷ fs)) ≡ some d
-    → planCommit 12 n ws (f ∷ fs) ≡ Begin (f ∷ fs) Committing (appendTo 12 ws (encodeAll (f ∷ fs)) d)
+    → planCommit 12 n ws (f ∷ fs) ≡ Begin (f ∷ fs) (Committing (oldOf ws d ∷ [])) (appendTo 12 ws (encodeAll (f ∷ fs)) d)
 unfolding planCommit
 plan-at n ws f fs d h = rw h
 
@@ -259,10 +274,10 @@ module _ (c : Control) (k : Setup) (b bytes table : List ℕ) where
           unfolding batchItems batchWords
           items-are = rest-items c k b (k .image) (k .table) (f ∷ fs) σ
 
-          state-is : stateOf s′ ≡ Busy (k .image) (k .table) (f ∷ fs) Committing acts
-          state-is = rw (at-3 (s′ .control) (s′ .setup) b refl, items-are, acts-are)
+          state-is : stateOf s′ ≡ Busy (k .image) (k .table) (f ∷ fs) (Committing (oldOf (wordsOf bytes) d ∷ [])) acts
+          state-is = rw (at-3 (s′ .control) (s′ .setup) b refl, items-are, acts-are, begun-olds c k b (wordsOf bytes) table f fs r d found′ (placed .first) (placed .least) hint low sole)
 
-          plan-is : planCommit 12 (chunksIn 12 (length bytes)) (wordsOf bytes) (f ∷ fs) ≡ Begin (f ∷ fs) Committing acts
+          plan-is : planCommit 12 (chunksIn 12 (length bytes)) (wordsOf bytes) (f ∷ fs) ≡ Begin (f ∷ fs) (Committing (oldOf (wordsOf bytes) d ∷ [])) acts
           plan-is = plan-at (chunksIn 12 (length bytes)) (wordsOf bytes) f fs d found
 
           exact-at : Exact Proper stateOf Fits 12 limit Commit s s′ bytes bytes table table (R.Begun (commitCount (c .words)))
@@ -270,7 +285,7 @@ module _ (c : Control) (k : Setup) (b bytes table : List ℕ) where
           exact-at = record {
             answered = rw (opened, σ, plan-is) (ap R.Begun (sym (length-commit (s′ .control) (s′ .setup) b) ∙ ap length acts-are));
             became = rw (opened, σ, plan-is) state-is;
-            fits = (q .0, rw (at-3 (s′ .control) (s′ .setup) b refl, items-are, begun-first c k b (wordsOf bytes) table f fs r d found′ (placed .first) (placed .least) hint low sole) (begun-fits c k b (wordsOf bytes) table f fs r d found′ (placed .first) (placed .least) hint low sole));
+            fits = (q .0, rw (at-3 (s′ .control) (s′ .setup) b refl, items-are, begun-first c k b (wordsOf bytes) table f fs r d found′ (placed .first) (placed .least) hint low sole) (begun-fits c k b (wordsOf bytes) table f fs r d found′ (placed .first) (placed .least) hint low sole, begun-reads c k b (wordsOf bytes) table f fs r d found′ (placed .first) (placed .least) hint low sole));
           }
 
         pub begins : place .found ≡ true → (a : ℕ) → a ≡ commitCount (c .words) → Does Commit (memory s bytes table) (memory (began place) bytes table) (R.Begun a)
@@ -280,16 +295,16 @@ module _ (c : Control) (k : Setup) (b bytes table : List ℕ) where
           image = refl;
           sized = refl;
           outcome = (rw (at-3 (committing c) (began place .setup) b refl) (ap suc (length-commit (committing c) (began place .setup) b)), refl);
-          anyway = inr (commitActions (committing c) (began place .setup) b, (commits, ap R.Begun (sym (length-commit (committing c) (began place .setup) b))));
+          anyway = inr (commitActions (committing c) (began place .setup) b, ((commitOlds (began place .setup), commits), ap R.Begun (sym (length-commit (committing c) (began place .setup) b))));
         })
           where
-            commits : stateOf (began place) ≡ Busy (length bytes) (length table) (itemsOf (stateOf s)) Committing (commitActions (committing c) (began place .setup) b)
+            commits : stateOf (began place) ≡ Busy (length bytes) (length table) (itemsOf (stateOf s)) (Committing (commitOlds (began place .setup))) (commitActions (committing c) (began place .setup) b)
             commits =
                 let l = Gates.gate-passed s (length bytes) (length table) opened in
                 at-3 (committing c) (began place .setup) b refl
-                ∙ ap (λ (x : ℕ). Busy x (k .table) (batchItems (committing c) b) Committing (commitActions (committing c) (began place .setup) b)) (l .same-bytes)
-                ∙ ap (λ (x : ℕ). Busy (length bytes) x (batchItems (committing c) b) Committing (commitActions (committing c) (began place .setup) b)) (l .same-words)
-                ∙ ap (λ (x : List Entry). Busy (length bytes) (length table) x Committing (commitActions (committing c) (began place .setup) b)) (same-items c b ∙ sym (ap itemsOf (l .state)))
+                ∙ ap (λ (x : ℕ). Busy x (k .table) (batchItems (committing c) b) (Committing (commitOlds (began place .setup))) (commitActions (committing c) (began place .setup) b)) (l .same-bytes)
+                ∙ ap (λ (x : ℕ). Busy (length bytes) x (batchItems (committing c) b) (Committing (commitOlds (began place .setup))) (commitActions (committing c) (began place .setup) b)) (l .same-words)
+                ∙ ap (λ (x : List Entry). Busy (length bytes) (length table) x (Committing (commitOlds (began place .setup))) (commitActions (committing c) (began place .setup) b)) (same-items c b ∙ sym (ap itemsOf (l .state)))
 
             by : (items : List Entry) → Fits s (wordsOf bytes) table → stateOf s ≡ Rest (k .image) (k .table) items → RestFits s (wordsOf bytes) table items → k .image ≡ length bytes
                 → Exact Proper stateOf Fits 12 limit Commit s (began place) bytes bytes table table (R.Begun (commitCount (c .words)))

@@ -51,7 +51,13 @@ puts (suc n) = put 1 (suc n) ∷ puts n
 
 -- unfinished calls
 abbrev committing : State
-committing = Busy 16384 64 [] Committing (Fence ∷ [])
+committing = Busy 16384 64 [] (Committing ((1, log 6) ∷ [])) (Fence ∷ [])
+
+-- a delete of 7 in a seventh line of chunk 1, and the directory word that commits it
+abbrev deleting : List ℕ
+deleting =
+    changed (560 becomes first 2 0 2 0 ∷ 561 becomes 7 ∷ 562 becomes 0 ∷ 563 becomes 0 ∷ 564 becomes 0 ∷ 565 becomes 0
+    ∷ 566 becomes 0 ∷ 567 becomes 0 ∷ 9 becomes log 7 ∷ []) image
 
 abbrev large : ℕ → List ℕ
 large bytes = replicate bytes 94
@@ -75,11 +81,19 @@ rows =
     ∷ ask (Format G.Absent G.Absent) (Rest 16384 64 []) image 4095 64 is Refused 1
     ∷ ask (Format G.Absent G.Absent) (Rest 16384 64 []) image 20480 63 is Begun 582
     -- 8: a call is unfinished; an opening may come at any time
-    ∷ ask (LookUp 7) committing image 16384 64 is Refused 8
+    ∷ ask Commit committing image 16384 64 is Refused 8
     ∷ ask (LookUp 7) (Formatting true 16384 64 []) image 16384 64 is Refused 8
+    ∷ ask (LookUp 7) (Formatting true 16384 64 []) image 20480 64 is Refused 1
+    ∷ ask (LookUp 7) (Formatting true 16384 64 []) image 16384 63 is Refused 1
+    ∷ ask (LookUp 7) (Formatting false 16384 64 []) image 16384 64 is Refused 2
     ∷ ask (Format G.Absent G.Absent) committing image 16384 64 is Refused 8
     ∷ ask (Format G.Absent G.Absent) (Formatting false 16384 64 []) image 16384 64 is Refused 8
     ∷ ask Open committing image 16384 64 is Accepted
+    -- look-up in a commit that deletes 7: the register of before, and from the last fence on the one that it makes
+    ∷ ask (LookUp 7) committing image 16384 64 is Words (4112 ∷ 5 ∷ 1 ∷ [])
+    ∷ ask (LookUp 7) committing deleting 16384 64 is Words (4112 ∷ 5 ∷ 1 ∷ [])
+    ∷ ask (LookUp 7) (Busy 16384 64 [] (Committing ((1, log 6) ∷ [])) []) deleting 16384 64 is Refused 11
+    ∷ ask (LookUp 7) committing image 20480 64 is Refused 1
     -- 9: value too long
     ∷ onEmpty [] [] (Put G.Absent 7 (large 4089)) is Refused 9
     ∷ onEmpty [] [] (Put G.Absent 7 (large 4088)) is Begun 578

@@ -3,13 +3,12 @@
 ghost use Rattle.fast_path.specs.Run.{RunsOn};
 ghost use Rattle.answers.specs.Answers.{Told};
 ghost use Rattle.session.specs.Promise.{memory};
-ghost use Rattle.store_step.specs.Kept.{SetupKept};
 use answers::Answer;
 use session::Session;
 
 // A run in numbers, whatever is begun (`store_run::run_rest`).
 pub fn run_any(s: &mut Session, image: &mut [u8], table: &mut [u64]) -> Answer
-    ensures { λ r. ⌜ Told (SetupKept RunsOn (memory (now (s .entry)) (now (image .entry)) (now (table .entry))) (memory (now (s .exit)) (now (image .exit)) (now (table .exit)))) r ⌝ }
+    ensures { λ r. ⌜ Told (RunsOn (memory (now (s .entry)) (now (image .entry)) (now (table .entry))) (memory (now (s .exit)) (now (image .exit)) (now (table .exit)))) r ⌝ }
 {
     let report = store_run::run_rest(s, image, table);
     answers::told(report)
@@ -17,7 +16,7 @@ pub fn run_any(s: &mut Session, image: &mut [u8], table: &mut [u64]) -> Answer
 
 // The same, where no cleaning is begun: a formatting, or nothing.
 pub fn run_other(s: &mut Session, image: &mut [u8], table: &mut [u64]) -> Answer
-    ensures { λ r. ⌜ Told (SetupKept RunsOn (memory (now (s .entry)) (now (image .entry)) (now (table .entry))) (memory (now (s .exit)) (now (image .exit)) (now (table .exit)))) r ⌝ }
+    ensures { λ r. ⌜ Told (RunsOn (memory (now (s .entry)) (now (image .entry)) (now (table .entry))) (memory (now (s .exit)) (now (image .exit)) (now (table .exit)))) r ⌝ }
 {
     let answer = run_any(s, image, table);
     answers::same(answer)
@@ -26,7 +25,7 @@ pub fn run_other(s: &mut Session, image: &mut [u8], table: &mut [u64]) -> Answer
 // The same, with a cleaning told apart: so `run_any` is called in two places, and the compiler keeps it out of the runs
 // of commits and stagings, which then save few registers.
 pub fn run_cleaning(s: &mut Session, image: &mut [u8], table: &mut [u64]) -> Answer
-    ensures { λ r. ⌜ Told (SetupKept RunsOn (memory (now (s .entry)) (now (image .entry)) (now (table .entry))) (memory (now (s .exit)) (now (image .exit)) (now (table .exit)))) r ⌝ }
+    ensures { λ r. ⌜ Told (RunsOn (memory (now (s .entry)) (now (image .entry)) (now (table .entry))) (memory (now (s .exit)) (now (image .exit)) (now (table .exit)))) r ⌝ }
 {
     let c = s.control;
     let k = s.setup;
@@ -43,7 +42,7 @@ pub fn run_cleaning(s: &mut Session, image: &mut [u8], table: &mut [u64]) -> Ans
 // A run in numbers, where no commit has a store to come: at a commit's last action and its end `store_step::step_late`,
 // else as above.
 pub fn run_late(s: &mut Session, image: &mut [u8], table: &mut [u64]) -> Answer
-    ensures { λ r. ⌜ Told (SetupKept RunsOn (memory (now (s .entry)) (now (image .entry)) (now (table .entry))) (memory (now (s .exit)) (now (image .exit)) (now (table .exit)))) r ⌝ }
+    ensures { λ r. ⌜ Told (RunsOn (memory (now (s .entry)) (now (image .entry)) (now (table .entry))) (memory (now (s .exit)) (now (image .exit)) (now (table .exit)))) r ⌝ }
 {
     let c = s.control;
     let k = s.setup;

@@ -1,6 +1,6 @@
 -- What the code shows of the text: piece by piece, line by line, and the whole of an image's.
 -- Assumes nothing.
-use mathlib.Core.Path.{_≡_, refl, sym, _∙_, ap}
+use mathlib.Core.Path.{_≡_, refl, sym, _∙_, ap, subst}
 use mathlib.Core.Bool.{Bool, true, false}
 use mathlib.Core.Option.{none}
 use mathlib.Core.List.{List, [], _∷_, _++_, append-assoc, append-nil}
@@ -15,9 +15,9 @@ use denote.Enum.Declared.{tagOf}
 use borrow.Author.Tests.{eq-eqb}
 use Rattle.io.specs.Counts.{Counts}
 use Rattle.spec.specs.Words.{wordsOf}
-use Rattle.spec.specs.Places.{chunkBytes, lengthAllowed}
+use Rattle.spec.specs.Places.{basePower, chunkBytes, chunksIn, lengthAllowed}
 use Rattle.spec.specs.Log.{Entry}
-use Rattle.spec.specs.Contents.{listed, capacity}
+use Rattle.spec.specs.Contents.{listed, capacity, entriesIn}
 use Rattle.spec.specs.Opening.{Opening, Refused, Accepted, opening}
 use Rattle.spec.specs.Reports.{number}
 use Rattle.spec.specs.Machine.{Open, gate, opened, next}
@@ -40,8 +40,9 @@ use Rattle.listing.specs.declared.Listed.{Listed}
 use Rattle.listing.specs.declared.Listed.the-variants as L
 use Rattle.listing.specs.declared.Counted.the-variants as C
 use Rattle.listing.specs.Listing.{presentKeys, listedOf}
-use Rattle.listing.specs.Contract.{entriesOf, ListingKeys, ListingKey}
-use Rattle.listing.proofs.Answers.{register, present-fit}
+use Rattle.listing.specs.Contract.{Lists, entriesOf, wordsRead, ListingKeys, ListingKey}
+use Rattle.listing.proofs.Answers.{Register as Register′, register, present-fit}
+use Rattle.session.proofs.Gates.{rest-reads}
 use Rattle.list_lines.specs.Lines.{refusedText, headText, entryText, entryMost}
 use Rattle.list_lines.proofs.Pieces.{entry-length, head-length, number-length}
 use Rattle.list_text.specs.Print.{listedText, linesText, registerText, openedText, imageText, mostText, readMost, tableWords, textBytes, Opened, Key, Keys, Register, Image}
@@ -51,7 +52,9 @@ use Rattle.session.specs.Promise.{Does, memory}
 
 module _ (c : Control) (k : Setup) (key : ℕ) (paged : Bool) (row : ℕ) (bytes table out : List ℕ) (at : ℕ) (found : Listed) (h : ListingKey c k key bytes table found) where
   same : Opened c k bytes table → found ≡ listedOf (wordsOf bytes) (entriesOf bytes) key
-  same o = h .listed (o .0) (o .1) (o .2)
+  same o =
+      let r = rest-reads (stateAt c k (o .0)) (length bytes) (length table) (wordsOf bytes) (o .1) in
+      h .listed (o .0) (r .0) (o .2) ∙ ap (λ (ws : List ℕ). listedOf ws (entriesIn basePower (chunksIn basePower (length bytes)) ws) key) (r .1)
 
   pub key-none : (n : Refusal) → found ≡ L.Refused n → Key c k key paged row bytes table out out at at
   key-none n e = record { sized = refl; inside = λ l. l; line = λ o. rw (sym (same o) ∙ e) (writes-none out at) }
@@ -106,7 +109,7 @@ module _ (c : Control) (k : Setup) (paged : Bool) (bytes table keys keys′ out 
   register-closed n out′ r xs h w = record {
     sized = w .sized;
     inside = w .inside (omega arith);
-    prints = λ o m. absurd (let q = h .answered .0 (o .0) in let p = o .1 in let z : _≡_ {A = ℕ} 0 1 = cc in omega arith);
+    prints = λ o m. absurd (let q = h .answered .0 (o .0) in let p = rest-reads (stateAt c k (o .0)) (length bytes) (length table) (wordsOf bytes) (o .1) .0 in let z : _≡_ {A = ℕ} 0 1 = cc in omega arith);
   }
 
   pub register-lines : (count : ℕ) (out′ out″ : List ℕ) (a r : ℕ) → ListingKeys c k bytes table keys keys′ (C.Keys count)
@@ -115,7 +118,9 @@ module _ (c : Control) (k : Setup) (paged : Bool) (bytes table keys keys′ out 
     sized = q .sized ∙ w .sized;
     inside = let z = w .sized in let a = w .inside (omega arith) in let b = q .inside (omega arith) in omega arith;
     prints = λ o m.
-        let s = h .answered .3 (o .0) (o .2) in
+        let same : wordsRead c k (o .0) bytes ≡ wordsOf bytes = rest-reads (stateAt c k (o .0)) (length bytes) (length table) (wordsOf bytes) (o .1) .1 in
+        let s : Lists (presentKeys (wordsOf bytes) (entriesOf bytes)) keys keys′ count =
+        subst (λ (ws : List ℕ). Lists (presentKeys ws (entriesIn basePower (chunksIn basePower (length bytes)) ws)) keys keys′ count) same (h .answered .3 (o .0) (o .2)) in
         let e : take count keys′ ≡ presentKeys (wordsOf bytes) (entriesOf bytes) = s .rising ∙ take-all (length keys) (presentKeys (wordsOf bytes) (entriesOf bytes)) m in
         let x : Writes out out′ 0 a (headText paged (length (presentKeys (wordsOf bytes) (entriesOf bytes)))) = rw (s .all) at w in
         let y : Writes out′ out″ a r (linesText paged (wordsOf bytes) (entriesOf bytes) 0 (presentKeys (wordsOf bytes) (entriesOf bytes))) = rw e at (q .lines o) in
@@ -193,7 +198,9 @@ module _ (paged : Bool) (c₀ : Control) (k₀ : Setup) (c : Control) (k : Setup
           let g : gate (stateAt c k buffer′) (length bytes) (length table′) ≡ none = rw (b, v, h .sized, eq-eqb (length bytes) (length bytes) refl, eq-eqb (length table) (length table) refl) in
           let o : Opened c k bytes table′ = (buffer′, g, f) in
           let e : entriesOf bytes ≡ es = ap listed (opens-ok 12 (omega arith) (omega arith) (length bytes) (length table) (wordsOf bytes) es (length-wordsOf bytes) v .0 .parsed) in
-          let n = present-fit bytes table′ (register c k buffer′ bytes table′ g f) in
+          let q = rest-reads (stateAt c k buffer′) (length bytes) (length table′) (wordsOf bytes) g in
+          let n : length (presentKeys (wordsOf bytes) (entriesOf bytes)) ≤ capacity (length table′) =
+          present-fit (wordsOf bytes) (wordsOf bytes) (length bytes) table′ (subst (λ (ws : List ℕ). Register′ (wordsOf bytes) ws (length bytes) table′) (q .1) (register c k buffer′ bytes table′ (q .0) f)) in
           let s : capacity (length table′) ≡ capacity (length table) = ap capacity (h .sized) in
           let d = lines-length paged (wordsOf bytes) (entriesOf bytes) 0 (presentKeys (wordsOf bytes) (entriesOf bytes)) in
           let m = head-length paged (length (presentKeys (wordsOf bytes) (entriesOf bytes))) in

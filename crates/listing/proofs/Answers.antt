@@ -10,11 +10,12 @@ use lib.Dec.{eqb, ltb}
 use lib.ListN.{length, getD}
 use Rattle.spec.specs.Basics.{pick, filter}
 use Rattle.spec.specs.Words.{wordsOf}
-use Rattle.spec.specs.Places.{unitWord, chunksIn}
+use Rattle.spec.specs.Places.{basePower, unitWord, chunksIn}
 use Rattle.spec.specs.Log.{Entry, Entries, imageEntries}
-use Rattle.spec.specs.Contents.{listed, keysOf, capacity}
+use Rattle.spec.specs.Contents.{listed, keysOf, capacity, entriesIn}
 use Rattle.theory_base.proofs.Lists.{filter-length}
-use Rattle.spec.specs.Machine.{gate}
+use Rattle.theory_base.proofs.PutBack.{Past, past-flip}
+use Rattle.spec.specs.Machine.{readGate}
 use Rattle.session.specs.declared.Control.{Control}
 use Rattle.session.specs.declared.Setup.{Setup}
 use Rattle.spec.specs.declared.Refusal.{Refusal}
@@ -29,14 +30,14 @@ use Rattle.session.specs.State.{stateAt}
 use Rattle.session.specs.Fits.{Fits}
 use Rattle.session.specs.declared.Gated.{Gated}
 use Rattle.session.specs.declared.Gated.the-variants as G
-use Rattle.session.specs.Asks.{gateOf, Asking}
+use Rattle.session.specs.Asks.{gateOf, ReadAsking}
 use Rattle.lookup.specs.Look.{sessionOf}
-use Rattle.session.proofs.Gates.{at-rest}
+use Rattle.session.proofs.Gates.{read-at}
 use Rattle.listing.specs.declared.Listed.{Listed}
 use Rattle.listing.specs.declared.Listed.the-variants as L
 use Rattle.listing.specs.declared.Counted.the-variants as C
 use Rattle.listing.specs.Listing.{present, presentKeys, byWord, isPresent}
-use Rattle.listing.specs.Contract.{Taken, Gathering, entriesOf, ListingKeys, AbsentOr, ListingKey}
+use Rattle.listing.specs.Contract.{Taken, Gathering, wordsRead, ListingKeys, AbsentOr, ListingKey}
 use Rattle.listing.proofs.Entries.{word-listed}
 use Rattle.listing.proofs.Slots.{present-listed}
 
@@ -62,31 +63,35 @@ module _ (ws : List ℕ) (key word kept : ℕ) (out : List ℕ) (r : Listed) (is
 
 -- ## Behind the gate
 
--- the accepted image of an open register at rest, and its table
-pub record Register (bytes table : List ℕ) : Type 0 where
+-- the words of an open register that look-up reads, which are the image's past the directory, and the table of their
+-- entries
+pub record Register (ws vs : List ℕ) (bytes : ℕ) (table : List ℕ) : Type 0 where
   pub chunks : ℕ
   pub keys : ℕ
   pub entries : List Entry
-  pub ok : Ok 12 chunks (wordsOf bytes) entries
+  pub ok : Ok 12 chunks vs entries
+  pub sees : Past ws vs
   pub indexed : Indexed table keys entries
-  pub same : entriesOf bytes ≡ entries
+  pub same : entriesIn basePower (chunksIn basePower bytes) vs ≡ entries
 
-pub register : (c : Control) (k : Setup) (b bytes table : List ℕ) → gate (stateAt c k b) (length bytes) (length table) ≡ none → Fits (sessionOf c k b) (wordsOf bytes) table → Register bytes table
+pub register : (c : Control) (k : Setup) (b bytes table : List ℕ) → readGate (stateAt c k b) (length bytes) (length table) ≡ none → Fits (sessionOf c k b) (wordsOf bytes) table
+    → Register (wordsOf bytes) (wordsRead c k b bytes) (length bytes) table
 register c k b bytes table g f =
-    let a = at-rest (sessionOf c k b) (length bytes) (length table) (wordsOf bytes) table g f in
-    let rest = a .fits in
-    let o = opens-ok 12 (omega arith) (omega arith) (k .image) (k .table) (wordsOf bytes) (rest .entries) (rest .long) (rest .accepted) in
+    let a = read-at (sessionOf c k b) (length bytes) (length table) (wordsOf bytes) table g f in
+    let vs : List ℕ = wordsRead c k b bytes in
+    let o = opens-ok 12 (omega arith) (omega arith) (k .image) (k .table) vs (a .entries) (a .past .long ∙ a .long) (a .accepted) in
     let n : chunksIn 12 (k .image) ≡ chunksIn 12 (length bytes) = ap (chunksIn 12) (a .same-bytes) in
-    let p : imageEntries 12 (chunksIn 12 (length bytes)) (wordsOf bytes) ≡ Entries (rest .entries) = rw n at (o .0 .parsed) in
-    record { chunks = chunksIn 12 (k .image); keys = c .keys; entries = rest .entries; ok = o .0; indexed = rest .built .indexed; same = ap listed p }
+    let p : imageEntries 12 (chunksIn 12 (length bytes)) vs ≡ Entries (a .entries) = rw n at (o .0 .parsed) in
+    record { chunks = chunksIn 12 (k .image); keys = c .keys; entries = a .entries; ok = o .0; sees = past-flip vs (wordsOf bytes) (a .past); indexed = a .built .indexed; same = ap listed p }
 
 -- it has no more keys than the table holds
-pub present-fit : (bytes table : List ℕ) → Register bytes table → length (presentKeys (wordsOf bytes) (entriesOf bytes)) ≤ capacity (length table)
+pub present-fit : (ws vs : List ℕ) (bytes : ℕ) (table : List ℕ) → Register ws vs bytes table → length (presentKeys vs (entriesIn basePower (chunksIn basePower bytes) vs)) ≤ capacity (length table)
 unfolding presentKeys
-present-fit bytes table r =
-    let a = order-length (filter (present (wordsOf bytes) (entriesOf bytes)) (keysOf (entriesOf bytes))) in
-    let b = filter-length (present (wordsOf bytes) (entriesOf bytes)) (keysOf (entriesOf bytes)) in
-    let c : r .keys ≡ length (keysOf (entriesOf bytes)) = rw (r .same) (r .indexed .count) in
+present-fit ws vs bytes table r =
+    let es : List Entry = entriesIn basePower (chunksIn basePower bytes) vs in
+    let a = order-length (filter (present vs es) (keysOf es)) in
+    let b = filter-length (present vs es) (keysOf es) in
+    let c : r .keys ≡ length (keysOf es) = rw (r .same) (r .indexed .count) in
     let d = r .indexed .fits in
     omega arith
 
@@ -109,11 +114,11 @@ word-absent ws word = go (eqb word 0) (ltb 0 (word % 0x100)) (eqb (w % 16) 1) (e
     go false false false true = tt
     go false false false false = refl
 
-module _ (c : Control) (k : Setup) (bytes table : List ℕ) (g : Gated) (asks : Asking c k (length bytes) (length table) g) where
-  is-refused : (n : Refusal) → g ≡ G.Refused n → (b : List ℕ) → gate (stateAt c k b) (length bytes) (length table) ≡ some n
+module _ (c : Control) (k : Setup) (bytes table : List ℕ) (g : Gated) (asks : ReadAsking c k (length bytes) (length table) g) where
+  is-refused : (n : Refusal) → g ≡ G.Refused n → (b : List ℕ) → readGate (stateAt c k b) (length bytes) (length table) ≡ some n
   is-refused n e b = asks .asked b ∙ ap gateOf e
 
-  is-open : g ≡ G.Open → (b : List ℕ) → gate (stateAt c k b) (length bytes) (length table) ≡ none
+  is-open : g ≡ G.Open → (b : List ℕ) → readGate (stateAt c k b) (length bytes) (length table) ≡ none
   is-open e b = asks .asked b ∙ ap gateOf e
 
   -- ## The keys
@@ -130,7 +135,7 @@ module _ (c : Control) (k : Setup) (bytes table : List ℕ) (g : Gated) (asks : 
       h .behind,
       λ b f.
           let r = register c k b bytes table (is-open e b) f in
-          rw (r .same) (present-listed (r .chunks) (wordsOf bytes) (r .entries) (r .ok) table (r .keys) (r .indexed) out out′ count h),
+          rw (r .same) (present-listed (r .chunks) (wordsOf bytes) (wordsRead c k b bytes) (r .entries) (r .ok) (r .sees) table (r .keys) (r .indexed) out out′ count h),
     );
   }
 
@@ -149,5 +154,5 @@ module _ (c : Control) (k : Setup) (bytes table : List ℕ) (g : Gated) (asks : 
     behind = λ b q. rw h (word-absent (wordsOf bytes) word);
     listed = λ b q f.
         let s = register c k b bytes table (is-open e b) f in
-        h ∙ ap (byWord (wordsOf bytes)) w ∙ rw (s .same) (word-listed (s .chunks) (wordsOf bytes) (s .entries) (s .ok) table (s .keys) (s .indexed) key);
+        h ∙ ap (byWord (wordsOf bytes)) w ∙ rw (s .same) (word-listed (s .chunks) (wordsOf bytes) (wordsRead c k b bytes) (s .entries) (s .ok) (s .sees) table (s .keys) (s .indexed) key);
   }

@@ -22,9 +22,11 @@ use Rattle.spec.specs.declared.Report.the-variants as R
 use Rattle.spec.specs.declared.Refusal.the-variants as N
 use Rattle.theory_log.specs.Batch.{Kind, put, block, delete}
 use Rattle.theory_log.proofs.Contents.{chosen-is}
+use Rattle.theory_base.proofs.PutBack.{Past}
 use Rattle.theory_log.proofs.Stands.{head-first}
+use Rattle.theory_log.proofs.Tops.{chosen-top}
 use Rattle.theory_crash.specs.Accepted.{Ok}
-use Rattle.log.specs.Stands.{StandsIn}
+use Rattle.theory_crash.proofs.Far.{entry-far, block-far}
 use Rattle.log.proofs.Stands.{image-stands}
 use Rattle.index.specs.declared.Info.{Info}
 use Rattle.index.specs.Index.{get}
@@ -38,26 +40,33 @@ use Rattle.listing.specs.Listing.{isValue, present, valueLength, listedO
 
 -- ## An entry
 
--- the entry's own words say what is listed
-kind-listed : (ws : List ℕ) (w op pl v x : ℕ) → Kind op pl x → w % 16 ≡ op + 4 * pl → w / 16777216 ≡ x
+-- the entry's own words say what is listed; vs and ws have the same length word of a block
+kind-listed : (ws vs : List ℕ) (w op pl v x : ℕ) → Kind op pl x → w % 16 ≡ op + 4 * pl → w / 16777216 ≡ x → (both (eqb op 1) (eqb pl 1) ≡ true → getD ws (unitWord x) 0 ≡ getD vs (unitWord x) 0)
     → pick (ltb 0 (extentOf pl x)) (L.Present v (extentOf pl x + 1) false) (byEntry ws v w)
-    ≡ pick (eqb op 1) (L.Present v (pick (both (eqb op 1) (eqb pl 1)) (getD ws (unitWord x) 0) x) (both (eqb op 1) (eqb pl 1))) (L.Refused N.KeyAbsent)
-kind-listed ws w op pl v x (put l) a b =
+    ≡ pick (eqb op 1) (L.Present v (pick (both (eqb op 1) (eqb pl 1)) (getD vs (unitWord x) 0) x) (both (eqb op 1) (eqb pl 1))) (L.Refused N.KeyAbsent)
+kind-listed ws vs w op pl v x (put l) a b same =
     by-cases (decLt 1 x)
     (λ m. rw (lt-ltb 0 (extentOf 0 x) (omega arith)) (let e : extentOf 0 x + 1 ≡ x = omega arith in rw e))
     (λ m. rw (le-ltb 0 (extentOf 0 x) (omega arith), a, b))
-kind-listed ws w op pl v x block a b = rw (a, b)
-kind-listed ws w op pl v x delete a b = rw a
+kind-listed ws vs w op pl v x block a b same = rw (a, b, same refl)
+kind-listed ws vs w op pl v x delete a b same = rw a
 
-entry-listed : (ws : List ℕ) (e : Entry) → StandsIn ws e → byParts ws (extentOf (e .placement) (e .field)) (e .at) (e .version) ≡ listedOr ws (some e)
-entry-listed ws e stands =
-    let w = getD ws (e .at) 0 in
+-- by the words ws, which are vs past the directory
+entry-listed : (n : ℕ) (ws vs : List ℕ) (es : List Entry) → Ok 12 n vs es → Past ws vs → (k : ℕ) (e : Entry) → chosen k es ≡ some e
+    → byParts ws (extentOf (e .placement) (e .field)) (e .at) (e .version) ≡ listedOr vs (some e)
+entry-listed n ws vs es ok sees k e c =
+    let i = chosen-is k es e c .in-list in
+    let stands = image-stands 12 (omega arith) (omega arith) n vs es (ok .parsed) e i in
+    let w = getD vs (e .at) 0 in
     let h = head-first w (e .op) (e .placement) (e .version) (e .field) (stands .first) in
-    let k = kind-small (e .op) (e .placement) (e .field) (stands .right .kind) in
+    let l = kind-small (e .op) (e .placement) (e .field) (stands .right .kind) in
     let v = stands .right .high in
     let a : w % 16 ≡ e .op + 4 * e .placement = omega arith in
     let b : w / 16777216 ≡ e .field = omega arith in
-    kind-listed ws w (e .op) (e .placement) (e .version) (e .field) (stands .right .kind) a b
+    let same : getD ws (e .at) 0 ≡ w = sees .same (e .at) (entry-far 12 (omega arith) (omega arith) n vs es ok e i) in
+    ap (λ (x : ℕ). pick (ltb 0 (extentOf (e .placement) (e .field))) (L.Present (e .version) (extentOf (e .placement) (e .field) + 1) false) (byEntry ws (e .version) x)) same
+    ∙ kind-listed ws vs w (e .op) (e .placement) (e .version) (e .field) (stands .right .kind) a b
+    (λ g. sees .same (unitWord (e .field)) (block-far 12 (omega arith) (omega arith) n vs es ok e (chosen-top k es e c) g))
   where
     kind-small : (op pl x : ℕ) → Kind op pl x → op + 4 * pl < 16
     kind-small op pl x (put l) = omega arith
@@ -93,11 +102,12 @@ module _ (ws : List ℕ) (word : ℕ) where
 
 -- ## The table's word
 
-module _ (n : ℕ) (ws : List ℕ) (es : List Entry) (ok : Ok 12 n ws es) (table : List ℕ) (keys : ℕ) (inv : Indexed table keys es) where
+-- the table of an accepted image with the words vs, which ws are past the directory
+module _ (n : ℕ) (ws vs : List ℕ) (es : List Entry) (ok : Ok 12 n vs es) (sees : Past ws vs) (table : List ℕ) (keys : ℕ) (inv : Indexed table keys es) where
   small : Bounded es
-  small = image-bounded n ws es (ok .parsed) (ok .most)
+  small = image-bounded n vs es (ok .parsed) (ok .most)
 
-  pub word-listed : (k : ℕ) → byWord ws (get table k) ≡ listedOf ws es k
+  pub word-listed : (k : ℕ) → byWord ws (get table k) ≡ listedOf vs es k
   unfolding byWord listedOf
   word-listed k =
       by-cases (ℕ-discrete (get table k) 0)
@@ -108,8 +118,7 @@ module _ (n : ℕ) (ws : List ℕ) (es : List Entry) (ok : Ok 12 n ws es) (table
       let x : unpackOf (get table k) .extent ≡ extentOf (e .placement) (e .field) = ap (λ (j : Info). j .extent) (f .2) in
       let p : unpackOf (get table k) .place ≡ e .at = ap (λ (j : Info). j .place) (f .2) in
       let v : unpackOf (get table k) .version ≡ e .version = ap (λ (j : Info). j .version) (f .2) in
-      rw (ne-eqb (get table k) 0 nz, x, p, v, f .1)
-      (entry-listed ws e (image-stands 12 (omega arith) (omega arith) n ws es (ok .parsed) e (chosen-is k es e (f .1) .in-list))))
+      rw (ne-eqb (get table k) 0 nz, x, p, v, f .1) (entry-listed n ws vs es ok sees k e (f .1)))
 
 -- ## The register
 

@@ -17,6 +17,7 @@ use Rattle.spec.specs.Medium.{Mem}
 use Rattle.spec.specs.Log.{Entry}
 use Rattle.spec.specs.Contents.{keysOf, known, chosen, held, meaning}
 use Rattle.theory_base.proofs.Lists.{Once, not-both, isIn-mem, distinct-once}
+use Rattle.theory_base.proofs.PutBack.{Past}
 use Rattle.theory_log.proofs.Keys.{keyList, keys-known}
 use Rattle.theory_crash.specs.Accepted.{Ok}
 use Rattle.index.specs.Index.{slots, keyAt, infoAt, stopOf, get, Probed}
@@ -207,16 +208,17 @@ pub keys-rise : (ws : List ℕ) (es : List Entry) → Rising (presentKeys ws es)
 unfolding presentKeys
 keys-rise ws es = order-rising (filter (present ws es) (keysOf es)) (filter-once (present ws es) (keysOf es) (distinct-once (keyList es)))
 
-module _ (n : ℕ) (ws : List ℕ) (es : List Entry) (ok : Ok 12 n ws es) (table : List ℕ) (keys : ℕ) (inv : Indexed table keys es) where
-  says : (k : ℕ) → isPresent (byWord ws (get table k)) ≡ present ws es k
-  says k = ap isPresent (word-listed n ws es ok table keys inv k) ∙ listed-present ws es k
+-- the table of an accepted image with the words vs, which ws are past the directory
+module _ (n : ℕ) (ws vs : List ℕ) (es : List Entry) (ok : Ok 12 n vs es) (sees : Past ws vs) (table : List ℕ) (keys : ℕ) (inv : Indexed table keys es) where
+  says : (k : ℕ) → isPresent (byWord ws (get table k)) ≡ present vs es k
+  says k = ap isPresent (word-listed n ws vs es ok sees table keys inv k) ∙ listed-present vs es k
 
-  into : (k : ℕ) → Mem k (slotKeys ws table (slots table)) → Mem k (filter (present ws es) (keysOf es))
+  into : (k : ℕ) → Mem k (slotKeys ws table (slots table)) → Mem k (filter (present vs es) (keysOf es))
   into k m =
       let q = slot-of ws table k (slots table) m in
       let g : get table k ≡ infoAt table (q .0) = get-at table k (q .0) (inv .probed) (q .1) (full ws table (q .0) (q .3)) (q .2) in
-      let h : present ws es k ≡ true = sym (says k) ∙ ap (λ w. isPresent (byWord ws w)) g ∙ q .3 in
-      known-member ws es k h
+      let h : present vs es k ≡ true = sym (says k) ∙ ap (λ w. isPresent (byWord ws w)) g ∙ q .3 in
+      known-member vs es k h
 
   nonzero : (k : ℕ) → isPresent (byWord ws (get table k)) ≡ true → get table k ≡ 0 → ⊥
   unfolding byWord
@@ -226,14 +228,14 @@ module _ (n : ℕ) (ws : List ℕ) (es : List Entry) (ok : Ok 12 n ws es) (table
   unfolding get
   stored k h = let s = get-stored table k (nonzero k h) in in-slots ws table k (slots table) (stopOf table k) (s .0) (s .1) h
 
-  out-of : (k : ℕ) → Mem k (filter (present ws es) (keysOf es)) → Mem k (slotKeys ws table (slots table))
-  out-of k m = stored k (says k ∙ filter-mem (present ws es) k (keysOf es) m .1)
+  out-of : (k : ℕ) → Mem k (filter (present vs es) (keysOf es)) → Mem k (slotKeys ws table (slots table))
+  out-of k m = stored k (says k ∙ filter-mem (present vs es) k (keysOf es) m .1)
 
-  pub slots-present : inOrder (slotKeys ws table (slots table)) ≡ presentKeys ws es
+  pub slots-present : inOrder (slotKeys ws table (slots table)) ≡ presentKeys vs es
   unfolding presentKeys
   slots-present =
-      same-order (slotKeys ws table (slots table)) (filter (present ws es) (keysOf es)) (slot-once ws table (inv .probed) (slots table) (omega arith))
-      (filter-once (present ws es) (keysOf es) (distinct-once (keyList es))) into out-of
+      same-order (slotKeys ws table (slots table)) (filter (present vs es) (keysOf es)) (slot-once ws table (inv .probed) (slots table) (omega arith))
+      (filter-once (present vs es) (keysOf es) (distinct-once (keyList es))) into out-of
 
-  pub present-listed : (out out′ : List ℕ) (count : ℕ) → Gathering ws table out out′ count → Lists (presentKeys ws es) out out′ count
+  pub present-listed : (out out′ : List ℕ) (count : ℕ) → Gathering ws table out out′ count → Lists (presentKeys vs es) out out′ count
   present-listed out out′ count g = rw (← slots-present) (g .lists (inv .probed))

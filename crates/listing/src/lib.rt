@@ -113,7 +113,8 @@ pub enum Counted {
     Keys(usize),
 }
 
-// 2, 1, 8, or the present keys of the open register, rising, as far as `out` reaches, and how many there are.
+// 2, 1, 8, or the present keys of the open register that look-up reads, rising, as far as `out` reaches, and how many
+// there are.
 pub fn list_keys(
     control: Control,
     setup: Setup,
@@ -123,7 +124,7 @@ pub fn list_keys(
 ) -> Counted
     ensures { λ r. ⌜ ListingKeys control setup (now (image .entry)) (now (table .entry)) (now (out .entry)) (now (out .exit)) r ⌝ }
 {
-    let g = session::gate(control, setup, image.len(), table.len());
+    let g = session::read_gate(control, setup, image.len(), table.len());
     match g {
         Gated::Refused(n) => Counted::Refused(n),
         Gated::Open => {
@@ -133,11 +134,11 @@ pub fn list_keys(
     }
 }
 
-// 2, 1, 8, 11, or what is listed of a key of the open register.
+// 2, 1, 8, 11, or what is listed of a key of the open register that look-up reads.
 pub fn list_key(control: Control, setup: Setup, image: &[u8], table: &[u64], key: u64) -> Listed
     ensures { λ r. ⌜ ListingKey control setup key (now (image .entry)) (now (table .entry)) r ⌝ }
 {
-    let g = session::gate(control, setup, image.len(), table.len());
+    let g = session::read_gate(control, setup, image.len(), table.len());
     match g {
         Gated::Refused(n) => Listed::Refused(n),
         Gated::Open => {

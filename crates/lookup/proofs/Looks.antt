@@ -9,7 +9,7 @@ use Prim.Native.Nat.{ℕ, _+_, _-_, _*_, _/_, _%_, _^_, _≤_, _<_, min}
 use native.Mathlib.Omega.{arith}
 use lib.Dec.{eqb, leb}
 use lib.ListN.{length, getD, take, drop}
-use borrow.Author.Tests.{le-leb, lt-leb, leb-true, ne-eqb}
+use borrow.Author.Tests.{le-leb, lt-leb, leb-true, eqb-true, ne-eqb}
 use Rattle.spec.specs.Basics.{pick, both}
 use Rattle.spec.specs.Words.{wordsOf}
 use Rattle.spec.specs.Places.{unitChunk, unitWord, chunksIn}
@@ -19,7 +19,7 @@ use Rattle.spec.specs.Blocks.{pointed}
 use Rattle.spec.specs.Contents.{chosen}
 use Rattle.spec.specs.Reports.{isRefused, number}
 use Rattle.spec.specs.Plans.{maxVersion, partOr, lookUp}
-use Rattle.spec.specs.Machine.{LookUp, State, gate, answer, next}
+use Rattle.spec.specs.Machine.{LookUp, State, readGate, readWords, answer, next}
 use Rattle.spec.specs.Contract.{Changed, Anyway, Outcome}
 use Rattle.session.specs.declared.Control.{Control}
 use Rattle.session.specs.declared.Setup.{Setup}
@@ -30,9 +30,11 @@ use Rattle.spec.specs.declared.Report.the-variants as R
 use Rattle.words.specs.Image.{length-wordsOf}
 use Rattle.theory_base.proofs.Lists.{pick-e, pick-same}
 use Rattle.theory_base.proofs.Places.{base-apart, unit-place, units-words}
+use Rattle.theory_base.proofs.PutBack.{Past, past-flip}
 use Rattle.theory_log.specs.Batch.{Kind, put, block, delete}
 use Rattle.theory_log.proofs.Contents.{chosen-is}
 use Rattle.theory_log.proofs.Tops.{chosen-top}
+use Rattle.theory_crash.proofs.Far.{entry-far, block-far}
 use Rattle.theory_log.proofs.Stands.{head-first}
 use Rattle.theory_crash.specs.Accepted.{Ok}
 use Rattle.theory_crash.proofs.Opening.{opens-ok}
@@ -51,9 +53,9 @@ use Rattle.lookup.specs.declared.Located.{Located}
 use Rattle.lookup.specs.declared.Located.the-variants as L
 use Rattle.session.specs.declared.Gated.{Gated}
 use Rattle.session.specs.declared.Gated.the-variants as G
-use Rattle.session.specs.Asks.{gateOf, Asking}
+use Rattle.session.specs.Asks.{gateOf, ReadAsking}
 use Rattle.lookup.specs.Look.{reportOf, within, blockPart, partBy, firstWord, partAt, PartIn, InImage, Looking, sessionOf, Locating, Showing}
-use Rattle.session.proofs.Gates.{turned-down, at-rest}
+use Rattle.session.proofs.Gates.{read-refused, read-at}
 use Rattle.session.specs.Promise.{Does, memory}
 use Rattle.session.specs.Fits.{Proper}
 
@@ -125,16 +127,34 @@ log-words op pl x (put l) h = omega arith
 log-words op pl x block h = absurd (let z : _≡_ {A = ℕ} 0 1 = cc in omega arith)
 log-words op pl x delete h = omega arith
 
-module _ (n : ℕ) (bytes : List ℕ) (es : List Entry) (ok : Ok 12 n (wordsOf bytes) es) where
-  abbrev ws : List ℕ
-  ws = wordsOf bytes
+-- the first word says that a block has the value
+kind-block : (op pl x : ℕ) → Kind op pl x → op + 4 * pl ≡ 5 → both (eqb op 1) (eqb pl 1) ≡ true
+kind-block op pl x (put l) h = absurd (omega arith)
+kind-block op pl x block h = refl
+kind-block op pl x delete h = absurd (omega arith)
 
+kind-low : (op pl x : ℕ) → Kind op pl x → op + 4 * pl < 16
+kind-low op pl x (put l) = omega arith
+kind-low op pl x block = omega arith
+kind-low op pl x delete = omega arith
+
+-- the block's length word is looked at alone
+part-moves : (vn bytes : ℕ) (ws vs : List ℕ) (place w : ℕ) → (w % 16 ≡ 5 → getD ws (unitWord (w / 16777216)) 0 ≡ getD vs (unitWord (w / 16777216)) 0) → partBy vn bytes ws place w ≡ partBy vn bytes vs place w
+part-moves vn bytes ws vs place w h = go (eqb (w % 16) 5) (eqb-true (w % 16) 5)
+  where
+    go : (b : Bool) → (b ≡ true → w % 16 ≡ 5)
+        → pick (eqb (w % 16) 1) (within vn bytes (8 * (place + 2)) (w / 16777216)) (pick b (blockPart vn bytes ws (w / 16777216)) (L.Refused N.KeyAbsent))
+        ≡ pick (eqb (w % 16) 1) (within vn bytes (8 * (place + 2)) (w / 16777216)) (pick b (blockPart vn bytes vs (w / 16777216)) (L.Refused N.KeyAbsent))
+    go true f = ap (λ (x : ℕ). pick (eqb (w % 16) 1) (within vn bytes (8 * (place + 2)) (w / 16777216)) (within vn bytes (8 * (unitWord (w / 16777216) + 1)) x)) (h (f refl))
+    go false f = refl
+
+module _ (n : ℕ) (bytes ws : List ℕ) (es : List Entry) (ok : Ok 12 n ws es) (sees : Past (wordsOf bytes) ws) where
   small : Bounded es
   small = image-bounded n ws es (ok .parsed) (ok .most)
 
   -- the words of the image lie in its bytes
   long : 8 * length ws ≤ length bytes
-  long = let l = length-wordsOf bytes in omega arith
+  long = let l = length-wordsOf bytes in let q = sees .long in omega arith
 
   module _ (k : ℕ) (e : Entry) (h : chosen k es ≡ some e) where
     stands : StandsIn ws e
@@ -153,6 +173,28 @@ module _ (n : ℕ) (bytes : List ℕ) (es : List Entry) (ok : Ok 12 n (wordsOf b
     chosen-extent m =
         let q = extent-kind (e .op) (e .placement) (e .field) (stands .right .kind) m in
         rw (h, q .2, q .0, q .1, le-leb _ _ (in-log (q .0) (q .1)))
+
+  -- the bytes say the same of a chosen entry
+  part-seen : (k : ℕ) (e : Entry) → chosen k es ≡ some e → partAt (e .version) (length bytes) (wordsOf bytes) (e .at) ≡ partAt (e .version) (length bytes) ws (e .at)
+  part-seen k e h =
+      let far = entry-far 12 (omega arith) (omega arith) n ws es ok e (chosen-is k es e h .in-list) in
+      let f : firstWord (length bytes) (wordsOf bytes) (e .at) ≡ firstWord (length bytes) ws (e .at) = ap (λ (x : ℕ). pick (leb (8 * (e .at + 2)) (length bytes)) x 0) (sees .same (e .at) far) in
+      ap (partBy (e .version) (length bytes) (wordsOf bytes) (e .at)) f ∙ part-moves (e .version) (length bytes) (wordsOf bytes) ws (e .at) (firstWord (length bytes) ws (e .at)) in-block
+    where
+      first-is : firstWord (length bytes) ws (e .at) ≡ getD ws (e .at) 0
+      first-is = rw (le-leb _ _ (let f = stands k e h .fits in let l = long in let has : 8 * (e .at + 2) ≤ length bytes = omega arith in has))
+
+      in-block : firstWord (length bytes) ws (e .at) % 16 ≡ 5
+          → getD (wordsOf bytes) (unitWord (firstWord (length bytes) ws (e .at) / 16777216)) 0 ≡ getD ws (unitWord (firstWord (length bytes) ws (e .at) / 16777216)) 0
+      in-block five =
+          let w = getD ws (e .at) 0 in
+          let v = head-first w (e .op) (e .placement) (e .version) (e .field) (stands k e h .first) in
+          let s = kind-low (e .op) (e .placement) (e .field) (stands k e h .right .kind) in
+          let t = stands k e h .right .high in
+          let a : w % 16 ≡ e .op + 4 * e .placement = omega arith in
+          let b : firstWord (length bytes) ws (e .at) / 16777216 ≡ e .field = ap (λ (x : ℕ). x / 16777216) first-is ∙ omega arith in
+          let p : pointed e ≡ true = kind-block (e .op) (e .placement) (e .field) (stands k e h .right .kind) (sym a ∙ sym (ap (λ (x : ℕ). x % 16) first-is) ∙ five) in
+          rw b (sees .same (unitWord (e .field)) (block-far 12 (omega arith) (omega arith) n ws es ok e (chosen-top k es e h) p))
 
   chosen-part : (k : ℕ) (e : Entry) → chosen k es ≡ some e → reportOf (partAt (e .version) (length bytes) ws (e .at)) ≡ lookUp ws es k
   unfolding lookUp
@@ -213,7 +255,7 @@ module _ (vn bytes : ℕ) (ws : List ℕ) (place word : ℕ) (is-word : word ≡
 module _ (key : ℕ) (bytes table : List ℕ) (word : ℕ) (is : word ≡ get table key) where
   pub looking-none : word ≡ 0 → Looking key bytes table (L.Refused N.KeyAbsent)
   unfolding lookUp
-  looking-none z = record { inside = refl; exact = λ n keys es ok ix. sym (rw (found-none table keys es ix (small n bytes es ok) key word is z)) }
+  looking-none z = record { inside = refl; exact = λ n keys vs es ok sees ix. sym (rw (found-none table keys es ix (small n bytes vs es ok sees) key word is z)) }
 
   module _ (info : Info) (i : info ≡ unpackOf word) where
     narrow : info .version ≤ maxVersion
@@ -223,24 +265,24 @@ module _ (key : ℕ) (bytes table : List ℕ) (word : ℕ) (is : word ≡ get ta
     pub looking-part : (r : Located) → (word ≡ 0 → ⊥) → r ≡ partAt (info .version) (length bytes) (wordsOf bytes) (info .place) → Looking key bytes table r
     looking-part r nz e = record {
       inside = rw e (part-in (info .version) (length bytes) (wordsOf bytes) (info .place) (firstWord (length bytes) (wordsOf bytes) (info .place)) narrow);
-      exact = λ n keys es ok ix.
-          let f = found-chosen table keys es ix (small n bytes es ok) key word is nz in
+      exact = λ n keys vs es ok sees ix.
+          let f = found-chosen table keys es ix (small n bytes vs es ok sees) key word is nz in
           let place : info .place ≡ f .0 .at = ap (λ (j : Info). j .place) (i ∙ f .2) in
           let version : info .version ≡ f .0 .version = ap (λ (j : Info). j .version) (i ∙ f .2) in
-          ap reportOf (e ∙ ap (λ (x : ℕ). partAt x (length bytes) (wordsOf bytes) (info .place)) version ∙ ap (partAt (f .0 .version) (length bytes) (wordsOf bytes)) place) ∙ chosen-part n bytes es ok key (f .0) (f .1);
+          ap reportOf (e ∙ ap (λ (x : ℕ). partAt x (length bytes) (wordsOf bytes) (info .place)) version ∙ ap (partAt (f .0 .version) (length bytes) (wordsOf bytes)) place ∙ part-seen n bytes vs es ok sees key (f .0) (f .1)) ∙ chosen-part n bytes vs es ok sees key (f .0) (f .1);
     }
 
     -- the table's word says enough
     pub looking-extent : (r : Located) → 0 < info .extent → r ≡ within (info .version) (length bytes) (8 * (info .place + 2)) (info .extent + 1) → Looking key bytes table r
     looking-extent r more e = record {
       inside = rw e (within-in (info .version) (length bytes) (8 * (info .place + 2)) (info .extent + 1) narrow);
-      exact = λ n keys es ok ix.
-          let f = found-chosen table keys es ix (small n bytes es ok) key word is some-word in
+      exact = λ n keys vs es ok sees ix.
+          let f = found-chosen table keys es ix (small n bytes vs es ok sees) key word is some-word in
           let place : info .place ≡ f .0 .at = ap (λ (j : Info). j .place) (i ∙ f .2) in
           let version : info .version ≡ f .0 .version = ap (λ (j : Info). j .version) (i ∙ f .2) in
           let extent : info .extent ≡ extentOf (f .0 .placement) (f .0 .field) = ap (λ (j : Info). j .extent) (i ∙ f .2) in
           ap reportOf (e ∙ ap (λ (x : ℕ). within x (length bytes) (8 * (info .place + 2)) (info .extent + 1)) version ∙ ap (λ (x : ℕ). within (f .0 .version) (length bytes) (8 * (x + 2)) (info .extent + 1)) place ∙ ap (λ (x : ℕ). within (f .0 .version) (length bytes) (8 * (f .0 .at + 2)) (x + 1)) extent)
-          ∙ chosen-extent n bytes es ok key (f .0) (f .1) (rw extent at more);
+          ∙ chosen-extent n bytes vs es ok sees key (f .0) (f .1) (rw extent at more);
     }
       where
         some-word : word ≡ 0 → ⊥
@@ -266,7 +308,7 @@ module _ (s : Session) (key : ℕ) (bytes table : List ℕ) where
   unchanged (L.Refused n) = refl
   unchanged (L.Part a n v) = refl
 
-  looked : (r : Located) → gate (stateOf s) (length bytes) (length table) ≡ none → Looking key bytes table r → Does (LookUp key) (memory s bytes table) (memory s bytes table) (reportOf r)
+  looked : (r : Located) → readGate (stateOf s) (length bytes) (length table) ≡ none → Looking key bytes table r → Does (LookUp key) (memory s bytes table) (memory s bytes table) (reportOf r)
   looked r g l = record {
     exact = λ f. record { answered = exact f; became = next-same (stateOf s) key (wordsOf bytes) (length bytes) (length table); fits = f };
     first = λ r′ h. absurd (let q : none ≡ some r′ = rw g at h in let z : _≡_ {A = ℕ} 0 1 = cc in omega arith);
@@ -278,16 +320,17 @@ module _ (s : Session) (key : ℕ) (bytes table : List ℕ) where
     where
       exact : Fits s (wordsOf bytes) table → reportOf r ≡ answer 12 limit (LookUp key) (stateOf s) (wordsOf bytes) (length bytes) (length table)
       exact f =
-          let a = at-rest s (length bytes) (length table) (wordsOf bytes) table g f in
-          let rest = a .fits in
-          let o = opens-ok 12 (omega arith) (omega arith) (s .setup .image) (s .setup .table) (wordsOf bytes) (rest .entries) (rest .long) (rest .accepted) in
+          let a = read-at s (length bytes) (length table) (wordsOf bytes) table g f in
+          let vs : List ℕ = readWords (stateOf s) (wordsOf bytes) in
+          let v = a .past in
+          let o = opens-ok 12 (omega arith) (omega arith) (s .setup .image) (s .setup .table) vs (a .entries) (v .long ∙ a .long) (a .accepted) in
           let n : chunksIn 12 (s .setup .image) ≡ chunksIn 12 (length bytes) = ap (chunksIn 12) (a .same-bytes) in
-          let p : imageEntries 12 (chunksIn 12 (length bytes)) (wordsOf bytes) ≡ Entries (rest .entries) = rw n at (o .0 .parsed) in
-          rw (g, p) (l .exact (chunksIn 12 (s .setup .image)) (s .control .keys) (rest .entries) (o .0) (rest .built .indexed))
+          let p : imageEntries 12 (chunksIn 12 (length bytes)) vs ≡ Entries (a .entries) = rw n at (o .0 .parsed) in
+          rw (g, p) (l .exact (chunksIn 12 (s .setup .image)) (s .control .keys) vs (a .entries) (o .0) (past-flip vs (wordsOf bytes) v) (a .built .indexed))
 
-module _ (c : Control) (k : Setup) (key : ℕ) (bytes table : List ℕ) (g : Gated) (asks : Asking c k (length bytes) (length table) g) where
+module _ (c : Control) (k : Setup) (key : ℕ) (bytes table : List ℕ) (g : Gated) (asks : ReadAsking c k (length bytes) (length table) g) where
   pub locate-refused : (n : Refusal) → g ≡ G.Refused n → Locating c k key bytes table (L.Refused n)
-  locate-refused n e = record { called = λ b. turned-down 12 limit (sessionOf c k b) bytes table n (asks .asked b ∙ ap gateOf e) (LookUp key) tt; inside = tt }
+  locate-refused n e = record { called = λ b. read-refused 12 limit (sessionOf c k b) bytes table n (asks .asked b ∙ ap gateOf e) key; inside = tt }
 
   pub locate-open : (r : Located) → g ≡ G.Open → Looking key bytes table r → Locating c k key bytes table r
   locate-open r e l = record { called = λ b. looked (sessionOf c k b) key bytes table r (asks .asked b ∙ ap gateOf e) l; inside = in-image (length bytes) r (l .inside) }

@@ -19,6 +19,7 @@ use Rattle.session.specs.declared.Session.{Session}
 use Rattle.spec.specs.declared.Refusal.the-variants as N
 use Rattle.spec.specs.declared.Report.{Report}
 use Rattle.spec.specs.declared.Report.the-variants as R
+use Rattle.theory_base.proofs.PutBack.{Past}
 use Rattle.theory_crash.specs.Accepted.{Ok}
 use Rattle.volatile.specs.Known.{Indexed}
 use Rattle.lookup.specs.declared.Located.{Located}
@@ -56,10 +57,11 @@ abbrev pub PartIn : ℕ → Located → Type 0
 PartIn bytes (L.Refused n) = n ≡ N.KeyAbsent
 PartIn bytes (L.Part a n v) = (a + n ≤ bytes) × (v ≤ maxVersion)
 
--- behind the gate: for any memory, and with the table of an accepted image
+-- behind the gate: for any memory, and with the table of an accepted image, whose words the image's bytes have but for
+-- the directory
 pub record Looking (key : ℕ) (bytes table : List ℕ) (r : Located) : Type 0 where
   pub inside : PartIn (length bytes) r
-  pub exact : (n keys : ℕ) (es : List Entry) → Ok 12 n (wordsOf bytes) es → Indexed table keys es → reportOf r ≡ lookUp (wordsOf bytes) es key
+  pub exact : (n keys : ℕ) (vs : List ℕ) (es : List Entry) → Ok 12 n vs es → Past (wordsOf bytes) vs → Indexed table keys es → reportOf r ≡ lookUp vs es key
 
 -- a part that is answered lies in the image
 abbrev pub InImage : ℕ → Located → Type 0

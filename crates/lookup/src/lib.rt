@@ -123,11 +123,12 @@ fn value_of(image: &[u8], table: &[u64], key: u64) -> Located
     part_at(image, place, version)
 }
 
-// 2, 1, 8, 11, or the part of the image that holds the value of a key.
+// 2, 1, 8, 11, or the part of the image that holds the value of a key. In an unfinished call, but for a formatting, that
+// is the value before it, until its last fence: only then is the key table brought up to date.
 pub fn locate(control: Control, setup: Setup, image: &[u8], table: &[u64], key: u64) -> Located
     ensures { λ r. ⌜ Locating control setup key (now (image .entry)) (now (table .entry)) r ⌝ }
 {
-    let g = session::gate(control, setup, image.len(), table.len());
+    let g = session::read_gate(control, setup, image.len(), table.len());
     match g {
         Gated::Refused(n) => Located::Refused(n),
         Gated::Open => value_of(image, table, key),

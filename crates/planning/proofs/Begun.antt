@@ -12,13 +12,13 @@ use Rattle.spec.specs.Places.{directoryWord, chunksIn}
 use Rattle.spec.specs.Directory.{isLog, roleAt, linesOf}
 use Rattle.spec.specs.Log.{Entry, encodeAll}
 use Rattle.spec.specs.Contents.{keptIn}
-use Rattle.spec.specs.Plans.{Cleaning, Begin, appendTo, hasLive, free, planClean}
+use Rattle.spec.specs.Plans.{oldOf, Cleaning, Begin, appendTo, hasLive, free, planClean}
 use Rattle.session.specs.declared.Control.{Control}
 use Rattle.session.specs.declared.Setup.{Setup}
 use Rattle.theory_crash.specs.Accepted.{Ok}
 use Rattle.theory_crash.proofs.Opening.{opens-ok}
-use Rattle.session.specs.State.{bufferPart, batchRoom, sourceIn, sourceLines, keptWords, cleanActions}
-use Rattle.session.specs.Fits.{NoneBelow, soleMark, RestFits, CleanFits}
+use Rattle.session.specs.State.{bufferPart, batchRoom, sourceIn, sourceLines, keptWords, cleanActions, cleanOlds}
+use Rattle.session.specs.Fits.{NoneBelow, soleMark, RestFits, CleanFits, Reads}
 use Rattle.session.proofs.Part.{length-part}
 use Rattle.actions.specs.Nth.{nth}
 use Rattle.keeping.proofs.Freed.{lines-few}
@@ -29,16 +29,17 @@ use Rattle.session.specs.declared.Source.{Source}
 use Rattle.cleaning.specs.Record.{cleaning, copyingTo, sourceOf}
 use Rattle.cleaning.proofs.Forward.{lo, hi}
 use Rattle.cleaning.proofs.Acting.{length-clean, clean-next}
-use Rattle.cleaning.proofs.Begins.{copies-acts, copies-fit, none-acts, none-fits, data-fits}
+use Rattle.cleaning.proofs.Begins.{copies-acts, copies-olds, copies-reads, copies-fit, none-acts, none-olds, none-reads, none-fits, data-fits}
 use Rattle.planning.specs.Plans.{Copies, Bare, Beginning}
 use Rattle.planning.proofs.Shows.{plan-none, plan-copies, plan-dead}
 
 -- what the begin of a cleaning of chunk s shows, with the record at it
 pub record Begun (c : Control) (k′ : Setup) (f : Source) (b′ ws table : List ℕ) (es : List Entry) (n s actions : ℕ) : Type 0 where
-  pub plan : planClean 12 n ws es [] s ≡ Begin [] (Cleaning (f .entries)) (cleanActions k′ f b′)
+  pub plan : planClean 12 n ws es [] s ≡ Begin [] (Cleaning (f .entries) (cleanOlds k′ f)) (cleanActions k′ f b′)
   pub count : actions ≡ length (cleanActions k′ f b′)
   pub first : cleanActions k′ f b′ ≡ nth (cleanActions k′ f b′) 0 ∷ drop 1 (cleanActions k′ f b′)
   pub fits : CleanFits (cleaning c) k′ f b′ ws table (nth (cleanActions k′ f b′) 0 ∷ drop 1 (cleanActions k′ f b′))
+  pub reads : Reads (record { control = cleaning c; setup = k′; buffer = b′ }) (cleanOlds k′ f) (cleanActions k′ f b′) ws table
 
 module _ (c : Control) (k : Setup) (b ws table : List ℕ) (r : RestFits (record { control = c; setup = k; buffer = b }) ws table []) (s chunk old lines first : ℕ) (f : Source) (actions : ℕ)
     (q : Beginning ws (r .entries) (chunksIn 12 (k .image)) s chunk old lines (k .first % soleMark) first f actions) where
@@ -60,18 +61,20 @@ module _ (c : Control) (k : Setup) (b ws table : List ℕ) (r : RestFits (record
   ok : Ok 12 n ws es
   ok = opens-ok 12 lo hi (k .image) (k .table) ws es (r .long) (r .accepted) .0
 
-  all : (b′ : List ℕ) → planClean 12 n ws es [] s ≡ Begin [] (Cleaning (f .entries)) (cleanActions k′ g b′) → CleanFits (cleaning c) k′ g b′ ws table (nth (cleanActions k′ g b′) 0 ∷ drop 1 (cleanActions k′ g b′))
+  all : (b′ : List ℕ) → planClean 12 n ws es [] s ≡ Begin [] (Cleaning (f .entries) (cleanOlds k′ g)) (cleanActions k′ g b′)
+      → Reads (record { control = cleaning c; setup = k′; buffer = b′ }) (cleanOlds k′ g) (cleanActions k′ g b′) ws table → CleanFits (cleaning c) k′ g b′ ws table (nth (cleanActions k′ g b′) 0 ∷ drop 1 (cleanActions k′ g b′))
       → Begun c k′ f b′ ws table es n s actions
-  all b′ p t = record {
-    plan = subst (λ (x : Source). planClean 12 n ws es [] s ≡ Begin [] (Cleaning (f .entries)) (cleanActions k′ x b′)) (sym (q .source)) p;
+  all b′ p d t = record {
+    plan = subst (λ (x : Source). planClean 12 n ws es [] s ≡ Begin [] (Cleaning (f .entries) (cleanOlds k′ x)) (cleanActions k′ x b′)) (sym (q .source)) p;
     count = q .count ∙ sym (length-clean k′ f b′);
     first = clean-next k′ f b′ 0 (omega arith);
     fits = subst (λ (x : Source). CleanFits (cleaning c) k′ x b′ ws table (nth (cleanActions k′ x b′) 0 ∷ drop 1 (cleanActions k′ x b′))) (sym (q .source)) t;
+    reads = subst (λ (x : Source). Reads (record { control = cleaning c; setup = k′; buffer = b′ }) (cleanOlds k′ x) (cleanActions k′ x b′) ws table) (sym (q .source)) d;
   }
 
   -- NOTHING COPIED: the buffer stays
   begun-bare : Bare ws es s chunk old lines (k .first % soleMark) first f → Begun c k′ f b ws table es n s actions
-  begun-bare a = all b (plan (a .why)) (fit (a .why))
+  begun-bare a = all b (plan (a .why)) reads (fit (a .why))
     where
       small-chunk : chunk ≤ 503
       small-chunk = let e = a .chunk-is in omega arith
@@ -85,9 +88,17 @@ module _ (c : Control) (k : Setup) (b ws table : List ℕ) (r : RestFits (record
       acts-are : cleanActions k′ g b ≡ free s ws
       acts-are = ap (λ (x : Setup). cleanActions x g b) k-is ∙ none-acts c k b ws table r s (q .low) (q .high) (f .words) (f .entries) (q .room) b (λ i l. refl) f (a .words) chunk old lines small-chunk small-lines
 
-      plan : ((isLog (roleAt 12 ws s) ≡ true) × (kept ≡ [])) ⊎ ((isLog (roleAt 12 ws s) ≡ false) × (hasLive 12 es s ≡ false)) → planClean 12 n ws es [] s ≡ Begin [] (Cleaning (f .entries)) (cleanActions k′ g b)
-      plan (inl (log, e)) = rw (acts-are, a .entries) (plan-none n ws es s (q .low) (q .high) (q .used) log e)
-      plan (inr (log, e)) = rw (acts-are, a .entries) (plan-dead n ws es s (q .low) (q .high) (q .used) log e)
+      olds-are : cleanOlds k′ g ≡ oldOf ws s ∷ []
+      olds-are = none-olds c k b ws table r s (q .low) (q .high) (f .words) (f .entries) (q .room) b (λ i l. refl) f (a .words) chunk old lines small-chunk small-lines
+
+      reads : Reads (record { control = cleaning c; setup = k′; buffer = b }) (cleanOlds k′ g) (cleanActions k′ g b) ws table
+      reads =
+          subst (λ (x : Setup). Reads (record { control = cleaning c; setup = x; buffer = b }) (cleanOlds x g) (cleanActions x g b) ws table) (sym k-is)
+          (none-reads c k b ws table r s (q .low) (q .high) (f .words) (f .entries) (q .room) b (λ i l. refl) f (a .words) chunk old lines small-chunk small-lines)
+
+      plan : ((isLog (roleAt 12 ws s) ≡ true) × (kept ≡ [])) ⊎ ((isLog (roleAt 12 ws s) ≡ false) × (hasLive 12 es s ≡ false)) → planClean 12 n ws es [] s ≡ Begin [] (Cleaning (f .entries) (cleanOlds k′ g)) (cleanActions k′ g b)
+      plan (inl (log, e)) = rw (acts-are, olds-are, a .entries) (plan-none n ws es s (q .low) (q .high) (q .used) log e)
+      plan (inr (log, e)) = rw (acts-are, olds-are, a .entries) (plan-dead n ws es s (q .low) (q .high) (q .used) log e)
 
       fit : ((isLog (roleAt 12 ws s) ≡ true) × (kept ≡ [])) ⊎ ((isLog (roleAt 12 ws s) ≡ false) × (hasLive 12 es s ≡ false)) → CleanFits (cleaning c) k′ g b ws table (nth (cleanActions k′ g b) 0 ∷ drop 1 (cleanActions k′ g b))
       fit (inl (log, e)) = rw k-is (none-fits c k b ws table r s (q .low) (q .high) (f .words) (f .entries) (q .room) b (λ i l. refl) f (a .words) chunk old lines small-chunk small-lines log e)
@@ -118,7 +129,7 @@ module _ (c : Control) (k : Setup) (b ws table : List ℕ) (r : RestFits (record
 
     begun-copies : Copies ws es n s chunk old lines (k .first % soleMark) first f → Begun c k′ f b′ ws table es n s actions
     unfolding keptWords
-    begun-copies a = all b′ plan fit
+    begun-copies a = all b′ plan reads fit
       where
         same-words : t .words ≡ f .words
         same-words = sym (length-part b′ 512 (t .words)) ∙ ap length (words-are .0) ∙ sym (a .words)
@@ -140,8 +151,18 @@ module _ (c : Control) (k : Setup) (b ws table : List ℕ) (r : RestFits (record
             ap (λ (x : Setup). cleanActions x g b′) k-is
             ∙ copies-acts c k b ws table r s (q .low) (q .high) (f .words) (f .entries) (q .room) b′ (gathered .area .above) f (a .log) (a .some-kept) written chunk (a .found) first (k .least) below (a .under) plain
 
-        plan : planClean 12 n ws es [] s ≡ Begin [] (Cleaning (f .entries)) (cleanActions k′ g b′)
-        plan = rw (acts-are, a .entries) (plan-copies n ws es s (q .low) (q .high) (q .used) (a .log) (a .some-kept) chunk (a .found))
+        olds-are : cleanOlds k′ g ≡ oldOf ws chunk ∷ oldOf ws s ∷ []
+        olds-are =
+            ap (λ (x : Setup). cleanOlds x g) k-is
+            ∙ copies-olds c k b ws table r s (q .low) (q .high) (f .words) (f .entries) (q .room) b′ (gathered .area .above) f (a .log) (a .some-kept) written chunk (a .found) first (k .least) below (a .under) plain
+
+        reads : Reads (record { control = cleaning c; setup = k′; buffer = b′ }) (cleanOlds k′ g) (cleanActions k′ g b′) ws table
+        reads =
+            subst (λ (x : Setup). Reads (record { control = cleaning c; setup = x; buffer = b′ }) (cleanOlds x g) (cleanActions x g b′) ws table) (sym k-is)
+            (copies-reads c k b ws table r s (q .low) (q .high) (f .words) (f .entries) (q .room) b′ (gathered .area .above) f (a .log) (a .some-kept) written chunk (a .found) first (k .least) below (a .under) plain)
+
+        plan : planClean 12 n ws es [] s ≡ Begin [] (Cleaning (f .entries) (cleanOlds k′ g)) (cleanActions k′ g b′)
+        plan = rw (acts-are, olds-are, a .entries) (plan-copies n ws es s (q .low) (q .high) (q .used) (a .log) (a .some-kept) chunk (a .found))
 
         fit : CleanFits (cleaning c) k′ g b′ ws table (nth (cleanActions k′ g b′) 0 ∷ drop 1 (cleanActions k′ g b′))
         fit = rw k-is (copies-fit c k b ws table r s (q .low) (q .high) (f .words) (f .entries) (q .room) b′ (gathered .area .above) f (a .log) (a .some-kept) written chunk (a .found) first (k .least) below (a .under) plain)

@@ -17,7 +17,7 @@ use Rattle.spec.specs.Directory.{isFree, isLog, roleAt, linesOf}
 use Rattle.spec.specs.Log.{Entry, encodeAll}
 use Rattle.spec.specs.Contents.{keptIn}
 use Rattle.spec.specs.Actions.{linesFor}
-use Rattle.spec.specs.Plans.{Cleaning, Refuse, Begin, logPlace, appendTo, inUse, hasLive, free, planClean}
+use Rattle.spec.specs.Plans.{oldOf, Cleaning, Refuse, Begin, logPlace, appendTo, inUse, hasLive, free, planClean}
 use Rattle.spec.specs.Machine.{Clean, refusals}
 use Rattle.spec.specs.Contract.{MemRefusal}
 use Rattle.session.specs.declared.Control.{Control}
@@ -63,7 +63,7 @@ module _ (n : ℕ) (ws : List ℕ) (es : List Entry) (s : ℕ) where
     in-use : inUse 12 n ws s ≡ true
     in-use = rw (le-leb 1 s low, lt-ltb s n high, used)
 
-    pub plan-none : isLog (roleAt 12 ws s) ≡ true → kept ≡ [] → planClean 12 n ws es [] s ≡ Begin [] (Cleaning 0) (free s ws)
+    pub plan-none : isLog (roleAt 12 ws s) ≡ true → kept ≡ [] → planClean 12 n ws es [] s ≡ Begin [] (Cleaning 0 (oldOf ws s ∷ [])) (free s ws)
     unfolding planClean
     plan-none log e = rw (in-use, log, e)
 
@@ -72,7 +72,7 @@ module _ (n : ℕ) (ws : List ℕ) (es : List Entry) (s : ℕ) where
     some-kept (f ∷ fs) h = refl
 
     pub plan-copies : isLog (roleAt 12 ws s) ≡ true → (kept ≡ [] → ⊥) → (d : ℕ) → logPlace 12 n ws (linesFor (length (encodeAll kept))) s 1 ≡ some d
-        → planClean 12 n ws es [] s ≡ Begin [] (Cleaning (length kept)) (appendTo 12 ws (encodeAll kept) d ++ free s ws)
+        → planClean 12 n ws es [] s ≡ Begin [] (Cleaning (length kept) (oldOf ws d ∷ oldOf ws s ∷ [])) (appendTo 12 ws (encodeAll kept) d ++ free s ws)
     unfolding planClean
     plan-copies log h d found = rw (in-use, log, some-kept kept h, found)
 
@@ -84,7 +84,7 @@ module _ (n : ℕ) (ws : List ℕ) (es : List Entry) (s : ℕ) where
     unfolding planClean
     plan-live log h = rw (in-use, log, h)
 
-    pub plan-dead : isLog (roleAt 12 ws s) ≡ false → hasLive 12 es s ≡ false → planClean 12 n ws es [] s ≡ Begin [] (Cleaning 0) (free s ws)
+    pub plan-dead : isLog (roleAt 12 ws s) ≡ false → hasLive 12 es s ≡ false → planClean 12 n ws es [] s ≡ Begin [] (Cleaning 0 (oldOf ws s ∷ [])) (free s ws)
     unfolding planClean
     plan-dead log h = rw (in-use, log, h)
 

@@ -2,14 +2,13 @@
 ghost use Rattle.fast_path.specs.Run.{RunsOn};
 ghost use Rattle.answers.specs.Answers.{Told};
 ghost use Rattle.session.specs.Promise.{memory};
-ghost use Rattle.store_step.specs.Kept.{SetupKept};
 use answers::Answer;
 use session::Session;
 
 // A run in numbers, where no staging is begun: inside a commit `store_run::run_fast`, else
 // `late_answers::run_late`.
 pub fn run_commit(s: &mut Session, image: &mut [u8], table: &mut [u64]) -> Answer
-    ensures { λ r. ⌜ Told (SetupKept RunsOn (memory (now (s .entry)) (now (image .entry)) (now (table .entry))) (memory (now (s .exit)) (now (image .exit)) (now (table .exit)))) r ⌝ }
+    ensures { λ r. ⌜ Told (RunsOn (memory (now (s .entry)) (now (image .entry)) (now (table .entry))) (memory (now (s .exit)) (now (image .exit)) (now (table .exit)))) r ⌝ }
 {
     let c = s.control;
     let k = s.setup;
@@ -25,7 +24,7 @@ pub fn run_commit(s: &mut Session, image: &mut [u8], table: &mut [u64]) -> Answe
 
 // A run in numbers, whatever is begun: in a staging `store_run::run_staging`, else as above.
 pub fn answer_run(s: &mut Session, image: &mut [u8], table: &mut [u64]) -> Answer
-    ensures { λ r. ⌜ Told (SetupKept RunsOn (memory (now (s .entry)) (now (image .entry)) (now (table .entry))) (memory (now (s .exit)) (now (image .exit)) (now (table .exit)))) r ⌝ }
+    ensures { λ r. ⌜ Told (RunsOn (memory (now (s .entry)) (now (image .entry)) (now (table .entry))) (memory (now (s .exit)) (now (image .exit)) (now (table .exit)))) r ⌝ }
 {
     let c = s.control;
     let k = s.setup;

@@ -2,10 +2,13 @@
 -- leaves memory at rest.
 -- Assumes nothing.
 use mathlib.Core.Path.{_≡_, refl, _∙_, ap}
-use mathlib.Core.List.{List, [], _++_, map}
-use Prim.Native.Nat.{ℕ, _+_, _<_, min}
+use mathlib.Core.List.{List, [], _∷_, _++_, map}
+use Prim.Native.Nat.{ℕ, _+_, _/_, _<_, min}
 use native.Mathlib.Omega.{arith}
-use lib.ListN.{getD}
+use lib.ListN.{length, getD, length-set}
+use Rattle.spec.specs.Medium.{Action, Store, Flush, Fence}
+use Rattle.spec.specs.Reports.{asReport, wordsAfter}
+use Rattle.spec.specs.Plans.{Olds}
 use Rattle.spec.specs.Places.{basePower, chunksIn}
 use Rattle.spec.specs.Log.{Entry, moved, placed, parse}
 use Rattle.spec.specs.Contents.{listed}
@@ -17,7 +20,8 @@ use Rattle.blocks.specs.Bits.{FrontKept}
 use Rattle.session.specs.State.{batchRoom, batchWords, batchItems, chunkIn, linesIn, commitActions}
 use Rattle.session.specs.Filter.{filterPlace}
 use Rattle.session.specs.Numbers.{emptied, staged}
-use Rattle.session.specs.Fits.{NoneBelow, soleMark, Hint, ItemsFit, BatchFits, Built, RestFits, batchPlace, CommitFits}
+use Rattle.session.specs.Fits.{NoneBelow, soleMark, Hint, ItemsFit, BatchFits, Built, RestFits, batchPlace, CommitFits, Shown, Reads}
+use Rattle.theory_base.proofs.PutBack.{AreLow}
 use Rattle.session.proofs.Part.{part-agree}
 
 -- THE STAGED WORDS stay where the buffer's first words do.
@@ -55,6 +59,22 @@ batch-kept c c′ b b′ n ws es items ew ei e em ek f = record {
 
 pub built-kept : (c c′ : Control) (b table : List ℕ) (es : List Entry) → c′ .keys ≡ c .keys → Built c b table es → Built c′ b table es
 built-kept c c′ b table es e f = record { indexed = rw e (f .indexed); blocks = f .blocks; sums = f .sums }
+
+-- WHAT LOOK-UP READS, at a begin, and after an action that is not the last
+pub reads-from : (s : Session) (olds : Olds) (es : List Entry) (acts : List Action) (ws table : List ℕ) → AreLow olds → length ws ≡ s .setup .image / 8
+    → Shown (s .setup .image) (s .setup .table) olds es acts ws → Built (s .control) (s .buffer) table es → Reads s olds acts ws table
+reads-from s olds es [] ws table low long shown built = tt
+reads-from s olds es (a ∷ rest) ws table low long shown built = record { entries = es; low = low; long = long; shown = shown; built = built }
+
+words-long : (a : Action) (ws : List ℕ) → length (wordsAfter (asReport a) ws) ≡ length ws
+words-long (Store w v) ws = length-set ws w v
+words-long (Flush l) ws = refl
+words-long Fence ws = refl
+
+pub reads-kept : (c c′ : Control) (k : Setup) (b table ws : List ℕ) (olds : Olds) (a : Action) (rest : List Action) → c′ .keys ≡ c .keys
+    → Reads (record { control = c; setup = k; buffer = b }) olds (a ∷ rest) ws table → Reads (record { control = c′; setup = k; buffer = b }) olds rest (wordsAfter (asReport a) ws) table
+reads-kept c c′ k b table ws olds a rest e r =
+    reads-from (record { control = c′; setup = k; buffer = b }) olds (r .entries) rest (wordsAfter (asReport a) ws) table (r .low) (words-long a ws ∙ r .long) (r .shown .1) (built-kept c c′ b table (r .entries) e (r .built))
 
 -- a hint that says nothing of the chunks behind it
 pub plain-hint : (n : ℕ) (ws : List ℕ) (first least : ℕ) → first < soleMark → NoneBelow n ws first least → Hint n ws first least

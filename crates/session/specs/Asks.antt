@@ -7,7 +7,7 @@ use mathlib.Core.List.{List}
 use Prim.Native.Nat.{ℕ}
 use lib.Dec.{eqb}
 use Rattle.spec.specs.Basics.{pick, both, either}
-use Rattle.spec.specs.Machine.{gate}
+use Rattle.spec.specs.Machine.{gate, readGate}
 use Rattle.session.specs.declared.Control.{Control}
 use Rattle.session.specs.declared.Setup.{Setup}
 use Rattle.spec.specs.declared.Refusal.{Refusal}
@@ -33,6 +33,16 @@ phaseOf n =
 abbrev pub begunAt : ℕ → Bool
 begunAt phase = either (eqb phase 2) (either (eqb phase 3) (either (eqb phase 5) (eqb phase 6)))
 
+-- the phases in which look-up answers: at rest, in a staging, a commit and a cleaning
+abbrev pub readAt : ℕ → Bool
+readAt phase = either (eqb phase 1) (either (eqb phase 2) (either (eqb phase 3) (eqb phase 6)))
+
+abbrev pub readFor : ℕ → Bool → Option Refusal
+readFor phase same =
+    pick (readAt phase) (pick same none (some N.ImageLength))
+    (pick (eqb phase 5) (pick same (some N.Unfinished) (some N.ImageLength))
+    (some N.NotOpen))
+
 -- by the phase, and whether the lengths are those at the opening
 abbrev pub gateFor : ℕ → Bool → Option Refusal
 gateFor phase same =
@@ -54,3 +64,7 @@ gateOf (G.Refused n) = some n
 -- the answer is the definition's, whatever the buffer holds
 pub record Asking (c : Control) (k : Setup) (bytes words : ℕ) (r : Gated) : Type 0 where
   pub asked : (b : List ℕ) → gate (stateAt c k b) bytes words ≡ gateOf r
+
+-- the same of look-up
+pub record ReadAsking (c : Control) (k : Setup) (bytes words : ℕ) (r : Gated) : Type 0 where
+  pub asked : (b : List ℕ) → readGate (stateAt c k b) bytes words ≡ gateOf r

@@ -16,13 +16,14 @@ use Rattle.spec.specs.Blocks.{pointed}
 use Rattle.spec.specs.Contents.{capacity, liveBlocks}
 use Rattle.spec.specs.Opening.{Accepted, fine, opening}
 use Rattle.spec.specs.Actions.{linesFor}
-use Rattle.spec.specs.Reports.{runWords}
-use Rattle.spec.specs.Plans.{Staging, Committing, Cleaning, maxItems, hasSpace}
+use Rattle.spec.specs.Reports.{asReport, wordsAfter, runWords}
+use Rattle.spec.specs.Plans.{Task, Staging, Committing, Cleaning, Olds, oldsOf, putBack, maxItems, hasSpace}
 use Rattle.spec.specs.Machine.{State, Closed, Rest, Busy, Formatting}
 use Rattle.session.specs.declared.Control.{Control}
 use Rattle.session.specs.declared.Setup.{Setup}
 use Rattle.session.specs.declared.Source.{Source}
 use Rattle.session.specs.declared.Session.{Session}
+use Rattle.theory_base.proofs.PutBack.{AreLow}
 use Rattle.theory_log.specs.Batch.{AllRight}
 use Rattle.theory_log.specs.Contents.{CountsOn, Mem, Top, Agree}
 use Rattle.blocks.specs.Bits.{bufferWords, hasBit}
@@ -161,12 +162,34 @@ pub record CleanFits (c : Control) (k : Setup) (f : Source) (b ws table : List �
   pub built : BuiltBy rest (record { control = c; setup = k; buffer = b }) table (before xs mid ys) (after xs mid ys as′ bs (batchPlace k))
   pub hint : Hint (chunksIn basePower (k .image)) (runWords rest ws) (k .first) (k .least)
 
+-- WHAT LOOK-UP READS in an unfinished call, looking forward: before each action still to come the words with the old
+-- directory words put back are accepted with the entries es; and until the last one is done table and bits are those of
+-- es.
+abbrev pub Shown : (image table : ℕ) → Olds → List Entry → List Action → List ℕ → Type 0
+Shown image table olds es [] ws = Unit {0}
+Shown image table olds es (a ∷ rest) ws =
+    (opening basePower image (putBack olds ws) table ≡ Accepted es) × Shown image table olds es rest (wordsAfter (asReport a) ws)
+
+pub record ReadFits (s : Session) (olds : Olds) (a : Action) (rest : List Action) (ws table : List ℕ) : Type 0 where
+  pub entries : List Entry
+  pub low : AreLow olds
+  pub long : length ws ≡ s .setup .image / 8
+  pub shown : Shown (s .setup .image) (s .setup .table) olds entries (a ∷ rest) ws
+  pub built : Built (s .control) (s .buffer) table entries
+
+abbrev pub Reads : Session → Olds → List Action → List ℕ → List ℕ → Type 0
+Reads s olds [] ws table = Unit {0}
+Reads s olds (a ∷ rest) ws table = ReadFits s olds a rest ws table
+
+abbrev pub TaskFits : Task → Session → List Entry → List Action → List ℕ → List ℕ → Type 0
+TaskFits Staging s items rest ws table = StageFits s ws table items rest
+TaskFits (Committing olds) s items rest ws table = CommitFits s ws table items rest
+TaskFits (Cleaning n olds) s items rest ws table = CleanFits (s .control) (s .setup) (s .setup .source) (s .buffer) ws table rest
+
 abbrev pub FitsAt : State → Session → List ℕ → List ℕ → Type 0
 FitsAt Closed s ws table = Unit {0}
 FitsAt (Rest b t items) s ws table = RestFits s ws table items
-FitsAt (Busy b t items Staging rest) s ws table = StageFits s ws table items rest
-FitsAt (Busy b t items Committing rest) s ws table = CommitFits s ws table items rest
-FitsAt (Busy b t items (Cleaning n) rest) s ws table = CleanFits (s .control) (s .setup) (s .setup .source) (s .buffer) ws table rest
+FitsAt (Busy b t items task rest) s ws table = TaskFits task s items rest ws table × Reads s (oldsOf task) rest ws table
 FitsAt (Formatting o b t rest) s ws table = Unit {0}
 
 abbrev pub Fits : Session → List ℕ → List ℕ → Type 0

@@ -30,7 +30,7 @@ use Rattle.spec.specs.Log.{Entry, moved, parse}
 use Rattle.spec.specs.Blocks.{blockLimit}
 use Rattle.spec.specs.Contents.{listed}
 use Rattle.spec.specs.Actions.{takeOf, blockOf, appendOf, freeOf, formatOf}
-use Rattle.spec.specs.Plans.{Staging, Committing, Cleaning}
+use Rattle.spec.specs.Plans.{Staging, Committing, Cleaning, Olds}
 use Rattle.spec.specs.Machine.{State, Closed, Rest, Busy, Formatting}
 use Rattle.session.specs.declared.Control.{Control}
 use Rattle.session.specs.declared.Setup.{Setup}
@@ -130,15 +130,25 @@ copyActions k words b = pick (eqb (min words batchRoom) 0) [] (appendActions k w
 unfoldable pub cleanActions : Setup → Source → List ℕ → List Action
 cleanActions k f b = copyActions k (f .words) b ++ freeOf (sourceIn f) (f .old)
 
+-- THE DIRECTORY WORDS that a commit and a cleaning store to, as they were at the begin
+abbrev pub targetOld : Setup → ℕ × ℕ
+targetOld k = (chunkIn k, k .old)
+
+abbrev pub commitOlds : Setup → Olds
+commitOlds k = targetOld k ∷ []
+
+abbrev pub cleanOlds : Setup → Source → Olds
+cleanOlds k f = pick (eqb (min (f .words) batchRoom) 0) [] (targetOld k ∷ []) ++ ((sourceIn f, f .old) ∷ [])
+
 -- THE STATE
 abbrev pub stateBy : ℕ → Control → Setup → List ℕ → State
 stateBy phase c k b =
     pick (eqb phase 1) (Rest (k .image) (k .table) (batchItems c b))
     (pick (eqb phase 2) (Busy (k .image) (k .table) (batchItems c b) Staging (drop (c .next) (blockActions k b)))
-    (pick (eqb phase 3) (Busy (k .image) (k .table) (batchItems c b) Committing (drop (c .next) (commitActions c k b)))
+    (pick (eqb phase 3) (Busy (k .image) (k .table) (batchItems c b) (Committing (commitOlds k)) (drop (c .next) (commitActions c k b)))
     (pick (eqb phase 4) (Formatting false (k .image) (k .table) (drop (c .next) (formatActions k)))
     (pick (eqb phase 5) (Formatting true (k .image) (k .table) (drop (c .next) (formatActions k)))
-    (pick (eqb phase 6) (Busy (k .image) (k .table) [] (Cleaning (k .source .entries)) (drop (c .next) (cleanActions k (k .source) b)))
+    (pick (eqb phase 6) (Busy (k .image) (k .table) [] (Cleaning (k .source .entries) (cleanOlds k (k .source))) (drop (c .next) (cleanActions k (k .source) b)))
     Closed)))))
 
 unfoldable pub stateAt : Control → Setup → List ℕ → State

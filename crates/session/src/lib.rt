@@ -6,7 +6,7 @@ ghost use lib.Dec.{eqb};
 ghost use Rattle.session.specs.State.{noSource};
 ghost use Rattle.session.specs.Numbers.{closed, opened, toNext, acting, keyed, staged, emptied, stagedMore, formattingIn, nothing, lent, told, placing, writing};
 ghost use Rattle.spec.specs.Reports.{number};
-ghost use Rattle.session.specs.Asks.{phaseOf, closedOr, Asking};
+ghost use Rattle.session.specs.Asks.{phaseOf, readAt, closedOr, Asking, ReadAsking};
 use blocks::Buffer;
 use spec::Refusal;
 use spec::Report;
@@ -407,6 +407,40 @@ pub fn gate(control: Control, setup: Setup, bytes: usize, words: usize) -> Gated
     if setup.image == bytes {
         if setup.table == words {
             if is_at_rest(phase) {
+                return Gated::Open;
+            }
+            return Gated::Refused(closed_or(phase, Refusal::Unfinished));
+        }
+        return Gated::Refused(closed_or(phase, Refusal::ImageLength));
+    }
+    Gated::Refused(closed_or(phase, Refusal::ImageLength))
+}
+
+// The phases in which look-up answers: at rest, in a staging, a commit and a cleaning.
+const READ_PHASES: [u64; 7] = [0, 1, 1, 1, 0, 0, 1];
+
+fn is_read(number: u64) -> bool
+    ensures { λ r. ⌜ r ≡ readAt number ⌝ }
+{
+    if number < 7 {
+        return READ_PHASES[number as usize] == 1;
+    }
+    false
+}
+
+// LOOK-UP'S GATE: the same, but that look-up answers in an unfinished call, too, unless that is a formatting. An open
+// register at rest is found by three comparisons: it is asked apart, and the other phases by a table, so that the
+// compiler does not make one test of both.
+pub fn read_gate(control: Control, setup: Setup, bytes: usize, words: usize) -> Gated
+    ensures { λ r. ⌜ ReadAsking control setup bytes words r ⌝ }
+{
+    let phase = control.phase;
+    if setup.image == bytes {
+        if setup.table == words {
+            if is_at_rest(phase) {
+                return Gated::Open;
+            }
+            if is_read(phase) {
                 return Gated::Open;
             }
             return Gated::Refused(closed_or(phase, Refusal::Unfinished));

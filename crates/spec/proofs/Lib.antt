@@ -1,5 +1,6 @@
 pub mod Examples
 pub mod Slips
 pub mod NamedVersions
+pub mod Reprints
 pub mod Registers
 pub mod Stuck

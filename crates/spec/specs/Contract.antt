@@ -12,8 +12,8 @@ use Rattle.spec.specs.Places.{chunksIn}
 use Rattle.spec.specs.Medium.{Action, Store, Flush, Fence}
 use Rattle.spec.specs.Log.{Entry}
 use Rattle.spec.specs.Reports.{actionOf, partIn, asReport, isRefused}
-use Rattle.spec.specs.Plans.{Staging, Committing, Cleaning, maxVersion}
-use Rattle.spec.specs.Machine.{Kind, ToFormat, ToOpen, ToWork, ToStep, kindOf, Call, Format, Open, Put, Delete, Commit, Abandon, LookUp, Choose, Clean, Step, State, Closed, Rest, Busy, Formatting, itemsOf, countOf, answer, next, barred, refusals, stepsLeft}
+use Rattle.spec.specs.Plans.{Staging, Committing, Cleaning, Task, Olds, maxVersion}
+use Rattle.spec.specs.Machine.{Kind, ToFormat, ToOpen, ToWork, ToRead, ToStep, kindOf, Call, Format, Open, Put, Delete, Commit, Abandon, LookUp, Choose, Clean, Step, State, Closed, Rest, Busy, Formatting, itemsOf, countOf, answer, next, barred, refusals, stepsLeft}
 use Rattle.spec.specs.declared.Refusal.{Refusal}
 use Rattle.spec.specs.declared.Report.{Report}
 use Rattle.spec.specs.declared.Report.the-variants as R
@@ -59,6 +59,7 @@ abbrev pub AgainBy : Kind → Report → Type 0 → Type 0
 AgainBy ToFormat r Fit = isRefused r ≡ false → Fit
 AgainBy ToOpen r Fit = Fit
 AgainBy ToWork r Fit = Fit
+AgainBy ToRead r Fit = Fit
 AgainBy ToStep r Fit = Fit
 
 abbrev pub Again : Call → Report → Type 0 → Type 0
@@ -77,10 +78,10 @@ abbrev pub StagesIn : ℕ → ℕ → List Action → State → Type 0
 StagesIn b t acts σ = (items : List Entry) × (σ ≡ Busy b t items Staging acts)
 
 abbrev pub CommitsIn : ℕ → ℕ → List Entry → List Action → State → Type 0
-CommitsIn b t items acts σ = σ ≡ Busy b t items Committing acts
+CommitsIn b t items acts σ = (olds : Olds) × (σ ≡ Busy b t items (Committing olds) acts)
 
 abbrev pub CleansIn : ℕ → ℕ → List Action → State → Type 0
-CleansIn b t acts σ = (n : ℕ) × (σ ≡ Busy b t [] (Cleaning n) acts)
+CleansIn b t acts σ = (n : ℕ) × ((olds : Olds) × (σ ≡ Busy b t [] (Cleaning n olds) acts))
 
 abbrev pub Anyway : (p limit : ℕ) → Call → (σ σ′ : State) → (ws : List ℕ) → (bytes table : ℕ) → Report → Type 0
 Anyway p limit (Format x y) σ σ′ ws bytes table r = (r ≡ answer p limit (Format x y) σ ws bytes table) × (σ′ ≡ next p limit (Format x y) σ ws bytes table)
@@ -116,6 +117,7 @@ module _ {S : Type 0} (Proper : S → Type 0) (stateOf : S → State) (Fits : S 
   ReadyBy ToFormat s ws table = Proper s
   ReadyBy ToOpen s ws table = Proper s
   ReadyBy ToWork s ws table = Fits s ws table
+  ReadyBy ToRead s ws table = Fits s ws table
   ReadyBy ToStep s ws table = Fits s ws table
 
   abbrev pub Ready : Call → S → List ℕ → List ℕ → Type 0
@@ -133,6 +135,7 @@ module _ {S : Type 0} (Proper : S → Type 0) (stateOf : S → State) (Fits : S 
   KeptBy ToFormat s s′ table table′ = (s′ ≡ s) × (table′ ≡ table)
   KeptBy ToOpen s s′ table table′ = (stateOf s′ ≡ Closed) × (table′ ≡ replicate (length table) 0)
   KeptBy ToWork s s′ table table′ = (s′ ≡ s) × (table′ ≡ table)
+  KeptBy ToRead s s′ table table′ = (s′ ≡ s) × (table′ ≡ table)
   KeptBy ToStep s s′ table table′ = (s′ ≡ s) × (table′ ≡ table)
 
   abbrev pub Kept : Call → S → S → List ℕ → List ℕ → Type 0

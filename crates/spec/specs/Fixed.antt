@@ -10,7 +10,7 @@ use Rattle.spec.specs.Places.{chunksIn}
 use Rattle.spec.specs.Medium.{Action}
 use Rattle.spec.specs.Contents.{entriesIn}
 use Rattle.spec.specs.Reports.{asReport}
-use Rattle.spec.specs.Plans.{Cleaning, Begin, planClean}
+use Rattle.spec.specs.Plans.{Olds, Cleaning, Begin, planClean}
 use Rattle.spec.specs.Machine.{Clean, State, itemsOf}
 use Rattle.spec.specs.Contract.{Called, SteppedOn}
 use Rattle.spec.specs.declared.Report.{Report}
@@ -26,13 +26,14 @@ module _ {S : Type 0} (Proper : S → Type 0) (stateOf : S → State) (Fits : S 
   pub record FixedAt (c : ℕ) (s s′ : S) (bytes table : List ℕ) (a : ℕ) : Type 0 where
     pub acts : List Action
     pub count : ℕ
+    pub olds : Olds
     pub long : length acts ≡ a
     -- steps on any images and tables of these lengths: so far as they go, and to the end
     pub so-far : (rs : List Report) → SteppedOn Proper stateOf Fits p limit (length bytes) (length table) s′ rs → length rs ≤ suc a → rs ≡ take (length rs) (allReports acts count)
     pub whole : (rs : List Report) → SteppedOn Proper stateOf Fits p limit (length bytes) (length table) s′ rs → length rs ≡ suc a → rs ≡ allReports acts count
     -- on memory as our calls left it they are the plan's
     pub planned : Fits s (wordsOf bytes) table
-        → planClean p (chunksIn p (length bytes)) (wordsOf bytes) (entriesIn p (chunksIn p (length bytes)) (wordsOf bytes)) (itemsOf (stateOf s)) c ≡ Begin [] (Cleaning count) acts
+        → planClean p (chunksIn p (length bytes)) (wordsOf bytes) (entriesIn p (chunksIn p (length bytes)) (wordsOf bytes)) (itemsOf (stateOf s)) c ≡ Begin [] (Cleaning count olds) acts
 
   abbrev pub Fixed : Type 0
   Fixed = (c : ℕ) (s s′ : S) (bytes bytes′ table table′ : List ℕ) (a : ℕ) → Called Proper stateOf Fits p limit (Clean c) s s′ bytes bytes′ table table′ (R.Begun a) → FixedAt c s s′ bytes table a

@@ -14,7 +14,7 @@ use Rattle.spec.specs.Places.{chunksIn}
 use Rattle.spec.specs.Medium.{Medium, cut, settledAt, latest}
 use Rattle.spec.specs.Contents.{Held, Absent, Value, contents}
 use Rattle.spec.specs.Reports.{number, refusalOf, partIn, mediumAfter, isRefused}
-use Rattle.spec.specs.Machine.{Kind, ToFormat, ToOpen, ToWork, ToStep, kindOf, isOpening, Call, Format, Open, Put, Delete, Commit, Abandon, LookUp, Choose, Clean, Step, State}
+use Rattle.spec.specs.Machine.{Kind, ToFormat, ToOpen, ToWork, ToRead, ToStep, kindOf, isOpening, Call, Format, Open, Put, Delete, Commit, Abandon, LookUp, Choose, Clean, Step, State}
 use Rattle.spec.specs.Book.{Book, newBook, nothing, note, noteCut, noteOpen}
 use Rattle.spec.specs.Contract.{Called}
 use Rattle.spec.specs.declared.Given.{Given}
@@ -71,6 +71,7 @@ module _ {S : Type 0} (Proper : S → Type 0) where
   LendsBy ToFormat w s table = SameLent (w .lent) s table
   LendsBy ToOpen w s table = MayOpen w s table
   LendsBy ToWork w s table = SameLent (w .lent) s table
+  LendsBy ToRead w s table = SameLent (w .lent) s table
   LendsBy ToStep w s table = SameLent (w .lent) s table
 
   abbrev pub Lends : Call → World S → S → List ℕ → Type 0

@@ -20,3 +20,4 @@ pub mod FormatCut
 pub mod Reopening
 pub mod Fixed
 pub mod Unstuck
+pub mod Reprint

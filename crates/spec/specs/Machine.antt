@@ -21,7 +21,7 @@ use Rattle.spec.specs.declared.Refusal.the-variants as N
 use Rattle.spec.specs.declared.Report.{Report}
 use Rattle.spec.specs.declared.Report.the-variants as R
 use Rattle.spec.specs.Reports.{isRefused, asReport}
-use Rattle.spec.specs.Plans.{Task, Staging, Committing, Cleaning, Plan, Refuse, Begin, planPut, planDelete, planCommit, planClean, chosenChunk, lookUp, planned, chosenOr}
+use Rattle.spec.specs.Plans.{Task, Staging, Committing, Cleaning, Plan, Refuse, Begin, planPut, planDelete, planCommit, planClean, chosenChunk, readBy, lookUp, planned, chosenOr}
 
 -- a put and a delete may be told the version that they are for
 pub data Call : Type 0 where
@@ -36,11 +36,13 @@ pub data Call : Type 0 where
   Clean : ℕ → Call
   Step : Call
 
--- what a call asks for: nothing of the record (a formatting, an opening), an open register, or something begun (a step)
+-- what a call asks for: nothing of the record (a formatting, an opening), an open register with no call unfinished, an
+-- open register that is not being formatted (look-up), or something begun (a step)
 pub data Kind : Type 0 where
   ToFormat : Kind
   ToOpen : Kind
   ToWork : Kind
+  ToRead : Kind
   ToStep : Kind
 
 abbrev pub kindOf : Call → Kind
@@ -50,7 +52,7 @@ kindOf (Put x k v) = ToWork
 kindOf (Delete x k) = ToWork
 kindOf Commit = ToWork
 kindOf Abandon = ToWork
-kindOf (LookUp k) = ToWork
+kindOf (LookUp k) = ToRead
 kindOf Choose = ToWork
 kindOf (Clean c) = ToWork
 kindOf Step = ToStep
@@ -71,6 +73,21 @@ gate (Rest b t items) bytes table = pick (both (eqb b bytes) (eqb t table)) none
 gate (Busy b t items task rest) bytes table = pick (both (eqb b bytes) (eqb t table)) (some N.Unfinished) (some N.ImageLength)
 gate (Formatting false b t rest) bytes table = some N.NotOpen
 gate (Formatting true b t rest) bytes table = pick (both (eqb b bytes) (eqb t table)) (some N.Unfinished) (some N.ImageLength)
+
+-- 2, 1, 8: what look-up asks first; a call unfinished on the open register, but for a formatting, is no refusal
+abbrev pub readGate : State → ℕ → ℕ → Option Refusal
+readGate Closed bytes table = some N.NotOpen
+readGate (Rest b t items) bytes table = pick (both (eqb b bytes) (eqb t table)) none (some N.ImageLength)
+readGate (Busy b t items task rest) bytes table = pick (both (eqb b bytes) (eqb t table)) none (some N.ImageLength)
+readGate (Formatting false b t rest) bytes table = some N.NotOpen
+readGate (Formatting true b t rest) bytes table = pick (both (eqb b bytes) (eqb t table)) (some N.Unfinished) (some N.ImageLength)
+
+-- the words that look-up reads, of the image's words
+abbrev pub readWords : State → List ℕ → List ℕ
+readWords Closed ws = ws
+readWords (Rest b t items) ws = ws
+readWords (Busy b t items task rest) ws = readBy task rest ws
+readWords (Formatting o b t rest) ws = ws
 
 abbrev pub itemsOf : State → List Entry
 itemsOf Closed = []
@@ -136,8 +153,8 @@ formatState p s c σ bytes table =
 -- stepping: idle, else 1 alone; the next action, or the end with its count
 abbrev pub countOf : Task → ℕ
 countOf Staging = 0
-countOf Committing = 0
-countOf (Cleaning n) = n
+countOf (Committing olds) = 0
+countOf (Cleaning n olds) = n
 
 abbrev pub nextReport : ℕ → List Action → Report
 nextReport n [] = R.End n
@@ -152,8 +169,8 @@ stepAnswer (Formatting o b t rest) bytes table = pick (both (eqb b bytes) (eqb t
 -- the staged items when a call has ended: a commit's have joined the register
 abbrev pub itemsThen : Task → List Entry → List Entry
 itemsThen Staging items = items
-itemsThen Committing items = []
-itemsThen (Cleaning n) items = items
+itemsThen (Committing olds) items = []
+itemsThen (Cleaning n olds) items = items
 
 abbrev pub stepped : State → State
 stepped Closed = Closed
@@ -175,7 +192,7 @@ answer p limit (Put x k v) σ ws bytes table = gated (gate σ bytes table) (plan
 answer p limit (Delete x k) σ ws bytes table = gated (gate σ bytes table) (planAnswer (planOf p limit (Delete x k) (itemsOf σ) ws bytes table))
 answer p limit Commit σ ws bytes table = gated (gate σ bytes table) (planAnswer (planOf p limit Commit (itemsOf σ) ws bytes table))
 answer p limit Abandon σ ws bytes table = gated (gate σ bytes table) (pick (isEmpty (itemsOf σ)) (R.Refused N.NothingStaged) R.Abandoned)
-answer p limit (LookUp k) σ ws bytes table = gated (gate σ bytes table) (lookUp ws (entriesIn p (chunksIn p bytes) ws) k)
+answer p limit (LookUp k) σ ws bytes table = gated (readGate σ bytes table) (lookUp (readWords σ ws) (entriesIn p (chunksIn p bytes) (readWords σ ws)) k)
 answer p limit Choose σ ws bytes table = gated (gate σ bytes table) (chosenOr (chosenChunk p (chunksIn p bytes) ws (entriesIn p (chunksIn p bytes) ws)))
 answer p limit (Clean c) σ ws bytes table = gated (gate σ bytes table) (planAnswer (planOf p limit (Clean c) (itemsOf σ) ws bytes table))
 answer p limit Step σ ws bytes table = stepAnswer σ bytes table
@@ -195,6 +212,7 @@ abbrev pub barredBy : Kind → State → ℕ → ℕ → Option Report
 barredBy ToFormat σ bytes table = none
 barredBy ToOpen σ bytes table = none
 barredBy ToWork σ bytes table = refusedBy (gate σ bytes table)
+barredBy ToRead σ bytes table = refusedBy (readGate σ bytes table)
 barredBy ToStep σ bytes table = stepBarred σ bytes table
 
 abbrev pub barred : Call → State → ℕ → ℕ → Option Report
@@ -227,6 +245,7 @@ abbrev pub isOpening : Kind → Bool
 isOpening ToFormat = false
 isOpening ToOpen = true
 isOpening ToWork = false
+isOpening ToRead = false
 isOpening ToStep = false
 
 unfoldable pub next : ℕ → ℕ → Call → State → List ℕ → ℕ → ℕ → State

@@ -6,7 +6,7 @@ use mathlib.Core.Option.{Option, none, some}
 use mathlib.Core.List.{List, [], _∷_, _++_, map}
 use Prim.Native.Nat.{ℕ, zero, suc, _+_, _-_, _*_, _/_}
 use lib.Dec.{eqb, leb, ltb}
-use lib.ListN.{length, getD}
+use lib.ListN.{length, getD, set}
 use Rattle.spec.specs.Basics.{pick, both, either, negate, filter, first, all, any, isIn, isEmpty, upFrom, distinct}
 use Rattle.spec.specs.Words.{packed}
 use Rattle.spec.specs.Places.{chunkLines, chunkUnits, firstUnit, unitChunk, unitWord, directoryWord}
@@ -23,11 +23,23 @@ use Rattle.spec.specs.declared.Refusal.the-variants as N
 use Rattle.spec.specs.declared.Report.{Report}
 use Rattle.spec.specs.declared.Report.the-variants as R
 
--- what was begun on an open register; a cleaning has the number of entries that it copies
+-- A directory word as it was: its chunk and its value. Put back into words, of several the first one last.
+abbrev pub Olds : Type 0
+Olds = List (ℕ × ℕ)
+
+abbrev pub oldOf : List ℕ → ℕ → ℕ × ℕ
+oldOf ws c = (c, getD ws (directoryWord c) 0)
+
+abbrev pub putBack : Olds → List ℕ → List ℕ
+putBack [] ws = ws
+putBack ((c, w) ∷ olds) ws = set (putBack olds ws) (directoryWord c) w
+
+-- what was begun on an open register: a commit and a cleaning have the directory words that they store to, as they were
+-- before, and a cleaning the number of entries that it copies
 pub data Task : Type 0 where
   Staging : Task
-  Committing : Task
-  Cleaning : ℕ → Task
+  Committing : Olds → Task
+  Cleaning : ℕ → Olds → Task
 
 -- A call that writes finds a refusal, or what it does: the staged items then, the task, the actions.
 pub data Plan : Type 0 where
@@ -178,7 +190,7 @@ freeNeeded items = pick (all isDelete items) 2 3
 
 abbrev pub commitAt : ℕ → List ℕ → List Entry → Option ℕ → Plan
 commitAt p ws items none = Refuse N.NoSpace
-commitAt p ws items (some c) = Begin items Committing (appendTo p ws (encodeAll items) c)
+commitAt p ws items (some c) = Begin items (Committing (oldOf ws c ∷ [])) (appendTo p ws (encodeAll items) c)
 
 -- 14, 13
 unfoldable pub planCommit : ℕ → ℕ → List ℕ → List Entry → Plan
@@ -199,16 +211,16 @@ free c ws = freeOf c (getD ws (directoryWord c) 0)
 
 abbrev pub cleanTo : ℕ → List ℕ → ℕ → List Entry → Option ℕ → Plan
 cleanTo p ws c kept none = Refuse N.NoSpace
-cleanTo p ws c kept (some d) = Begin [] (Cleaning (length kept)) (appendTo p ws (encodeAll kept) d ++ free c ws)
+cleanTo p ws c kept (some d) = Begin [] (Cleaning (length kept) (oldOf ws d ∷ oldOf ws c ∷ [])) (appendTo p ws (encodeAll kept) d ++ free c ws)
 
 -- none copied, none written
 abbrev pub cleanLog : ℕ → ℕ → List ℕ → ℕ → List Entry → Plan
 cleanLog p n ws c kept =
-    pick (isEmpty kept) (Begin [] (Cleaning 0) (free c ws))
+    pick (isEmpty kept) (Begin [] (Cleaning 0 (oldOf ws c ∷ [])) (free c ws))
     (cleanTo p ws c kept (logPlace p n ws (linesFor (length (encodeAll kept))) c 1))
 
 abbrev pub cleanData : ℕ → List ℕ → List Entry → ℕ → Plan
-cleanData p ws es c = need (negate (hasLive p es c)) N.NotCleanable (Begin [] (Cleaning 0) (free c ws))
+cleanData p ws es c = need (negate (hasLive p es c)) N.NotCleanable (Begin [] (Cleaning 0 (oldOf ws c ∷ [])) (free c ws))
 
 -- 15, 16, 13
 unfoldable pub planClean : ℕ → ℕ → List ℕ → List Entry → List Entry → ℕ → Plan
@@ -251,6 +263,18 @@ partOr ws (some e) = pick (eqb (e .op) 1) (partOf ws e) (R.Refused N.KeyAbsent)
 
 unfoldable pub lookUp : List ℕ → List Entry → ℕ → Report
 lookUp ws es k = partOr ws (chosen k es)
+
+-- THE WORDS THAT LOOK-UP READS while a call is unfinished with these actions still to come. Until its last action, the
+-- last fence, is reported: those of the register before the call, which are the words with the directory words put back
+-- as they were. From then on those that stand. A staging stores nothing that a committed entry needs.
+abbrev pub oldsOf : Task → Olds
+oldsOf Staging = []
+oldsOf (Committing olds) = olds
+oldsOf (Cleaning n olds) = olds
+
+abbrev pub readBy : Task → List Action → List ℕ → List ℕ
+readBy task [] ws = ws
+readBy task (a ∷ rest) ws = putBack (oldsOf task) ws
 
 -- What a plan answers, and the state it leaves.
 abbrev pub planned : Plan → Report

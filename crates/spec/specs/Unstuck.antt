@@ -14,7 +14,7 @@ use Rattle.spec.specs.Medium.{Medium, Action, run, cut, settledAt, lates
 use Rattle.spec.specs.Directory.{sizeOf, freeChunks}
 use Rattle.spec.specs.Contents.{entriesIn, keptIn}
 use Rattle.spec.specs.Reports.{isRefused}
-use Rattle.spec.specs.Plans.{Cleaning, Begin, free, planClean, chosenChunk}
+use Rattle.spec.specs.Plans.{Olds, oldOf, Cleaning, Begin, free, planClean, chosenChunk}
 use Rattle.spec.specs.Machine.{Call, Format, Open, Put, Delete, Commit, Abandon, LookUp, Choose, Clean, Step, State}
 use Rattle.spec.specs.Contract.{Called}
 use Rattle.spec.specs.History.{Event, Do, Cut, World, Lends, Stands, unfinishedAfter, afterCall, afterCut, Stepped, world}
@@ -32,13 +32,13 @@ Roomy p n ws = (c : ℕ) × ((1 ≤ c) × ((c < n) × ((sizeOf p ws c ≡ 0) × 
 
 -- choosing names a chunk, and cleaning it is accepted, copies nothing and has the three actions of the freeing alone
 abbrev pub Freeable : ℕ → ℕ → List ℕ → Type 0
-Freeable p n ws = (c : ℕ) × ((chosenChunk p n ws (entriesIn p n ws) ≡ some c) × (planClean p n ws (entriesIn p n ws) [] c ≡ Begin [] (Cleaning 0) (free c ws)))
+Freeable p n ws = (c : ℕ) × ((chosenChunk p n ws (entriesIn p n ws) ≡ some c) × (planClean p n ws (entriesIn p n ws) [] c ≡ Begin [] (Cleaning 0 (oldOf ws c ∷ [])) (free c ws)))
 
 -- whatever chunk choosing names, cleaning it is accepted, never 13, and a free chunk stands when its actions are done
 abbrev pub Cleanable : ℕ → ℕ → List ℕ → Type 0
 Cleanable p n ws =
     (c : ℕ) → chosenChunk p n ws (entriesIn p n ws) ≡ some c
-    → (count : ℕ) × ((acts : List Action) × ((planClean p n ws (entriesIn p n ws) [] c ≡ Begin [] (Cleaning count) acts) × FreeStands p n (latest (run acts (settledAt ws)))))
+    → (count : ℕ) × ((olds : Olds) × ((acts : List Action) × ((planClean p n ws (entriesIn p n ws) [] c ≡ Begin [] (Cleaning count olds) acts) × FreeStands p n (latest (run acts (settledAt ws))))))
 
 -- NOT STUCK: a free chunk stands, or choosing names one that cleaning only frees; and cleaning takes what choosing
 -- names

@@ -29,7 +29,9 @@ use Rattle.spec.specs.declared.Report.the-variants as R
 use Rattle.theory_log.specs.Batch.{AllRight}
 use Rattle.session.specs.State.{batchRoom, batchWords, batchItems, blockActions, limit, stateAt, stateOf}
 use Rattle.session.specs.Filter.{filterPlace, AllMarked}
-use Rattle.session.specs.Fits.{keyList, Fits}
+use Rattle.session.specs.Fits.{keyList, Shown, Reads, Fits}
+use Rattle.session.proofs.Kept.{reads-from}
+use Rattle.volatile.proofs.Sums.{summed-same}
 use Rattle.session.proofs.Phases.{rest-items}
 use Rattle.session.proofs.Part.{words-within}
 use Rattle.batch.proofs.Items.{AtZero, zero-more, items-zero, items-read, right-more}
@@ -238,9 +240,18 @@ module _ (c : Control) (k : Setup) (b bytes table : List ℕ) (g : Gated) (asks 
             let l = q .lent in
             let o = adm .keys in (
               staged .long ∙ f .0,
-              rw state-then (stage-begun c c′ k (r .setup) b after ws table (items f) item acts q (rw (goes .1) at (goes .2)) (staged .same .0) (staged .same .1) (staged .same .2) (staged .same .3) (staged .bits) (staged .behind) refl
-                  in-room written (omega arith) (omega arith) right (counts-more (es f) (items f) item (q .batch .counts) h) marked keys (rw l at o)),
+              rw state-then (
+                stage-begun c c′ k (r .setup) b after ws table (items f) item acts q (rw (goes .1) at (goes .2)) (staged .same .0) (staged .same .1) (staged .same .2) (staged .same .3) (staged .bits) (staged .behind) refl
+                    in-room written (omega arith) (omega arith) right (counts-more (es f) (items f) item (q .batch .counts) h) marked keys (rw l at o),
+                reads-then,
+              ),
             )
+          where
+            reads-then : Reads s′ [] acts ws table
+            reads-then =
+                let q = rests f .fits in
+                reads-from s′ [] (es f) acts ws table tt (rw (staged .same .0) (q .long)) (subst (λ (x : ℕ). Shown x (r .setup .table) [] (es f) acts ws) (sym (staged .same .0)) (subst (λ (y : ℕ). Shown (k .image) y [] (es f) acts ws) (sym (staged .same .1)) (goes .2 .shown)))
+                (record { indexed = q .built .indexed; blocks = λ u. staged .bits u ∙ q .built .blocks u; sums = summed-same b after (es f) (λ i l. staged .behind i (omega arith)) (q .built .sums) })
 
       pub block-begun : Does (Put named key v) (memory s bytes table) (memory s′ bytes table) (R.Begun (r .count))
       unfolding next

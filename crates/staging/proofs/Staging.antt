@@ -190,16 +190,19 @@ module _ (c : Control) (k : Setup) (b bytes table : List ℕ) where
               let q = adm .keys in
               let l = r .lent in (
                 added .long ∙ f .0,
-                rw state-then (record {
-                  entries = es f;
-                  accepted = r .accepted;
-                  long = r .long;
-                  lent = r .lent;
-                  built = record { indexed = r .built .indexed; blocks = λ u. added .bits u ∙ r .built .blocks u; sums = summed-same b after (es f) (λ i l. added .behind i (omega arith)) (r .built .sums) };
-                  batch = batch-then;
-                  table-room = rw l at q;
-                  hint = r .hint;
-                }),
+                rw state-then (
+                  record {
+                    entries = es f;
+                    accepted = r .accepted;
+                    long = r .long;
+                    lent = r .lent;
+                    built = record { indexed = r .built .indexed; blocks = λ u. added .bits u ∙ r .built .blocks u; sums = summed-same b after (es f) (λ i l. added .behind i (omega arith)) (r .built .sums) };
+                    batch = batch-then;
+                    table-room = rw l at q;
+                    hint = r .hint;
+                  },
+                  tt,
+                ),
               )
 
         -- the call, by what it answers and leaves

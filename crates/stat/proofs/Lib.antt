@@ -1,4 +1,2 @@
 pub mod Counted
 pub mod Alike
-pub mod Stays
-pub mod Calls

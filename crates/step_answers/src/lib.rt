@@ -2,13 +2,12 @@
 ghost use Rattle.spec.specs.Machine.{Step};
 ghost use Rattle.answers.specs.Answers.{Told};
 ghost use Rattle.session.specs.Promise.{Does, memory};
-ghost use Rattle.store_step.specs.Kept.{SetupKept};
 use answers::Answer;
 use session::Session;
 
 // The step in numbers, whatever is begun (`store_step::step`).
 pub fn step_any(s: &mut Session, image: &mut [u8], table: &mut [u64]) -> Answer
-    ensures { λ r. ⌜ Told (SetupKept (Does Step) (memory (now (s .entry)) (now (image .entry)) (now (table .entry))) (memory (now (s .exit)) (now (image .exit)) (now (table .exit)))) r ⌝ }
+    ensures { λ r. ⌜ Told (Does Step (memory (now (s .entry)) (now (image .entry)) (now (table .entry))) (memory (now (s .exit)) (now (image .exit)) (now (table .exit)))) r ⌝ }
 {
     let report = store_step::step(s, image, table);
     answers::told(report)
@@ -17,7 +16,7 @@ pub fn step_any(s: &mut Session, image: &mut [u8], table: &mut [u64]) -> Answer
 // The step in numbers, where no commit has more than its last action to come: then `store_step::step_late`, else
 // `store_step::step`.
 pub fn step_whole(s: &mut Session, image: &mut [u8], table: &mut [u64]) -> Answer
-    ensures { λ r. ⌜ Told (SetupKept (Does Step) (memory (now (s .entry)) (now (image .entry)) (now (table .entry))) (memory (now (s .exit)) (now (image .exit)) (now (table .exit)))) r ⌝ }
+    ensures { λ r. ⌜ Told (Does Step (memory (now (s .entry)) (now (image .entry)) (now (table .entry))) (memory (now (s .exit)) (now (image .exit)) (now (table .exit)))) r ⌝ }
 {
     let c = s.control;
     let k = s.setup;
@@ -33,7 +32,7 @@ pub fn step_whole(s: &mut Session, image: &mut [u8], table: &mut [u64]) -> Answe
 
 // The step in numbers: on the fast path inside a commit `store_step::step_fast`, else as above.
 pub fn answer_step(s: &mut Session, image: &mut [u8], table: &mut [u64]) -> Answer
-    ensures { λ r. ⌜ Told (SetupKept (Does Step) (memory (now (s .entry)) (now (image .entry)) (now (table .entry))) (memory (now (s .exit)) (now (image .exit)) (now (table .exit)))) r ⌝ }
+    ensures { λ r. ⌜ Told (Does Step (memory (now (s .entry)) (now (image .entry)) (now (table .entry))) (memory (now (s .exit)) (now (image .exit)) (now (table .exit)))) r ⌝ }
 {
     let c = s.control;
     let k = s.setup;

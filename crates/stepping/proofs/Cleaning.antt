@@ -14,8 +14,8 @@ use Rattle.session.specs.declared.Setup.{Setup}
 use Rattle.session.specs.declared.Source.{Source}
 use Rattle.session.specs.declared.Session.{Session}
 use Rattle.spec.specs.declared.Report.{Report}
-use Rattle.session.specs.State.{batchWords, batchItems, cleanActions, stateAt}
-use Rattle.session.specs.Fits.{CleanFits, RestFits, Fits}
+use Rattle.session.specs.State.{cleanOlds, batchWords, batchItems, cleanActions, stateAt}
+use Rattle.session.specs.Fits.{CleanFits, RestFits, Fits, Reads}
 use Rattle.actions.specs.Nth.{nth}
 use Rattle.cleaning.specs.Record.{cleanCount}
 use Rattle.cleaning.proofs.Acting.{clean-next, clean-done}
@@ -38,10 +38,10 @@ module _ (c : Control) (k : Setup) (b bytes table : List ℕ) (e : c .phase ≡ 
   acts = cleanActions k f b
 
   abbrev F : List Action → State
-  F = Busy (k .image) (k .table) [] (Cleaning (f .entries))
+  F = Busy (k .image) (k .table) [] (Cleaning (f .entries) (cleanOlds k f))
 
   -- memory as the calls left it, in a cleaning
-  fitting : Fits s (wordsOf bytes) table → CleanFits c k f b (wordsOf bytes) table (drop (c .next) acts)
+  fitting : Fits s (wordsOf bytes) table → CleanFits c k f b (wordsOf bytes) table (drop (c .next) acts) × Reads s (cleanOlds k f) (drop (c .next) acts) (wordsOf bytes) table
   fitting q = rw (at-6 c k b e) at (q .1)
 
   -- an action
@@ -57,9 +57,9 @@ module _ (c : Control) (k : Setup) (b bytes table : List ℕ) (e : c .phase ≡ 
     acted : Does Step (memory s bytes table) (memory (with′ c′ b′) bytes′ table′) r
     acted =
         rw (t .report)
-        (step-acts s (with′ c′ b′) bytes bytes′ table table′ (k .image) (k .table) (f .entries) (Rest (k .image) (k .table) []) F (busy (k .image) (k .table) [] (Cleaning (f .entries))) same-bytes same-words
+        (step-acts s (with′ c′ b′) bytes bytes′ table table′ (k .image) (k .table) (f .entries) (Rest (k .image) (k .table) []) F (busy (k .image) (k .table) [] (Cleaning (f .entries) (cleanOlds k f))) same-bytes same-words
         (nth acts (c .next)) (drop (c .next + 1) acts) here (moved ∙ ap F (t .behind)) (rw (t .report) at (t .changed)) (t .sized) (rw (at-6 c k b e) tt)
-        (λ q. (t .kept ∙ q .0, rw moved (t .fits (fitting q)))))
+        (λ q. (t .kept ∙ q .0, rw moved (t .fits (fitting q .0), t .reads (cleanOlds k f) (fitting q .1)))))
 
   -- the end
   module _ (c′ : Control) (b′ bytes′ table′ : List ℕ) (r : Report) (t : Over c c′ k f b b′ bytes bytes′ table table′ r) where
@@ -73,8 +73,8 @@ module _ (c : Control) (k : Setup) (b bytes table : List ℕ) (e : c .phase ≡ 
     unfolding stateAt batchItems batchWords
     over =
         rw (t .report, t .control, t .buffer, t .unchanged, t .same)
-        (step-ends s (with′ (emptied c) b) bytes bytes table table (k .image) (k .table) (f .entries) (Rest (k .image) (k .table) []) F (busy (k .image) (k .table) [] (Cleaning (f .entries)))
-        same-bytes same-words last refl (λ q. (q .0, rests (fitting q))))
+        (step-ends s (with′ (emptied c) b) bytes bytes table table (k .image) (k .table) (f .entries) (Rest (k .image) (k .table) []) F (busy (k .image) (k .table) [] (Cleaning (f .entries) (cleanOlds k f)))
+        same-bytes same-words last refl (λ q. (q .0, rests (fitting q .0))))
 
   pub cleans : (c′ : Control) (b′ bytes′ table′ : List ℕ) (r : Report) → CleanStepped c c′ k f b b′ bytes bytes′ table table′ r → Does Step (memory s bytes table) (memory (with′ c′ b′) bytes′ table′) r
   cleans c′ b′ bytes′ table′ r (inl t) = acted c′ b′ bytes′ table′ r t

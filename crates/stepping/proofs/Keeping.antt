@@ -24,7 +24,8 @@ use Rattle.session.specs.Fits.{keyList, batchPlace, CommitFits}
 use Rattle.session.proofs.Part.{chunk-in, lines-in}
 use Rattle.session.proofs.Kept.{words-kept, batch-kept, built-kept}
 use Rattle.apply.specs.Joining.{Shown, Fenced, Joining}
-use Rattle.ahead.proofs.Staged.{lo, hi, action-length}
+use Rattle.ahead.proofs.Staged.{action-length}
+use Rattle.ahead.proofs.Shown.{lo, hi}
 use Rattle.session.specs.Numbers.{keyed}
 
 -- THE KNOWN KEYS, with a batch placed among the entries.

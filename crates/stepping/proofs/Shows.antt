@@ -24,9 +24,9 @@ use Rattle.spec.specs.declared.Refusal.the-variants as N
 use Rattle.spec.specs.declared.Report.{Report}
 use Rattle.spec.specs.declared.Report.the-variants as R
 use Rattle.words.specs.Image.{Saved}
-use Rattle.session.specs.State.{bufferPart, batchRoom, batchWords, batchItems, chunkIn, linesIn, commitActions, formatActions, blockActions, stateAt}
-use Rattle.session.specs.Fits.{Fits}
-use Rattle.session.proofs.Kept.{words-kept, same-items, same-acts, end-kept, staging-kept}
+use Rattle.session.specs.State.{commitOlds, bufferPart, batchRoom, batchWords, batchItems, chunkIn, linesIn, commitActions, formatActions, blockActions, stateAt}
+use Rattle.session.specs.Fits.{CommitFits, TaskFits, Reads, Fits}
+use Rattle.session.proofs.Kept.{words-kept, same-items, same-acts, end-kept, staging-kept, reads-kept}
 use Rattle.actions.specs.Nth.{nth, nthReport, commitCount, formatCount}
 use Rattle.actions.proofs.Nth.{drop-nth, drop-past}
 use Rattle.actions.proofs.Committing.{commit-next, commit-done, shows-store}
@@ -75,7 +75,7 @@ module _ (c : Control) (k : Setup) (b bytes table : List ℕ) (same-bytes : k .i
     unfolding stateAt batchItems batchWords
     staging-ends h =
         step-ends s (with′ (staged c) b) bytes bytes table table (k .image) (k .table) 0 (Rest (k .image) (k .table) (batchItems c b)) S (busy (k .image) (k .table) (batchItems c b) Staging)
-        same-bytes same-words last refl (λ f. (f .0, staging-kept c k b (wordsOf bytes) table (batchItems c b) (rw last at (f .1))))
+        same-bytes same-words last refl (λ f. (f .0, staging-kept c k b (wordsOf bytes) table (batchItems c b) ((rw last at (f .1)) .0)))
       where
         last : stateAt c k b ≡ S []
         last = at-2 c k b e ∙ ap S (drop-past (blockActions k b) (c .next) h)
@@ -104,7 +104,14 @@ module _ (c : Control) (k : Setup) (b bytes table : List ℕ) (same-bytes : k .i
         done = rw er at changed
 
         fits : Fits s (wordsOf bytes) table → Fits (with′ stored b) (wordsOf bytes′) table
-        fits f = (f .0, rw (after, changed-words (asReport now′) bytes bytes′ done) (rest-same c stored k b table (batchItems c b) (refl, refl, refl, refl) (runWords rest (wordsAfter (asReport now′) (wordsOf bytes))) (rw here at (f .1))))
+        fits f =
+            let g : TaskFits Staging s (batchItems c b) (now′ ∷ rest) (wordsOf bytes) table × Reads s [] (now′ ∷ rest) (wordsOf bytes) table = rw here at (f .1) in (
+              f .0,
+              rw (after, changed-words (asReport now′) bytes bytes′ done) (
+                rest-same c stored k b table (batchItems c b) (refl, refl, refl, refl) (runWords rest (wordsAfter (asReport now′) (wordsOf bytes))) (g .0),
+                reads-kept c stored k b table (wordsOf bytes) [] now′ rest refl (g .1),
+              ),
+            )
 
   -- COMMIT
   module _ (e : c .phase ≡ 3) where
@@ -112,7 +119,7 @@ module _ (c : Control) (k : Setup) (b bytes table : List ℕ) (same-bytes : k .i
     acts = commitActions c k b
 
     abbrev F : List Action → State
-    F = Busy (k .image) (k .table) (batchItems c b) Committing
+    F = Busy (k .image) (k .table) (batchItems c b) (Committing (commitOlds k))
 
     abbrev act : Action
     act = nth acts (c .next)
@@ -138,7 +145,7 @@ module _ (c : Control) (k : Setup) (b bytes table : List ℕ) (same-bytes : k .i
       pub commit-acts : c .next + 1 < commitCount (c .words) → Does Step (memory s bytes table) (memory (with′ (acted c (c .keys) (c .fresh)) b) bytes′ table) r
       commit-acts h =
           rw er
-          (step-acts s s′ bytes bytes′ table table (k .image) (k .table) 0 (Rest (k .image) (k .table) []) F (busy (k .image) (k .table) (batchItems c b) Committing) same-bytes same-words
+          (step-acts s s′ bytes bytes′ table table (k .image) (k .table) 0 (Rest (k .image) (k .table) []) F (busy (k .image) (k .table) (batchItems c b) (Committing (commitOlds k))) same-bytes same-words
           act (drop (c .next + 1) acts) (here (omega arith)) after done refl (table-kept (stateAt c k b) table) fits)
         where
           s′ : Session
@@ -151,14 +158,21 @@ module _ (c : Control) (k : Setup) (b bytes table : List ℕ) (same-bytes : k .i
           more = commit-next c k b (c .next + 1) h
 
           fits : Fits s (wordsOf bytes) table → Fits s′ (wordsOf bytes′) table
-          fits f = (f .0, rw (after, more, words) (action-kept c k b (wordsOf bytes) table (batchItems c b) act (nth acts (c .next + 1)) (drop (c .next + 1 + 1) acts) (rw (here (omega arith), more) at (f .1))))
+          fits f =
+              let g : CommitFits s (wordsOf bytes) table (batchItems c b) (act ∷ nth acts (c .next + 1) ∷ drop (c .next + 1 + 1) acts) × Reads s (commitOlds k) (act ∷ nth acts (c .next + 1) ∷ drop (c .next + 1 + 1) acts) (wordsOf bytes) table = rw (here (omega arith), more) at (f .1) in (
+                f .0,
+                rw (after, more, words) (
+                  action-kept c k b (wordsOf bytes) table (batchItems c b) act (nth acts (c .next + 1)) (drop (c .next + 1 + 1) acts) (g .0),
+                  reads-kept c (acted c (c .keys) (c .fresh)) k b table (wordsOf bytes) (commitOlds k) act (nth acts (c .next + 1) ∷ drop (c .next + 1 + 1) acts) refl (g .1),
+                ),
+              )
 
       -- the last, with its batch joined
       pub commit-joins : (b′ table′ : List ℕ) (keys place : ℕ) → place ≡ 512 * chunkIn k + 8 * linesIn k → c .next + 1 ≡ commitCount (c .words)
           → Joining place (c .words) (c .keys) b b′ (wordsOf bytes′) table table′ keys → Does Step (memory s bytes table) (memory (with′ (acted c keys 0) b′) bytes′ table′) r
       commit-joins b′ table′ keys place is-place h j =
           rw er
-          (step-acts s s′ bytes bytes′ table table′ (k .image) (k .table) 0 (Rest (k .image) (k .table) []) F (busy (k .image) (k .table) (batchItems c b) Committing) same-bytes same-words
+          (step-acts s s′ bytes bytes′ table table′ (k .image) (k .table) 0 (Rest (k .image) (k .table) []) F (busy (k .image) (k .table) (batchItems c b) (Committing (commitOlds k))) same-bytes same-words
           act (drop (c .next + 1) acts) (here (omega arith)) after done (j .sized) (rw (at-3 c k b e) tt) fits)
         where
           s′ : Session
@@ -171,7 +185,7 @@ module _ (c : Control) (k : Setup) (b bytes table : List ℕ) (same-bytes : k .i
           none = commit-done c k b (c .next + 1) (omega arith)
 
           fits : Fits s (wordsOf bytes) table → Fits s′ (wordsOf bytes′) table′
-          fits f = (j .kept .long ∙ f .0, rw (after, none, words) (last-kept c k b (wordsOf bytes) table (batchItems c b) act (rw (here (omega arith), none) at (f .1)) place is-place b′ table′ keys (rw words at j)))
+          fits f = (j .kept .long ∙ f .0, rw (after, none, words) (last-kept c k b (wordsOf bytes) table (batchItems c b) act ((rw (here (omega arith), none) at (f .1)) .0) place is-place b′ table′ keys (rw words at j), tt))
 
     -- a store of one of the batch's words
     pub commit-stores : (bytes′ : List ℕ) (w v : ℕ) → c .next < 8 * linesFor (min (c .words) batchRoom) → w ≡ 512 * chunkIn k + 8 * linesIn k + c .next
@@ -184,8 +198,8 @@ module _ (c : Control) (k : Setup) (b bytes table : List ℕ) (same-bytes : k .i
     pub commit-ends : commitCount (c .words) ≤ c .next → Does Step (memory s bytes table) (memory (with′ (emptied c) b) bytes table) (R.End 0)
     unfolding stateAt batchItems batchWords
     commit-ends h =
-        step-ends s (with′ (emptied c) b) bytes bytes table table (k .image) (k .table) 0 (Rest (k .image) (k .table) []) F (busy (k .image) (k .table) (batchItems c b) Committing)
-        same-bytes same-words last refl (λ f. (f .0, end-kept c k b (wordsOf bytes) table (batchItems c b) (rw last at (f .1))))
+        step-ends s (with′ (emptied c) b) bytes bytes table table (k .image) (k .table) 0 (Rest (k .image) (k .table) []) F (busy (k .image) (k .table) (batchItems c b) (Committing (commitOlds k)))
+        same-bytes same-words last refl (λ f. (f .0, end-kept c k b (wordsOf bytes) table (batchItems c b) ((rw last at (f .1)) .0)))
       where
         last : stateAt c k b ≡ F []
         last = at-3 c k b e ∙ ap F (commit-done c k b (c .next) h)

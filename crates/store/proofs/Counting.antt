@@ -1,40 +1,33 @@
 -- CLOSING CHANGES NOTHING of the known keys, in an unfinished call too: a station reopened and one that was never
 -- closed get the same calls, of any kind, and answer the same count behind each.
 -- Assumes nothing.
-use mathlib.Core.Path.{_≡_, sym, _∙_}
+use mathlib.Core.Path.{_≡_}
 use mathlib.Core.List.{List, [], _∷_}
 use Prim.Native.Nat.{ℕ}
-use native.Mathlib.Omega.{arith}
 use lib.ListN.{length}
 use Rattle.spec.specs.Words.{wordsOf, AreBytes}
-use Rattle.spec.specs.Machine.{Call, Open, Rest, Busy}
-use Rattle.spec.specs.Plans.{Cleaning}
+use Rattle.spec.specs.Machine.{Call, Open, Rest}
 use Rattle.spec.specs.declared.Report.{Report}
 use Rattle.session.specs.declared.Session.{Session}
 use Rattle.session.specs.State.{stateOf, limit}
 use Rattle.session.specs.Fits.{Proper, Fits}
 use Rattle.session.specs.Promise.{Memory, memory, Does}
 use Rattle.theory_histories.proofs.Twins.{alike}
-use Rattle.stat.proofs.Stays.{countIn}
-use Rattle.stat.proofs.Calls.{StepKeeps, SameIn, unless-cleaning, twins-count}
+use Rattle.stat.proofs.Alike.{SameIn, countIn, counts-alike}
 use Rattle.store.proofs.Closing.{closing}
 
--- Whatever the calls answer, as their contracts allow, a step among them leaving the setup (`store_step.Kept`): the
--- same count behind each. (An image is bytes.)
+-- Whatever the calls answer, as their contracts allow: the same count behind each. (An image is bytes.)
 abbrev pub CountAlike : List Call → (m l : Memory) → Type 0
 CountAlike [] m l = countIn m ≡ countIn l
 CountAlike (k ∷ ks) m l =
-    (m′ l′ : Memory) (r q : Report) → AreBytes (m′ .image) → AreBytes (l′ .image) → Does k m m′ r → Does k l l′ q → StepKeeps k m m′ → StepKeeps k l l′
-    → (countIn m′ ≡ countIn l′) × CountAlike ks m′ l′
+    (m′ l′ : Memory) (r q : Report) → AreBytes (m′ .image) → AreBytes (l′ .image) → Does k m m′ r → Does k l l′ q → (countIn m′ ≡ countIn l′) × CountAlike ks m′ l′
 
-count-alike : (ks : List Call) (m l : Memory) → SameIn m l → countIn m ≡ countIn l → CountAlike ks m l
-count-alike [] m l w n = n
-count-alike (k ∷ ks) m l w n = λ m′ l′ r q small also d d′ h h′.
+count-alike : (ks : List Call) (m l : Memory) → SameIn m l → CountAlike ks m l
+count-alike [] m l w = counts-alike m l w
+count-alike (k ∷ ks) m l w = λ m′ l′ r q small also d d′.
     let both = alike 12 limit Proper stateOf Fits (λ s ws table f. f .0) (k ∷ []) (m .session) (l .session) (m .image) (l .image) (m .table) (l .table) w
     (m′ .session) (l′ .session) (m′ .image) (l′ .image) (m′ .table) (l′ .table) r q small also d d′ in
-    let w′ : SameIn m′ l′ = both .1 .1 in
-    let n′ : countIn m′ ≡ countIn l′ = twins-count k m l m′ l′ r q w n w′ d d′ h h′ in
-    (n′, count-alike ks m′ l′ w′ n′)
+    (counts-alike m′ l′ (both .1 .1), count-alike ks m′ l′ (both .1 .1))
 
 -- a register is open, record and table fit the image, nothing is staged or unfinished; the same image is opened with
 -- any record, and any table of the same length
@@ -43,7 +36,4 @@ pub closing-counts : (s : Session) (image table : List ℕ) → AreBytes image �
     → (countIn (memory s image table) ≡ countIn (memory t′ image table′)) × ((calls : List Call) → CountAlike calls (memory s image table) (memory t′ image table′))
 closing-counts s image table small f rests t t′ lent table′ r proper long d =
     let w : SameIn (memory s image table) (memory t′ image table′) = closing s image table small f rests t t′ lent table′ r proper long d .1 [] in
-    let n : countIn (memory s image table) ≡ countIn (memory t′ image table′) =
-    unless-cleaning (memory s image table) (memory t′ image table′) w (λ b u items j c rest e.
-    absurd (let both : Rest (length image) (length table) [] ≡ Busy b u items (Cleaning j) (c ∷ rest) = sym rests ∙ e in let z : _≡_ {A = ℕ} 0 1 = cc in omega arith)) in
-    (n, λ calls. count-alike calls (memory s image table) (memory t′ image table′) w n)
+    (counts-alike (memory s image table) (memory t′ image table′) w, λ calls. count-alike calls (memory s image table) (memory t′ image table′) w)

@@ -1,5 +1,6 @@
 pub mod Demand
 pub mod Fixed
 pub mod Meaning
+pub mod Reprints
 pub mod Closing
 pub mod Counting

@@ -10,7 +10,10 @@ use native.Mathlib.Decide.{decLt}
 use lib.ListN.{length, getD, take}
 use lib.Seq.{ext-getD, getD-take}
 use Rattle.spec.specs.Words.{wordsOf}
-use Rattle.spec.specs.Machine.{gate}
+use Rattle.spec.specs.Places.{basePower, chunksIn}
+use Rattle.spec.specs.Log.{Entry}
+use Rattle.spec.specs.Contents.{entriesIn}
+use Rattle.spec.specs.Machine.{State, readGate, readWords}
 use Rattle.spec.specs.Reopening.{Same}
 use Rattle.spec.specs.declared.Refusal.{Refusal}
 use Rattle.session.specs.declared.Session.{Session}
@@ -21,7 +24,7 @@ use Rattle.listing.specs.declared.Counted.the-variants as C
 use Rattle.listing.specs.declared.Listed.{Listed}
 use Rattle.listing.specs.declared.Listed.the-variants as L
 use Rattle.listing.specs.Listing.{presentKeys, listedOf}
-use Rattle.listing.specs.Contract.{Lists, KeysBehind, entriesOf}
+use Rattle.listing.specs.Contract.{Lists, KeysBehind}
 use Rattle.listing.proofs.Alike.{gates, gated-alike}
 use Rattle.store_read.specs.List.{KeysListed, KeyListed}
 
@@ -42,20 +45,28 @@ same-keys ks out one other a b l m x y f g = (same, ext-getD 0 one other (l ∙ 
 
 module _ (s t : Session) (image table beside : List ℕ) (w : Same Proper stateOf Fits 12 limit s t image image table beside) where
   -- the gate answers the same at both
-  same-gates : gate (stateOf t) (length image) (length beside) ≡ gate (stateOf s) (length image) (length table)
-  same-gates = gates s t image image table beside w
+  same-gates : readGate (stateOf t) (length image) (length beside) ≡ readGate (stateOf s) (length image) (length table)
+  same-gates = gates readGate s t image image table beside w
 
-  refused-once : (n m : Refusal) → gate (stateOf s) (length image) (length table) ≡ some n → gate (stateOf t) (length image) (length beside) ≡ some m → n ≡ m
+  refused-once : (n m : Refusal) → readGate (stateOf s) (length image) (length table) ≡ some n → readGate (stateOf t) (length image) (length beside) ≡ some m → n ≡ m
   refused-once n m x y = let e = same-gates in cc
 
-  never-both : (n : Refusal) → gate (stateOf s) (length image) (length table) ≡ some n → gate (stateOf s) (length image) (length table) ≡ none → ⊥
+  never-both : (n : Refusal) → readGate (stateOf s) (length image) (length table) ≡ some n → readGate (stateOf s) (length image) (length table) ≡ none → ⊥
   never-both n x y = let z : _≡_ {A = ℕ} 0 1 = cc in omega arith
+
+  -- and both read the same words
+  abbrev read : State → List ℕ
+  read σ = readWords σ (wordsOf image)
+
+  abbrev entries : State → List Entry
+  entries σ = entriesIn basePower (chunksIn basePower (length image)) (read σ)
 
   -- one key
   pub key-alike : (key : ℕ) (r q : Listed) → KeyListed s key image table r → KeyListed t key image beside q → r ≡ q
   key-alike key r q x y =
-      gated-alike s t image image table beside w L.Refused (listedOf (wordsOf image) (entriesOf image) key) r q (x .listed .gated (s .buffer))
-      (λ e. x .listed .listed (s .buffer) e (w .fits)) (y .listed .gated (t .buffer)) (λ e. y .listed .listed (t .buffer) e (w .also))
+      gated-alike readGate s t image image table beside w L.Refused (listedOf (read (stateOf s)) (entries (stateOf s)) key) r q (x .listed .gated (s .buffer))
+      (λ e. x .listed .listed (s .buffer) e (w .fits)) (y .listed .gated (t .buffer))
+      (λ e. y .listed .listed (t .buffer) e (w .also) ∙ ap (λ (σ : State). listedOf (read σ) (entries σ) key) (sym (w .state)))
 
   -- all keys, into areas that held the same
   pub keys-alike : (out one other : List ℕ) (r q : Counted) → KeysListed s image table out one r → KeysListed t image beside out other q → (r ≡ q) × (one ≡ other)
@@ -66,5 +77,6 @@ module _ (s t : Session) (image table beside : List ℕ) (w : Same Proper stateO
       go (C.Refused n) (C.Keys d) a b = absurd (never-both n (a .0 (s .buffer)) (sym same-gates ∙ b .0 (t .buffer)))
       go (C.Keys c) (C.Refused m) a b = absurd (never-both m (sym same-gates ∙ b .0 (t .buffer)) (a .0 (s .buffer)))
       go (C.Keys c) (C.Keys d) a b =
-          let k = same-keys (presentKeys (wordsOf image) (entriesOf image)) out one other c d (x .listed .sized) (y .listed .sized) (a .3 (s .buffer) (w .fits)) (b .3 (t .buffer) (w .also)) (a .2) (b .2) in
+          let there : Lists (presentKeys (read (stateOf s)) (entries (stateOf s))) out other d = rw (w .state) (b .3 (t .buffer) (w .also)) in
+          let k = same-keys (presentKeys (read (stateOf s)) (entries (stateOf s))) out one other c d (x .listed .sized) (y .listed .sized) (a .3 (s .buffer) (w .fits)) there (a .2) (b .2) in
           (ap C.Keys (k .0), k .1)

@@ -17,7 +17,7 @@ use Rattle.session.specs.State.{stateOf, limit}
 use Rattle.session.specs.Fits.{Proper, Fits}
 use Rattle.session.specs.Promise.{Memory, Does}
 use Rattle.fast_path.specs.Run.{Ran, isStore, RunsOn}
-use Rattle.stat.proofs.Calls.{SameIn}
+use Rattle.stat.proofs.Alike.{SameIn, countIn, counts-alike}
 
 -- What two stations have in common between the steps of a run, of whose images nothing says there that they are bytes:
 -- the words, and the bytes that belong to none.
@@ -95,3 +95,7 @@ run-alike m l m′ l′ r q small also w ((i, x), f) ((j, y), g) =
         also = n .also;
       },
     )
+
+-- so the known keys are counted alike behind it
+pub runs-count : (m l m′ l′ : Memory) (r q : Report) → AreBytes (m′ .image) → AreBytes (l′ .image) → SameIn m l → RunsOn m m′ r → RunsOn l l′ q → countIn m′ ≡ countIn l′
+runs-count m l m′ l′ r q small also w d d′ = counts-alike m′ l′ (run-alike m l m′ l′ r q small also w d d′ .1)

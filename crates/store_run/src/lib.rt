@@ -3,14 +3,13 @@
 ghost use Rattle.fast_path.specs.Run.{RunsOn};
 ghost use Rattle.fast_path.specs.Fast.{FastStep, InStaging, OnFastPath};
 ghost use Rattle.session.specs.Promise.{memory};
-ghost use Rattle.store_step.specs.Kept.{SetupKept};
 use session::Session;
 use spec::Report;
 
 // The stores of a commit that come next, and the action behind them, whose report is told; elsewhere nothing, as
 // before.
 pub fn run_fast(s: &mut Session, image: &mut [u8], table: &mut [u64]) -> Report
-    ensures { λ r. ⌜ SetupKept (OnFastPath FastStep RunsOn) (memory (now (s .entry)) (now (image .entry)) (now (table .entry))) (memory (now (s .exit)) (now (image .exit)) (now (table .exit))) r ⌝ }
+    ensures { λ r. ⌜ OnFastPath FastStep RunsOn (memory (now (s .entry)) (now (image .entry)) (now (table .entry))) (memory (now (s .exit)) (now (image .exit)) (now (table .exit))) r ⌝ }
 {
     let c = s.control;
     let k = s.setup;
@@ -21,7 +20,7 @@ pub fn run_fast(s: &mut Session, image: &mut [u8], table: &mut [u64]) -> Report
 
 // A run in a staging: its end is told too.
 pub fn run_staging(s: &mut Session, image: &mut [u8], table: &mut [u64]) -> Report
-    ensures { λ r. ⌜ SetupKept (OnFastPath InStaging RunsOn) (memory (now (s .entry)) (now (image .entry)) (now (table .entry))) (memory (now (s .exit)) (now (image .exit)) (now (table .exit))) r ⌝ }
+    ensures { λ r. ⌜ OnFastPath InStaging RunsOn (memory (now (s .entry)) (now (image .entry)) (now (table .entry))) (memory (now (s .exit)) (now (image .exit)) (now (table .exit))) r ⌝ }
 {
     let c = s.control;
     let k = s.setup;
@@ -33,7 +32,7 @@ pub fn run_staging(s: &mut Session, image: &mut [u8], table: &mut [u64]) -> Repo
 // The same whatever is begun: the steps that store a word, as many as come next, and the step behind them, whose report
 // is told.
 pub fn run_rest(s: &mut Session, image: &mut [u8], table: &mut [u64]) -> Report
-    ensures { λ r. ⌜ SetupKept RunsOn (memory (now (s .entry)) (now (image .entry)) (now (table .entry))) (memory (now (s .exit)) (now (image .exit)) (now (table .exit))) r ⌝ }
+    ensures { λ r. ⌜ RunsOn (memory (now (s .entry)) (now (image .entry)) (now (table .entry))) (memory (now (s .exit)) (now (image .exit)) (now (table .exit))) r ⌝ }
 {
     let c = s.control;
     let k = s.setup;

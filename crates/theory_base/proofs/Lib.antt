@@ -3,3 +3,4 @@ pub mod Places
 pub mod Sizes
 pub mod Words
 pub mod Through
+pub mod PutBack

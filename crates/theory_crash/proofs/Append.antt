@@ -20,10 +20,10 @@ use Rattle.theory_log.specs.Batch.{AllRight}
 use Rattle.theory_log.specs.Contents.{Mem, Top}
 use Rattle.theory_base.proofs.Through.{Through}
 use Rattle.theory_crash.specs.Accepted.{Needs}
-use Rattle.theory_crash.specs.Rest.{AtRest, Flushed, Rests, Cuts, CutsTo, Joined}
+use Rattle.theory_crash.specs.Rest.{AtRest, Flushed, Rests, Cuts, CutsTo, Joined, Leaves}
 use Rattle.theory_crash.specs.Batch.{entryWords, Effect, Place}
 use Rattle.theory_crash.specs.Clean.{Carries}
-use Rattle.theory_crash.proofs.Commit.{commit-joins, commit-count}
+use Rattle.theory_crash.proofs.Commit.{commit-joins, commit-left, commit-count}
 use Rattle.theory_crash.proofs.Clean.{clean-through, clean-to}
 
 -- The padding.
@@ -83,6 +83,30 @@ module _ (p : ℕ) (lo : 12 ≤ p) (hi : p ≤ 16) (n keys : ℕ) (C : ℕ → H
         staged = staged;
         own = own;
       }) few ready flushed)
+
+  -- until its last fence some cut leaves the contents before
+  pub append-left : (d old : ℕ) (fs : List Entry) (E : (Entry → Held) → (ℕ → Held) → ℕ → Held)
+      → Place p n d (linesFor (length (encodeAll fs))) ws → 1 ≤ linesFor (length (encodeAll fs)) → AllRight fs → length (keysOf (fs ++ es)) ≤ keys
+      → Effect es (placed (base p d + 8 * linesOf p ws d) fs) E
+      → ((e : Entry) → Mem e (placed (base p d + 8 * linesOf p ws d) fs) → fine p n ws e ≡ true)
+      → ((e f : Entry) → Mem e (placed (base p d + 8 * linesOf p ws d) fs) → Mem f (placed (base p d + 8 * linesOf p ws d) fs) ⊎ Top es f → pointed e ≡ true → pointed f ≡ true → e .field ≡ f .field → e .key ≡ f .key)
+      → ((e : Entry) → Mem e (placed (base p d + 8 * linesOf p ws d) fs) → (k : ℕ) → Needs p ws e k → (cellAt m k) .newer ≡ [])
+      → Through (Leaves p n keys C) (λ m′. Unit {0}) (appendOf p d old (linesOf p ws d) (encodeAll fs)) m
+  append-left d old fs E place some′ right few effect staged own ready =
+      rw (append-is p d old (linesOf p ws d) fs)
+      (commit-left p lo hi n d old (linesOf p ws d) (linesFor (length (encodeAll fs))) (padding fs) keys C ws es fs E m rest holds (record {
+        low = place .low;
+        high = place .high;
+        lines = refl;
+        no-data = place .no-data;
+        some′ = some′;
+        fit = place .fit;
+        size = entries-length fs;
+        right = right;
+        effect = effect;
+        staged = staged;
+        own = own;
+      }) few ready)
 
   -- CLEANING of log chunk s, whose kept entries go to chunk d
   pub clean-append : (s d old old′ : ℕ) → 1 ≤ s → s < n → sizeOf p ws s ≡ 0 → length (keysOf es) ≤ keys → (s ≡ d → ⊥)

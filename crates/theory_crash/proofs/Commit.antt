@@ -25,13 +25,13 @@ use Rattle.theory_log.proofs.Contents.{mem-l, mem-r}
 use Rattle.theory_log.proofs.Directory.{lines-is, size-is, lines-most}
 use Rattle.theory_log.proofs.Keys.{known-mem, mem-known, keys-fewer}
 use Rattle.theory_crash.specs.Accepted.{Needs, Ok, Support}
-use Rattle.theory_crash.specs.Rest.{AtRest, Ready, Flushed, Holds, Rests, Cuts, CutsTo, Joined}
+use Rattle.theory_crash.specs.Rest.{AtRest, Ready, Flushed, Holds, Rests, Cuts, CutsTo, Joined, Leaves}
 use Rattle.theory_crash.specs.Batch.{entryWords, Batch}
 use Rattle.theory_crash.proofs.Directory.{log-no-size}
 use Rattle.theory_crash.proofs.Blocks.{needs-first, needs-move, needs-only}
 use Rattle.theory_crash.proofs.Frame.{directory-in, chunk-in, lines-in}
-use Rattle.theory_crash.proofs.Rest.{rest-length, rest-long, rest-now, rest-to, stays-old, stays-new}
-use Rattle.theory_crash.proofs.Switch.{switch, switch-to}
+use Rattle.theory_crash.proofs.Rest.{rest-length, rest-long, rest-now, rest-to, stays-old, stays-new, stays-left}
+use Rattle.theory_crash.proofs.Switch.{switch, switch-to, switch-left}
 use Rattle.theory_crash.proofs.Cells.{each-append, length-writes, length-flushes, Spares, seal-spares, flushed-after}
 use Rattle.theory_crash.proofs.Body.{Busy, InArea, busy-kept, each-body, body-spares, body-hit, body-out, body-now}
 use Rattle.theory_crash.proofs.Publish as P
@@ -82,6 +82,10 @@ module _ (p : ℕ) (lo : 12 ≤ p) (hi : p ≤ 16) (n d old l b z keys : ℕ) (C
   pub body-through : Through (Cuts p n keys C D) (Busy p n es C d w) body m
   body-through =
       through-map (Busy p n es C d w) (Cuts p n keys C D) (Busy p n es C d w) (Busy p n es C d w) body m (λ m′ t. stays-old p lo hi n keys C D m′ (t .0, es, t .1, few-old, t .2)) (λ t. t) body-busy
+
+  body-left : Through (Leaves p n keys C) (Busy p n es C d w) body m
+  body-left =
+      through-map (Busy p n es C d w) (Leaves p n keys C) (Busy p n es C d w) (Busy p n es C d w) body m (λ m′ t. stays-left p lo hi n keys C D m′ (t .0, es, t .1, few-old, t .2)) (λ t. t) body-busy
 
   -- the words written are settled then, and so is what the batch needs
   hit : (k j : ℕ) → k ≡ base p d + 8 * l + j → j < 8 * b → cellAt m1 k ≡ fresh (getD (entryWords fs z) j 0)
@@ -284,6 +288,9 @@ module _ (p : ℕ) (lo : 12 ≤ p) (hi : p ≤ 16) (n d old l b z keys : ℕ) (C
         let sh = P.shape p lo hi n d old l b z ws1 es fs E (r1 .ok) bt1 here in
         switch-to p lo hi n d ws1 es vs gs d-in Q a (q vs (sh .0) (sh .1) (sh .2) (sh .3)) (logWord old (l + b)) m1 r1 ok1 ready refl
 
+    seal-left : Through (Leaves p n keys C) (λ m′. Unit {0}) (sealOf d (logWord old (l + b))) m1
+    seal-left = switch-left p lo hi n d ws1 es vs gs d-in keys C D few-old few-new h1 new (logWord old (l + b)) m1 r1 ok1 ready refl
+
   -- BY ENTRIES: a cut finds those before, or these with the batch among them
   pub commit-to : (Q : List Entry → Type 0) → Q es → ((ys : List ℕ) (before behind : List Entry) → es ≡ before ++ behind → imageEntries p n ys ≡ Entries (before ++ (batch ++ behind)) → Q (before ++ (batch ++ behind))) → Through (CutsTo p n Q) (λ m′. Unit {0}) acts m
   unfolding commitOf
@@ -298,6 +305,14 @@ module _ (p : ℕ) (lo : 12 ≤ p) (hi : p ≤ 16) (n d old l b z keys : ℕ) (C
   pub acts-spares : Each (Spares d) acts
   unfolding commitOf
   acts-spares = each-append (Spares d) body (sealOf d (logWord old (l + b))) (body-spares p lo hi d l b (entryWords fs z) (bt .size) (bt .low)) (seal-spares d (logWord old (l + b)))
+
+  -- until its last fence some cut leaves the contents before
+  pub commit-left : Through (Leaves p n keys C) (λ m′. Unit {0}) acts m
+  unfolding commitOf
+  commit-left =
+      through-append (Leaves p n keys C) (λ m′. Unit {0}) body (sealOf d (logWord old (l + b))) m
+      (through-map (Leaves p n keys C) (Leaves p n keys C) (Busy p n es C d w) (Through (Leaves p n keys C) (λ m′. Unit {0}) (sealOf d (logWord old (l + b)))) body m (λ m′ t. t)
+      (λ t. seal-left (t .0) (t .1) (t .2) (t .3)) body-left)
 
   -- THE COMMIT
   acts-end : Through (Cuts p n keys C D) Ended acts m

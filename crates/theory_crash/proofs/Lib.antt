@@ -1,6 +1,7 @@
 pub mod Directory
 pub mod Blocks
 pub mod Frame
+pub mod Far
 pub mod Opening
 pub mod Rest
 pub mod Switch
@@ -16,5 +17,6 @@ pub mod Free
 pub mod Covers
 pub mod Clean
 pub mod Append
+pub mod View
 pub mod Crash
 pub mod Room

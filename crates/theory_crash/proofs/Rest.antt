@@ -20,7 +20,7 @@ use Rattle.theory_base.proofs.Words as W
 use Rattle.theory_base.proofs.Through.{Quiet, quiet-step, quiet-fresh}
 use Rattle.theory_log.proofs.Directory.{lines-is}
 use Rattle.theory_crash.specs.Accepted.{Calm, Ok, Support, Framed}
-use Rattle.theory_crash.specs.Rest.{AtRest, Holds, Stays, Cuts, CutsTo}
+use Rattle.theory_crash.specs.Rest.{AtRest, Holds, Stays, Cuts, CutsTo, Leaves}
 use Rattle.theory_crash.proofs.Frame.{directory-in, support-in, lines-same, frame-ok, frame-contents, frame-support}
 
 -- a cut, from its words
@@ -29,6 +29,17 @@ can-from [] [] e h = tt
 can-from [] (x ∷ xs) e h = absurd (omega arith)
 can-from (c ∷ cs) [] e h = absurd (omega arith)
 can-from (c ∷ cs) (x ∷ xs) e h = (h 0 (omega arith), can-from cs xs (omega arith) (λ k l. h (suc k) (omega arith)))
+
+-- what the processor reads, with one word as it might be
+pub can-set : (m : Medium) (k x : ℕ) → Among x (values (cellAt m k)) → CanCutTo m (set (latest m) k x)
+can-set m k x t = can-from m (set (latest m) k x) (length-set (latest m) k x ∙ W.length-latest m) (λ j l. go j l (ℕ-discrete j k))
+  where
+    go : (j : ℕ) → j < length m → Dec (j ≡ k) → Among (getD (set (latest m) k x) j 0) (values (cellAt m j))
+    go j l (yes e) = rw (e, getD-set-same (latest m) k x 0 (rw (W.length-latest m, ← e) l)) t
+    go j l (no e) = rw (getD-set-other (latest m) k j x 0 e) (inl (W.getD-latest m j))
+
+pub can-latest : (m : Medium) → CanCutTo m (latest m)
+can-latest m = can-from m (latest m) (W.length-latest m) (λ k l. inl (W.getD-latest m k))
 
 -- a flush or a fence only takes possibilities away
 pub quiet-can : (a : Action) (m : Medium) (xs : List ℕ) → Quiet a → CanCutTo (apply a m) xs → CanCutTo m xs
@@ -139,6 +150,9 @@ module _ (p : ℕ) (lo : 12 ≤ p) (hi : p ≤ 16) where
   module _ (n keys : ℕ) (C D : ℕ → Held) (m : Medium) where
     pub stays-cut : Stays p n keys C m → (xs : List ℕ) → CanCutTo m xs → Holds p n keys C xs
     stays-cut (ws, es, r, f, h) xs t = let c = rest-cut n ws es m r xs t in (es, c .0, f, λ k. c .1 k ∙ h k)
+
+    pub stays-left : Stays p n keys C m → Leaves p n keys C m
+    stays-left s = (latest m, can-latest m, stays-cut s (latest m) (can-latest m))
 
     pub stays-old : Stays p n keys C m → Cuts p n keys C D m
     stays-old s xs t = inl (stays-cut s xs t)

@@ -294,7 +294,7 @@ module _ (p : ℕ) (lo : 12 ≤ p) (hi : p ≤ 16) where
     no-block : (e : Entry) → Top es e → pointed e ≡ true → unitChunk p (e .field) ≡ c → ⊥
     no-block e t pt q = let x = live-fits p lo hi n ws es (r .ok) e t pt in let a = x .some′ in let b : 1 ≤ sizeOf p ws c = rw q at a in let z = no-size in omega arith
 
-    out : Support p n ws es (directoryWord c) → ⊥
+    pub out : Support p n ws es (directoryWord c) → ⊥
     out (inl x) = omega arith
     out (inr (inl (d, a, b, l, e))) =
         let q : d ≡ c = omega arith in
@@ -309,7 +309,7 @@ module _ (p : ℕ) (lo : 12 ≤ p) (hi : p ≤ 16) where
         let g = c-in in
         omega arith
 
-    says : (d : ℕ) → d < maxChunks → directoryWord c ≡ directoryWord d → Calm p n d w
+    pub says : (d : ℕ) → d < maxChunks → directoryWord c ≡ directoryWord d → Calm p n d w
     says d l e = let q : d ≡ c = omega arith in rw q (data-word p n c old s low high size .0)
 
     r1 : AtRest p n taken es m1

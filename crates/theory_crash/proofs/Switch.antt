@@ -18,9 +18,9 @@ use Rattle.theory_base.proofs.Words as W
 use Rattle.theory_base.proofs.Through.{Through, Quiet, quiet-step, quiet-fresh}
 use Rattle.theory_log.proofs.Directory.{lines-is}
 use Rattle.theory_crash.specs.Accepted.{Calm, Ok, Support, Framed}
-use Rattle.theory_crash.specs.Rest.{AtRest, Ready, Allowed, Switching, Holds, Cuts, CutsTo}
+use Rattle.theory_crash.specs.Rest.{AtRest, Ready, Allowed, Switching, Holds, Cuts, CutsTo, Leaves}
 use Rattle.theory_crash.proofs.Frame.{directory-in, support-in, frame-ok, frame-contents}
-use Rattle.theory_crash.proofs.Rest.{latest-quiet, only, rest-length, rest-to, stays-old}
+use Rattle.theory_crash.proofs.Rest.{latest-quiet, can-set, only, rest-length, rest-now, rest-to, stays-old, stays-left}
 
 module _ (p : ℕ) (lo : 12 ≤ p) (hi : p ≤ 16) (n d : ℕ) where
   -- One image that is settled but for the word of chunk d.
@@ -187,6 +187,57 @@ module _ (p : ℕ) (lo : 12 ≤ p) (hi : p ≤ 16) (n d : ℕ) where
           go : Framed p n ws es xs ⊎ Framed p n vs gs xs → Holds p n keys C xs ⊎ Holds p n keys D xs
           go (inl f) = inl (es, frame-ok p lo hi n ws es xs (s .old-ok) f, few, λ k. frame-contents p lo hi n ws es xs (s .old-ok) f k ∙ old k)
           go (inr f) = inr (gs, frame-ok p lo hi n vs gs xs (s .new-ok) f, few′, λ k. frame-contents p lo hi n vs gs xs (s .new-ok) f k ∙ new k)
+
+      -- a cut with a word that belongs to the old one leaves the old contents
+      pub switching-left : (m : Medium) (x : ℕ) → Switching p n d ws es vs gs m → Among x (values (cellAt m (directoryWord d))) → Allowed p n d ws es x → Leaves p n keys C m
+      switching-left m x s t a =
+          let xs : List ℕ = set (latest m) (directoryWord d) x in
+          let c : CanCutTo m xs = can-set m (directoryWord d) x t in
+          let l : directoryWord d < length m = word-in ws es (s .old-ok) m (s .old-ready) d d-in in
+          let e : getD xs (directoryWord d) 0 ≡ x = getD-set-same (latest m) (directoryWord d) x 0 (rw (W.length-latest m) l) in
+          let f : Framed p n ws es xs = ready-framed ws es (s .old-ok) m (s .old-ready) xs c (rw e a) in
+          (xs, c, (es, frame-ok p lo hi n ws es xs (s .old-ok) f, few, λ k. frame-contents p lo hi n ws es xs (s .old-ok) f k ∙ old k))
+
+      -- until the fence some cut leaves the old contents
+      pub switch-left : (w : ℕ) (m : Medium) → AtRest p n ws es m → Ok p n vs gs → Ready p n d vs gs m → vs ≡ set ws (directoryWord d) w
+          → Through (Leaves p n keys C) (λ m′. Unit {0}) (sealOf d w) m
+      switch-left w m rest ok ready e = (
+        stays-left p lo hi n keys C D m (ws, es, rest, few, old),
+        (
+          switching-left m1 x s1 (rw cell1 (inr (inl now))) own,
+          (switching-left m2 x (switching-quiet m1 fl tt s1) (rw cell2 (inr (inl now))) own, tt),
+        ),
+      )
+        where
+          fl : Action
+          fl = Flush (lineOf (directoryWord d))
+
+          m1 : Medium
+          m1 = apply (Store (directoryWord d) w) m
+
+          m2 : Medium
+          m2 = apply fl m1
+
+          x : ℕ
+          x = getD ws (directoryWord d) 0
+
+          in-m : directoryWord d < length m
+          in-m = word-in vs gs ok m ready d d-in
+
+          s1 : Switching p n d ws es vs gs m1
+          s1 = rest-switches m w rest ok ready (rw e (getD-set-same ws (directoryWord d) w 0 (directory-in p lo hi n ws es (rest .ok) d d-in)))
+
+          own : Allowed p n d ws es x
+          own = own-allowed ws es (rest .ok) d-in
+
+          now : x ≡ (cellAt m (directoryWord d)) .now
+          now = sym (rest-now p lo hi n ws es m rest (directoryWord d))
+
+          cell1 : cellAt m1 (directoryWord d) ≡ added w (cellAt m (directoryWord d))
+          cell1 = W.cell-apply (Store (directoryWord d) w) m (directoryWord d) in-m ∙ W.step-store-same (directoryWord d) w (directoryWord d) (cellAt m (directoryWord d)) refl
+
+          cell2 : cellAt m2 (directoryWord d) ≡ marked (added w (cellAt m (directoryWord d)))
+          cell2 = W.cell-apply fl m1 (directoryWord d) (rw W.length-apply in-m) ∙ W.step-flush-hit (lineOf (directoryWord d)) (directoryWord d) (cellAt m1 (directoryWord d)) refl ∙ ap marked cell1
 
       -- THE SWITCH, whole
       pub switch : (w : ℕ) (m : Medium) → AtRest p n ws es m → Ok p n vs gs → Ready p n d vs gs m → vs ≡ set ws (directoryWord d) w → Through (Cuts p n keys C D) (AtRest p n vs gs) (sealOf d w) m

@@ -69,6 +69,10 @@ Cuts p n keys C D m = (xs : List ℕ) → CanCutTo m xs → Holds p n keys C xs 
 abbrev pub CutsTo : ℕ → ℕ → (List Entry → Type 0) → Medium → Type 0
 CutsTo p n Q m = (xs : List ℕ) → CanCutTo m xs → (fs : List Entry) × (Ok p n xs fs × Q fs)
 
+-- some cut leaves an image with these contents
+abbrev pub Leaves : ℕ → ℕ → ℕ → (ℕ → Held) → Medium → Type 0
+Leaves p n keys C m = (xs : List ℕ) × CanCutTo m xs × Holds p n keys C xs
+
 -- Formatting, begun on the medium m₀: a cut leaves what a cut of m₀ might have left, or an image that opening refuses
 -- with 2, or an empty register.
 abbrev pub empty : ℕ → Held

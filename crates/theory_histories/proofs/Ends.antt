@@ -46,7 +46,7 @@ format-goes o b t = record {
 }
 
 -- a step that reports an action moves on
-next-moves : (p limit : ℕ) (σ : State) (ws : List ℕ) (bytes table : ℕ) (a : Action) → stepAnswer σ bytes table ≡ asReport a → next p limit Step σ ws bytes table ≡ stepped σ
+pub next-moves : (p limit : ℕ) (σ : State) (ws : List ℕ) (bytes table : ℕ) (a : Action) → stepAnswer σ bytes table ≡ asReport a → next p limit Step σ ws bytes table ≡ stepped σ
 unfolding next
 next-moves p limit σ ws bytes table (Store w v) e = rw e
 next-moves p limit σ ws bytes table (Flush l) e = rw e
@@ -163,9 +163,9 @@ module _ {S : Type 0} (Proper : S → Type 0) (stateOf : S → State) (Fits : S 
   ends Open s s′ bytes bytes′ table table′ a c = absurd (⊎-elim (λ (x, h). never-refused a x h) (λ (h, e). let z : _≡_ {A = ℕ} 0 1 = cc in omega arith) (c .anyway))
   ends (Put x k v) s s′ bytes bytes′ table table′ a c = begins (Put x k v) s′ bytes table a (StagesIn (length bytes) (length table)) (λ acts (items, e). (items, (Staging, (refl, e)))) (c .anyway)
   ends (Delete x k) s s′ bytes bytes′ table table′ a c = begins (Delete x k) s′ bytes table a (StagesIn (length bytes) (length table)) (λ acts (items, e). (items, (Staging, (refl, e)))) (c .anyway)
-  ends Commit s s′ bytes bytes′ table table′ a c = begins Commit s′ bytes table a (CommitsIn (length bytes) (length table) (itemsOf (stateOf s))) (λ acts e. (itemsOf (stateOf s), (Committing, (refl, e)))) (c .anyway)
+  ends Commit s s′ bytes bytes′ table table′ a c = begins Commit s′ bytes table a (CommitsIn (length bytes) (length table) (itemsOf (stateOf s))) (λ acts (olds, e). (itemsOf (stateOf s), (Committing olds, (refl, e)))) (c .anyway)
   ends Abandon s s′ bytes bytes′ table table′ a c = absurd (no-abandon (gate (stateOf s) (length bytes) (length table)) (isEmpty (itemsOf (stateOf s))) a (c .anyway .0))
   ends (LookUp k) s s′ bytes bytes′ table table′ a c = absurd (⊎-elim (λ (x, h). never-refused a x h) (λ (at, (n, (h, e))). let z : _≡_ {A = ℕ} 0 1 = cc in omega arith) (c .anyway))
   ends Choose s s′ bytes bytes′ table table′ a c = absurd (⊎-elim (λ (x, h). never-refused a x h) (λ (n, (h, e)). let z : _≡_ {A = ℕ} 0 1 = cc in omega arith) (c .anyway))
-  ends (Clean n) s s′ bytes bytes′ table table′ a c = begins (Clean n) s′ bytes table a (CleansIn (length bytes) (length table)) (λ acts (count, e). ([], (Cleaning count, (tt, e)))) (c .anyway)
+  ends (Clean n) s s′ bytes bytes′ table table′ a c = begins (Clean n) s′ bytes table a (CleansIn (length bytes) (length table)) (λ acts (count, (olds, e)). ([], (Cleaning count olds, (tt, e)))) (c .anyway)
   ends Step s s′ bytes bytes′ table table′ a c = absurd (no-step (stateOf s) (length bytes) (length table) a (c .anyway .0))

@@ -13,12 +13,14 @@ use Rattle.spec.specs.Means.{Demand2}
 use Rattle.spec.specs.FormatCut.{FormatCut, FormatCutAmong}
 use Rattle.spec.specs.Reopening.{ReopenedAfter}
 use Rattle.spec.specs.Unstuck.{NeverStuck}
+use Rattle.spec.specs.Reprint.{Reprinted, AlwaysACut}
 use Rattle.theory_plans.proofs.Hold.{laws-hold}
 use Rattle.theory_histories.proofs.Theorem.{demand3}
 use Rattle.theory_histories.proofs.Means.{demand2}
 use Rattle.theory_histories.proofs.Interrupted.{format-cut, format-cut-among}
 use Rattle.theory_histories.proofs.Twins.{reopened-after}
 use Rattle.theory_histories.proofs.NeverStuck.{never-stuck}
+use Rattle.theory_histories.proofs.Reprint.{reprinted, always-a-cut}
 
 pub every-list : (p : ℕ) → 12 ≤ p → p ≤ 16 → (limit : ℕ) → limit ≤ blockLimit p → {S : Type 0} (Proper : S → Type 0) (stateOf : S → State) (Fits : S → List ℕ → List ℕ → Type 0)
     → Demand3 Proper stateOf Fits p limit
@@ -46,6 +48,13 @@ module _ (p : ℕ) (low : 12 ≤ p) (high : p ≤ 16) (limit : ℕ) (fits : limi
   -- a record that fits is one of its type
   pub every-reopening : ((s : S) (ws table : List ℕ) → Fits s ws table → Proper s) → ReopenedAfter Proper stateOf Fits p limit
   every-reopening proper = reopened-after p limit Proper stateOf Fits proper (laws-hold p low high limit fits)
+
+  -- look-up in an unfinished call
+  pub every-reprint : Reprinted Proper stateOf Fits p limit
+  every-reprint = reprinted p limit (laws-hold p low high limit fits) Proper stateOf Fits
+
+  pub every-cut-shown : AlwaysACut Proper stateOf Fits p limit
+  every-cut-shown = always-a-cut p limit (laws-hold p low high limit fits) Proper stateOf Fits
 
   -- by the host's rule: no commit is begun while no chunk is free
   pub every-room : NeverStuck Proper stateOf Fits p limit

@@ -7,9 +7,10 @@
 --   2. with no call unfinished no batch is in hand, and the medium stands with the book's register and tray:
 --       `Standing`;
 --   3. with actions still to come, every cut up to the end shows the register as it is or with the batch in hand done,
---       and at
---      the end the medium stands with the latter and the tray, the state's items being those that the end leaves:
---      `Going`.
+--      and at the end the medium stands with the latter and the tray, the state's items being those that the end
+--      leaves: `Going`;
+--   4. with a call unfinished look-up reads words that say what those before the call say, up to its last action, and
+--      some cut leaves that register: `Reading`.
 -- Kept, a lemma for each call: `put-kept`, `delete-kept`, `commit-kept`, `abandon-kept`, `look-kept`, `choose-kept`,
 -- `clean-kept`, `step-kept`. From 2 look-up answers what the book says: `look-right`.
 -- Assumes nothing.
@@ -25,13 +26,13 @@ use borrow.Author.Tests.{eq-eqb}
 use Rattle.spec.specs.Basics.{pick, both, isEmpty}
 use Rattle.spec.specs.Words.{wordsOf, AreBytes}
 use Rattle.spec.specs.Places.{unitWord, chunksIn}
-use Rattle.spec.specs.Medium.{Medium, Action, Store, Flush, Fence, latest}
+use Rattle.spec.specs.Medium.{Medium, Action, Store, Flush, Fence, apply, latest}
 use Rattle.spec.specs.Log.{Entry}
 use Rattle.spec.specs.Blocks.{pointed}
-use Rattle.spec.specs.Contents.{entriesIn, chosen}
+use Rattle.spec.specs.Contents.{Held, entriesIn, chosen}
 use Rattle.spec.specs.Reports.{asReport, mediumAfter, isRefused}
-use Rattle.spec.specs.Plans.{Task, Plan, Refuse, Begin, planPut, planDelete, planCommit, planClean, planned, chosenOr, chosenChunk, partOf, partOr, lookUp}
-use Rattle.spec.specs.Machine.{Call, Put, Delete, Commit, Abandon, LookUp, Choose, Clean, Step, State, Closed, Rest, Busy, Formatting, gate, itemsOf, begun, gated, countOf, itemsThen, emptied, answer, next}
+use Rattle.spec.specs.Plans.{Task, Plan, Refuse, Begin, planPut, planDelete, planCommit, planClean, planned, chosenOr, chosenChunk, partOf, partOr, Olds, oldsOf, putBack, lookUp}
+use Rattle.spec.specs.Machine.{Call, Put, Delete, Commit, Abandon, LookUp, Choose, Clean, Step, State, Closed, Rest, Busy, Formatting, gate, readGate, readWords, itemsOf, begun, gated, countOf, itemsThen, emptied, answer, next}
 use Rattle.spec.specs.Book.{Book, doneBatch, note}
 use Rattle.spec.specs.History.{unfinishedAfter, shows}
 use Rattle.spec.specs.declared.Given.{Given}
@@ -40,7 +41,7 @@ use Rattle.spec.specs.declared.Refusal.the-variants as N
 use Rattle.spec.specs.declared.Report.{Report}
 use Rattle.spec.specs.declared.Report.the-variants as R
 use Rattle.theory_base.proofs.Lists.{pick-same}
-use Rattle.theory_plans.specs.Standing.{Standing, Going}
+use Rattle.theory_plans.specs.Standing.{Standing, Going, Reading}
 use Rattle.theory_plans.specs.Laws.{Laws}
 
 -- the medium by the book: between calls, with these entries staged; and with these actions still to come
@@ -50,15 +51,22 @@ StandsBy p bytes least b items m = Standing p (chunksIn p bytes) least (b .regis
 abbrev pub GoesBy : (p bytes least : ℕ) → Book → List Entry → List Action → Medium → Type 0
 GoesBy p bytes least b items rest m = Going p (chunksIn p bytes) least (b .register) (doneBatch (b .in-flight) (b .register)) (b .staged) items rest m
 
+abbrev pub ReadsBy : (p bytes least : ℕ) → Book → Task → List Action → Medium → Type 0
+ReadsBy p bytes least b task rest m = (ws : List ℕ) × Reading p (chunksIn p bytes) least (b .register) ws (oldsOf task) rest m
+
 abbrev pub Holds : (p bytes least : ℕ) → Bool → Book → State → Medium → Type 0
 Holds p bytes least u b Closed m = ⊥
 Holds p bytes least u b (Rest l t items) m = (l ≡ bytes) × (t ≡ least) × (b .in-flight ≡ none) × StandsBy p bytes least b items m
-Holds p bytes least u b (Busy l t items task rest) m = (l ≡ bytes) × (t ≡ least) × (u ≡ true) × GoesBy p bytes least b (itemsThen task items) rest m
+Holds p bytes least u b (Busy l t items task rest) m = (l ≡ bytes) × (t ≡ least) × (u ≡ true) × GoesBy p bytes least b (itemsThen task items) rest m × ReadsBy p bytes least b task rest m
 Holds p bytes least u b (Formatting o l t rest) m = ⊥
 
 -- what an answer makes of the unfinished calls, the book and the medium; and of the state, which a refusal leaves
 abbrev pub Leaves : (p bytes least : ℕ) → Bool → (Report → Book) → Report → State → State → Medium → Type 0
 Leaves p bytes least u noted r σ τ m = Holds p bytes least (unfinishedAfter r u) (noted r) (pick (both (isRefused r) true) σ τ) (mediumAfter r m)
+
+-- an action done
+pub reading-steps : {p n table : ℕ} {C : ℕ → Held} {ws : List ℕ} {olds : Olds} (a : Action) (rest : List Action) (m : Medium) → Reading p n table C ws olds (a ∷ rest) m → Reading p n table C ws olds rest (apply a m)
+reading-steps a rest m r = record { entries = r .entries; ok = r .ok; holds = r .holds; low = r .low; reads = r .reads .1 }
 
 -- the call k, answered
 abbrev pub Keeps : (p limit bytes least : ℕ) → Bool → Book → Medium → Call → State → Type 0
@@ -90,7 +98,9 @@ gated-direct none r d = d
 gated-direct (some n) r d = λ u m. (refl, refl)
 
 pub look-reads : (p limit k : ℕ) (σ : State) (ws : List ℕ) (bytes table : ℕ) → Direct (answer p limit (LookUp k) σ ws bytes table)
-look-reads p limit k σ ws bytes table = gated-direct (gate σ bytes table) (lookUp ws (entriesIn p (chunksIn p bytes) ws) k) (look-direct ws (entriesIn p (chunksIn p bytes) ws) k)
+look-reads p limit k σ ws bytes table =
+    gated-direct (readGate σ bytes table) (lookUp (readWords σ ws) (entriesIn p (chunksIn p bytes) (readWords σ ws)) k)
+    (look-direct (readWords σ ws) (entriesIn p (chunksIn p bytes) (readWords σ ws)) k)
 
 pub chosen-direct : (c : Option ℕ) → Direct (chosenOr c)
 chosen-direct none = λ u m. (refl, refl)
@@ -124,13 +134,13 @@ module _ (p limit : ℕ) (laws : Laws p limit) (bytes least : ℕ) (u : Bool) (b
   planned-kept : (noted : Report → Book) (plan : List Entry → Plan)
       → ((n : Refusal) (σ : State) → Holds p bytes least u b σ m → Holds p bytes least u (noted (R.Refused n)) σ m)
       → ((items items′ : List Entry) (task : Task) (acts : List Action) → b .in-flight ≡ none → StandsBy p bytes least b items m → plan items ≡ Begin items′ task acts
-      → GoesBy p bytes least (noted (R.Begun (length acts))) (itemsThen task items′) acts m)
+      → GoesBy p bytes least (noted (R.Begun (length acts))) (itemsThen task items′) acts m × ReadsBy p bytes least (noted (R.Begun (length acts))) task acts m)
       → (σ : State) → Holds p bytes least u b σ m → Leaves p bytes least u noted (gated (gate σ bytes least) (planned (plan (itemsOf σ)))) σ (begun (plan (itemsOf σ)) σ) m
   planned-kept noted plan turned begins = gated-kept noted (λ σ. planned (plan (itemsOf σ))) (λ σ. begun (plan (itemsOf σ)) σ) turned (λ l t items h. go l t items h (plan items) refl)
     where
       go : (l t : ℕ) (items : List Entry) → Holds p bytes least u b (Rest l t items) m → (q : Plan) → plan items ≡ q → Leaves p bytes least u noted (planned q) (Rest l t items) (begun q (Rest l t items)) m
       go l t items h (Refuse n) e = turned n (Rest l t items) h
-      go l t items h (Begin items′ task acts) e = (h .0, h .1, refl, begins items items′ task acts (h .2) (h .3) e)
+      go l t items h (Begin items′ task acts) e = let g = begins items items′ task acts (h .2) (h .3) e in (h .0, h .1, refl, g .0, g .1)
 
   -- A call that answers directly, reads alone, and is not noted.
   direct-kept : (reply : Report) → Direct reply → (σ : State) → Holds p bytes least u b σ m → Leaves p bytes least u (λ r. b) (gated (gate σ bytes least) reply) σ σ m
@@ -140,25 +150,29 @@ module _ (p limit : ℕ) (laws : Laws p limit) (bytes least : ℕ) (u : Bool) (b
   unfolding next
   put-kept x k v small =
       planned-kept (λ r. note (Put x k v) r b) (λ items. planPut p limit n (latest m) least (entriesIn p n (latest m)) items x k v) (λ r σ h. h) λ items items′ task acts e s q.
-      let g = laws .put-goes n least (b .register) (b .staged) items items′ task acts m x k v small s q in rw (e, g .0) (g .1)
+      let g = laws .put-goes n least (b .register) (b .staged) items items′ task acts m x k v small s q in
+      (rw (e, g .0) (g .1), (latest m, laws .put-reads n least (b .register) (b .staged) items items′ task acts m x k v small s q))
 
   pub delete-kept : (x : Given) (k : ℕ) (σ : State) → Holds p bytes least u b σ m → Keeps p limit bytes least u b m (Delete x k) σ
   unfolding next
   delete-kept x k =
       planned-kept (λ r. note (Delete x k) r b) (λ items. planDelete least (entriesIn p n (latest m)) items x k) (λ r σ h. h) λ items items′ task acts e s q.
-      let g = laws .delete-goes n least (b .register) (b .staged) items items′ task acts m x k s q in rw (e, g .0) (g .1)
+      let g = laws .delete-goes n least (b .register) (b .staged) items items′ task acts m x k s q in
+      (rw (e, g .0) (g .1), (latest m, laws .delete-reads n least (b .register) (b .staged) items items′ task acts m x k s q))
 
   pub commit-kept : (σ : State) → Holds p bytes least u b σ m → Keeps p limit bytes least u b m Commit σ
   unfolding next
   commit-kept =
       planned-kept (λ r. note Commit r b) (λ items. planCommit p n (latest m) items) (λ r σ h. h) λ items items′ task acts e s q.
-      let g = laws .commit-goes n least (b .register) (b .staged) items items′ task acts m s q in rw (g .0) (g .1)
+      let g = laws .commit-goes n least (b .register) (b .staged) items items′ task acts m s q in
+      (rw (g .0 .1) (g .1), (latest m, laws .commit-reads n least (b .register) (b .staged) items items′ task acts m s q))
 
   pub clean-kept : (c : ℕ) (σ : State) → Holds p bytes least u b σ m → Keeps p limit bytes least u b m (Clean c) σ
   unfolding next
   clean-kept c =
       planned-kept (λ r. note (Clean c) r b) (λ items. planClean p n (latest m) (entriesIn p n (latest m)) items c) (λ r σ h. h) λ items items′ task acts e s q.
-      let g = laws .clean-goes n least (b .register) (b .staged) items items′ task acts m c s q in rw (e, g .0 .1, g .1 .0, g .1 .1 .0) (g .1 .1 .1)
+      let g = laws .clean-goes n least (b .register) (b .staged) items items′ task acts m c s q in
+      (rw (e, g .0 .1 .1, g .1 .0, g .1 .1 .0) (g .1 .1 .1), (latest m, laws .clean-reads n least (b .register) (b .staged) items items′ task acts m c s q))
 
   pub abandon-kept : (σ : State) → Holds p bytes least u b σ m → Keeps p limit bytes least u b m Abandon σ
   unfolding next
@@ -171,7 +185,7 @@ module _ (p limit : ℕ) (laws : Laws p limit) (bytes least : ℕ) (u : Bool) (b
 
   pub look-kept : (k : ℕ) (σ : State) → Holds p bytes least u b σ m → Keeps p limit bytes least u b m (LookUp k) σ
   unfolding next
-  look-kept k = direct-kept (lookUp (latest m) (entriesIn p n (latest m)) k) (look-direct (latest m) (entriesIn p n (latest m)) k)
+  look-kept k σ h = let d = look-reads p limit k σ (latest m) bytes least in rw (d u m .0, d u m .1, pick-same) h
 
   pub choose-kept : (σ : State) → Holds p bytes least u b σ m → Keeps p limit bytes least u b m Choose σ
   unfolding next
@@ -190,9 +204,9 @@ module _ (p limit : ℕ) (laws : Laws p limit) (bytes least : ℕ) (u : Bool) (b
     where
       go : (same : Bool) (a : Action) → Holds p bytes least u b (Busy l t items task (a ∷ rest)) m
           → Leaves p bytes least u (λ r. note Step r b) (pick same (asReport a) (R.Refused N.ImageLength)) (Busy l t items task (a ∷ rest)) (Busy l t items task rest) m
-      go true (Store w v) h = (h .0, h .1, h .2, h .3 .1)
-      go true (Flush n) h = (h .0, h .1, h .2, h .3 .1)
-      go true Fence h = (h .0, h .1, h .2, h .3 .1)
+      go true (Store w v) h = (h .0, h .1, h .2, h .3 .1, (h .4 .0, reading-steps (Store w v) rest m (h .4 .1)))
+      go true (Flush n) h = (h .0, h .1, h .2, h .3 .1, (h .4 .0, reading-steps (Flush n) rest m (h .4 .1)))
+      go true Fence h = (h .0, h .1, h .2, h .3 .1, (h .4 .0, reading-steps Fence rest m (h .4 .1)))
       go false a h = h
   step-kept (Formatting o l t rest) h = absurd h
 

@@ -3,6 +3,8 @@ pub mod Invariant
 pub mod Events
 pub mod Starts
 pub mod Theorem
+pub mod Fences
+pub mod Reprint
 pub mod Every
 pub mod Means
 pub mod Bytes

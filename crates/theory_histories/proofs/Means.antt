@@ -142,7 +142,7 @@ module _ (p limit : ℕ) {S : Type 0} (Proper : S → Type 0) (stateOf : S → S
 
 module _ (p limit : ℕ) (laws : Laws p limit) {S : Type 0} (Proper : S → Type 0) (stateOf : S → State) (Fits : S → List ℕ → List ℕ → Type 0) where
   -- the same steps on another medium
-  restep : (rs : List Report) (m m′ o : Medium) (s s′ : S) (image image′ table table′ : List ℕ) → Stepped Proper stateOf Fits p limit rs m s image table m′ s′ image′ table′
+  pub restep : (rs : List Report) (m m′ o : Medium) (s s′ : S) (image image′ table table′ : List ℕ) → Stepped Proper stateOf Fits p limit rs m s image table m′ s′ image′ table′
       → (o′ : Medium) × Stepped Proper stateOf Fits p limit rs o s image table o′ s′ image′ table′
   restep [] m m′ o s s′ image image′ table table′ e = (o, (refl, e .1))
   restep (r ∷ rs) m m′ o s s′ image image′ table table′ (s₁, (image₁, (table₁, (c, rest)))) =

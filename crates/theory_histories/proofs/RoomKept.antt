@@ -17,7 +17,7 @@ use Rattle.spec.specs.Log.{Entry}
 use Rattle.spec.specs.Blocks.{blockLimit}
 use Rattle.spec.specs.Contents.{entriesIn}
 use Rattle.spec.specs.Reports.{asReport, mediumAfter, isRefused}
-use Rattle.spec.specs.Plans.{Task, Plan, Refuse, Begin, planPut, planDelete, planCommit, planClean, planned, chosenOr, chosenChunk, lookUp}
+use Rattle.spec.specs.Plans.{Task, Plan, Refuse, Begin, planPut, planDelete, planCommit, planClean, planned, chosenOr, chosenChunk}
 use Rattle.spec.specs.Machine.{Call, Put, Delete, Commit, Abandon, LookUp, Choose, Clean, Step, State, Closed, Rest, Busy, Formatting, gate, itemsOf, begun, gated, countOf, itemsThen, emptied, answer, next}
 use Rattle.spec.specs.Book.{Book}
 use Rattle.spec.specs.Unstuck.{FreeStands}
@@ -30,7 +30,7 @@ use Rattle.theory_base.proofs.Through.{Through}
 use Rattle.theory_crash.proofs.Room.{RoomyCuts, Room}
 use Rattle.theory_plans.proofs.Room.{put-room, delete-room, commit-room, put-free, delete-free, commit-free}
 use Rattle.theory_plans.proofs.RoomClean.{clean-room, clean-free}
-use Rattle.theory_histories.proofs.Kept.{StandsBy, Holds, Direct, look-direct, chosen-direct}
+use Rattle.theory_histories.proofs.Kept.{StandsBy, Holds, Direct, look-reads, chosen-direct}
 
 module _ (p : ℕ) (lo : 12 ≤ p) (hi : p ≤ 16) (limit : ℕ) (fits : limit ≤ blockLimit p) (bytes : ℕ) (Φ : Type 0) where
   abbrev n : ℕ
@@ -136,7 +136,7 @@ module _ (p : ℕ) (lo : 12 ≤ p) (hi : p ≤ 16) (limit : ℕ) (fits : limit �
 
     pub look-after : (k : ℕ) (σ : State) → Holds p bytes least u b σ m → RoomIn σ m → After (LookUp k) σ
     unfolding next
-    look-after k = direct-room (lookUp (latest m) (entriesIn p n (latest m)) k) (look-direct (latest m) (entriesIn p n (latest m)) k)
+    look-after k σ h w = let d = look-reads p limit k σ (latest m) bytes least in rw (d u m .1, pick-same) w
 
     pub choose-after : (σ : State) → Holds p bytes least u b σ m → RoomIn σ m → After Choose σ
     unfolding next

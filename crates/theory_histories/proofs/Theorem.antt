@@ -57,7 +57,7 @@ module _ (p limit : ℕ) (laws : Laws p limit) {S : Type 0} (Proper : S → Type
       call Step w b i s s′ image′ table table′ r l c small e =
           usual Step usual-step w b i s s′ image′ table table′ r l c
 
-      claim : (e : Event) (w : World S) (b : Book) → Inv p Proper stateOf Fits bytes w b → Claim Proper stateOf Fits p limit e Then w b
+      pub claim : (e : Event) (w : World S) (b : Book) → Inv p Proper stateOf Fits bytes w b → Claim Proper stateOf Fits p limit e Then w b
       claim (Do k) w b i = call k w b i
       claim (Cut chooses) w b i = λ image′ small e long. sound (afterCut w chooses image′) (noteCut b) (E.cut-kept p limit laws Proper stateOf Fits bytes w b chooses image′ e long i)
 

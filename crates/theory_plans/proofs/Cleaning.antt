@@ -15,17 +15,18 @@ use Rattle.spec.specs.declared.LogStep.{LogStep}
 use Rattle.spec.specs.declared.LogStep.the-variants as S
 use Rattle.spec.specs.declared.Refusal.the-variants as N
 use Rattle.spec.specs.Basics.{pick, both, negate, filter, any}
-use Rattle.spec.specs.Places.{base, chunkLines, unitChunk, directoryWord}
+use Rattle.spec.specs.Places.{base, chunkLines, unitChunk, directoryWord, maxChunks}
 use Rattle.spec.specs.Medium.{Action, Medium, latest, Mem as Among}
-use Rattle.spec.specs.Directory.{isFree, isLog, roleAt, linesOf, sizeOf}
+use Rattle.spec.specs.Directory.{isFree, isLog, roleAt, linesOf, sizeOf, freedWord}
 use Rattle.spec.specs.Log.{Entry, Wrong, Entries, stepOf, after, parse, encode, encodeAll}
 use Rattle.spec.specs.Blocks.{pointed}
 use Rattle.spec.specs.Contents.{Held, isTop, capacity, keysOf, entriesIn, liveBlocks, isKept, keptIn}
 use Rattle.spec.specs.Actions.{linesFor}
-use Rattle.spec.specs.Plans.{Task, Cleaning, Begin, need, logPlace, appendTo, inUse, hasLive, free, cleanTo, cleanLog, cleanData, planClean}
+use Rattle.spec.specs.Plans.{Task, Cleaning, Olds, oldOf, oldsOf, Begin, need, logPlace, appendTo, inUse, hasLive, free, cleanTo, cleanLog, cleanData, planClean}
 use Rattle.spec.specs.Book.{Item}
 use Rattle.theory_base.proofs.Lists.{both-l, both-r, either-no, not-both}
-use Rattle.theory_base.proofs.Through.{Through}
+use Rattle.theory_base.proofs.PutBack.{AreOf, AreLow}
+use Rattle.theory_base.proofs.Through.{Through, Each}
 use Rattle.theory_log.specs.Contents.{Mem, Top}
 use Rattle.theory_log.proofs.Contents.{filter-mem}
 use Rattle.theory_log.proofs.Directory.{lines-is, size-is, lines-most}
@@ -38,10 +39,13 @@ use Rattle.theory_crash.proofs.Append.{some-lines, clean-append}
 use Rattle.theory_crash.proofs.Clean.{clean-free-through}
 use Rattle.theory_crash.proofs.Directory.{log-says, not-log-says}
 use Rattle.theory_crash.proofs.Free.{free-data}
-use Rattle.theory_plans.specs.Standing.{Standing, Going}
+use Rattle.theory_crash.proofs.Cells.{each-append}
+use Rattle.theory_crash.proofs.View.{Shy, append-shy, seal-shy}
+use Rattle.theory_plans.specs.Standing.{Standing, Going, Reading}
 use Rattle.theory_plans.proofs.Begun.{need-begin}
 use Rattle.theory_plans.proofs.LogPlace.{negate-true, log-place}
 use Rattle.theory_plans.proofs.Committing.{rests-going}
+use Rattle.theory_plans.proofs.Reading.{same-reads}
 
 -- Parsed entries take no more words than they were parsed from, so those of a chunk fit into a chunk.
 pub parse-words : (l : List ℕ) (skip at : ℕ) (es : List Entry) → parse l skip at ≡ Entries es → length (encodeAll es) ≤ length l - skip
@@ -115,15 +119,26 @@ module _ (p : ℕ) (lo : 12 ≤ p) (hi : p ≤ 16) (n table : ℕ) (C : ℕ → 
       rw e (omega arith)
 
   abbrev Goal : List Entry → Task → List Action → Type 0
-  Goal items′ task acts = ((count : ℕ) × (task ≡ Cleaning count)) × ((items′ ≡ []) × Going p n table C C [] [] acts m)
+  Goal items′ task acts =
+      ((count : ℕ) × ((olds : Olds) × (task ≡ Cleaning count olds))) × ((items′ ≡ []) × (Going p n table C C [] [] acts m × Reading p n table C ws (oldsOf task) acts m))
 
-  planned : (items′ : List Entry) (task : Task) (acts : List Action) (count : ℕ) (acts′ : List Action) → Begin [] (Cleaning count) acts′ ≡ Begin items′ task acts
+  planned : (items′ : List Entry) (task : Task) (acts : List Action) (count : ℕ) (olds : Olds) (acts′ : List Action) → Begin [] (Cleaning count olds) acts′ ≡ Begin items′ task acts
+      → AreOf ws olds → AreLow olds → Each (Shy p lo hi n ws es (s .rest .ok) olds) acts′
       → Through (Cuts p n (capacity table) C C) (Rests p n (capacity table) C) acts′ m → Goal items′ task acts
-  planned items′ task acts count acts′ h t =
+  planned items′ task acts count olds acts′ h of below shy t =
       let a : items′ ≡ [] = cc in
-      let b : task ≡ Cleaning count = cc in
-      let d : acts ≡ acts′ = cc in
-      ((count, b), (a, rw d (rests-going p n table C C C acts′ m (λ k. refl) t)))
+      let b : task ≡ Cleaning count olds = cc in
+      let d : acts ≡ acts′ = cc in (
+        (count, (olds, b)),
+        (a, (rw d (rests-going p n table C C C acts′ m (λ k. refl) t), rw (b, d) (same-reads p lo hi n table C book [] m s olds acts′ (Rests p n (capacity table) C) of below shy t))),
+      )
+
+  here : c < maxChunks
+  here = let a = s .rest .ok .most in omega arith
+
+  -- the chunk is only freed
+  pub free-shy : Each (Shy p lo hi n ws es (s .rest .ok) (oldOf ws c ∷ [])) (free c ws)
+  free-shy = seal-shy p lo hi n ws es (s .rest .ok) (oldOf ws c ∷ []) (here, tt) c (freedWord old) (inl refl)
 
   -- a log chunk
   log-goes : (items′ : List Entry) (task : Task) (acts : List Action) → isFree (roleAt p ws c) ≡ false → isLog (roleAt p ws c) ≡ true → cleanLog p n ws c kept ≡ Begin items′ task acts → Goal items′ task acts
@@ -133,7 +148,7 @@ module _ (p : ℕ) (lo : 12 ≤ p) (hi : p ≤ 16) (n table : ℕ) (C : ℕ → 
       no-data = size-is p ws c ∙ log-says (roleAt p ws c) log
 
       go : (fs : List Entry) → kept ≡ fs → cleanLog p n ws c fs ≡ Begin items′ task acts → Goal items′ task acts
-      go [] e k = planned items′ task acts 0 (free c ws) k (clean-free-through p lo hi n c old (capacity table) C ws es m (s .rest) (s .holds) few (s .flushed) low high no-data e)
+      go [] e k = planned items′ task acts 0 (oldOf ws c ∷ []) (free c ws) k (refl, tt) (here, tt) free-shy (clean-free-through p lo hi n c old (capacity table) C ws es m (s .rest) (s .holds) few (s .flushed) low high no-data e)
       go (f ∷ fs) e k = two (logPlace p n ws (linesFor (length (encodeAll (f ∷ fs)))) c 1) refl k
         where
           two : (q : Option ℕ) → logPlace p n ws (linesFor (length (encodeAll (f ∷ fs)))) c 1 ≡ q → cleanTo p ws c (f ∷ fs) q ≡ Begin items′ task acts → Goal items′ task acts
@@ -141,16 +156,22 @@ module _ (p : ℕ) (lo : 12 ≤ p) (hi : p ≤ 16) (n table : ℕ) (C : ℕ → 
           two (some d) r k′ =
               let place = log-place p n ws (linesFor (length (encodeAll (f ∷ fs)))) c 1 d (rw e at kept-fits) r in
               let t = clean-append p lo hi n (capacity table) C ws es m (s .rest) (s .holds) (s .flushed) c d (getD ws (directoryWord d) 0) old low high no-data few (place .1 used) in
-              planned items′ task acts (length (f ∷ fs)) (appendTo p ws (encodeAll (f ∷ fs)) d ++ free c ws) k′ ((rw e at t) (place .0) (some-lines f fs))
+              let there : d < maxChunks = (let a = place .0 .high in let b = s .rest .ok .most in omega arith) in
+              let olds : Olds = oldOf ws d ∷ oldOf ws c ∷ [] in
+              planned items′ task acts (length (f ∷ fs)) olds (appendTo p ws (encodeAll (f ∷ fs)) d ++ free c ws) k′ (refl, (refl, tt)) (there, (here, tt))
+              (each-append (Shy p lo hi n ws es (s .rest .ok) olds) (appendTo p ws (encodeAll (f ∷ fs)) d) (free c ws)
+              (append-shy p lo hi n ws es (s .rest .ok) olds (there, (here, tt)) d (getD ws (directoryWord d) 0) (encodeAll (f ∷ fs)) (place .0) (inl refl))
+              (seal-shy p lo hi n ws es (s .rest .ok) olds (there, (here, tt)) c (freedWord old) (inr (inl refl))))
+              ((rw e at t) (place .0) (some-lines f fs))
 
   -- a data chunk
   data-goes : (items′ : List Entry) (task : Task) (acts : List Action) → isLog (roleAt p ws c) ≡ false → cleanData p ws es c ≡ Begin items′ task acts → Goal items′ task acts
   data-goes items′ task acts log h = go (hasLive p es c) refl h
     where
-      go : (b : Bool) → hasLive p es c ≡ b → need (negate b) N.NotCleanable (Begin [] (Cleaning 0) (free c ws)) ≡ Begin items′ task acts → Goal items′ task acts
+      go : (b : Bool) → hasLive p es c ≡ b → need (negate b) N.NotCleanable (Begin [] (Cleaning 0 (oldOf ws c ∷ [])) (free c ws)) ≡ Begin items′ task acts → Goal items′ task acts
       go true e k = absurd (let z : _≡_ {A = ℕ} 0 1 = cc in omega arith)
       go false e k =
-          planned items′ task acts 0 (free c ws) k
+          planned items′ task acts 0 (oldOf ws c ∷ []) (free c ws) k (refl, tt) (here, tt) free-shy
           (free-data p lo hi n c old ws es (s .rest .ok) low high m (s .rest) (lines-is p ws c ∙ not-log-says (roleAt p ws c) log) (no-live p c es e) (capacity table) C (s .holds) few (s .flushed))
 
   -- a chunk in use is one or the other
@@ -172,7 +193,7 @@ in-use p n ws c h =
 
 clean-plan : (p : ℕ) → 12 ≤ p → p ≤ 16 → (n table : ℕ) (C : ℕ → Held) (book : List Item) (items items′ : List Entry) (task : Task) (acts : List Action) (m : Medium) (c : ℕ)
     → (s : Standing p n table C book items m) → planClean p n (s .words) (s .entries) items c ≡ Begin items′ task acts
-    → ((count : ℕ) × (task ≡ Cleaning count)) × ((book ≡ []) × ((items′ ≡ []) × Going p n table C C [] [] acts m))
+    → ((count : ℕ) × ((olds : Olds) × (task ≡ Cleaning count olds))) × ((book ≡ []) × ((items′ ≡ []) × (Going p n table C C [] [] acts m × Reading p n table C (s .words) (oldsOf task) acts m)))
 unfolding planClean
 clean-plan p lo hi n table C book [] items′ task acts m c s h =
     let q = need-begin (inUse p n (s .words) c) N.NotCleanable _ items′ task acts h in
@@ -184,5 +205,12 @@ clean-plan p lo hi n table C book (f ∷ fs) items′ task acts m c s h = absurd
 -- CLEANING
 pub clean-goes : (p : ℕ) → 12 ≤ p → p ≤ 16 → (n table : ℕ) (C : ℕ → Held) (book : List Item) (items items′ : List Entry) (task : Task) (acts : List Action) (m : Medium) (c : ℕ)
     → Standing p n table C book items m → planClean p n (latest m) (entriesIn p n (latest m)) items c ≡ Begin items′ task acts
-    → ((count : ℕ) × (task ≡ Cleaning count)) × ((book ≡ []) × ((items′ ≡ []) × Going p n table C C [] [] acts m))
-clean-goes p lo hi n table C book items items′ task acts m c s h = clean-plan p lo hi n table C book items items′ task acts m c s (rw (s .rest .now, s .rest .ok .parsed) at h)
+    → ((count : ℕ) × ((olds : Olds) × (task ≡ Cleaning count olds))) × ((book ≡ []) × ((items′ ≡ []) × Going p n table C C [] [] acts m))
+clean-goes p lo hi n table C book items items′ task acts m c s h =
+    let g = clean-plan p lo hi n table C book items items′ task acts m c s (rw (s .rest .now, s .rest .ok .parsed) at h) in (g .0, (g .1 .0, (g .1 .1 .0, g .1 .1 .1 .0)))
+
+pub clean-reads : (p : ℕ) → 12 ≤ p → p ≤ 16 → (n table : ℕ) (C : ℕ → Held) (book : List Item) (items items′ : List Entry) (task : Task) (acts : List Action) (m : Medium) (c : ℕ)
+    → Standing p n table C book items m → planClean p n (latest m) (entriesIn p n (latest m)) items c ≡ Begin items′ task acts
+    → Reading p n table C (latest m) (oldsOf task) acts m
+clean-reads p lo hi n table C book items items′ task acts m c s h =
+    rw (s .rest .now) (clean-plan p lo hi n table C book items items′ task acts m c s (rw (s .rest .now, s .rest .ok .parsed) at h) .1 .1 .1 .1)

@@ -5,11 +5,11 @@ use mathlib.Core.Logic.{_⊎_, inl, inr}
 use mathlib.Core.Bool.{true}
 use mathlib.Core.Option.{Option, none, some}
 use mathlib.Core.List.{List, [], _∷_, _++_, map, map-append}
-use Prim.Native.Nat.{ℕ, suc, _+_, _*_, _≤_}
+use Prim.Native.Nat.{ℕ, suc, _+_, _*_, _≤_, _<_}
 use native.Mathlib.Omega.{arith}
 use lib.ListN.{length, getD}
 use Rattle.spec.specs.Basics.{distinct, larger}
-use Rattle.spec.specs.Places.{base, chunkLines, directoryWord}
+use Rattle.spec.specs.Places.{base, chunkLines, directoryWord, maxChunks}
 use Rattle.spec.specs.Medium.{Action, Medium, run, latest, cellAt}
 use Rattle.spec.specs.Directory.{linesOf}
 use Rattle.spec.specs.Log.{Entry, encodeAll, moved, placed}
@@ -17,7 +17,7 @@ use Rattle.spec.specs.Blocks.{pointed}
 use Rattle.spec.specs.Contents.{Held, highest, meaning, capacity, keysOf, entriesIn}
 use Rattle.spec.specs.Opening.{fine}
 use Rattle.spec.specs.Actions.{linesFor, appendOf}
-use Rattle.spec.specs.Plans.{Task, Committing, Begin, appendTo, freeNeeded, logPlace, commitAt, planCommit}
+use Rattle.spec.specs.Plans.{Task, Committing, Olds, oldOf, oldsOf, Begin, appendTo, freeNeeded, logPlace, commitAt, planCommit}
 use Rattle.spec.specs.Book.{Item, doneItems}
 use Rattle.theory_base.proofs.Places.{lines-least}
 use Rattle.theory_base.proofs.Through.{Through, through-map, through-end}
@@ -27,11 +27,13 @@ use Rattle.theory_log.proofs.Contents.{highest-append, highest-placed, highest-
 use Rattle.theory_crash.specs.Accepted.{Needs}
 use Rattle.theory_crash.specs.Batch.{Place}
 use Rattle.theory_crash.specs.Rest.{Holds, Rests, Cuts, Joined}
-use Rattle.theory_crash.proofs.Append.{some-lines, commit-append}
+use Rattle.theory_crash.proofs.Append.{some-lines, commit-append, append-left}
+use Rattle.theory_crash.proofs.View.{append-shy}
 use Rattle.theory_crash.proofs.Effects as E
-use Rattle.theory_plans.specs.Standing.{keyList, itemOf, Standing, Going}
+use Rattle.theory_plans.specs.Standing.{keyList, itemOf, Standing, Going, Reading}
 use Rattle.theory_plans.proofs.Between.{rests-stand, stand-entries}
 use Rattle.theory_plans.proofs.LogPlace.{log-place}
+use Rattle.theory_plans.proofs.Reading.{shy-reads}
 
 -- Contents that are the same at each key.
 holds-same : (p n keys : ℕ) (C D : ℕ → Held) (ws : List ℕ) → ((k : ℕ) → C k ≡ D k) → Holds p n keys C ws → Holds p n keys D ws
@@ -127,14 +129,25 @@ module _ (p : ℕ) (lo : 12 ≤ p) (hi : p ≤ 16) (n table : ℕ) (C : ℕ → 
         ∙ ap (larger (highest k es)) (highest-placed k at′ items)
         ∙ sym (highest-append k es items)
 
-  -- a commit of these items, whose end has their versions among its entries' as among the staged ones
-  abbrev Goal : (items items′ : List Entry) → Task → List Action → Type 0
-  Goal items items′ task acts = (items′ ≡ items) × ((task ≡ Committing) × Going p n table C (doneItems book C) [] [] acts m)
+    append-reads : Reading p n table C ws (oldOf ws d ∷ []) acts′ m
+    append-reads =
+        let low : d < maxChunks = (let a = place .high in let b = s .rest .ok .most in omega arith) in
+        shy-reads p lo hi n table C book items m s (oldOf ws d ∷ []) acts′ (refl, tt) (low, tt)
+        (append-shy p lo hi n ws es (s .rest .ok) (oldOf ws d ∷ []) (low, tt) d old (encodeAll items) place (inl refl))
+        (append-left p lo hi n (capacity table) C ws es m (s .rest) (s .holds) (s .flushed) d old items (λ mean c. done mean (placed at′ items) c)
+        place (some-lines f fs) (s .staged .right) few (E.items es (placed at′ items) (counts-placed es es items at′ (λ k. refl) (s .staged .counts))) blocks own flushed)
 
-  abbrev Versions : (es items : List Entry) → List Action → Type 0
-  Versions es items acts = (k : ℕ) → highest k (entriesIn p n (latest (run acts m))) ≡ highest k (es ++ items)
+  -- WHAT A COMMIT THAT BEGINS DOES, over an image ws with entries es: the items stay as they are, its end does them and
+  -- has their versions among its entries' as among the staged ones; until its last fence look-up reads the image before
+  record Commits (ws : List ℕ) (es items items′ : List Entry) (task : Task) (acts : List Action) : Type 0 where
+    pub same : items′ ≡ items
+    pub tasked : (olds : Olds) × (task ≡ Committing olds)
+    pub going : Going p n table C (doneItems book C) [] [] acts m
+    pub reads : Reading p n table C ws (oldsOf task) acts m
+    pub versions : (k : ℕ) → highest k (entriesIn p n (latest (run acts m))) ≡ highest k (es ++ items)
 
-  commit-plan : (items items′ : List Entry) (task : Task) (acts : List Action) → (s : Standing p n table C book items m) → planCommit p n (s .words) items ≡ Begin items′ task acts → Goal items items′ task acts × Versions (s .entries) items acts
+  commit-plan : (items items′ : List Entry) (task : Task) (acts : List Action) → (s : Standing p n table C book items m) → planCommit p n (s .words) items ≡ Begin items′ task acts
+      → Commits (s .words) (s .entries) items items′ task acts
   unfolding planCommit
   commit-plan [] items′ task acts s h = absurd (let z : _≡_ {A = ℕ} 0 1 = cc in omega arith)
   commit-plan (f ∷ fs) items′ task acts s h = go (logPlace p n (s .words) (linesFor (length (encodeAll (f ∷ fs)))) 0 (freeNeeded (f ∷ fs))) refl h
@@ -142,30 +155,44 @@ module _ (p : ℕ) (lo : 12 ≤ p) (hi : p ≤ 16) (n table : ℕ) (C : ℕ → 
       fits : linesFor (length (encodeAll (f ∷ fs))) ≤ chunkLines p
       fits = let a = s .staged .small in let b = lines-least p lo hi in omega arith
 
-      go : (q : Option ℕ) → logPlace p n (s .words) (linesFor (length (encodeAll (f ∷ fs)))) 0 (freeNeeded (f ∷ fs)) ≡ q → commitAt p (s .words) (f ∷ fs) q ≡ Begin items′ task acts → Goal (f ∷ fs) items′ task acts × Versions (s .entries) (f ∷ fs) acts
+      go : (q : Option ℕ) → logPlace p n (s .words) (linesFor (length (encodeAll (f ∷ fs)))) 0 (freeNeeded (f ∷ fs)) ≡ q → commitAt p (s .words) (f ∷ fs) q ≡ Begin items′ task acts
+          → Commits (s .words) (s .entries) (f ∷ fs) items′ task acts
       go none e k = absurd (let z : _≡_ {A = ℕ} 0 1 = cc in omega arith)
       go (some d) e k =
           let a : items′ ≡ f ∷ fs = cc in
-          let b : task ≡ Committing = cc in
+          let b : task ≡ Committing (oldOf (s .words) d ∷ []) = cc in
           let c : acts ≡ appendTo p (s .words) (encodeAll (f ∷ fs)) d = cc in
           let place = log-place p n (s .words) _ 0 _ d fits e .0 in
-          ((a, (b, rw c (append-going f fs s d (getD (s .words) (directoryWord d) 0) place))), rw c (append-versions f fs s d (getD (s .words) (directoryWord d) 0) place))
+          let old : ℕ = getD (s .words) (directoryWord d) 0 in
+          record {
+            same = a;
+            tasked = (oldOf (s .words) d ∷ [], b);
+            going = rw c (append-going f fs s d old place);
+            reads = rw (b, c) (append-reads f fs s d old place);
+            versions = rw c (append-versions f fs s d old place);
+          }
 
 -- COMMIT: the items stay as they are, and what goes on does them
 pub commit-begun : (p : ℕ) → 12 ≤ p → p ≤ 16 → (n table : ℕ) (C : ℕ → Held) (book : List Item) (items items′ : List Entry) (task : Task) (acts : List Action) (m : Medium)
     → Standing p n table C book items m → planCommit p n (latest m) items ≡ Begin items′ task acts
-    → (items′ ≡ items) × ((task ≡ Committing) × Going p n table C (doneItems book C) [] [] acts m)
-commit-begun p lo hi n table C book items items′ task acts m s h = commit-plan p lo hi n table C book m items items′ task acts s (rw (s .rest .now) at h) .0
+    → (items′ ≡ items) × (((olds : Olds) × (task ≡ Committing olds)) × Going p n table C (doneItems book C) [] [] acts m)
+commit-begun p lo hi n table C book items items′ task acts m s h =
+    let g = commit-plan p lo hi n table C book m items items′ task acts s (rw (s .rest .now) at h) in (g .same, (g .tasked, g .going))
 
 -- its end has the highest versions that stood with the staged items counted
 pub commit-versions : (p : ℕ) → 12 ≤ p → p ≤ 16 → (n table : ℕ) (C : ℕ → Held) (book : List Item) (items items′ : List Entry) (task : Task) (acts : List Action) (m : Medium)
     → Standing p n table C book items m → planCommit p n (latest m) items ≡ Begin items′ task acts
     → (k : ℕ) → highest k (entriesIn p n (latest (run acts m))) ≡ highest k (entriesIn p n (latest m) ++ items)
 commit-versions p lo hi n table C book items items′ task acts m s h k =
-    commit-plan p lo hi n table C book m items items′ task acts s (rw (s .rest .now) at h) .1 k
+    commit-plan p lo hi n table C book m items items′ task acts s (rw (s .rest .now) at h) .versions k
     ∙ ap (λ (l : List Entry). highest k (l ++ items)) (sym (stand-entries p lo hi n table C book items m s))
 
 pub commit-goes : (p : ℕ) → 12 ≤ p → p ≤ 16 → (n table : ℕ) (C : ℕ → Held) (book : List Item) (items items′ : List Entry) (task : Task) (acts : List Action) (m : Medium)
     → Standing p n table C book items m → planCommit p n (latest m) items ≡ Begin items′ task acts
-    → (task ≡ Committing) × Going p n table C (doneItems book C) [] [] acts m
+    → ((olds : Olds) × (task ≡ Committing olds)) × Going p n table C (doneItems book C) [] [] acts m
 commit-goes p lo hi n table C book items items′ task acts m s h = commit-begun p lo hi n table C book items items′ task acts m s h .1
+
+pub commit-reads : (p : ℕ) → 12 ≤ p → p ≤ 16 → (n table : ℕ) (C : ℕ → Held) (book : List Item) (items items′ : List Entry) (task : Task) (acts : List Action) (m : Medium)
+    → Standing p n table C book items m → planCommit p n (latest m) items ≡ Begin items′ task acts
+    → Reading p n table C (latest m) (oldsOf task) acts m
+commit-reads p lo hi n table C book items items′ task acts m s h = rw (s .rest .now) (commit-plan p lo hi n table C book m items items′ task acts s (rw (s .rest .now) at h) .reads)

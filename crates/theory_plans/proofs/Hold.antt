@@ -5,6 +5,7 @@ use Rattle.spec.specs.Blocks.{blockLimit}
 use Rattle.theory_plans.specs.Laws.{Laws}
 use Rattle.theory_plans.proofs.Between as B
 use Rattle.theory_plans.proofs.Looking as L
+use Rattle.theory_plans.proofs.Reading as G
 use Rattle.theory_plans.proofs.Formatted as F
 use Rattle.theory_plans.proofs.Staging as S
 use Rattle.theory_plans.proofs.Committing as C
@@ -24,5 +25,11 @@ laws-hold p lo hi limit fits = record {
   open-accepts = B.open-accepts p lo hi;
   accepted-stands = B.accepted-stands p lo hi;
   look-shows = L.look-shows p lo hi;
+  put-reads = S.put-reads p lo hi limit fits;
+  delete-reads = S.delete-reads p lo hi;
+  commit-reads = C.commit-reads p lo hi;
+  clean-reads = D.clean-reads p lo hi;
+  reading-shows = G.reading-shows p lo hi;
+  reading-same = G.reading-same p lo hi;
   format-stands = F.format-stands p lo hi;
 }

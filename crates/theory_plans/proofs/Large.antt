@@ -11,7 +11,7 @@ use lib.ListN.{length, getD}
 use borrow.Author.Tests.{eqb-false, lt-ltb}
 use Rattle.spec.specs.Basics.{pick}
 use Rattle.spec.specs.Words.{AreBytes, packed}
-use Rattle.spec.specs.Places.{firstUnit, unitChunk, unitWord, directoryWord}
+use Rattle.spec.specs.Places.{firstUnit, unitChunk, unitWord, directoryWord, maxChunks}
 use Rattle.spec.specs.Medium.{Medium}
 use Rattle.spec.specs.Directory.{isSize, roleOf, sizeIn, isFree, roleAt, sizeOf, dataWord}
 use Rattle.spec.specs.Log.{Entry}
@@ -30,10 +30,14 @@ use Rattle.theory_crash.specs.Rest.{Cuts}
 use Rattle.theory_crash.specs.Stage.{Slot, BlockWords, Stored, Prepared}
 use Rattle.theory_crash.proofs.Directory.{free-says, data-word}
 use Rattle.theory_crash.proofs.Blocks.{block-fits}
-use Rattle.theory_crash.proofs.Stage.{slot-moves, stage-through, take-stage-through, first-slot}
+use Rattle.theory_crash.proofs.Stage.{slot-moves, stage-through, take-stage-through, first-slot, out, says}
+use Rattle.theory_crash.proofs.Frame.{directory-in}
+use Rattle.theory_crash.proofs.Cells.{each-append}
+use Rattle.theory_crash.proofs.View.{Shy, slot-shy, free-shy}
 use Rattle.theory_crash.proofs.Staged.{staged-prepared, staged-means, prepared-stays, meaning-stays}
-use Rattle.theory_plans.specs.Standing.{itemOf, Standing}
+use Rattle.theory_plans.specs.Standing.{itemOf, Standing, Reading}
 use Rattle.theory_plans.proofs.Between.{known-few}
+use Rattle.theory_plans.proofs.Reading.{same-reads}
 use Rattle.theory_plans.proofs.Slots.{slot-data, slot-free}
 use Rattle.theory_plans.proofs.Item.{Admitted, stand-more}
 
@@ -130,6 +134,11 @@ module _ (p : ℕ) (lo : 12 ≤ p) (hi : p ≤ 16) (n table : ℕ) (C : ℕ → 
         w : ℕ
         w = getD ws (directoryWord (unitChunk p u)) 0
 
+    pub data-reads : (u : ℕ) → slotFor p n ws es items size ≡ InData u → Admitted table es items (entry 1 1 version u k []) → Reading p n table C ws [] (blockOf u (length v ∷ packed v)) m
+    data-reads u h a =
+        same-reads p lo hi n table C book items m s [] (blockOf u (length v ∷ packed v)) (After u) tt tt
+        (slot-shy p lo hi n ws es (s .rest .ok) [] tt u size (length v ∷ packed v) (slot-data p lo hi n ws es items size u some h .0) fit) (data-goes u h a)
+
     pub free-goes : (c : ℕ) → slotFor p n ws es items size ≡ InFree c → Admitted table es items (entry 1 1 version (firstUnit p c) k [])
         → Through (Cuts p n (capacity table) C C) (After (firstUnit p c)) (takeOf c (getD ws (directoryWord c) 0) size ++ blockOf (firstUnit p c) (length v ∷ packed v)) m
     free-goes c h a =
@@ -178,3 +187,25 @@ module _ (p : ℕ) (lo : 12 ≤ p) (hi : p ≤ 16) (n table : ℕ) (C : ℕ → 
             let y : 1 ≤ sizeOf p ws c = rw (o ∙ chunk) at (x .some′) in
             let z : sizeOf p ws c ≡ 0 = size-is p ws c ∙ free-says (roleAt p ws c) free .1 in
             omega arith
+
+    pub free-reads : (c : ℕ) → slotFor p n ws es items size ≡ InFree c → Admitted table es items (entry 1 1 version (firstUnit p c) k [])
+        → Reading p n table C ws [] (takeOf c (getD ws (directoryWord c) 0) size ++ blockOf (firstUnit p c) (length v ∷ packed v)) m
+    free-reads c h a =
+        let f = slot-free p n ws es items size c h in
+        let old : ℕ = getD ws (directoryWord c) 0 in
+        let here : c < maxChunks = (let x = f .1 in let y = s .rest .ok .most in omega arith) in
+        same-reads p lo hi n table C book items m s [] (takeOf c old size ++ blockOf (firstUnit p c) (length v ∷ packed v)) (After (firstUnit p c)) tt tt
+        (each-append (Shy p lo hi n ws es (s .rest .ok) []) (takeOf c old size) (blockOf (firstUnit p c) (length v ∷ packed v)) (
+          inr (
+            (λ x. x),
+            (
+              directory-in p lo hi n ws es (s .rest .ok) c here,
+              (
+                out p lo hi n (capacity table) es C ws m c old size (s .rest) (s .holds) few (s .flushed) (f .0) (f .1) (f .2) is,
+                says p lo hi n (capacity table) es C ws m c old size (s .rest) (s .holds) few (s .flushed) (f .0) (f .1) (f .2) is,
+              ),
+            ),
+          ),
+          (tt, tt),
+        )
+        (free-shy p lo hi n ws es (s .rest .ok) [] tt c size (length v ∷ packed v) (f .0) (f .1) (f .2) (Z.size-is p size is .1) fit)) (free-goes c h a)

@@ -1,6 +1,7 @@
 pub mod Begun
 pub mod Between
 pub mod Looking
+pub mod Reading
 pub mod Formatted
 pub mod LogPlace
 pub mod Committing

@@ -18,17 +18,19 @@ use Rattle.spec.specs.Log.{Entry, filled, maxInLog}
 use Rattle.spec.specs.Blocks.{blockLimit, blockSize}
 use Rattle.spec.specs.Contents.{Held, Absent, Value, highest, entriesIn}
 use Rattle.spec.specs.Actions.{takeOf, blockOf}
-use Rattle.spec.specs.Plans.{Task, Staging, Begin, nextVersion, fitsBatch, maxPutVersion, maxVersion, entry, Slot as Found, InData, InFree, Nowhere, slotFor, stageLarge, planPut, planDelete}
+use Rattle.spec.specs.Plans.{Task, Staging, oldsOf, Begin, nextVersion, fitsBatch, maxPutVersion, maxVersion, entry, Slot as Found, InData, InFree, Nowhere, slotFor, stageLarge, planPut, planDelete}
 use Rattle.spec.specs.Book.{Item}
 use Rattle.spec.specs.declared.Given.{Given}
 use Rattle.words.proofs.Values.{length-packed, packed-filled, bytes-packed}
 use Rattle.theory_base.proofs.Sizes as Z
 use Rattle.theory_log.specs.Batch.{put, block, delete, Right}
-use Rattle.theory_plans.specs.Standing.{Standing, Going}
+use Rattle.theory_plans.specs.Standing.{Standing, Going, Reading}
+use Rattle.theory_plans.specs.Laws.{Anything}
 use Rattle.theory_plans.proofs.Begun.{PutBegun, put-begun, DeleteBegun, delete-begun}
 use Rattle.theory_plans.proofs.Between.{stand-entries}
 use Rattle.theory_plans.proofs.Item.{Admitted, log-ready, stand-more}
-use Rattle.theory_plans.proofs.Large.{block-words, data-goes, free-goes}
+use Rattle.theory_plans.proofs.Large.{block-words, data-goes, free-goes, data-reads, free-reads}
+use Rattle.theory_plans.proofs.Reading.{same-reads}
 
 -- The new entries are right; h, k: the words before the value's.
 module _ (v : List ℕ) (bytes : AreBytes v) where
@@ -57,16 +59,20 @@ module _ (p : ℕ) (lo : 12 ≤ p) (hi : p ≤ 16) (n table : ℕ) (C : ℕ → 
 
   -- a plan that begins a staging
   begins : (book′ : List Item) (items₁ items′ : List Entry) (task : Task) (acts₁ acts : List Action) → Begin items₁ Staging acts₁ ≡ Begin items′ task acts → Going p n table C C book′ items₁ acts₁ m
-      → (task ≡ Staging) × Going p n table C C book′ items′ acts m
-  begins book′ items₁ items′ task acts₁ acts h g =
+      → Reading p n table C ws [] acts₁ m → (task ≡ Staging) × (Going p n table C C book′ items′ acts m × Reading p n table C ws (oldsOf task) acts m)
+  begins book′ items₁ items′ task acts₁ acts h g d =
       let a : items₁ ≡ items′ = cc in
       let b : task ≡ Staging = cc in
       let c : acts₁ ≡ acts = cc in
-      (b, (rw (a, c) at g))
+      (b, ((rw (a, c) at g), rw (b, ← c) d))
+
+  -- a staging with no action
+  no-reads : Reading p n table C ws [] [] m
+  no-reads = same-reads p lo hi n table C book items m s [] [] Anything tt tt tt tt
 
   -- A PUT of at most the bytes that a block can hold
   planned-put : (limit : ℕ) → limit ≤ blockLimit p → (items′ : List Entry) (task : Task) (acts : List Action) (x : Given) (k : ℕ) (v : List ℕ) → AreBytes v → planPut p limit n ws table es items x k v ≡ Begin items′ task acts
-      → (task ≡ Staging) × Going p n table C C (book ++ (record { key = k; gets = Value v } ∷ [])) items′ acts m
+      → (task ≡ Staging) × (Going p n table C C (book ++ (record { key = k; gets = Value v } ∷ [])) items′ acts m × Reading p n table C ws (oldsOf task) acts m)
   planned-put limit fits items′ task acts x k v bytes h = go (leb (length v) maxInLog) refl (begun .batch) (begun .staged)
     where
       version : ℕ
@@ -79,7 +85,7 @@ module _ (p : ℕ) (lo : 12 ≤ p) (hi : p ≤ 16) (n table : ℕ) (C : ℕ → 
       size = blockSize p (length v)
 
       Goal : Type 0
-      Goal = (task ≡ Staging) × Going p n table C C book′ items′ acts m
+      Goal = (task ≡ Staging) × (Going p n table C C book′ items′ acts m × Reading p n table C ws (oldsOf task) acts m)
 
       begun : PutBegun p limit n ws table es items x k v items′ task acts
       begun = put-begun p limit n ws table es items x k v items′ task acts h
@@ -97,9 +103,11 @@ module _ (p : ℕ) (lo : 12 ≤ p) (hi : p ≤ 16) (n table : ℕ) (C : ℕ → 
       large l b (InData u) e g =
           begins book′ (items ++ (entry 1 1 version u k [] ∷ [])) items′ task (blockOf u (length v ∷ packed v)) acts g
           (data-goes p lo hi n table C book items m s v bytes size (block′ l .0) (block-words v bytes size l (block′ l .1)) version k u e (admitted u b))
+          (data-reads p lo hi n table C book items m s v bytes size (block′ l .0) (block-words v bytes size l (block′ l .1)) version k u e (admitted u b))
       large l b (InFree c) e g =
           begins book′ (items ++ (entry 1 1 version (firstUnit p c) k [] ∷ [])) items′ task (takeOf c (getD ws (directoryWord c) 0) size ++ blockOf (firstUnit p c) (length v ∷ packed v)) acts g
           (free-goes p lo hi n table C book items m s v bytes size (block′ l .0) (block-words v bytes size l (block′ l .1)) version k c e (admitted (firstUnit p c) b))
+          (free-reads p lo hi n table C book items m s v bytes size (block′ l .0) (block-words v bytes size l (block′ l .1)) version k c e (admitted (firstUnit p c) b))
       large l b Nowhere e g = absurd (let o : _≡_ {A = ℕ} 0 1 = cc in omega arith)
 
       go : (b : Bool) → leb (length v) maxInLog ≡ b → fitsBatch items (2 + pick b ((length v + 7) / 8) 0) ≡ true
@@ -109,15 +117,17 @@ module _ (p : ℕ) (lo : 12 ≤ p) (hi : p ≤ 16) (n table : ℕ) (C : ℕ → 
           (stand-more p n table C book items m s (entry 1 0 version (length v) k (packed v)) (Value v)
           (record { counts = refl; right = put-right v bytes (highest k (es ++ items)) k spent (leb-true (length v) maxInLog q); batch = rw (length-packed v) b; keys = begun .keys })
           (log-ready p n ws es items m (entry 1 0 version (length v) k (packed v)) refl) (ap Value (bytes-packed v bytes)))
+          no-reads
       go false q b g = large (leb-false (length v) maxInLog q) b (slotFor p n ws es items size) refl g
 
   planned-delete : (items′ : List Entry) (task : Task) (acts : List Action) (x : Given) (k : ℕ) → planDelete table es items x k ≡ Begin items′ task acts
-      → (task ≡ Staging) × Going p n table C C (book ++ (record { key = k; gets = Absent } ∷ [])) items′ acts m
+      → (task ≡ Staging) × (Going p n table C C (book ++ (record { key = k; gets = Absent } ∷ [])) items′ acts m × Reading p n table C ws (oldsOf task) acts m)
   planned-delete items′ task acts x k h =
       begins (book ++ (record { key = k; gets = Absent } ∷ [])) (items ++ (e ∷ [])) items′ task [] acts (begun .staged)
       (stand-more p n table C book items m s e Absent
       (record { counts = refl; right = delete-right (highest k (es ++ items)) k (leb-true version maxVersion (begun .unspent)); batch = begun .batch; keys = begun .keys })
       (log-ready p n ws es items m e refl) refl)
+      no-reads
     where
       version : ℕ
       version = nextVersion k es items
@@ -133,14 +143,32 @@ module _ (p : ℕ) (lo : 12 ≤ p) (hi : p ≤ 16) where
       → AreBytes v → Standing p n table C book items m → planPut p limit n (latest m) table (entriesIn p n (latest m)) items x k v ≡ Begin items′ task acts
       → (task ≡ Staging) × Going p n table C C (book ++ (record { key = k; gets = Value v } ∷ [])) items′ acts m
   put-goes limit fits n table C book items items′ task acts m x k v bytes s h =
-      planned-put p lo hi n table C book items m s limit fits items′ task acts x k v bytes
+      let g = planned-put p lo hi n table C book items m s limit fits items′ task acts x k v bytes
       (ap (λ (ws : List ℕ). planPut p limit n ws table (s .entries) items x k v) (sym (s .rest .now))
       ∙ ap (λ (es : List Entry). planPut p limit n (latest m) table es items x k v) (sym (stand-entries p lo hi n table C book items m s))
-      ∙ h)
+      ∙ h) in
+      (g .0, g .1 .0)
+
+  pub put-reads : (limit : ℕ) → limit ≤ blockLimit p → (n table : ℕ) (C : ℕ → Held) (book : List Item) (items items′ : List Entry) (task : Task) (acts : List Action) (m : Medium) (x : Given) (k : ℕ) (v : List ℕ)
+      → AreBytes v → Standing p n table C book items m → planPut p limit n (latest m) table (entriesIn p n (latest m)) items x k v ≡ Begin items′ task acts
+      → Reading p n table C (latest m) (oldsOf task) acts m
+  put-reads limit fits n table C book items items′ task acts m x k v bytes s h =
+      rw (s .rest .now) (planned-put p lo hi n table C book items m s limit fits items′ task acts x k v bytes
+      (ap (λ (ws : List ℕ). planPut p limit n ws table (s .entries) items x k v) (sym (s .rest .now))
+      ∙ ap (λ (es : List Entry). planPut p limit n (latest m) table es items x k v) (sym (stand-entries p lo hi n table C book items m s))
+      ∙ h) .1 .1)
 
   pub delete-goes : (n table : ℕ) (C : ℕ → Held) (book : List Item) (items items′ : List Entry) (task : Task) (acts : List Action) (m : Medium) (x : Given) (k : ℕ)
       → Standing p n table C book items m → planDelete table (entriesIn p n (latest m)) items x k ≡ Begin items′ task acts
       → (task ≡ Staging) × Going p n table C C (book ++ (record { key = k; gets = Absent } ∷ [])) items′ acts m
   delete-goes n table C book items items′ task acts m x k s h =
-      planned-delete p lo hi n table C book items m s items′ task acts x k
-      (ap (λ (es : List Entry). planDelete table es items x k) (sym (stand-entries p lo hi n table C book items m s)) ∙ h)
+      let g = planned-delete p lo hi n table C book items m s items′ task acts x k
+      (ap (λ (es : List Entry). planDelete table es items x k) (sym (stand-entries p lo hi n table C book items m s)) ∙ h) in
+      (g .0, g .1 .0)
+
+  pub delete-reads : (n table : ℕ) (C : ℕ → Held) (book : List Item) (items items′ : List Entry) (task : Task) (acts : List Action) (m : Medium) (x : Given) (k : ℕ)
+      → Standing p n table C book items m → planDelete table (entriesIn p n (latest m)) items x k ≡ Begin items′ task acts
+      → Reading p n table C (latest m) (oldsOf task) acts m
+  delete-reads n table C book items items′ task acts m x k s h =
+      rw (s .rest .now) (planned-delete p lo hi n table C book items m s items′ task acts x k
+      (ap (λ (es : List Entry). planDelete table es items x k) (sym (stand-entries p lo hi n table C book items m s)) ∙ h) .1 .1)

@@ -19,7 +19,7 @@ use Rattle.spec.specs.Directory.{isFree, isLog, roleAt, roleOf, linesOf, sizeOf
 use Rattle.spec.specs.Log.{Entry, encodeAll}
 use Rattle.spec.specs.Contents.{entriesIn, listed, keptIn}
 use Rattle.spec.specs.Actions.{linesFor, freeOf}
-use Rattle.spec.specs.Plans.{Task, Cleaning, Plan, Begin, freeChunk, hasSpace, orElse, logPlace, appendTo, inUse, free, cleanTo, cleanLog, cleanData, planClean, copyWords, worthCleaning, isBetter, better, best, chosenChunk}
+use Rattle.spec.specs.Plans.{Task, Cleaning, Olds, oldOf, Plan, Begin, freeChunk, hasSpace, orElse, logPlace, appendTo, inUse, free, cleanTo, cleanLog, cleanData, planClean, copyWords, worthCleaning, isBetter, better, best, chosenChunk}
 use Rattle.spec.specs.Unstuck.{FreeStands, Roomy, Freeable, Cleanable, Unstuck}
 use Rattle.spec.specs.declared.Role.{Role}
 use Rattle.spec.specs.declared.Role.the-variants as R
@@ -172,7 +172,7 @@ module _ (p : ℕ) (ws : List ℕ) (es : List Entry) where
       both-i (leb 1 c) (both (ltb c n) (negate (isFree (roleAt p ws c)))) (le-leb 1 c low)
       (both-i (ltb c n) (negate (isFree (roleAt p ws c))) (lt-ltb c n high) (ap negate (log-not-free (roleAt p ws c) log)))
 
-  pub plan-none : (n c : ℕ) → Named n c → keptIn p c es ≡ [] → planClean p n ws es [] c ≡ Begin [] (Cleaning 0) (free c ws)
+  pub plan-none : (n c : ℕ) → Named n c → keptIn p c es ≡ [] → planClean p n ws es [] c ≡ Begin [] (Cleaning 0 (oldOf ws c ∷ [])) (free c ws)
   unfolding planClean
   plan-none n c named kept = rw (in-use-is n c named, named .1 .1, kept) refl
 
@@ -180,7 +180,7 @@ module _ (p : ℕ) (ws : List ℕ) (es : List Entry) where
   freed-now n c pre low high inside = freed-stands p n c (getD ws (directoryWord c) 0) pre (settledAt ws) low high (rw (W.length-settled ws) inside)
 
   abbrev Accepted : ℕ → Plan → Type 0
-  Accepted n q = (count : ℕ) × ((acts : List Action) × ((q ≡ Begin [] (Cleaning count) acts) × FreeStands p n (latest (run acts (settledAt ws)))))
+  Accepted n q = (count : ℕ) × ((olds : Olds) × ((acts : List Action) × ((q ≡ Begin [] (Cleaning count olds) acts) × FreeStands p n (latest (run acts (settledAt ws))))))
 
   plan-some : (n c : ℕ) → Named n c → directoryWord c < length ws → FreeStands p n ws → Accepted n (planClean p n ws es [] c)
   unfolding planClean logPlace
@@ -195,13 +195,16 @@ module _ (p : ℕ) (ws : List ℕ) (es : List Entry) where
           two none (f ∷ fs) e = (f, rw (le-leb 1 (length (freeChunks p n ws)) stands) (ap first e))
 
       go : (fs : List Entry) → Accepted n (cleanLog p n ws c fs)
-      go [] = (0, (free c ws, (refl, freed-now n c [] (named .0) (named .1 .0) inside)))
-      go (x ∷ xs) = let d = place (linesFor (length (encodeAll (x ∷ xs)))) in (length (x ∷ xs), (appendTo p ws (encodeAll (x ∷ xs)) (d .0) ++ free c ws, (rw (d .1) refl, freed-now n c (appendTo p ws (encodeAll (x ∷ xs)) (d .0)) (named .0) (named .1 .0) inside)))
+      go [] = (0, (oldOf ws c ∷ [], (free c ws, (refl, freed-now n c [] (named .0) (named .1 .0) inside))))
+      go (x ∷ xs) =
+          let (d, found) = place (linesFor (length (encodeAll (x ∷ xs)))) in
+          let copies : List Action = appendTo p ws (encodeAll (x ∷ xs)) d in
+          (length (x ∷ xs), (oldOf ws d ∷ oldOf ws c ∷ [], (copies ++ free c ws, (rw found refl, freed-now n c copies (named .0) (named .1 .0) inside))))
 
 -- NOT STUCK
 module _ (p : ℕ) (lo : 12 ≤ p) (hi : p ≤ 16) (n : ℕ) (ws : List ℕ) (es : List Entry) (ok : Ok p n ws es) where
   abbrev Said : Type 0
-  Said = (FreeStands p n ws ⊎ ((c : ℕ) × ((chosenChunk p n ws es ≡ some c) × (planClean p n ws es [] c ≡ Begin [] (Cleaning 0) (free c ws)))))
+  Said = (FreeStands p n ws ⊎ ((c : ℕ) × ((chosenChunk p n ws es ≡ some c) × (planClean p n ws es [] c ≡ Begin [] (Cleaning 0 (oldOf ws c ∷ [])) (free c ws)))))
       × ((c : ℕ) → chosenChunk p n ws es ≡ some c → Accepted p ws es n (planClean p n ws es [] c))
 
   word-in : (c : ℕ) → c < n → directoryWord c < length ws
@@ -225,7 +228,7 @@ module _ (p : ℕ) (lo : 12 ≤ p) (hi : p ≤ 16) (n : ℕ) (ws : List ℕ) (es
       go true e (yes l) =
           let r = chosen-none p ws es n z low high e l kept in
           let plan = plan-none p ws es n (r .0) (r .1 .1 .0) (r .1 .1 .1) in
-          (inr (r .0, (r .1 .0, plan)), λ c h. let s : r .0 ≡ c = same (r .0) c (sym (r .1 .0) ∙ h) in (0, (free c ws, ((rw s at plan), (rw s at (freed-now p ws es n (r .0) [] (r .1 .1 .0 .0) (r .1 .1 .0 .1 .0) (word-in (r .0) (r .1 .1 .0 .1 .0))))))))
+          (inr (r .0, (r .1 .0, plan)), λ c h. let s : r .0 ≡ c = same (r .0) c (sym (r .1 .0) ∙ h) in (0, (oldOf ws c ∷ [], (free c ws, ((rw s at plan), (rw s at (freed-now p ws es n (r .0) [] (r .1 .1 .0 .0) (r .1 .1 .0 .1 .0) (word-in (r .0) (r .1 .1 .0 .1 .0)))))))))
         where
           same : (a c : ℕ) → some a ≡ some c → a ≡ c
           same a c h = cc

@@ -16,13 +16,13 @@ use Rattle.spec.specs.Log.{Entry}
 use Rattle.spec.specs.Contents.{Held, Absent, Value, capacity, contents, entriesIn}
 use Rattle.spec.specs.Opening.{Accepted, opening}
 use Rattle.spec.specs.Actions.{formatOf}
-use Rattle.spec.specs.Plans.{Task, Staging, Committing, Cleaning, Begin, planPut, planDelete, planCommit, planClean, lookUp}
+use Rattle.spec.specs.Plans.{Task, Staging, Committing, Cleaning, Olds, oldsOf, putBack, Begin, planPut, planDelete, planCommit, planClean, lookUp}
 use Rattle.spec.specs.Book.{Item, nothing, doneItems}
 use Rattle.spec.specs.History.{shows}
 use Rattle.spec.specs.declared.Given.{Given}
 use Rattle.theory_base.proofs.Through.{Through}
 use Rattle.theory_crash.specs.Rest.{Cuts}
-use Rattle.theory_plans.specs.Standing.{Standing, Going}
+use Rattle.theory_plans.specs.Standing.{Standing, Going, Reading}
 
 abbrev pub Anything : Medium → Type 0
 Anything m = Unit {0}
@@ -39,11 +39,11 @@ pub record Laws (p limit : ℕ) : Type 0 where
   -- a commit does the book's staged items in order
   pub commit-goes : (n table : ℕ) (C : ℕ → Held) (book : List Item) (items items′ : List Entry) (task : Task) (acts : List Action) (m : Medium)
       → Standing p n table C book items m → planCommit p n (latest m) items ≡ Begin items′ task acts
-      → (task ≡ Committing) × Going p n table C (doneItems book C) [] [] acts m
+      → ((olds : Olds) × (task ≡ Committing olds)) × Going p n table C (doneItems book C) [] [] acts m
   -- a cleaning keeps the contents
   pub clean-goes : (n table : ℕ) (C : ℕ → Held) (book : List Item) (items items′ : List Entry) (task : Task) (acts : List Action) (m : Medium) (c : ℕ)
       → Standing p n table C book items m → planClean p n (latest m) (entriesIn p n (latest m)) items c ≡ Begin items′ task acts
-      → ((count : ℕ) × (task ≡ Cleaning count)) × ((book ≡ []) × ((items′ ≡ []) × Going p n table C C [] [] acts m))
+      → ((count : ℕ) × ((olds : Olds) × (task ≡ Cleaning count olds))) × ((book ≡ []) × ((items′ ≡ []) × Going p n table C C [] [] acts m))
   pub abandon-stands : (n table : ℕ) (C : ℕ → Held) (book : List Item) (items : List Entry) (m : Medium) → Standing p n table C book items m → Standing p n table C [] [] m
   -- power cuts
   pub stand-cuts : (n table : ℕ) (C : ℕ → Held) (book : List Item) (items : List Entry) (m : Medium) → Standing p n table C book items m → Cuts p n (capacity table) C C m
@@ -60,6 +60,24 @@ pub record Laws (p limit : ℕ) : Type 0 where
   -- look-up shows the contents
   pub look-shows : (n table : ℕ) (C : ℕ → Held) (book : List Item) (items : List Entry) (m : Medium) (image : List ℕ) → AreBytes image → wordsOf image ≡ latest m
       → Standing p n table C book items m → (k : ℕ) → shows (lookUp (latest m) (entriesIn p n (latest m)) k) image ≡ some (C k)
+  -- WHILE A CALL IS UNFINISHED look-up reads words that say what those before the call say
+  pub put-reads : (n table : ℕ) (C : ℕ → Held) (book : List Item) (items items′ : List Entry) (task : Task) (acts : List Action) (m : Medium) (x : Given) (k : ℕ) (v : List ℕ)
+      → AreBytes v → Standing p n table C book items m → planPut p limit n (latest m) table (entriesIn p n (latest m)) items x k v ≡ Begin items′ task acts
+      → Reading p n table C (latest m) (oldsOf task) acts m
+  pub delete-reads : (n table : ℕ) (C : ℕ → Held) (book : List Item) (items items′ : List Entry) (task : Task) (acts : List Action) (m : Medium) (x : Given) (k : ℕ)
+      → Standing p n table C book items m → planDelete table (entriesIn p n (latest m)) items x k ≡ Begin items′ task acts
+      → Reading p n table C (latest m) (oldsOf task) acts m
+  pub commit-reads : (n table : ℕ) (C : ℕ → Held) (book : List Item) (items items′ : List Entry) (task : Task) (acts : List Action) (m : Medium)
+      → Standing p n table C book items m → planCommit p n (latest m) items ≡ Begin items′ task acts
+      → Reading p n table C (latest m) (oldsOf task) acts m
+  pub clean-reads : (n table : ℕ) (C : ℕ → Held) (book : List Item) (items items′ : List Entry) (task : Task) (acts : List Action) (m : Medium) (c : ℕ)
+      → Standing p n table C book items m → planClean p n (latest m) (entriesIn p n (latest m)) items c ≡ Begin items′ task acts
+      → Reading p n table C (latest m) (oldsOf task) acts m
+  -- and shows the contents before the call, with the answer of then
+  pub reading-shows : (n table : ℕ) (C : ℕ → Held) (ws : List ℕ) (olds : Olds) (rest : List Action) (m : Medium) (image : List ℕ) → AreBytes image → wordsOf image ≡ latest m
+      → Reading p n table C ws olds rest m → (k : ℕ) → shows (lookUp (putBack olds (latest m)) (entriesIn p n (putBack olds (latest m))) k) image ≡ some (C k)
+  pub reading-same : (n table : ℕ) (C : ℕ → Held) (ws : List ℕ) (olds : Olds) (rest : List Action) (m : Medium)
+      → Reading p n table C ws olds rest m → (k : ℕ) → lookUp (putBack olds (latest m)) (entriesIn p n (putBack olds (latest m))) k ≡ lookUp ws (entriesIn p n ws) k
   -- a formatting to its end, begun on any medium, leaves an empty register
   pub format-stands : (bytes table : ℕ) (m : Medium) (station centre : Given) → lengthAllowed p bytes ≡ true → length m ≡ bytes / 8
       → Through Anything (Standing p (chunksIn p bytes) table nothing [] []) (formatOf (chunksIn p bytes) station centre) m × (bytes ≡ 8 * base p (chunksIn p bytes))

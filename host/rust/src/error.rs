@@ -76,7 +76,7 @@ pub enum Error {
     /// The register was opened to be read alone.
     ReadOnly,
     /// A fence failed in the middle of a write: what is durable is not known, and nothing may be acknowledged. Every
-    /// later call is refused (8); open the register again and look.
+    /// later call that writes, looks up or lists is refused (8); open the register again and look.
     NotDurable,
     /// The library that is linked is of another version than this crate.
     Version(String),

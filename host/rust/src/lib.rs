@@ -125,12 +125,16 @@ pub struct Cleaned {
     pub entries: u64,
 }
 
-/// An open register. Dropping it closes the file and gives the lock back.
+/// An open register. Dropping it closes the file and gives the lock back. A call that writes is carried out to its end
+/// before it returns, so that nobody reads in the middle of it.
 pub struct Register {
     file: File,
     record: Box<sys::Record>,
     table: Box<[u64]>,
     access: Access,
+    /// A fence failed: the library is in the middle of a call for good, and would still answer look-ups, by labels of
+    /// which nobody knows whether they last.
+    stopped: bool,
 }
 
 // Safety: the pointers in it are to memory that it owns or has mapped, and no thread has a part in what the calls do;
@@ -220,15 +224,24 @@ impl Register {
 
     fn over(file: File, access: Access) -> Register {
         let record = Box::new(sys::Record { word: [0; 1685] });
-        Register { file, record, table: vec![0; sys::TABLE_WORDS].into_boxed_slice(), access }
+        Register { file, record, table: vec![0; sys::TABLE_WORDS].into_boxed_slice(), access, stopped: false }
     }
 
     fn lent(&self) -> (*mut u8, usize, usize) {
         (self.file.image(), self.file.bytes(), self.table.len())
     }
 
+    /// Refused where a fence failed, as every call that writes is then.
+    fn readable(&self) -> Result<(), Error> {
+        if self.stopped {
+            return Err(Refusal::Unfinished.into());
+        }
+        Ok(())
+    }
+
     /// The bytes of a key, or None where it is absent.
     pub fn get(&self, key: u64) -> Result<Option<Vec<u8>>, Error> {
+        self.readable()?;
         let (at, bytes, words) = self.lent();
         let (mut start, mut length) = (0, 0);
         // Safety: as above; the two numbers are this frame's.
@@ -240,6 +253,7 @@ impl Register {
 
     /// The bytes of a key and their version, by one look-up, or None where it is absent.
     pub fn get_with_version(&self, key: u64) -> Result<Option<(Vec<u8>, u64)>, Error> {
+        self.readable()?;
         let (at, bytes, words) = self.lent();
         let (mut start, mut length, mut version) = (0, 0, 0);
         // Safety: as above; the three numbers are this frame's.
@@ -377,6 +391,7 @@ impl Register {
             sys::zkv_finish(&mut *self.record, at, bytes, self.table.as_mut_ptr(), words, begun,
                 sys::zkv_file_flush, sys::zkv_file_fence, self.file.raw().cast::<c_void>())
         };
+        self.stopped |= report.kind == sys::FENCE;
         ended(report)
     }
 
@@ -435,6 +450,7 @@ impl Register {
 
     /// The present keys, rising.
     pub fn keys(&self) -> Result<Vec<u64>, Error> {
+        self.readable()?;
         let mut keys = Vec::new();
         loop {
             let (at, bytes, words) = self.lent();
@@ -460,6 +476,7 @@ impl Register {
 
     /// Version, length and place of a key's value, or None where it is absent.
     pub fn listed(&self, key: u64) -> Result<Option<Listed>, Error> {
+        self.readable()?;
         let (at, bytes, words) = self.lent();
         let (mut version, mut length, mut block) = (0, 0, 0);
         // Safety: as above.

@@ -5,7 +5,6 @@
 use Rattle.fast_path.specs.Run.{RunsOn}
 use Rattle.answers.specs.Answers.{answerOf}
 use Rattle.session.specs.Promise.{memory}
-use Rattle.store_step.specs.Kept.{SetupKept}
 use mathlib.Core.Path.{_≡_}
 use mathlib.Core.Path.{refl}
 use mathlib.Core.Bool.{Bool}
@@ -76,7 +75,7 @@ abbrev Of-run-rest′ : {M : Type 1} (𝓤 : URA M) (H : Heap 𝓤) (A : Atoms �
 Of-run-rest′ 𝓤 H A mem run = tripleOf 𝓤 H A run-rest′.signature (run-rest′.spec 𝓤 H A mem run)
 
 abbrev Said-run-rest′ : Report → Session → Session → List ℕ → List ℕ → List ℕ → List ℕ → Type 0
-Said-run-rest′ r x-s z-s x-image z-image x-table z-table = SetupKept RunsOn (memory (x-s) (x-image) (x-table)) (memory (z-s) (z-image) (z-table)) r
+Said-run-rest′ r x-s z-s x-image z-image x-table z-table = RunsOn (memory (x-s) (x-image) (x-table)) (memory (z-s) (z-image) (z-table)) r
 
 -- the contract of `told`, and what it ensures
 abbrev Of-told′ : {M : Type 1} (𝓤 : URA M) (H : Heap 𝓤) (A : Atoms 𝓤) (mem : Memory → SProp 𝓤) (run : Routine → Fun 𝓤) → Contract 𝓤

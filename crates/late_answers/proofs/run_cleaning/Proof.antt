@@ -5,7 +5,6 @@
 use Rattle.fast_path.specs.Run.{RunsOn}
 use Rattle.answers.specs.Answers.{Told}
 use Rattle.session.specs.Promise.{memory}
-use Rattle.store_step.specs.Kept.{SetupKept}
 use mathlib.Core.Path.{_≡_}
 use mathlib.Core.Bool.{true, false}
 use Rattle.running.specs.Run.{Copying}
@@ -110,7 +109,7 @@ abbrev Of-run-any′ : {M : Type 1} (𝓤 : URA M) (H : Heap 𝓤) (A : Atoms �
 Of-run-any′ 𝓤 H A mem run = tripleOf 𝓤 H A run-any′.signature (run-any′.spec 𝓤 H A mem run)
 
 abbrev Said-run-any′ : Answer → Session → Session → List ℕ → List ℕ → List ℕ → List ℕ → Type 0
-Said-run-any′ r x-s z-s x-image z-image x-table z-table = Told (SetupKept RunsOn (memory (x-s) (x-image) (x-table)) (memory (z-s) (z-image) (z-table))) r
+Said-run-any′ r x-s z-s x-image z-image x-table z-table = Told (RunsOn (memory (x-s) (x-image) (x-table)) (memory (z-s) (z-image) (z-table))) r
 
 -- the contract of `same`, and what it ensures
 abbrev Of-same′ : {M : Type 1} (𝓤 : URA M) (H : Heap 𝓤) (A : Atoms 𝓤) (mem : Memory → SProp 𝓤) (run : Routine → Fun 𝓤) → Contract 𝓤
@@ -124,7 +123,7 @@ abbrev Of-run-other′ : {M : Type 1} (𝓤 : URA M) (H : Heap 𝓤) (A : Atoms 
 Of-run-other′ 𝓤 H A mem run = tripleOf 𝓤 H A run-other′.signature (run-other′.spec 𝓤 H A mem run)
 
 abbrev Said-run-other′ : Answer → Session → Session → List ℕ → List ℕ → List ℕ → List ℕ → Type 0
-Said-run-other′ r x-s z-s x-image z-image x-table z-table = Told (SetupKept RunsOn (memory (x-s) (x-image) (x-table)) (memory (z-s) (z-image) (z-table))) r
+Said-run-other′ r x-s z-s x-image z-image x-table z-table = Told (RunsOn (memory (x-s) (x-image) (x-table)) (memory (z-s) (z-image) (z-table))) r
 
 module _ {M : Type 1} (𝓤 : URA M) (H : Heap 𝓤) (A : Atoms 𝓤) (W : Given 𝓤 H A) (at-mem : Memory → SProp 𝓤) (run : Routine → Fun 𝓤) (κ-s κ-image κ-table : Lft) (bounds : AllOutlive 3 (self.signature .outlives) (κ-s, (κ-image, (κ-table, tt)))) (q-s q-image q-table : Share) (b-s o-s : ℕ) (γ-s : GName) (x-s : Session) (b-image o-image : ℕ) (γ-image : GName) (x-image : List ℕ) (room-image : Room u8 (length x-image)) (b-table o-table : ℕ) (γ-table : GName) (x-table : List ℕ) (room-table : Room u64 (length x-table)) where
   abbrev ref-s : RefT Session
@@ -187,7 +186,7 @@ module _ {M : Type 1} (𝓤 : URA M) (H : Heap 𝓤) (A : Atoms 𝓤) (W : Given
       → ent 𝓤 (⋆ 𝓤 H A (‵ (flft κ-s q-s) ∷ ‵ (flft κ-image q-image) ∷ ‵ (flft κ-table q-table) ∷ ‵ (fres γ-s (T-Session.the-row .coded .code z-s)) ∷ ‵ (finally u8 γ-image z-image) ∷ ‵ (finally u64 γ-table z-table) ∷ ‵ (T-Answer.the-row .own r (w ∷ [])) ∷ [])) (Post w)
   exits-1 r-copying r-answer r w z-s z-image z-table e-copying held e-answer e l-image l-table =
       qed W (‵ (flft κ-s q-s) ∷ ‵ (flft κ-image q-image) ∷ ‵ (flft κ-table q-table) ∷ ‵ (fres γ-s (T-Session.the-row .coded .code z-s)) ∷ ‵ (finally u8 γ-image z-image) ∷ ‵ (finally u64 γ-table z-table) ∷ ‵ (T-Answer.the-row .own r (w ∷ [])) ∷ []) ∵
-      suffices ! _ (ends-at 𝓤 H A self.ended stayed (self.clauses 𝓤 H A at-mem run) W (((κ-s, (κ-image, (κ-table, tt))), (q-s, (q-image, (q-table, tt))), bounds, a, vals), tt) w r (z-s, (z-image, (z-table, tt))) (tt, (l-image, (l-table, tt)))) $ says ! (subst (Told (SetupKept RunsOn (memory x-s x-image x-table) (memory z-s z-image z-table))) (sym e) e-answer) $
+      suffices ! _ (ends-at 𝓤 H A self.ended stayed (self.clauses 𝓤 H A at-mem run) W (((κ-s, (κ-image, (κ-table, tt))), (q-s, (q-image, (q-table, tt))), bounds, a, vals), tt) w r (z-s, (z-image, (z-table, tt))) (tt, (l-image, (l-table, tt)))) $ says ! (subst (Told (RunsOn (memory x-s x-image x-table) (memory z-s z-image z-table))) (sym e) e-answer) $
       nothing ! $ move ! (3 ∷ 0 ∷ []) $ join ! $ move ! (2 ∷ 0 ∷ []) $ join ! $ move ! (1 ∷ 0 ∷ []) $ join ! $ frame ! $
       nothing ! $ move ! (3 ∷ 0 ∷ []) $ fjoin ! $ move ! (2 ∷ 0 ∷ []) $ fjoin ! $ move ! (1 ∷ 0 ∷ []) $ fjoin ! $ done !
 
@@ -195,7 +194,7 @@ module _ {M : Type 1} (𝓤 : URA M) (H : Heap 𝓤) (A : Atoms 𝓤) (W : Given
       → ent 𝓤 (⋆ 𝓤 H A (‵ (flft κ-s q-s) ∷ ‵ (flft κ-image q-image) ∷ ‵ (flft κ-table q-table) ∷ ‵ (fres γ-s (T-Session.the-row .coded .code z-s)) ∷ ‵ (finally u8 γ-image z-image) ∷ ‵ (finally u64 γ-table z-table) ∷ ‵ (T-Answer.the-row .own r (w ∷ [])) ∷ [])) (Post w)
   exits-2 r-copying r-answer r w z-s z-image z-table e-copying failed e-answer e l-image l-table =
       qed W (‵ (flft κ-s q-s) ∷ ‵ (flft κ-image q-image) ∷ ‵ (flft κ-table q-table) ∷ ‵ (fres γ-s (T-Session.the-row .coded .code z-s)) ∷ ‵ (finally u8 γ-image z-image) ∷ ‵ (finally u64 γ-table z-table) ∷ ‵ (T-Answer.the-row .own r (w ∷ [])) ∷ []) ∵
-      suffices ! _ (ends-at 𝓤 H A self.ended stayed (self.clauses 𝓤 H A at-mem run) W (((κ-s, (κ-image, (κ-table, tt))), (q-s, (q-image, (q-table, tt))), bounds, a, vals), tt) w r (z-s, (z-image, (z-table, tt))) (tt, (l-image, (l-table, tt)))) $ says ! (subst (Told (SetupKept RunsOn (memory x-s x-image x-table) (memory z-s z-image z-table))) (sym e) e-answer) $
+      suffices ! _ (ends-at 𝓤 H A self.ended stayed (self.clauses 𝓤 H A at-mem run) W (((κ-s, (κ-image, (κ-table, tt))), (q-s, (q-image, (q-table, tt))), bounds, a, vals), tt) w r (z-s, (z-image, (z-table, tt))) (tt, (l-image, (l-table, tt)))) $ says ! (subst (Told (RunsOn (memory x-s x-image x-table) (memory z-s z-image z-table))) (sym e) e-answer) $
       nothing ! $ move ! (3 ∷ 0 ∷ []) $ join ! $ move ! (2 ∷ 0 ∷ []) $ join ! $ move ! (1 ∷ 0 ∷ []) $ join ! $ frame ! $
       nothing ! $ move ! (3 ∷ 0 ∷ []) $ fjoin ! $ move ! (2 ∷ 0 ∷ []) $ fjoin ! $ move ! (1 ∷ 0 ∷ []) $ fjoin ! $ done !
 

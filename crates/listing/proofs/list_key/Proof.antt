@@ -4,8 +4,8 @@ use Rattle.listing.proofs.Answers.{key-refused, key-open}
 use Rattle.listing.proofs.list_key.Statement.{statement}
 use Rattle.listing.proofs.list_key.Tie as tie
 
-gate-requires : tie.Need-gate-requires
-gate-requires c κs = search needs
+read-gate-requires : tie.Need-read-gate-requires
+read-gate-requires c κs = search needs
 
 enum-known-g : tie.Need-enum-known-g
 enum-known-g c = search needs
@@ -20,16 +20,16 @@ by-word-requires : tie.Need-by-word-requires
 by-word-requires c κs = search needs
 
 returns : tie.Need-returns
-returns c = key-refused _ _ _ _ _ (c .before .before .before .gate .ensures) _ _ (c .before .g .given .1)
+returns c = key-refused _ _ _ _ _ (c .before .before .before .read-gate .ensures) _ _ (c .before .g .given .1)
 
 returns-2 : tie.Need-returns-2
-returns-2 c = key-open _ _ _ _ _ (c .before .before .before .before .gate .ensures) _ _ _ (c .before .before .enum-told .given .1) (c .before .look .ensures) (c .by-word .ensures)
+returns-2 c = key-open _ _ _ _ _ (c .before .before .before .before .read-gate .ensures) _ _ _ (c .before .before .enum-told .given .1) (c .before .look .ensures) (c .by-word .ensures)
 
 pub list-key-spec : {M : Type 1} → statement M
 list-key-spec =
     tie.close
     (tie.spec
-    gate-requires
+    read-gate-requires
     enum-known-g
     enum-told
     look-requires

@@ -4,8 +4,8 @@ use Rattle.listing.proofs.Answers.{keys-refused, keys-open}
 use Rattle.listing.proofs.list_keys.Statement.{statement}
 use Rattle.listing.proofs.list_keys.Tie as tie
 
-gate-requires : tie.Need-gate-requires
-gate-requires c κs = search needs
+read-gate-requires : tie.Need-read-gate-requires
+read-gate-requires c κs = search needs
 
 enum-known-g : tie.Need-enum-known-g
 enum-known-g c = search needs
@@ -17,19 +17,19 @@ present-keys-requires : tie.Need-present-keys-requires
 present-keys-requires c κs = search needs
 
 returns : tie.Need-returns
-returns c = keys-refused _ _ _ _ _ (c .before .before .before .gate .ensures) _ _ (c .before .g .given .1)
+returns c = keys-refused _ _ _ _ _ (c .before .before .before .read-gate .ensures) _ _ (c .before .g .given .1)
 
 same-length : tie.Need-same-length
 same-length c = search needs
 
 returns-2 : tie.Need-returns-2
-returns-2 c = keys-open _ _ _ _ _ (c .before .before .before .before .before .before .gate .ensures) _ _ _ (c .before .before .before .before .enum-told .given .1) (c .before .before .present-keys .ensures)
+returns-2 c = keys-open _ _ _ _ _ (c .before .before .before .before .before .before .read-gate .ensures) _ _ _ (c .before .before .before .before .enum-told .given .1) (c .before .before .present-keys .ensures)
 
 pub list-keys-spec : {M : Type 1} → statement M
 list-keys-spec =
     tie.close
     (tie.spec
-    gate-requires
+    read-gate-requires
     enum-known-g
     enum-told
     present-keys-requires

@@ -5,8 +5,8 @@ use Rattle.lookup.proofs.Looks.{locate-refused, locate-open}
 use Rattle.lookup.proofs.locate.Statement.{statement}
 use Rattle.lookup.proofs.locate.Tie as tie
 
-gate-requires : tie.Need-gate-requires
-gate-requires c κs = search needs
+read-gate-requires : tie.Need-read-gate-requires
+read-gate-requires c κs = search needs
 
 enum-known-g : tie.Need-enum-known-g
 enum-known-g c = search needs
@@ -18,12 +18,12 @@ value-of-requires : tie.Need-value-of-requires
 value-of-requires c κs = search needs
 
 returns : tie.Need-returns
-returns c = locate-refused _ _ _ _ _ _ (c .before .before .before .gate .ensures) _ (c .before .g .given .1)
+returns c = locate-refused _ _ _ _ _ _ (c .before .before .before .read-gate .ensures) _ (c .before .g .given .1)
 
 returns-2 : tie.Need-returns-2
 returns-2 c =
-    locate-open _ _ _ _ _ _ (c .before .before .before .gate .ensures) _ (c .before .enum-told .given .1) (c .value-of .ensures)
+    locate-open _ _ _ _ _ _ (c .before .before .before .read-gate .ensures) _ (c .before .enum-told .given .1) (c .value-of .ensures)
 
 pub locate-spec : {M : Type 1} → statement M
 locate-spec =
-    tie.close (tie.spec gate-requires enum-known-g enum-told value-of-requires returns returns-2)
+    tie.close (tie.spec read-gate-requires enum-known-g enum-told value-of-requires returns returns-2)

@@ -5,7 +5,6 @@
 use Rattle.spec.specs.Machine.{Step}
 use Rattle.answers.specs.Answers.{answerOf}
 use Rattle.session.specs.Promise.{Does, memory}
-use Rattle.store_step.specs.Kept.{SetupKept}
 use mathlib.Core.Path.{_≡_}
 use mathlib.Core.Path.{refl}
 use mathlib.Core.Bool.{Bool}
@@ -76,7 +75,7 @@ abbrev Of-step′ : {M : Type 1} (𝓤 : URA M) (H : Heap 𝓤) (A : Atoms 𝓤)
 Of-step′ 𝓤 H A mem run = tripleOf 𝓤 H A step′.signature (step′.spec 𝓤 H A mem run)
 
 abbrev Said-step′ : Report → Session → Session → List ℕ → List ℕ → List ℕ → List ℕ → Type 0
-Said-step′ r x-s z-s x-image z-image x-table z-table = SetupKept (Does Step) (memory (x-s) (x-image) (x-table)) (memory (z-s) (z-image) (z-table)) r
+Said-step′ r x-s z-s x-image z-image x-table z-table = Does Step (memory (x-s) (x-image) (x-table)) (memory (z-s) (z-image) (z-table)) r
 
 -- the contract of `told`, and what it ensures
 abbrev Of-told′ : {M : Type 1} (𝓤 : URA M) (H : Heap 𝓤) (A : Atoms 𝓤) (mem : Memory → SProp 𝓤) (run : Routine → Fun 𝓤) → Contract 𝓤
