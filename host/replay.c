@@ -50,10 +50,10 @@ static uint64_t looked;            /* the version that the look-up made last han
 /* The list of the present keys: the refusal's number or 0, how many they are, and a sum over what is listed of each. */
 static zkv_report listed(const struct lent *l)
 {
-    static uint64_t keys[TABLE_MAX / 4];
+    static uint64_t keys[TABLE_MAX / 2];    /* as many as altered memory may make of a table */
     zkv_report found = {0, 1, 0};
     const zkv_record *r = &l->record;
-    found.kind = zkv_list_keys(r, l->image, bytes, l->table, words, keys, TABLE_MAX / 4, &found.first);
+    found.kind = zkv_list_keys(r, l->image, bytes, l->table, words, keys, TABLE_MAX / 2, &found.first);
     for (uint64_t i = 0; i < found.first && found.kind == 0; i++) {
         uint64_t version, length, block;
         found.kind = zkv_list_key(r, l->image, bytes, l->table, words, keys[i], &version, &length, &block);

@@ -111,7 +111,8 @@
  * - It takes a lock round every call, steps and look-ups too, and may give it back between any two of them.
  * - It copies a value out under the lock, or looks it up again. The part that a look-up answered stays unaltered until
  *   the next last fence of a commit or cleaning, of the unfinished call or a later one, or the end of a formatting is
- *   reported. From then on a superseded value's block, or a cleaned chunk, may be written again.
+ *   reported, or the register is opened in the middle of a call. From then on a superseded value's block, or a cleaned
+ *   chunk, may be written again.
  * - It keeps the lock from the report of a fence until that fence is carried out, if it is to hand out only what lasts:
  *   after the report of the last fence look-up answers what the call makes, and only the fence makes that durable.
  *
@@ -411,10 +412,10 @@ uint64_t zkv_list_key(const zkv_record *record, const uint8_t *image, size_t byt
                       uint64_t key, uint64_t *version, uint64_t *length, uint64_t *block);
 
 /* The known keys of the open register, deleted ones that still have an entry included; 0 where none is open, and
- * while a formatting is unfinished. */
+ * while a formatting is unfinished. In another unfinished call they are those of the register that zkv_look_up shows. */
 uint64_t zkv_keys(const zkv_record *record);
 
-/* The chunks of an image whose directory word says free. */
+/* The chunks of an image whose directory word says free, as it stands, in an unfinished call too. */
 uint64_t zkv_free_chunks(const uint8_t *image, size_t bytes);
 
 /* The committed lines of all log chunks of an image. */
@@ -467,7 +468,8 @@ const char *zkv_version(void);
  * answers 0, or another number where it could not. Then that ZKV_FENCE is answered: the call is unfinished, and nothing
  * may be acknowledged, though look-up may answer it already. zkv_finish with this report tries the fence again and goes
  * on; but where a sync of a file failed the pages may be lost (fsync(2)): open the file again and look at what is
- * there. While one of the two functions runs no call does, so that it may give back the lock and take it again. */
+ * there. Both are called between two steps, so that they may give the host's lock back and take it again; but see
+ * LOOKING UP WHILE A CALL IS UNFINISHED for what a look-up shows between the report of a fence and the fence. */
 zkv_report zkv_finish(zkv_record *record, uint8_t *image, size_t bytes, uint64_t *table, size_t words, zkv_report report,
                       void (*flush)(void *context, const uint8_t *line), int (*fence)(void *context), void *context);
 

@@ -1,7 +1,7 @@
 #!/usr/bin/env bash
 # What the library has beside the proved calls (host/library.c, host/image_file.c), as hosts use it that have threads,
-# signal handlers, several files, power cuts and altered memory: tests/files.c, tests/room.c, tests/altered.c and zkv; and
-# look-ups while a call is unfinished, by a second thread too: tests/reprint.c.
+# signal handlers, several files, power cuts and altered memory: tests/files.c, tests/room.c, tests/altered.c and zkv.
+# And look-ups while a call is unfinished, by a second thread too: tests/reprint.c.
 #
 # tests/library.sh      needs host/build/libzitskvoze.a and zkv (make -C host), and gcc with its sanitizers
 set -euo pipefail

@@ -85,7 +85,8 @@ class Script:
         self.say('kept', 'kept')
 
     def looks(self, register, calls=('lookv',)):
-        """Look-ups of each key: where its value starts, its bytes counted up from the first, its version; or it is absent."""
+        """Look-ups of each key: where its value starts, its bytes counted up from the first, its version; or it is
+        absent."""
         for k, held in register.items():
             for call in calls:
                 answer = 'refused 11'

@@ -662,7 +662,8 @@ static pthread_mutex_t lock = PTHREAD_MUTEX_INITIALIZER;
 static atomic_bool ended;
 static atomic_uint_fast64_t looks;
 
-/* Of the register in force one key after the other, and lists. A value is copied out under the lock, and read after it. */
+/* Of the register in force one key after the other, and lists. A value is copied out under the lock, and read after
+ * it. */
 static void *look_all_the_time(void *unused)
 {
     static uint8_t copy[ZKV_VALUE_MAX];

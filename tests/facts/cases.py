@@ -150,8 +150,8 @@ class Machine:
             self.do('look', k)
 
     def reprints(self, keys):
-        """Look-ups in the unfinished call: at its begin, behind its first action and each one from its first fence on, at
-        its end."""
+        """Look-ups in the unfinished call: at its begin, behind its first action and each one from its first fence on,
+        at its end."""
         acts, done = list(self.st.pending.actions), 0
         fence = next((i for i, a in enumerate(acts) if a[0] == 'fence'), len(acts) - 1)
         self.looks(keys)
@@ -554,7 +554,8 @@ def call_fact(sheet, what, m, c):
 
 
 def call_facts(rng, sheet, ws, keys, table, n):
-    """On states at rest with items, unfinished after some steps, formatting or closed; lent the right lengths or others."""
+    """On states at rest with items, unfinished after some steps, formatting or closed; lent the right lengths or
+    others."""
     b, count = len(ws) * 8, len(ws) // 512
     for j in range(n):
         st, x, memory = staged_on(rng, ws, table, keys, rng.choice([0, 1, 2, 3])), rng.random(), list(ws)

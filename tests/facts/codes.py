@@ -331,7 +331,8 @@ def of_item(i):
 
 
 def olds_of(begun, memory):
-    """The directory words that a begun call stores to, with the words of memory now: of each the chunk, and the word before the call."""
+    """The directory words that a begun call stores to, with the words of memory now: of each the chunk, and the word
+    before the call."""
     before, stores = begun.before.words, [a[1] for a in begun.actions if a[0] == 'store']
     return [(w - 8, before[w]) for w in range(9, 512) if w in stores or memory[w] != before[w]]
 

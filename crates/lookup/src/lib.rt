@@ -123,8 +123,8 @@ fn value_of(image: &[u8], table: &[u64], key: u64) -> Located
     part_at(image, place, version)
 }
 
-// 2, 1, 8, 11, or the part of the image that holds the value of a key. In an unfinished call, but for a formatting, that
-// is the value before it, until its last fence: only then is the key table brought up to date.
+// 2, 1, 8, 11, or the part of the image that holds the value of a key. In an unfinished call, but for a formatting,
+// that is the value before it, until its last fence: only then is the key table brought up to date.
 pub fn locate(control: Control, setup: Setup, image: &[u8], table: &[u64], key: u64) -> Located
     ensures { λ r. ⌜ Locating control setup key (now (image .entry)) (now (table .entry)) r ⌝ }
 {

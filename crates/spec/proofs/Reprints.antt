@@ -46,9 +46,16 @@ turns zero before after σ ws =
 turns (suc n) before after σ ws = both (sameList (shown σ ws) before) (turns n before after (leaves Step σ ws) (wordsAfter (ask Step σ ws) ws))
 
 -- a call that is begun with so many actions and one more
+abbrev begins : Call → List Entry → List ℕ → ℕ → Bool
+begins k items ws n = sameList (numbersOf (ask k (Rest bytes 64 items) ws)) (suc n ∷ [])
+
 abbrev reprints : Call → List Entry → List ℕ → ℕ → (before after : List ℕ) → Bool
-reprints k items ws n before after =
-    both (sameList (numbersOf (ask k (Rest bytes 64 items) ws)) (suc n ∷ [])) (turns n before after (leaves k (Rest bytes 64 items) ws) ws)
+reprints k items ws n before after = both (begins k items ws n) (turns n before after (leaves k (Rest bytes 64 items) ws) ws)
+
+-- so many steps on
+abbrev later : ℕ → (State → List ℕ → Bool) → State → List ℕ → Bool
+later zero f σ ws = f σ ws
+later (suc n) f σ ws = later n f (leaves Step σ ws) (wordsAfter (ask Step σ ws) ws)
 
 -- put 7 of a byte and put 9 of no byte, in chunk 1; in chunk 2; and in chunk 1, and printed anew in chunk 2
 abbrev one : List ℕ
@@ -80,13 +87,26 @@ walks =
     ∷ reprints (Clean 2) [] second 15 (8208 ∷ 1 ∷ 1 ∷ 8232 ∷ 0 ∷ 1 ∷ []) inOne
     -- one of which nothing is kept
     ∷ reprints (Clean 1) [] two 2 inTwo inTwo
-    -- a staging of a value in a block: a free chunk is taken, 34 words are stored, five lines flushed
-    ∷ reprints (Put G.Absent 7 (replicate 257 94)) [] one 40 inOne inOne
     ∷ []
 
 pub walked : T (every walks)
 unfolding base firstLine firstUnit chunkBytes chunkWords chunkLines chunkUnits chunksIn unitChunk unitIn wordChunk roleOf linesOf sizeOf sizeFor isSize firstOf stepOf blockLimit unitsFor blockSize chosen tops capacity keptIn appendOf commitOf bodyOf padded blockOf planPut planDelete planCommit planClean slotFor logPlace chosenChunk lookUp next
 walked = tt
+
+-- a staging of a value in a block: a free chunk is taken by two actions, 34 words are stored and five lines flushed
+abbrev large : Call
+large = Put G.Absent 7 (replicate 257 94)
+
+abbrev staging : List Bool
+staging =
+    begins large [] one 40
+    ∷ later 1 (turns 2 inOne inOne) (leaves large (Rest bytes 64 []) one) one
+    ∷ later 38 (turns 2 inOne inOne) (leaves large (Rest bytes 64 []) one) one
+    ∷ []
+
+pub staged : T (every staging)
+unfolding base firstLine firstUnit chunkBytes chunkWords chunkLines chunkUnits chunksIn unitChunk unitIn wordChunk roleOf linesOf sizeOf sizeFor isSize firstOf stepOf blockLimit unitsFor blockSize chosen tops capacity keptIn appendOf commitOf bodyOf padded blockOf planPut planDelete planCommit planClean slotFor logPlace chosenChunk lookUp next
+staged = tt
 
 -- the refusal's number
 abbrev told : Call → State → ℕ → ℕ → List ℕ

@@ -12,7 +12,7 @@ use Rattle.spec.specs.Places.{chunksIn}
 use Rattle.spec.specs.Medium.{Action, Store, Flush, Fence}
 use Rattle.spec.specs.Log.{Entry}
 use Rattle.spec.specs.Reports.{actionOf, partIn, asReport, isRefused}
-use Rattle.spec.specs.Plans.{Staging, Committing, Cleaning, Task, Olds, maxVersion}
+use Rattle.spec.specs.Plans.{Staging, Committing, Cleaning, Olds, maxVersion}
 use Rattle.spec.specs.Machine.{Kind, ToFormat, ToOpen, ToWork, ToRead, ToStep, kindOf, Call, Format, Open, Put, Delete, Commit, Abandon, LookUp, Choose, Clean, Step, State, Closed, Rest, Busy, Formatting, itemsOf, countOf, answer, next, barred, refusals, stepsLeft}
 use Rattle.spec.specs.declared.Refusal.{Refusal}
 use Rattle.spec.specs.declared.Report.{Report}

@@ -2,7 +2,7 @@
 -- What a call does is `Called`, the very predicate that each public function ensures.
 -- Assumes nothing.
 use mathlib.Core.Path.{_≡_}
-use mathlib.Core.Bool.{Bool, false}
+use mathlib.Core.Bool.{false}
 use mathlib.Core.Option.{Option, none, some}
 use mathlib.Core.List.{List, [], _∷_, _++_}
 use Prim.Native.Nat.{ℕ, _≤_, _<_}
@@ -85,6 +85,11 @@ module _ {S : Type 0} (Proper : S → Type 0) (stateOf : S → State) (Fits : S 
         → Fences k → Called Proper stateOf Fits p limit k s s₀ image image table table₀ (R.Begun a)
         → Stepped Proper stateOf Fits p limit rs m s₀ image table₀ m₁ s₁ image₁ table₁ → length rs ≡ a
         → (xs : List Report) × (rs ≡ xs ++ (R.Fence ∷ []))
+    -- a staging reports none
+    pub unfenced : (k : Call) (s₀ s₁ : S) (image₁ table₀ table₁ : List ℕ) (a : ℕ) (rs : List Report) (m m₁ : Medium)
+        → MayRead k → (Fences k → ⊥) → Called Proper stateOf Fits p limit k s s₀ image image table table₀ (R.Begun a)
+        → Stepped Proper stateOf Fits p limit rs m s₀ image table₀ m₁ s₁ image₁ table₁ → length rs ≤ a
+        → (xs ys : List Report) → rs ≡ xs ++ (R.Fence ∷ ys) → ⊥
 
   -- of memory as our calls left it, with no call unfinished
   abbrev pub Reprinted : Type 0

@@ -65,7 +65,8 @@ module _ (p : ℕ) (lo : 12 ≤ p) (hi : p ≤ 16) (n : ℕ) (ws : List ℕ) (es
   abbrev pub Seen : Olds → List ℕ → Type 0
   Seen olds vs = Framed p n ws es (putBack olds vs)
 
-  -- an action stores to a word that is put back, or to one that nobody needs
+  -- an action stores to a word that is put back, or to one that nobody needs; there, if it is a directory word, one
+  -- that says free or data
   abbrev pub Shy : Olds → Action → Type 0
   Shy olds (Store a v) = Hit a olds ⊎ ((Hit a olds → ⊥) × ((a < length ws) × ((Support p n ws es a → ⊥) × ((c : ℕ) → c < maxChunks → a ≡ directoryWord c → Calm p n c v))))
   Shy olds (Flush l) = Unit {0}

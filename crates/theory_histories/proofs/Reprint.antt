@@ -1,6 +1,6 @@
 -- Reprints while a call is unfinished, from the laws of the calls.
 -- Assumes nothing.
-use mathlib.Core.Path.{_≡_, refl, sym, _∙_, ap}
+use mathlib.Core.Path.{_≡_, refl, sym, _∙_, ap, subst}
 use mathlib.Core.Bool.{Bool, true, false}
 use mathlib.Core.Option.{Option, none, some}
 use mathlib.Core.List.{List, [], _∷_, _++_, map, map-append, append-nil}
@@ -28,6 +28,7 @@ use Rattle.spec.specs.declared.Refusal.the-variants as N
 use Rattle.spec.specs.declared.Report.{Report}
 use Rattle.spec.specs.declared.Report.the-variants as R
 use Rattle.theory_base.proofs.Words as W
+use Rattle.theory_base.proofs.Through.{Each}
 use Rattle.theory_crash.proofs.Opening.{ok-contents}
 use Rattle.theory_crash.proofs.Rest.{can-latest}
 use Rattle.theory_plans.specs.Standing.{Standing, Reading}
@@ -37,7 +38,7 @@ use Rattle.theory_histories.proofs.Events as E
 use Rattle.theory_histories.proofs.Invariant.{HeldAt, Inv, image-follows, false-true}
 use Rattle.theory_histories.proofs.Starts as Start
 use Rattle.theory_histories.proofs.Ends.{busy-goes, next-moves}
-use Rattle.theory_histories.proofs.Fences.{EndsFenced, commit-fenced, clean-fenced}
+use Rattle.theory_histories.proofs.Fences.{EndsFenced, commit-fenced, clean-fenced, NoFence, put-unfenced, delete-unfenced}
 use Rattle.theory_histories.proofs.Means as M
 use Rattle.theory_histories.proofs.Means.{stand-means}
 use Rattle.theory_histories.proofs.Theorem as T
@@ -132,8 +133,8 @@ begun-changes p limit k σ ws bytes table a h = rw h
 abbrev Turns : Call → Task → List Action → Type 0
 Turns (Format x y) task acts = Unit {0}
 Turns Open task acts = Unit {0}
-Turns (Put x k v) task acts = task ≡ Staging
-Turns (Delete x k) task acts = task ≡ Staging
+Turns (Put x k v) task acts = (task ≡ Staging) × Each NoFence acts
+Turns (Delete x k) task acts = (task ≡ Staging) × Each NoFence acts
 Turns Commit task acts = EndsFenced acts
 Turns Abandon task acts = Unit {0}
 Turns (LookUp k) task acts = Unit {0}
@@ -147,8 +148,8 @@ early-words : (k : Call) (task : Task) (acts front rest : List Action) (vs : Lis
 early-words k task acts front (x ∷ rest) vs n a may t split en ea e = refl
 early-words (Format x y) task acts front [] vs n a may t split en ea e = absurd may
 early-words Open task acts front [] vs n a may t split en ea e = absurd may
-early-words (Put x k v) task acts front [] vs n a may t split en ea e = rw t
-early-words (Delete x k) task acts front [] vs n a may t split en ea e = rw t
+early-words (Put x k v) task acts front [] vs n a may t split en ea e = rw (t .0)
+early-words (Delete x k) task acts front [] vs n a may t split en ea e = rw (t .0)
 early-words Commit task acts front [] vs n a may t split en ea e = absurd (let l : length acts ≡ length front = ap length (split ∙ append-nil front) in omega arith)
 early-words Abandon task acts front [] vs n a may t split en ea e = absurd may
 early-words (LookUp k) task acts front [] vs n a may t split en ea e = absurd may
@@ -168,6 +169,30 @@ last-fence (LookUp k) task acts f t = absurd f
 last-fence Choose task acts f t = absurd f
 last-fence (Clean c) task acts f (xs, e) = (map asReport xs, ap (map asReport) e ∙ map-append asReport xs (Fence ∷ []))
 last-fence Step task acts f t = absurd f
+
+-- in a staging no report is a fence's
+action-report : (a : Action) → NoFence a → asReport a ≡ R.Fence → ⊥
+action-report (Store w v) u e = let z : _≡_ {A = ℕ} 0 1 = cc in omega arith
+action-report (Flush l) u e = let z : _≡_ {A = ℕ} 0 1 = cc in omega arith
+action-report Fence u e = u
+
+no-report : (front rest : List Action) → Each NoFence (front ++ rest) → (xs ys : List Report) → map asReport front ≡ xs ++ (R.Fence ∷ ys) → ⊥
+no-report [] rest u [] ys e = let z : _≡_ {A = ℕ} 0 1 = cc in omega arith
+no-report [] rest u (x ∷ xs) ys e = let z : _≡_ {A = ℕ} 0 1 = cc in omega arith
+no-report (a ∷ front) rest u [] ys e = action-report a (u .0) cc
+no-report (a ∷ front) rest u (x ∷ xs) ys e = no-report front rest (u .1) xs ys cc
+
+unfenced-acts : (k : Call) (task : Task) (acts : List Action) → MayRead k → (Fences k → ⊥) → Turns k task acts → Each NoFence acts
+unfenced-acts (Format x y) task acts may f t = absurd may
+unfenced-acts Open task acts may f t = absurd may
+unfenced-acts (Put x k v) task acts may f t = t .1
+unfenced-acts (Delete x k) task acts may f t = t .1
+unfenced-acts Commit task acts may f t = absurd (f tt)
+unfenced-acts Abandon task acts may f t = absurd may
+unfenced-acts (LookUp k) task acts may f t = absurd may
+unfenced-acts Choose task acts may f t = absurd may
+unfenced-acts (Clean c) task acts may f t = absurd (f tt)
+unfenced-acts Step task acts may f t = absurd may
 
 fences-read : (k : Call) → Fences k → MayRead k
 fences-read (Format x y) f = absurd f
@@ -343,13 +368,19 @@ module _ (p limit : ℕ) (laws : Laws p limit) {S : Type 0} (Proper : S → Type
   begins (Put x key v) may rest s₀ table₀ a c =
       planned-begins (Put x key v) s₀ table₀ a c rest (planPut p limit nb (latest m) (w .least) (entriesIn p nb (latest m)) (rest .items) x key v) (held .0) (c .exact (held .0) .fits) (rw passed) refl
       (λ items′ task acts e. (
-        laws .put-goes nb (w .least) C (b .staged) (rest .items) items′ task acts m x key v may (rest .stands) e .0,
+        (
+          laws .put-goes nb (w .least) C (b .staged) (rest .items) items′ task acts m x key v may (rest .stands) e .0,
+          put-unfenced p limit nb (latest m) (w .least) (entriesIn p nb (latest m)) (rest .items) x key v items′ task acts e,
+        ),
         laws .put-reads nb (w .least) C (b .staged) (rest .items) items′ task acts m x key v may (rest .stands) e,
       ))
   begins (Delete x key) may rest s₀ table₀ a c =
       planned-begins (Delete x key) s₀ table₀ a c rest (planDelete (w .least) (entriesIn p nb (latest m)) (rest .items) x key) (held .0) (c .exact (held .0) .fits) (rw passed) refl
       (λ items′ task acts e. (
-        laws .delete-goes nb (w .least) C (b .staged) (rest .items) items′ task acts m x key (rest .stands) e .0,
+        (
+          laws .delete-goes nb (w .least) C (b .staged) (rest .items) items′ task acts m x key (rest .stands) e .0,
+          delete-unfenced (w .least) (entriesIn p nb (latest m)) (rest .items) x key items′ task acts e,
+        ),
         laws .delete-reads nb (w .least) C (b .staged) (rest .items) items′ task acts m x key (rest .stands) e,
       ))
   begins Commit may rest s₀ table₀ a c =
@@ -424,6 +455,10 @@ module _ (p limit : ℕ) (laws : Laws p limit) {S : Type 0} (Proper : S → Type
         let whole = all-done rs (q .front) (q .rest) (u .acts) (q .split) (q .reported) (all ∙ sym (u .long)) .1 in
         let (xs, e) = last-fence k (u .task) (u .acts) fences (u .turns) in
         (xs, whole ∙ e);
+    unfenced = λ k s₀ s₁ image₁ table₀ table₁ a rs m₁ m₂ may stages c steps few xs ys e.
+        let u = begins k may (rests idle) s₀ table₀ a c in
+        let (m′, q) = goes-on k s₀ s₁ image₁ table₀ table₁ a rs m₁ m₂ u steps few in
+        no-report (q .front) (q .rest) (subst (Each NoFence) (q .split) (unfenced-acts k (u .task) (u .acts) may stages (u .turns))) xs ys (sym (q .reported) ∙ e);
   }
 
 pub reprinted : (p limit : ℕ) → Laws p limit → {S : Type 0} (Proper : S → Type 0) (stateOf : S → State) (Fits : S → List ℕ → List ℕ → Type 0) → Reprinted Proper stateOf Fits p limit

@@ -132,8 +132,8 @@ pub struct Register {
     record: Box<sys::Record>,
     table: Box<[u64]>,
     access: Access,
-    /// A fence failed: the library is in the middle of a call for good, and would still answer look-ups, by labels of
-    /// which nobody knows whether they last.
+    /// A fence failed: the library is in the middle of a call for good. It would still answer look-ups, and where that
+    /// was the call's last fence, with labels of which nobody knows whether they last.
     stopped: bool,
 }
 
