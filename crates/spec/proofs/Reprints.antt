@@ -1,6 +1,6 @@
--- Reprints while a call is unfinished: what look-up answers after every step of a commit, of cleanings and of stagings,
--- computed on small images; each slip that shows a register other than the one before the call, or turns to the new one
--- at another step than the last fence, goes wrong here.
+-- Reprints while a call is unfinished: what look-up answers after every step of a commit and of cleanings, and at the
+-- first and the last steps of a staging, computed on small images; each slip that shows a register other than the one
+-- before the call, or turns to the new one at another step than the last fence, goes wrong here.
 -- Assumes nothing.
 use mathlib.Core.Bool.{Bool, true, false}
 use mathlib.Core.List.{List, [], _∷_, _++_, map}
