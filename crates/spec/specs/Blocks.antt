@@ -16,6 +16,7 @@ use Rattle.spec.specs.Directory.{sizeOf, sizeFor}
 use Rattle.spec.specs.Log.{Entry, maxInLog}
 
 -- the largest value of a block: the whole chunk but the length word (4,088 bytes in chunks of 4,096)
+-- R14
 unfoldable pub blockLimit : ℕ → ℕ
 blockLimit p = 256 * chunkUnits p - 8
 
@@ -23,15 +24,18 @@ blockLimit p = 256 * chunkUnits p - 8
 unfoldable pub unitsFor : ℕ → ℕ
 unitsFor bytes = (8 + bytes + 255) / 256
 
+-- R16
 unfoldable pub blockSize : ℕ → ℕ → ℕ
 blockSize p bytes = sizeFor p (unitsFor bytes)
 
 -- unit u starts a block of s units
+-- R15
 abbrev pub startTests : ℕ → ℕ → ℕ → ℕ → List Bool
 startTests p n u s =
     leb 1 (unitChunk p u) ∷ ltb (unitChunk p u) n ∷ leb 1 s ∷ eqb (unitIn p u % s) 0 ∷ leb (unitIn p u + s) (chunkUnits p) ∷ []
 
 -- len: the block's first word; last: the word that the value ends in, if it ends within one
+-- R16
 abbrev pub lengthTests : ℕ → ℕ → ℕ → List Bool
 lengthTests s len last =
     leb (maxInLog + 1) len ∷ leb (len + 8) (256 * s) ∷ pick (eqb (len % 8) 0) true (ltb last (256 ^ (len % 8))) ∷ []
@@ -40,6 +44,7 @@ unfoldable pub blockTest : ℕ → ℕ → ℕ → ℕ → ℕ → ℕ → Bool
 blockTest p n u s len last = every (startTests p n u s ++ lengthTests s len last)
 
 -- unit u of an image of n chunks starts a block, its length is right and its fill is zero
+-- R14
 abbrev pub blockRight : ℕ → ℕ → List ℕ → ℕ → Bool
 blockRight p n ws u =
     blockTest p n u (sizeOf p ws (unitChunk p u)) (getD ws (unitWord u) 0) (getD ws (unitWord u + (getD ws (unitWord u) 0 + 7) / 8) 0)

@@ -18,6 +18,7 @@ pub record Item : Type 0 where
   pub gets : Held
 
 -- the register; the tray of staged items; the batch in hand, of a commit that has begun and is not known to have ended
+-- R73
 pub record Book : Type 0 where
   pub register : ℕ → Held
   pub staged : List Item
@@ -27,6 +28,7 @@ abbrev pub book : (ℕ → Held) → List Item → Option (List Item) → Book
 book register staged in-flight = record { register = register; staged = staged; in-flight = in-flight }
 
 -- it starts with a register, an empty tray and no batch
+-- R73
 abbrev pub newBook : (ℕ → Held) → Book
 newBook register = book register [] none
 
@@ -37,10 +39,12 @@ nothing k = Absent
 abbrev pub doneItem : Item → (ℕ → Held) → ℕ → Held
 doneItem i register k = pick (eqb (i .key) k) (i .gets) (register k)
 
+-- R54, R79
 abbrev pub doneItems : List Item → (ℕ → Held) → ℕ → Held
 doneItems [] register = register
 doneItems (i ∷ is) register = doneItems is (doneItem i register)
 
+-- R75
 abbrev pub doneBatch : Option (List Item) → (ℕ → Held) → ℕ → Held
 doneBatch none register = register
 doneBatch (some is) register = doneItems is register
@@ -62,6 +66,7 @@ abbrev pub withStaged : Item → Book → Book
 withStaged i b = book (b .register) (b .staged ++ (i ∷ [])) (b .in-flight)
 
 -- a call and its answer
+-- R74, R75
 abbrev pub note : Call → Report → Book → Book
 note (Format s c) r b = b
 note Open r b = b
@@ -75,9 +80,11 @@ note (Clean c) r b = b
 note Step r b = pick (isEnd r) (book (doneBatch (b .in-flight) (b .register)) (b .staged) none) b
 
 -- a power cut: the tray is emptied, a batch in hand stays there
+-- R76
 abbrev pub noteCut : Book → Book
 noteCut b = book (b .register) [] (b .in-flight)
 
 -- an opening: the tray is emptied; a batch in hand is done whole or dropped, as look-up then shows
+-- R76
 abbrev pub noteOpen : Bool → Book → Book
 noteOpen done b = book (pick done (doneBatch (b .in-flight) (b .register)) (b .register)) [] none

@@ -23,6 +23,7 @@ sameHeld (Value xs) Absent = false
 sameHeld (Value xs) (Value ys) = sameList xs ys
 
 -- the highest version of a key, 0 if it is not known
+-- R18
 abbrev pub highest : ℕ → List Entry → ℕ
 highest k [] = 0
 highest k (e ∷ es) = pick (eqb (e .key) k) (larger (e .version) (highest k es)) (highest k es)
@@ -31,9 +32,11 @@ highest k (e ∷ es) = pick (eqb (e .key) k) (larger (e .version) (highest k es)
 abbrev pub isTopOf : ℕ → ℕ → Entry → Bool
 isTopOf k h e = both (eqb (e .key) k) (eqb (e .version) h)
 
+-- R18
 unfoldable pub tops : ℕ → List Entry → List Entry
 tops k es = filter (isTopOf k (highest k es)) es
 
+-- R18
 unfoldable pub chosen : ℕ → List Entry → Option Entry
 chosen k es = first (tops k es)
 
@@ -41,13 +44,16 @@ abbrev pub isTop : List Entry → Entry → Bool
 isTop es e = eqb (e .version) (highest (e .key) es)
 
 -- a key is known if any entry of it is committed; the known keys, each once
+-- R17
 abbrev pub known : ℕ → List Entry → Bool
 known k es = isSome (chosen k es)
 
+-- R17
 abbrev pub keysOf : List Entry → List ℕ
 keysOf es = distinct (map (λ (e : Entry). e .key) es)
 
 -- the keys that a key table of so many words holds: a quarter, rounded down, at most 65,536
+-- R22
 unfoldable pub capacity : ℕ → ℕ
 capacity table = min (table / 4) 65536
 
@@ -55,6 +61,7 @@ capacity table = min (table / 4) 65536
 abbrev pub inLog : Entry → Held
 inLog e = pick (eqb (e .op) 1) (Value (valueBytes (e .field) (e .value))) Absent
 
+-- R19
 abbrev pub meaning : List ℕ → Entry → Held
 meaning ws e = pick (pointed e) (Value (blockBytes ws (e .field))) (inLog e)
 
@@ -74,10 +81,12 @@ listed (Entries es) = es
 abbrev pub entriesIn : ℕ → ℕ → List ℕ → List Entry
 entriesIn p n ws = listed (imageEntries p n ws)
 
+-- R19, R77
 unfoldable pub contents : ℕ → ℕ → List ℕ → ℕ → Held
 contents p n ws k = contentsBy (meaning ws) (entriesIn p n ws) k
 
 -- Top entries agree if they are equal in every word: first word, key, and a value in the log.
+-- R20
 abbrev pub agree : Entry → Entry → Bool
 agree e f = sameList (encode e) (encode f)
 
@@ -85,6 +94,7 @@ agree e f = sameList (encode e) (encode f)
 abbrev pub pointers : List Entry → List ℕ
 pointers es = map (λ (e : Entry). e .field) (filter pointed es)
 
+-- R21
 abbrev pub liveBlocks : List Entry → List ℕ
 liveBlocks es = pointers (filter (isTop es) es)
 
@@ -100,8 +110,10 @@ abbrev pub isAt : Option Entry → ℕ → Bool
 isAt none at = false
 isAt (some e) at = eqb (e .at) at
 
+-- R56
 abbrev pub isKept : List Entry → List Entry → Entry → Bool
 isKept all rest e = both (isAt (chosen (e .key) all) (e .at)) (either (eqb (e .op) 1) (known (e .key) rest))
 
+-- R56
 unfoldable pub keptIn : ℕ → ℕ → List Entry → List Entry
 keptIn p c es = filter (isKept es (filter (elsewhere p c) es)) (filter (inChunk p c) es)

@@ -33,6 +33,7 @@ ChangedBy (some (Store w v)) bytes bytes′ = (wordsOf bytes′ ≡ set (wordsOf
 ChangedBy (some (Flush l)) bytes bytes′ = bytes′ ≡ bytes
 ChangedBy (some Fence) bytes bytes′ = bytes′ ≡ bytes
 
+-- R32, R35
 abbrev pub Changed : Report → List ℕ → List ℕ → Type 0
 Changed r bytes bytes′ = ChangedBy (actionOf r) bytes bytes′
 
@@ -51,6 +52,7 @@ abbrev pub orEmpty : Option (List ℕ) → List ℕ
 orEmpty none = []
 orEmpty (some part) = part
 
+-- R65
 abbrev pub partBytes : Report → List ℕ → List ℕ
 partBytes r bytes = orEmpty (partIn r bytes)
 
@@ -124,6 +126,7 @@ module _ {S : Type 0} (Proper : S → Type 0) (stateOf : S → State) (Fits : S 
   Ready k s ws table = ReadyBy (kindOf k) s ws table
 
   -- on memory as our calls left it: the definition's answer, the definition's state, and memory fits again
+  -- R36
   pub record Exact (k : Call) (s s′ : S) (bytes bytes′ table table′ : List ℕ) (r : Report) : Type 0 where
     pub answered : r ≡ answer p limit k (stateOf s) (wordsOf bytes) (length bytes) (length table)
     pub became : stateOf s′ ≡ next p limit k (stateOf s) (wordsOf bytes) (length bytes) (length table)
@@ -138,20 +141,24 @@ module _ {S : Type 0} (Proper : S → Type 0) (stateOf : S → State) (Fits : S 
   KeptBy ToRead s s′ table table′ = (s′ ≡ s) × (table′ ≡ table)
   KeptBy ToStep s s′ table table′ = (s′ ≡ s) × (table′ ≡ table)
 
+  -- R29, R35
   abbrev pub Kept : Call → S → S → List ℕ → List ℕ → Type 0
   Kept k s s′ table table′ = KeptBy (kindOf k) s s′ table table′
 
   -- an action's step: one step fewer is left; while a formatting is unfinished the table is as it was
+  -- R44
   abbrev pub TableKept : State → List ℕ → List ℕ → Type 0
   TableKept Closed table table′ = table′ ≡ table
   TableKept (Rest b t items) table table′ = table′ ≡ table
   TableKept (Busy b t items task rest) table table′ = Unit {0}
   TableKept (Formatting o b t rest) table table′ = table′ ≡ table
 
+  -- R33
   abbrev pub Counted : S → S → List ℕ → List ℕ → Type 0
   Counted s s′ table table′ = (stepsLeft (stateOf s) ≡ suc (stepsLeft (stateOf s′))) × TableKept (stateOf s) table table′
 
   -- what holds of an answer for any memory at all
+  -- R33, R37
   abbrev pub Outcome : Call → S → S → List ℕ → List ℕ → Report → Type 0
   Outcome k s s′ table table′ (R.Refused n) = MemRefusal n (refusals k) × Kept k s s′ table table′
   Outcome k s s′ table table′ (R.Begun a) = (stepsLeft (stateOf s′) ≡ suc a) × (table′ ≡ table)
@@ -166,10 +173,12 @@ module _ {S : Type 0} (Proper : S → Type 0) (stateOf : S → State) (Fits : S 
   Outcome k s s′ table table′ (R.Part a n v) = (s′ ≡ s) × (table′ ≡ table)
 
   -- what the record and the lengths alone decide, whatever the image and the table hold
+  -- R37
   abbrev pub Barred : Call → S → List ℕ → List ℕ → Report → Type 0
   Barred k s bytes table r = (r′ : Report) → barred k (stateOf s) (length bytes) (length table) ≡ some r′ → r ≡ r′
 
   -- what a call did: the record, the image's bytes and the table before and after, and the report
+  -- R30
   pub record Called (k : Call) (s s′ : S) (bytes bytes′ table table′ : List ℕ) (r : Report) : Type 0 where
     pub exact : Ready k s (wordsOf bytes) table → Exact k s s′ bytes bytes′ table table′ r
     pub first : Barred k s bytes table r
@@ -188,6 +197,7 @@ module _ {S : Type 0} (Proper : S → Type 0) (stateOf : S → State) (Fits : S 
 
   -- From a call that was begun with a actions, whichever it is and whatever it was lent: actions and a count are fixed
   -- there, and the next a + 1 steps report those a actions, in order, and then the end with that count.
+  -- R33
   abbrev pub Ends : Type 0
   Ends = (k : Call) (s s′ : S) (bytes bytes′ table table′ : List ℕ) (a : ℕ) → Called k s s′ bytes bytes′ table table′ (R.Begun a)
       → (acts : List Action) × ((n : ℕ) × ((length acts ≡ a) × (CountAt k n
@@ -195,6 +205,7 @@ module _ {S : Type 0} (Proper : S → Type 0) (stateOf : S → State) (Fits : S 
 
   -- PAST THE IMAGE NOTHING CHANGES: an altered record may have a step report a store or flush at a place that the lent
   -- image does not have, and then no byte of it is another.
+  -- R37
   abbrev pub PastImage : Type 0
   PastImage = (k : Call) (s s′ : S) (bytes bytes′ table table′ : List ℕ) (r : Report)
       → Called k s s′ bytes bytes′ table table′ r → AreBytes bytes → AreBytes bytes′ → Past r bytes → bytes′ ≡ bytes

@@ -17,19 +17,23 @@ use Rattle.spec.specs.declared.Role.the-variants as R
 
 -- Block sizes: a chunk is shared out evenly, so a block of the size for u units is the chunk's units divided by
 -- (these divided by u). In chunks of 16 units the sizes are 2, 3, 4, 5, 8 and 16, with 8, 5, 4, 3, 2 and 1 blocks.
+-- R15
 unfoldable pub sizeFor : ℕ → ℕ → ℕ
 sizeFor p u = chunkUnits p / (chunkUnits p / u)
 
+-- R15
 unfoldable pub isSize : ℕ → ℕ → Bool
 isSize p s = both (leb 2 s) (both (leb s (chunkUnits p)) (eqb (sizeFor p s) s))
 
 -- what a directory word says, from its low eight bits and the rest
+-- R6
 abbrev pub roleBy : ℕ → ℕ → ℕ → Role
 roleBy p low high =
     pick (eqb low 0) (pick (eqb high 0) R.Free R.Wrong)
     (pick (eqb low 1) (pick (both (leb 1 high) (leb high (chunkLines p))) (R.Log high) R.Wrong)
     (pick (eqb low 2) (pick (isSize p high) (R.Data high) R.Wrong) R.Wrong))
 
+-- R6
 unfoldable pub roleOf : ℕ → ℕ → Role
 roleOf p w = roleBy p (w % 256) (w / 256)
 
@@ -71,6 +75,7 @@ isRole (R.Data s) = true
 isRole R.Wrong = false
 
 -- the word of chunk c is right, in an image of n chunks: the words of chunk 0 and of chunks past the count are 0
+-- R7
 unfoldable pub directoryRight : ℕ → ℕ → ℕ → ℕ → Bool
 directoryRight p n c w = pick (both (leb 1 c) (ltb c n)) (isRole (roleOf p w)) (eqb w 0)
 

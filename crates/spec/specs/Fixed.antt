@@ -35,5 +35,6 @@ module _ {S : Type 0} (Proper : S → Type 0) (stateOf : S → State) (Fits : S 
     pub planned : Fits s (wordsOf bytes) table
         → planClean p (chunksIn p (length bytes)) (wordsOf bytes) (entriesIn p (chunksIn p (length bytes)) (wordsOf bytes)) (itemsOf (stateOf s)) c ≡ Begin [] (Cleaning count olds) acts
 
+  -- R63
   abbrev pub Fixed : Type 0
   Fixed = (c : ℕ) (s s′ : S) (bytes bytes′ table table′ : List ℕ) (a : ℕ) → Called Proper stateOf Fits p limit (Clean c) s s′ bytes bytes′ table table′ (R.Begun a) → FixedAt c s s′ bytes table a

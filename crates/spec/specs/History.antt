@@ -24,6 +24,7 @@ use Rattle.spec.specs.declared.Report.{Report}
 use Rattle.spec.specs.declared.Report.the-variants as R
 
 -- a call, or a power cut with the value that each word keeps
+-- R70
 pub data Event : Type 0 where
   Do : Call → Event
   Cut : (ℕ → ℕ) → Event
@@ -59,11 +60,13 @@ unfinishedAfter (R.Part a n v) u = u
 
 -- WHAT MAY FOLLOW WHAT. An opening is lent any record, and any table no smaller than at the opening before, and comes
 -- only when every call begun has ended; any other call gets record and table as the last call left them.
+-- R70
 abbrev pub SameLent : {S : Type 0} → Option (Lent S) → S → List ℕ → Type 0
 SameLent none s table = ⊥
 SameLent (some l) s table = (l .session ≡ s) × (l .table ≡ table)
 
 module _ {S : Type 0} (Proper : S → Type 0) where
+  -- R71
   abbrev pub MayOpen : World S → S → List ℕ → Type 0
   MayOpen w s table = (w .unfinished ≡ false) × (Proper s × (w .least ≤ length table))
 
@@ -78,6 +81,7 @@ module _ {S : Type 0} (Proper : S → Type 0) where
   Lends k w s table = LendsBy (kindOf k) w s table
 
 -- a formatting stands in the list only if refused; a value is bytes
+-- R72
 abbrev pub Stands : Call → Report → Type 0
 Stands (Format a b) r = isRefused r ≡ true
 Stands Open r = Unit {0}
@@ -112,21 +116,25 @@ afterCall k w s′ image′ table′ r = record {
   least = leastAfter k table′ (w .least);
 }
 
+-- R70
 abbrev pub afterCut : {S : Type 0} → World S → (ℕ → ℕ) → List ℕ → World S
 afterCut w chooses image′ = record { medium = settledAt (cut chooses (w .medium)); image = image′; lent = none; unfinished = false; least = w .least }
 
 module _ {S : Type 0} (Proper : S → Type 0) (stateOf : S → State) (Fits : S → List ℕ → List ℕ → Type 0) (p limit : ℕ) where
   -- look-up, whatever is asked, then gives this register
+  -- R68, R78
   abbrev pub Shows : S → List ℕ → List ℕ → (ℕ → Held) → Type 0
   Shows s image table register =
       (k : ℕ) (s′ : S) (table′ : List ℕ) (r : Report) → Called Proper stateOf Fits p limit (LookUp k) s s′ image image table table′ r → shows r image ≡ some (register k)
 
   -- WHAT IS CLAIMED of a call's outcome, and of what comes then. Every opening succeeds, and look-up then gives the
   -- book's register; so does every look-up with no call unfinished.
+  -- R68
   abbrev pub Opens : (World S → Book → Type 0) → World S → Book → S → List ℕ → List ℕ → Report → Type 0
   Opens Then w b s′ image′ table′ r =
       (r ≡ R.Opened) × ((done : Bool) × (Shows s′ image′ table′ (noteOpen done b .register) × Then (afterCall Open w s′ image′ table′ r) (noteOpen done b)))
 
+  -- R68
   abbrev pub Looks : ℕ → World S → Book → List ℕ → Report → Type 0
   Looks k w b image r = w .unfinished ≡ false → shows r image ≡ some (b .register k)
 
@@ -169,6 +177,7 @@ module _ {S : Type 0} (Proper : S → Type 0) (stateOf : S → State) (Fits : S 
   abbrev pub world : Medium → List ℕ → Option (Lent S) → ℕ → World S
   world m image lent least = record { medium = m; image = image; lent = lent; unfinished = false; least = least }
 
+  -- R69
   abbrev pub AfterFormat : List Event → Type 0
   AfterFormat events =
       (m m′ : Medium) (s s₀ s′ : S) (image image′ table table₀ table′ : List ℕ) (station centre : Given) (a n : ℕ) (rs : List Report)
@@ -178,6 +187,7 @@ module _ {S : Type 0} (Proper : S → Type 0) (stateOf : S → State) (Fits : S 
       → Faithful events (world m′ image′ none 0) (newBook nothing)
 
   -- SECOND START: right after the opening that accepted an image in which each word has one possible value
+  -- R69
   abbrev pub AfterOpening : List Event → Type 0
   AfterOpening events =
       (s s′ : S) (image table table′ : List ℕ) → AreBytes image → Proper s → Called Proper stateOf Fits p limit Open s s′ image image table table′ R.Opened
@@ -185,5 +195,6 @@ module _ {S : Type 0} (Proper : S → Type 0) (stateOf : S → State) (Fits : S 
       (newBook (contents p (chunksIn p (length image)) (wordsOf image)))
 
   -- DEMAND 3, one claim over every list of calls and power cuts
+  -- R68
   abbrev pub Demand3 : Type 0
   Demand3 = (events : List Event) → AfterFormat events × AfterOpening events

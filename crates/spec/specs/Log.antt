@@ -28,6 +28,7 @@ abbrev pub maxInLog : ℕ
 maxInLog = 256
 
 -- a first word, from its parts
+-- R9, R12
 abbrev pub partsOf : ℕ → ℕ → ℕ → ℕ → FirstWord
 partsOf op placement version field =
     pick (eqb version 0) F.Wrong
@@ -38,6 +39,7 @@ partsOf op placement version field =
     (pick (eqb placement 0) (pick (eqb field 0) (F.Entry 2 0 version 0) F.Wrong) F.Wrong)
     F.Wrong))
 
+-- R8
 unfoldable pub firstOf : ℕ → FirstWord
 firstOf w = pick (eqb w 0) F.Padding (partsOf (w % 4) (w / 4 % 4) (w / 16 % 1048576) (w / 16777216))
 
@@ -46,10 +48,12 @@ abbrev pub wordsFor : ℕ → ℕ → ℕ
 wordsFor placement field = pick (eqb placement 0) ((field + 7) / 8) 0
 
 -- the last word of a value in the log is zero-filled; l is the words from the entry's first
+-- R11
 abbrev pub filled : ℕ → ℕ → List ℕ → Bool
 filled placement field l = pick (eqb placement 0) (pick (eqb (field % 8) 0) true (ltb (getD l (2 + field / 8) 0) (256 ^ (field % 8)))) true
 
 -- the entry whose first word stands at the head of l, if it ends within l
+-- R11, R13
 abbrev pub withFirst : FirstWord → List ℕ → LogStep
 withFirst F.Padding l = S.Padding
 withFirst F.Wrong l = S.Wrong
@@ -87,6 +91,7 @@ prepend (e ∷ es) q = cons e (prepend es q)
 
 -- go on behind what stands at the head of l, which is word `at`; `rest n` is what follows if n words behind the first
 -- are skipped
+-- R8
 abbrev pub after : LogStep → List ℕ → ℕ → (ℕ → Parsed) → Parsed
 after S.End l at rest = Entries []
 after S.Padding l at rest = rest 0
@@ -95,6 +100,7 @@ after (S.Entry op placement version field key words) l at rest =
     cons (record { op = op; placement = placement; version = version; field = field; key = key; value = take words (drop 2 l); at = at }) (rest (suc words))
 
 -- the entries in words that start at word `at`, the first `skip` of them belonging to an entry that began before
+-- R8
 abbrev pub parse : List ℕ → ℕ → ℕ → Parsed
 parse [] skip at = Entries []
 parse (w ∷ ws) zero at = after (stepOf (w ∷ ws)) (w ∷ ws) at (λ n. parse ws n (suc at))
@@ -105,6 +111,7 @@ abbrev pub entriesOf : List ℕ → ℕ → ℕ → Parsed
 entriesOf ws from lines = parse (slice from (from + 8 * lines) ws) 0 from
 
 -- the entries of chunk c, none if it is no log chunk
+-- R13
 abbrev pub chunkEntries : ℕ → List ℕ → ℕ → Parsed
 chunkEntries p ws c = entriesOf ws (base p c) (linesOf p ws c)
 
@@ -122,6 +129,7 @@ abbrev pub imageEntries : ℕ → ℕ → List ℕ → Parsed
 imageEntries p n ws = allFrom p (n - 1) 1 ws
 
 -- An entry's words: what a commit writes.
+-- R9
 abbrev pub headOf : Entry → ℕ
 headOf e = e .op + 4 * e .placement + 16 * e .version + 16777216 * e .field
 

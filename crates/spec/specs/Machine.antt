@@ -67,6 +67,7 @@ pub data State : Type 0 where
   Formatting : Bool → ℕ → ℕ → List Action → State
 
 -- 2, 1, 8: what every call on an open register asks first, lent so many bytes and a table of so many words
+-- R38
 abbrev pub gate : State → ℕ → ℕ → Option Refusal
 gate Closed bytes table = some N.NotOpen
 gate (Rest b t items) bytes table = pick (both (eqb b bytes) (eqb t table)) none (some N.ImageLength)
@@ -75,6 +76,7 @@ gate (Formatting false b t rest) bytes table = some N.NotOpen
 gate (Formatting true b t rest) bytes table = pick (both (eqb b bytes) (eqb t table)) (some N.Unfinished) (some N.ImageLength)
 
 -- 2, 1, 8: what look-up asks first; a call unfinished on the open register, but for a formatting, is no refusal
+-- R38
 abbrev pub readGate : State → ℕ → ℕ → Option Refusal
 readGate Closed bytes table = some N.NotOpen
 readGate (Rest b t items) bytes table = pick (both (eqb b bytes) (eqb t table)) none (some N.ImageLength)
@@ -83,6 +85,7 @@ readGate (Formatting false b t rest) bytes table = some N.NotOpen
 readGate (Formatting true b t rest) bytes table = pick (both (eqb b bytes) (eqb t table)) (some N.Unfinished) (some N.ImageLength)
 
 -- the words that look-up reads, of the image's words
+-- R88
 abbrev pub readWords : State → List ℕ → List ℕ
 readWords Closed ws = ws
 readWords (Rest b t items) ws = ws
@@ -109,6 +112,7 @@ isOpen (Formatting o b t rest) = o
 
 -- The plan of a call on an open register, in an image of so many bytes whose words are ws, with a table of so many
 -- words.
+-- R31
 abbrev pub planOf : ℕ → ℕ → Call → List Entry → List ℕ → ℕ → ℕ → Option Plan
 planOf p limit (Format s c) items ws bytes table = none
 planOf p limit Open items ws bytes table = none
@@ -121,6 +125,7 @@ planOf p limit Choose items ws bytes table = none
 planOf p limit (Clean c) items ws bytes table = some (planClean p (chunksIn p bytes) ws (entriesIn p (chunksIn p bytes) ws) items c)
 planOf p limit Step items ws bytes table = none
 
+-- R31
 abbrev pub begun : Plan → State → State
 begun (Refuse n) σ = σ
 begun (Begin items task acts) Closed = Closed
@@ -137,11 +142,13 @@ abbrev pub opened : Opening → Report
 opened (Refused n) = R.Refused n
 opened (Accepted es) = R.Opened
 
+-- R23, R29
 abbrev pub openedState : Opening → ℕ → ℕ → State
 openedState (Refused n) bytes table = Closed
 openedState (Accepted es) bytes table = Rest bytes table []
 
 -- format: 1 (length not allowed), 8
+-- R40
 abbrev pub formatAnswer : ℕ → Given → Given → State → ℕ → Report
 formatAnswer p s c σ bytes =
     pick (lengthAllowed p bytes) (pick (isUnfinished σ) (R.Refused N.Unfinished) (R.Begun (length (formatOf (chunksIn p bytes) s c)))) (R.Refused N.ImageLength)
@@ -151,6 +158,7 @@ formatState p s c σ bytes table =
     pick (lengthAllowed p bytes) (pick (isUnfinished σ) σ (Formatting (isOpen σ) bytes table (formatOf (chunksIn p bytes) s c))) σ
 
 -- stepping: idle, else 1 alone; the next action, or the end with its count
+-- R59
 abbrev pub countOf : Task → ℕ
 countOf Staging = 0
 countOf (Committing olds) = 0
@@ -160,6 +168,7 @@ abbrev pub nextReport : ℕ → List Action → Report
 nextReport n [] = R.End n
 nextReport n (a ∷ rest) = asReport a
 
+-- R32, R40
 abbrev pub stepAnswer : State → ℕ → ℕ → Report
 stepAnswer Closed bytes table = R.Idle
 stepAnswer (Rest b t items) bytes table = R.Idle
@@ -167,11 +176,13 @@ stepAnswer (Busy b t items task rest) bytes table = pick (both (eqb b bytes) (eq
 stepAnswer (Formatting o b t rest) bytes table = pick (both (eqb b bytes) (eqb t table)) (nextReport 0 rest) (R.Refused N.ImageLength)
 
 -- the staged items when a call has ended: a commit's have joined the register
+-- R54
 abbrev pub itemsThen : Task → List Entry → List Entry
 itemsThen Staging items = items
 itemsThen (Committing olds) items = []
 itemsThen (Cleaning n olds) items = items
 
+-- R31, R44
 abbrev pub stepped : State → State
 stepped Closed = Closed
 stepped (Rest b t items) = Rest b t items
@@ -185,6 +196,7 @@ abbrev pub planAnswer : Option Plan → Report
 planAnswer none = R.Idle
 planAnswer (some q) = planned q
 
+-- R36
 abbrev pub answer : ℕ → ℕ → Call → State → List ℕ → ℕ → ℕ → Report
 answer p limit (Format s c) σ ws bytes table = formatAnswer p s c σ bytes
 answer p limit Open σ ws bytes table = opened (opening p bytes ws table)
@@ -219,6 +231,7 @@ abbrev pub barred : Call → State → ℕ → ℕ → Option Report
 barred k σ bytes table = barredBy (kindOf k) σ bytes table
 
 -- THE STATE that a call leaves: a refused call, but for an opening, leaves the state as it was
+-- R55
 abbrev pub emptied : State → State
 emptied Closed = Closed
 emptied (Rest b t items) = Rest b t []
@@ -248,16 +261,19 @@ isOpening ToWork = false
 isOpening ToRead = false
 isOpening ToStep = false
 
+-- R35, R36
 unfoldable pub next : ℕ → ℕ → Call → State → List ℕ → ℕ → ℕ → State
 next p limit k σ ws bytes table =
     pick (both (isRefused (answer p limit k σ ws bytes table)) (negate (isOpening (kindOf k)))) σ (change p limit k σ ws bytes table)
 
 -- the numbers that a call may refuse with, whatever memory holds, in the order in which they are asked; 17 only where a
 -- version is named
+-- R86
 abbrev pub versionAsked : Given → List Refusal → List Refusal
 versionAsked G.Absent rs = rs
 versionAsked (G.Number n) rs = N.OtherVersion ∷ rs
 
+-- R37
 abbrev pub refusals : Call → List Refusal
 refusals (Format s c) = N.ImageLength ∷ N.Unfinished ∷ []
 refusals Open = N.ImageLength ∷ N.NotOpen ∷ N.DirectoryWrong ∷ N.EntryWrong ∷ N.BlockWrong ∷ N.TopsDisagree ∷ N.TableFull ∷ []

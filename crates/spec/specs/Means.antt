@@ -19,11 +19,13 @@ use Rattle.spec.specs.declared.Report.{Report}
 use Rattle.spec.specs.declared.Report.the-variants as R
 
 -- The register that an image of these bytes means: for each key the bytes of its highest version, or absent.
+-- R77
 abbrev pub meant : ℕ → List ℕ → ℕ → Held
 meant p image = contents p (chunksIn p (length image)) (wordsOf image)
 
 -- What a call does to the register from its begin to its end, with these items in the tray: a commit does them in
 -- order; a staging and a cleaning keep the register the same; a formatting makes it empty.
+-- R79
 abbrev pub does : Call → List Item → (ℕ → Held) → ℕ → Held
 does (Format a b) tray register = nothing
 does Open tray register = register
@@ -50,6 +52,7 @@ MayBegin (Clean c) = Unit {0}
 MayBegin Step = ⊥
 
 -- every call but a step, and a step with no call unfinished
+-- R80
 abbrev pub Untouching : Call → Bool → Type 0
 Untouching (Format a b) u = Unit {0}
 Untouching Open u = Unit {0}
@@ -66,6 +69,7 @@ module _ {S : Type 0} (Proper : S → Type 0) (stateOf : S → State) (Fits : S 
   -- WHAT IS CLAIMED of a record, an image and a table as our calls left them. The book has noted the calls and their
   -- answers; its tray has the items staged since the last commit, abandoning or opening. u: whether a call begun has
   -- not ended.
+  -- R78, R80
   pub record Right (b : Book) (u : Bool) (s : S) (image table : List ℕ) : Type 0 where
     -- with no call unfinished the image means what the book's register says, whatever refused calls stood between
     pub booked : u ≡ false → (key : ℕ) → meant p image key ≡ b .register key

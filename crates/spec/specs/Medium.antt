@@ -42,14 +42,17 @@ abbrev pub values : Cell → List ℕ
 values c = c .now ∷ (c .newer ++ c .older)
 
 -- a store adds a value
+-- R67
 abbrev pub added : ℕ → Cell → Cell
 added v c = record { now = v; newer = c .now ∷ c .newer; older = c .older }
 
 -- a flush marks the latest
+-- R67
 abbrev pub marked : Cell → Cell
 marked c = record { now = c .now; newer = []; older = c .newer ++ c .older }
 
 -- a fence drops all before a mark
+-- R67
 abbrev pub drained : Cell → Cell
 drained c = record { now = c .now; newer = c .newer; older = [] }
 
@@ -93,6 +96,7 @@ Mem x [] = ⊥
 Mem x (y ∷ ys) = (x ≡ y) ⊎ Mem x ys
 
 -- a cut: each word picks one of its possible values
+-- R67
 abbrev pub CanCutTo : Medium → List ℕ → Type 0
 CanCutTo [] [] = Unit {0}
 CanCutTo [] (x ∷ xs) = ⊥
@@ -104,6 +108,7 @@ abbrev pub cutFrom : (ℕ → ℕ) → ℕ → Medium → List ℕ
 cutFrom chooses i [] = []
 cutFrom chooses i (c ∷ cs) = getD (values c) (chooses i) (c .now) ∷ cutFrom chooses (suc i) cs
 
+-- R67
 abbrev pub cut : (ℕ → ℕ) → Medium → List ℕ
 cut chooses m = cutFrom chooses 0 m
 

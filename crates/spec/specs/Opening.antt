@@ -21,6 +21,7 @@ pub data Opening : Type 0 where
   Accepted : List Entry → Opening
 
 -- 3: every word of the directory is right
+-- R25
 abbrev pub directoryTest : ℕ → ℕ → List ℕ → Bool
 directoryTest p n ws = directoryFrom p n maxChunks 0 (drop 8 ws)
 
@@ -29,9 +30,11 @@ abbrev pub eachTop : List Entry → (Entry → Bool) → Bool
 eachTop es test = all (λ e. pick (isTop es e) (test e) true) es
 
 -- 5: the block of each top put that points to one is right
+-- R26
 abbrev pub fine : ℕ → ℕ → List ℕ → Entry → Bool
 fine p n ws e = pick (pointed e) (blockRight p n ws (e .field)) true
 
+-- R26
 abbrev pub blocksTest : ℕ → ℕ → List ℕ → List Entry → Bool
 blocksTest p n ws es = eachTop es (fine p n ws)
 
@@ -40,6 +43,7 @@ abbrev pub agreeWith : Entry → Option Entry → Bool
 agreeWith e none = true
 agreeWith e (some f) = agree e f
 
+-- R27
 abbrev pub agreeTest : List Entry → Bool
 agreeTest es = eachTop es (λ e. agreeWith e (chosen (e .key) es))
 
@@ -47,14 +51,17 @@ agreeTest es = eachTop es (λ e. agreeWith e (chosen (e .key) es))
 abbrev pub sharing : Entry → Entry → Bool
 sharing e f = both (pointed e) (both (pointed f) (eqb (e .field) (f .field)))
 
+-- R27
 abbrev pub apartTest : List Entry → Bool
 apartTest es = eachTop es (λ e. eachTop es (λ f. pick (sharing e f) (eqb (e .key) (f .key)) true))
 
 -- 7: the known keys exceed the table of so many words
+-- R28
 abbrev pub fitsTable : ℕ → List Entry → Bool
 fitsTable table es = leb (length (keysOf es)) (capacity table)
 
 -- 4 to 7, by the parsed log
+-- R25
 abbrev pub openLog : ℕ → ℕ → List ℕ → ℕ → Parsed → Opening
 openLog p n ws table Wrong = Refused N.EntryWrong
 openLog p n ws table (Entries es) =
@@ -71,5 +78,6 @@ openChunks p n ws table =
     (Refused N.NotOpen)
 
 -- the opening of an image of so many bytes whose words are ws, with a key table of so many words
+-- R23
 unfoldable pub opening : ℕ → ℕ → List ℕ → ℕ → Opening
 opening p bytes ws table = pick (lengthAllowed p bytes) (openChunks p (chunksIn p bytes) ws table) (Refused N.ImageLength)

@@ -14,6 +14,7 @@ use Rattle.spec.specs.Basics.{both}
 abbrev pub basePower : ℕ
 basePower = 12
 
+-- R2
 unfoldable pub chunkBytes : ℕ → ℕ
 chunkBytes p = 2 ^ p
 
@@ -40,23 +41,29 @@ firstUnit p c = c * chunkUnits p
 unfoldable pub wordChunk : ℕ → ℕ → ℕ
 wordChunk p w = w / chunkWords p
 
+-- R10
 unfoldable pub unitChunk : ℕ → ℕ → ℕ
 unitChunk p u = u / chunkUnits p
 
+-- R10
 unfoldable pub unitIn : ℕ → ℕ → ℕ
 unitIn p u = u % chunkUnits p
 
 -- the directory word of chunk c; the directory has 504 words
+-- R5
 abbrev pub directoryWord : ℕ → ℕ
 directoryWord c = 8 + c
 
+-- R5
 abbrev pub maxChunks : ℕ
 maxChunks = 504
 
 -- the line of word w, and the first word of unit u
+-- R2
 abbrev pub lineOf : ℕ → ℕ
 lineOf w = w / 8
 
+-- R2, R10
 abbrev pub unitWord : ℕ → ℕ
 unitWord u = 32 * u
 
@@ -64,5 +71,6 @@ unitWord u = 32 * u
 unfoldable pub chunksIn : ℕ → ℕ → ℕ
 chunksIn p bytes = bytes / chunkBytes p
 
+-- R2, R24
 unfoldable pub lengthAllowed : ℕ → ℕ → Bool
 lengthAllowed p bytes = both (eqb (bytes % chunkBytes p) 0) (both (leb 4 (chunksIn p bytes)) (leb (chunksIn p bytes) maxChunks))

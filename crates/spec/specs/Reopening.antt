@@ -27,6 +27,7 @@ module _ {S : Type 0} (Proper : S → Type 0) (stateOf : S → State) (Fits : S 
   -- Two stations with their own records, images and tables get the same list of calls, of any kind, each lent what its
   -- last call left. Whatever they answer, as the contract allows: the answers (with them the reported actions) are the
   -- same, and the images are, byte for byte, call by call. (An image is bytes.)
+  -- R82
   abbrev pub Alike : List Call → S → S → List ℕ → List ℕ → List ℕ → List ℕ → Type 0
   Alike [] s t image other table beside = Same s t image other table beside
   Alike (k ∷ ks) s t image other table beside =
@@ -42,10 +43,12 @@ module _ {S : Type 0} (Proper : S → Type 0) (stateOf : S → State) (Fits : S 
       → (r ≡ R.Opened) × ((calls : List Call) → Alike calls s t′ image image table table′)
 
   -- CLOSING CHANGES NOTHING: a register is open, record and table fit the image, nothing is staged or unfinished.
+  -- R82
   abbrev pub Reopened : Type 0
   Reopened = (s : S) (image table : List ℕ) → AreBytes image → Fits s (wordsOf image) table → stateOf s ≡ Rest (length image) (length table) [] → Reopens s image table
 
   -- The same with nothing said of what a record holds: after every list of calls behind an opening, wherever by their
   -- answers the tray is empty and no call is unfinished.
+  -- R82
   abbrev pub ReopenedAfter : Type 0
   ReopenedAfter = AsCallsLeft Proper stateOf Fits p limit (λ b u s image table. b .staged ≡ [] → u ≡ false → Reopens s image table)

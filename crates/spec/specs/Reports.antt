@@ -14,6 +14,7 @@ use Rattle.spec.specs.declared.Report.{Report}
 use Rattle.spec.specs.declared.Report.the-variants as R
 
 -- the numbers of the refusals
+-- R41
 abbrev pub number : Refusal → ℕ
 number N.ImageLength = 1
 number N.NotOpen = 2

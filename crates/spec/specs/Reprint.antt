@@ -92,6 +92,7 @@ module _ {S : Type 0} (Proper : S → Type 0) (stateOf : S → State) (Fits : S 
         → (xs ys : List Report) → rs ≡ xs ++ (R.Fence ∷ ys) → ⊥
 
   -- of memory as our calls left it, with no call unfinished
+  -- R88
   abbrev pub Reprinted : Type 0
   Reprinted = AsCallsLeft Proper stateOf Fits p limit (λ b u s image table. u ≡ false → Reprints s image table)
 
@@ -120,5 +121,6 @@ module _ {S : Type 0} (Proper : S → Type 0) (stateOf : S → State) (Fits : S 
       (s s′ : S) (image table table′ : List ℕ) → AreBytes image → Proper s → Called Proper stateOf Fits p limit Open s s′ image image table table′ R.Opened
       → Leads events (world Proper stateOf Fits p limit (settledAt (wordsOf image)) image (some (record { session = s′; table = table′ })) (length table′)) (newBook (meant p image))
 
+  -- R89
   abbrev pub AlwaysACut : Type 0
   AlwaysACut = (events : List Event) → FromFormat events × FromOpening events

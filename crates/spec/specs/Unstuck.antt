@@ -42,6 +42,7 @@ Cleanable p n ws =
 
 -- NOT STUCK: a free chunk stands, or choosing names one that cleaning only frees; and cleaning takes what choosing
 -- names
+-- R83
 abbrev pub Unstuck : ℕ → ℕ → List ℕ → Type 0
 Unstuck p n ws = (FreeStands p n ws ⊎ Freeable p n ws) × Cleanable p n ws
 
@@ -54,6 +55,7 @@ module _ {S : Type 0} (Proper : S → Type 0) (stateOf : S → State) (Fits : S 
   UnstuckIn image = Unstuck p (chunksIn p (length image)) (wordsOf image)
 
   -- THE HOST'S RULE: a commit that is accepted was begun while a free chunk stood. Of the other calls nothing is asked.
+  -- R83
   abbrev pub Obeys : Call → World S → Report → Type 0
   Obeys (Format a c) w r = Unit {0}
   Obeys Open w r = Unit {0}
@@ -108,5 +110,6 @@ module _ {S : Type 0} (Proper : S → Type 0) (stateOf : S → State) (Fits : S 
       × KeepsRoom events (world Proper stateOf Fits p limit (settledAt (wordsOf image)) image (some (record { session = s′; table = table′ })) (length table′))
 
   -- NEVER STUCK
+  -- R83
   abbrev pub NeverStuck : Type 0
   NeverStuck = (events : List Event) → RoomAfterFormat events × RoomAfterOpening events

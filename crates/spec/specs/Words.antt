@@ -14,6 +14,7 @@ joined a b c d e f g h =
     a + b * 0x100 + c * 0x1_0000 + d * 0x100_0000 + e * 0x1_0000_0000 + f * 0x100_0000_0000 + g * 0x1_0000_0000_0000 + h * 0x100_0000_0000_0000
 
 -- the word w of some bytes; a byte past the end counts as 0
+-- R1
 unfoldable pub wordAt : List ℕ → ℕ → ℕ
 wordAt xs w =
     getD xs (8 * w) 0
@@ -31,10 +32,12 @@ wordsFrom zero i xs = []
 wordsFrom (suc n) i xs = wordAt xs i ∷ wordsFrom n (suc i) xs
 
 -- the words of an image; bytes past its last whole word belong to none
+-- R1
 unfoldable pub wordsOf : List ℕ → List ℕ
 wordsOf xs = wordsFrom (length xs / 8) 0 xs
 
 -- the words of a value's bytes, zero-filled to 8 bytes
+-- R11
 abbrev pub packed : List ℕ → List ℕ
 packed [] = []
 packed (a ∷ []) = joined a 0 0 0 0 0 0 0 ∷ []
