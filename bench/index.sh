@@ -3,5 +3,5 @@
 set -e
 rt staticlib bench
 mkdir -p target/bench
-gcc -O2 -Wall -o target/bench/index bench/index.c target/staticlib/libbench_index.a
+gcc -O2 -Wall -o target/bench/index bench/index.c target/staticlib/libbench.a
 target/bench/index

@@ -8,7 +8,7 @@
 
 #include "zitskvoze.h"
 
-enum { CHUNKS = 504, BYTES = CHUNKS * ZKV_CHUNK_BYTES, TABLE = 262144, KEYS = 100, LOOKS = 400, ENTRIES = 60000 };
+enum { CHUNKS = 504, BYTES = CHUNKS * ZKV_CHUNK_BYTES, TABLE = 262144, KEYS = 100, LOOKS = 400, ENTRIES = 60000, CLEANINGS = 20 };
 
 static _Alignas(4096) uint8_t image[BYTES];
 static uint64_t table[TABLE];
@@ -117,6 +117,39 @@ static int opening_counted(void)
     return ENTRIES;
 }
 
+// Deletes of present keys, each with its commit.
+static int deletes_counted(void)
+{
+    for (uint64_t k = 0; k < KEYS; k++) {
+        batch(k, 1, 16);
+    }
+    CALLGRIND_START_INSTRUMENTATION;
+    for (uint64_t k = 0; k < KEYS; k++) {
+        finish(zkv_delete(LENT, k * 0x9E3779B97F4A7C15u).kind);
+        finish(zkv_commit(LENT).kind);
+    }
+    CALLGRIND_STOP_INSTRUMENTATION;
+    return KEYS;
+}
+
+// Cleanings of log chunks of which about half is kept: choosing, begin, and the runs to the end.
+static int cleanings_counted(void)
+{
+    for (uint64_t k = 0; k < 200; k++) {
+        batch(16 * k, 16, 16);
+    }
+    for (uint64_t k = 0; k < 200; k += 2) {
+        batch(16 * k, 16, 16);
+    }
+    CALLGRIND_START_INSTRUMENTATION;
+    for (int i = 0; i < CLEANINGS; i++) {
+        zkv_report chosen = zkv_choose(LENT);
+        finish(zkv_clean(LENT, chosen.first).kind);
+    }
+    CALLGRIND_STOP_INSTRUMENTATION;
+    return CLEANINGS;
+}
+
 int main(int count, char **words)
 {
     const char *row = count == 2 ? words[1] : "";
@@ -139,6 +172,10 @@ int main(int count, char **words)
         operations = named_counted((size_t)atoi(row + 5));
     } else if (strcmp(row, "open") == 0) {
         operations = opening_counted();
+    } else if (strcmp(row, "delete") == 0) {
+        operations = deletes_counted();
+    } else if (strcmp(row, "clean") == 0) {
+        operations = cleanings_counted();
     }
     printf("%d\n", operations);
     return operations == 0;

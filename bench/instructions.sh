@@ -34,6 +34,8 @@ look4088 look-up of a value in a block
 version16 look-up of a value in the log with its version
 named16 put of 16 bytes for a version named, with its commit
 open opening, an entry
+delete delete of a put of 16 bytes, with its commit
+clean cleaning of a chunk of which half is kept, chosen, begun and run
 END
 [ "${1:-}" != --keep ] || cp "$now" "$kept"
 worse=0

@@ -4,7 +4,7 @@
 set -e
 rt staticlib bench
 for f in bench_load bench_save; do
-    objdump -d --no-show-raw-insn target/staticlib/libbench_words.a |
+    objdump -d --no-show-raw-insn target/staticlib/libbench.a |
         awk -v f="<$f>:" '$2 == f { p = 1 } p { print } p && /ret/ { exit }' > "target/$f.txt"
     cat "target/$f.txt"
     echo "$f: $(grep -c 'mov.*(' "target/$f.txt") machine move(s) to or from memory"

@@ -9,8 +9,8 @@ tests/doc_names.py --unmark     takes them out: a patch made without the numbers
 Looked up, in backquotes: `crate::function` in src/lib.rt or src/main.rt of that crate; `crate::module::function` in its
 src/module.rt; `Module.name` in crates/spec/specs; `crate.Module` and `crate.Module.name` in the specs or proofs of that
 crate; paths below crates, tests, docs, host, include, tools, bench, .ci. So are links. A crate that crates.txt does not
-have is missing too. A paragraph behind `<!-- archive -->` or `<!-- list -->` speaks of what is to come and is passed
-over.
+have is missing too, and so is one of crates.txt that the table of rooms in docs/ARCHITECTURE.md lacks. A paragraph behind `<!-- archive -->` or `<!-- list -->` speaks of what is to come and is passed
+over; behind `<!-- names of that time -->` only links are looked up, to the end of the file.
 
 The rules' numbers, where docs/RULES.md is among the files. In crates/spec/specs they stand on a comment line of their
 own, rising, directly above the line that declares the name and below any other comment: `-- R52`, `-- R8, R9`. The line
@@ -28,7 +28,7 @@ import re
 import sys
 
 os.chdir(os.path.join(os.path.dirname(os.path.abspath(__file__)), '..'))
-RULES, SPECS = 'docs/RULES.md', 'crates/spec/specs'
+RULES, ROOMS, SPECS = 'docs/RULES.md', 'docs/ARCHITECTURE.md', 'crates/spec/specs'
 NUMBERS = re.compile(r'\s*-- (R\d+(?:, R\d+)*)')
 BEFORE = r'\s*(?:(?:abbrev|unfoldable|pub|record|data|ruleset) )*'
 DECLARES = re.compile(BEFORE + r'(?P<name>\w[^\s(){}]*)(?: [({].*[)}])? :(?:\s|$)')
@@ -63,7 +63,9 @@ def missing(token):
     if m and m[1] not in ('crate', 'std'):
         if m[1] not in CRATES:
             return 'no such crate'
-        return None if has_function(m[1], [m[2]] if m[2] else ['lib', 'main'], m[3]) else 'no such function'
+        if not m[2] and os.path.exists(f'crates/{m[1]}/src/{m[3]}.rt'):
+            return None
+        return None if has_function(m[1], [m[2]] if m[2] else ['lib', 'main'], m[3]) else 'no such function or module'
     m = re.fullmatch(r'([a-z_]+)\.([A-Z]\w*)(?:\.(\S+))?', token)
     if m and m[1] != 'crate':
         if m[1] not in CRATES:
@@ -174,15 +176,17 @@ def write_numbers(rules):
 def main(files):
     looked, bad = 0, []
     for file in files:
-        passed, where = False, os.path.dirname(file)
+        passed, old, where = False, False, os.path.dirname(file)
         for number, line in enumerate(read(file).split('\n'), 1):
+            if line.strip() == '<!-- names of that time -->':
+                old = True
             if re.fullmatch(r'<!-- (archive|list) -->', line.strip()):
                 passed = True
             elif not line.strip():
                 passed = False
             if passed or line.startswith('    '):
                 continue
-            for token in re.findall(r'`([^`]+)`', line):
+            for token in [] if old else re.findall(r'`([^`]+)`', line):
                 looked += 1
                 why = missing(token)
                 if why:
@@ -191,6 +195,9 @@ def main(files):
                 looked += 1
                 if '://' not in link and not os.path.exists(os.path.join(where, link)):
                     bad.append(f'{file}:{number}: link to {link}: no such file')
+    if ROOMS in map(os.path.normpath, files):
+        rows = set(re.findall(r'`(\w+)`', '\n'.join(l.split('|')[1] for l in read(ROOMS).split('\n') if l.startswith('| `'))))
+        bad += [f'{ROOMS}: the table of rooms lacks `{crate}`' for crate in sorted(CRATES - rows)]
     told = f'doc_names: {looked} names in {len(files)} documents, all in the tree'
     if RULES in map(os.path.normpath, files):
         wrong, count, declared = wrong_numbers(rules_of())
@@ -205,4 +212,5 @@ def main(files):
 
 if sys.argv[1:] in (['--mark'], ['--unmark']):
     sys.exit(write_numbers(rules_of() if sys.argv[1] == '--mark' else {}))
-sys.exit(main(sys.argv[1:] or [f for f in ['README.md', 'HACKING.md'] if os.path.exists(f)] + sorted(glob.glob('docs/*.md') + glob.glob('docs/landings/*.md'))))
+DOCUMENTS = ['README.md', 'HACKING.md'] + sorted(glob.glob('docs/*.md') + glob.glob('docs/landings/*.md'))
+sys.exit(main(sys.argv[1:] or [f for f in DOCUMENTS if os.path.exists(f)]))

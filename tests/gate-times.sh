@@ -4,7 +4,7 @@
 # several jobs, or on a busy machine, they count the waiting too.
 #
 # tests/gate-times.sh [LOG]     or standard input:  .ci/run 2>&1 | tee gate.log; tests/gate-times.sh gate.log
-# Marked: '>40 s' where a crate with edits takes longer to check than it may, '>4 edits' where it has more than it may.
+# Marked: '>40 s' where a crate with edits takes longer to check than it may, '>5 edits' where it has more than it may.
 set -euo pipefail
 [ "${1:-}" != --help ] || { sed -n '2,7p' "$0"; exit 0; }
 log=${1:--}
@@ -38,7 +38,7 @@ LC_ALL=C awk '
             all_tried += tried[c]
             note = ""
             if (check[c] > 40 && edits[c] > 0) note = note "  >40 s"
-            if (edits[c] > 4) note = note "  >4 edits"
+            if (edits[c] > 5) note = note "  >5 edits"
             printf "%8d %8d %6d %8d  %s%s\n", work, check[c], edits[c], tried[c], c, note | "sort -k1,1nr -k5,5"
         }
         close("sort -k1,1nr -k5,5")

@@ -76,7 +76,7 @@ class Cases:
         self.cases.append(Case(title, data, listed, sheet, labels))
 
 
-# each image of crates/opens, its words and its length alone
+# each image of tests/make_images.py, its words and its length alone
 class Takes(images.Script):
     def __init__(self, cases):
         super().__init__()

@@ -1,5 +1,6 @@
-"""Makes crates/cases/stdin, worked cases of the rules (those that are one proved table are in crate worked), and
-crates/cases/stdout, what the model says of them.
+"""Makes crates/player/stdin, images that are opened, with keys to look up (tests/make_images.py), and worked cases of
+the rules (those that are one proved table are in crate `examples`), and crates/player/stdout, what the model says of
+them.
 
 python3 tests/make_cases.py            writes both files
 python3 tests/make_cases.py --check    compares them with the files kept; exit status 1 on a difference
@@ -11,6 +12,7 @@ asked.
 """
 import sys
 
+import make_images
 from scripts import Model, keep
 from register_model import first_word
 
@@ -914,4 +916,4 @@ def script(parts):
 
 
 if __name__ == '__main__':
-    sys.exit(keep('cases', script(COUNTER + CENTRE + ARCHIVE), '--check' in sys.argv))
+    sys.exit(keep('player', make_images.script() + script(COUNTER + CENTRE + ARCHIVE), '--check' in sys.argv))

@@ -1,14 +1,9 @@
-"""Makes crates/opens/stdin, images with keys to look up, and crates/opens/stdout, what the model of the rules says of them.
-
-python3 tests/make_images.py            writes both files
-python3 tests/make_images.py --check    compares them with the files kept; exit status 1 on a difference
+"""Images with keys to look up, as the first part of the script that the program `player` plays: tests/make_cases.py
+writes it, with what the model of the rules says of them.
 
 Nothing of the Rattle code is asked: images are made by hand or by the model's own calls, and each answer is the model's. Beside each
 damaged image stands the number that the table of refusals gives for its clause, and the model must say the same.
 """
-import sys
-
-from scripts import keep
 from landed import Station, View
 from register_model import Refused, SIZES, UNITS, first_word, header_words, words_of
 
@@ -411,7 +406,3 @@ def script():
     damaged_images(s)
     foreign_images(s)
     return s.lines
-
-
-if __name__ == '__main__':
-    sys.exit(keep('opens', script(), '--check' in sys.argv))

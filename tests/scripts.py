@@ -1,4 +1,4 @@
-"""Scripts of the programs over crates/player: played on the model of the rules, and kept with what the model says.
+"""Scripts of the program crates/player: played on the model of the rules, and kept with what the model says.
 
 A script's commands are those of tests/model/PROTOCOL.md and these:
 

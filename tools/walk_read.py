@@ -2,7 +2,7 @@
 """walk_read.py LIB.rt FN [--proof TERM]     the walk of a thin function that only reads a record, written to crates/C/proofs/FN/Proof.antt
 The thin function has the shape
     pub fn f(s: &R, ..) -> P { let c = s.control; let k = s.setup; core(c, k, ..) }
-with any structs of the record, and its arrays of numbers (crate lent_record has its proofs/Lent.antt), copied out, in the order of the record's fields, and all of them passed; each other parameter, passed on under its own name, is one of
+with any structs of the record, and its arrays of numbers (crates/store/proofs/Lent.antt has their laws), copied out, in the order of the record's fields, and all of them passed; each other parameter, passed on under its own name, is one of
 &[T], &[T; n], &mut uN, &mut [T], a number uN/usize, bool; P is an enum, a struct, a number, bool, or `&'a [T]` where `'a` is a slice parameter's. Each reference has a lifetime of its own.
 Neither function has a `requires`; each has one `ensures { λ r. ⌜ .. ⌝ }`, which has a reference x only as `now (x .entry)` and `now (x .exit)`.
 TERM proves the thin function's fact from `e`, the core's fact, at: r (the result), h (the record), x-NAME (a parameter, or the list or number of a reference NAME at entry) and z-NAME (at exit), l-NAME (that a `&mut [T]` has the length that it had). Default: e."""
@@ -210,7 +210,7 @@ use denote.Triple.Walked.{{says, Stays, stay-dropped, gave-ref, {'gave-slice, ' 
 use {dc(R)}''')
 for X in dict.fromkeys(fty[a] for _,a in copies if not isarr(a)): e(f'use {dc(X)}\nuse {pf(home[X],X)} as {al(X)}\nuse {pf(home[X],X)}.Laws as {al(X)}′')
 if P in enums or P in structs: e(f'use {dc(P)}\nuse {pf(home[P],P)} as P\nuse {pf(home[P],P)}.Laws as P′')
-if arrays: e('use Rattle.lent_record.proofs.Lent as Lent')
+if arrays: e('use Rattle.store'+('·proofs' if crate=='store' else '')+'.proofs.Lent as Lent')
 e(f'''use {pf(home[R],R)} as T
 use {pf(home[R],R)}.Laws as T′
 use {pf(CC,CORE)} as core

@@ -539,7 +539,7 @@ use {pf(C)} as Ctl
 use {pf(C)}.Laws as Ctl′
 use {pf(S)} as S
 use {pf(S)}.Laws as S′''')
-if inplace: e('use Rattle.lent_record.proofs.Lent as Lent')
+if inplace: e('use Rattle.store'+('·proofs' if crate=='store' else '')+'.proofs.Lent as Lent')
 for X in dict.fromkeys(fty[p] for cn,w_,p in ca if w_=='k'):
     if X!=C: e(f'use {dc(X)}\nuse {pf(X)} as K-{X}\nuse {pf(X)}.Laws as K-{X}′')
 e(f'''use {pf(CORE)} as core

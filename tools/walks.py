@@ -15,46 +15,46 @@ TOLD = '(r-report, (e-report, e))'
 LISTED = '(r-listed, (e-listed, e))'
 FAST = '(r-report, (e-report .within (e-fast .0 (is-true r-fast held)), e))'
 STAGING = '(r-report, (e-report .within (e-staging .0 (is-true r-staging held)), e))'
-LATE = 'e-report .within (e-late .0 (is-true r-late held))'
+LATE = 'e-report .within (e-finishing .0 (is-true r-finishing held))'
 LATE_STEP = f'(r-report, ({LATE} .0, e))'
 LATE_RUN = f'(r-report, (((0, {LATE} .0), {LATE} .1), e))'
 SHORT = '(r-report, (e-report .within (e-short .0 (is-true r-short held)), e))'
-LONG = 'subst (Told (Does (Put Absent x-key x-value) (memory x-s x-image x-table) (memory z-s x-image x-table))) (sym e) (e-answer .0, (e-answer .1 .0 .within (e-short .1 (is-false r-short failed)), e-answer .1 .1))'
-RUNS = 'subst (Told (RunsOn (memory x-s x-image x-table) (memory z-s z-image z-table))) (sym e) e-answer'
-STEPS = 'subst (Told (Does Step (memory x-s x-image x-table) (memory z-s z-image z-table))) (sym e) e-answer'
+LONG = 'subst (Encodes (Does (Put Absent x-key x-value) (memory x-s x-image x-table) (memory z-s x-image x-table))) (sym e) (e-answer .0, (e-answer .1 .0 .within (e-short .1 (is-false r-short failed)), e-answer .1 .1))'
+RUNS = 'subst (Encodes (RunsOn (memory x-s x-image x-table) (memory z-s z-image z-table))) (sym e) e-answer'
+STEPS = 'subst (Encodes (Does Step (memory x-s x-image x-table) (memory z-s z-image z-table))) (sym e) e-answer'
 WALKS = [
-    ('thin', 'store_stage', 'abandon', ['e'], []),
+    ('thin', 'store', 'abandon', ['e'], []),
     ('thin', 'store', 'clean', ['e'], []),
     ('thin', 'store', 'commit', ['e'], []),
     ('thin', 'store', 'format', ['e'], []),
     ('thin', 'store', 'open_register', ['e'], []),
-    ('thin', 'store_run', 'run_fast', ['e'], []),
-    ('thin', 'store_run', 'run_rest', ['e'], []),
-    ('thin', 'store_run', 'run_staging', ['e'], []),
-    ('thin', 'store_stage', 'stage_delete', ['e'], []),
-    ('thin', 'store_stage', 'stage_delete_at', ['e'], []),
-    ('thin', 'store_stage', 'stage_long', ['e'], []),
-    ('thin', 'store_stage', 'stage_put', ['e'], []),
-    ('thin', 'store_stage', 'stage_put_at', ['e'], []),
-    ('thin', 'store_stage', 'stage_short', ['e'], []),
-    ('thin', 'store_step', 'step', ['e'], []),
-    ('thin', 'store_step', 'step_fast', ['e'], []),
-    ('thin', 'store_step', 'step_late', ['e'], []),
-    ('read', 'chunk_stat', 'describe_chunk', ['e (h .buffer)'], []),
-    ('read', 'chunk_stat', 'empty_chunk', ['e (h .buffer)'], []),
-    ('read', 'stat', 'keys', ['e (h .setup) (h .buffer)'], []),
-    ('read', 'store_read', 'choose', ['record { called = e .called; inside = e .inside }'], []),
-    ('read', 'store_read', 'find', ['record { called = e .called (h .buffer); located = e .located; is-report = e .is-report; inside = e .inside }'], []),
-    ('read', 'store_read', 'list_key', ['record { listed = e }'], []),
-    ('read', 'store_read', 'list_keys', ['record { listed = e }'], []),
-    ('read', 'store_read', 'look_up', ['record { located = e .located; called = e .called (h .buffer); inside = e .inside; is-part = e .is-part; is-number = e .is-number; is-version = e .is-version }'], []),
-    ('calls', 'late_answers', 'run_any', [TOLD], []),
-    ('calls', 'late_answers', 'run_other', [RUNS], ['use mathlib.Core.Path.{sym, subst}']),
-    ('calls', 'late_answers', 'run_cleaning', [RUNS, RUNS], []),
-    ('calls', 'late_answers', 'run_late', [LATE_RUN, RUNS], []),
-    ('calls', 'run_answers', 'run_commit', [FAST, RUNS], []),
-    ('calls', 'step_answers', 'step_any', [TOLD], []),
-    ('calls', 'step_answers', 'step_whole', [LATE_STEP, STEPS], []),
+    ('thin', 'store', 'run_fast', ['e'], []),
+    ('thin', 'store', 'run_rest', ['e'], []),
+    ('thin', 'store', 'run_staging', ['e'], []),
+    ('thin', 'store', 'stage_delete', ['e'], []),
+    ('thin', 'store', 'stage_delete_at', ['e'], []),
+    ('thin', 'store', 'stage_long', ['e'], []),
+    ('thin', 'store', 'stage_put', ['e'], []),
+    ('thin', 'store', 'stage_put_at', ['e'], []),
+    ('thin', 'store', 'stage_short', ['e'], []),
+    ('thin', 'store', 'step', ['e'], []),
+    ('thin', 'store', 'step_fast', ['e'], []),
+    ('thin', 'store', 'step_finishing', ['e'], []),
+    ('read', 'inspect', 'describe_chunk', ['e (h .buffer)'], []),
+    ('read', 'inspect', 'empty_chunk', ['e (h .buffer)'], []),
+    ('read', 'inspect', 'keys', ['e (h .setup) (h .buffer)'], []),
+    ('read', 'store', 'choose', ['record { called = e .called; inside = e .inside }'], []),
+    ('read', 'store', 'find', ['record { called = e .called (h .buffer); located = e .located; is-report = e .is-report; inside = e .inside }'], []),
+    ('read', 'store', 'list_key', ['record { listed = e }'], []),
+    ('read', 'store', 'list_keys', ['record { listed = e }'], []),
+    ('read', 'store', 'look_up', ['record { located = e .located; called = e .called (h .buffer); inside = e .inside; is-part = e .is-part; is-number = e .is-number; is-version = e .is-version }'], []),
+    ('calls', 'capi', 'run_rest', [TOLD], []),
+    ('calls', 'capi', 'run_rest_apart', [RUNS], ['use mathlib.Core.Path.{sym, subst}']),
+    ('calls', 'capi', 'run_clean', [RUNS, RUNS], []),
+    ('calls', 'capi', 'run_finishing', [LATE_RUN, RUNS], []),
+    ('calls', 'capi', 'run_commit', [FAST, RUNS], []),
+    ('calls', 'capi', 'step_slow', [TOLD], []),
+    ('calls', 'capi', 'step_finishing', [LATE_STEP, STEPS], []),
     ('calls', 'capi', 'zkv_abandon', [TOLD], []),
     ('calls', 'capi_read', 'zkv_choose', [TOLD], []),
     ('calls', 'capi_read', 'zkv_chunk', ['e'], []),
@@ -70,30 +70,40 @@ WALKS = [
     ('calls', 'capi_read', 'zkv_look_up', [TOLD], []),
     ('calls', 'capi_versions', 'zkv_look_up_version', [TOLD], []),
     ('calls', 'capi', 'zkv_open', [TOLD], []),
-    ('calls', 'put_answers', 'put_long', [TOLD], []),
-    ('calls', 'put_answers', 'answer_put', [SHORT, LONG], []),
+    ('calls', 'capi', 'put_long', [TOLD], []),
+    ('calls', 'capi', 'put', [SHORT, LONG], []),
     ('calls', 'capi', 'zkv_put', ['e'], []),
     ('calls', 'capi_versions', 'zkv_put_at', [TOLD], []),
-    ('calls', 'run_answers', 'answer_run', [STAGING, RUNS], []),
+    ('calls', 'capi', 'run', [STAGING, RUNS], []),
     ('calls', 'capi', 'zkv_run', ['e'], []),
-    ('calls', 'step_answers', 'answer_step', [FAST, STEPS], []),
+    ('calls', 'capi', 'step', [FAST, STEPS], []),
     ('calls', 'capi', 'zkv_step', ['e'], []),
 ]
 
 # the record's buffer, as the tools read it
 BUFFER = re.compile(r'(&(?:mut )?|: )Buffer\b')
+CONSTANT = re.compile(r'^pub const (\w+): usize = ([\w /*+-]+);$', re.M)
+
+
+def buffer_words(root):
+    """how many words it has: the constant of that name, reckoned from those before it"""
+    known = {}
+    for name, value in CONSTANT.findall(open(f'{root}/crates/buffer/src/lib.rt', encoding='utf8').read()):
+        known[name] = eval(value.replace('/', '//'), {}, known)
+    return known['BUFFER_WORDS']
 
 
 def print_into(root, into):
     """every walk, in a copy of the tree in which the buffer's type is written out"""
     shutil.copytree(f'{root}/crates', f'{into}/crates')
     shutil.copy(f'{root}/crates.txt', into)
+    array = rf'\1[u64; {buffer_words(root)}]'
     for folder, _, files in os.walk(f'{into}/crates'):
         for name in files:
             if name.endswith('.rt'):
                 path = os.path.join(folder, name)
                 text = open(path, encoding='utf8').read()
-                open(path, 'w', encoding='utf8').write(BUFFER.sub(r'\1[u64; 1664]', text))
+                open(path, 'w', encoding='utf8').write(BUFFER.sub(array, text))
     for tool, crate, function, terms, uses in WALKS:
         command = [sys.executable, '-B', f'{root}/tools/walk_{tool}.py', f'{into}/crates/{crate}/src/lib.rt', function, '--proof', terms[0]]
         command += ['--else', terms[1]] if len(terms) > 1 else []

@@ -1,33 +1,26 @@
--- A commit's actions, by number: how many there are, which is last, and what the code shows of each.
+-- A commit's actions, by number: how many there are, which is which, and which is last.
 -- Assumes nothing.
-use mathlib.Core.Path.{_≡_, sym, _∙_, ap}
+use mathlib.Core.Path.{_≡_, _∙_}
 use mathlib.Core.List.{List, [], _∷_}
-use Prim.Native.Nat.{ℕ, _+_, _-_, _*_, _/_, _<_, _≤_, min}
+use Prim.Native.Nat.{ℕ, _+_, _-_, _*_, _<_, _≤_, min}
 use native.Mathlib.Decide.{decLt, ℕ-discrete}
 use native.Mathlib.Omega.{arith}
-use lib.ListN.{length, getD, drop, List·getD-eq-default}
-use Rattle.spec.specs.Places.{basePower, chunkWords, chunkLines, base, firstLine, directoryWord, lineOf}
+use lib.ListN.{length, drop}
+use Rattle.spec.specs.Places.{basePower, chunkLines, firstLine, directoryWord, lineOf}
 use Rattle.spec.specs.Medium.{Store, Flush, Fence}
 use Rattle.spec.specs.Directory.{logWord}
-use Rattle.spec.specs.Actions.{linesFor, padded}
-use Rattle.spec.specs.Reports.{asReport, runWords}
+use Rattle.spec.specs.Actions.{linesFor}
+use Rattle.spec.specs.Reports.{runWords}
 use Rattle.session.specs.declared.Control.{Control}
 use Rattle.session.specs.declared.Setup.{Setup}
 use Rattle.spec.specs.declared.Report.the-variants as R
-use Rattle.session.specs.State.{bufferPart, batchRoom, batchWords, chunkIn, linesIn, commitActions}
-use Rattle.session.proofs.Part.{length-part, part-word, staged-length}
+use Rattle.buffer.specs.Areas.{batchRoom}
+use Rattle.session.specs.State.{batchWords, chunkIn, linesIn, commitActions}
+use Rattle.session.proofs.Part.{staged-length}
 use Rattle.theory_crash.proofs.Append.{append-count}
-use Rattle.actions.specs.Nth.{nth, nthReport, commitCount}
+use Rattle.actions.specs.Nth.{nth, commitCount}
 use Rattle.actions.proofs.Nth.{drop-nth, drop-past}
-use Rattle.actions.proofs.Append.{padded-word, nth-store, nth-flush, nth-fence, nth-seal, nth-seal-flush, nth-last}
-
--- THE BATCH
--- word i of the padded batch, among the staged words and behind them
-pub batch-in : (b : List ℕ) (n i : ℕ) → i < n → getD b i 0 ≡ getD (padded (bufferPart b 0 n)) i 0
-batch-in b n i h = sym (padded-word (bufferPart b 0 n) i ∙ part-word b 0 n i i h (omega arith))
-
-pub batch-behind : (b : List ℕ) (n i : ℕ) → n ≤ i → 0 ≡ getD (padded (bufferPart b 0 n)) i 0
-batch-behind b n i h = sym (padded-word (bufferPart b 0 n) i ∙ List·getD-eq-default (bufferPart b 0 n) 0 (rw length-part h))
+use Rattle.actions.proofs.Appends.{nth-flush, nth-fence, nth-seal, nth-seal-flush, nth-last}
 
 -- THE COUNT
 module _ (c : Control) (k : Setup) (b : List ℕ) where
@@ -49,11 +42,6 @@ module _ (c : Control) (k : Setup) (b : List ℕ) where
   commit-next at h = drop-nth (commitActions c k b) at (rw length-commit h)
 
   -- EACH ACTION
-  pub commit-store : (at w : ℕ) → at < 8 * batchLines → w ≡ 512 * chunkIn k + 8 * linesIn k + at
-      → nth (commitActions c k b) at ≡ Store w (getD (padded (batchWords c b)) at 0)
-  unfolding commitActions base chunkWords
-  commit-store at w h e = nth-store basePower (chunkIn k) (k .old) (linesIn k) (batchWords c b) at w (rw size h) (omega arith)
-
   pub commit-flush : (at i line : ℕ) → at ≡ 8 * batchLines + i → i < batchLines → line ≡ 64 * chunkIn k + linesIn k + i
       → nth (commitActions c k b) at ≡ Flush line
   unfolding commitActions firstLine chunkLines
@@ -94,30 +82,3 @@ module _ (c : Control) (k : Setup) (b : List ℕ) where
       go (no n) d = done at (omega arith)
       go (yes q) (yes e) = rw (commit-next at q, commit-seal-flush at e) (last (at + 1) (omega arith))
       go (yes q) (no n) = last at (omega arith)
-
-  -- WHAT THE CODE SHOWS at each return, with its number of staged words
-  module _ (at staged : ℕ) (es : staged ≡ min (c .words) batchRoom) where
-    pub shows-store : (w v : ℕ) → at < 8 * linesFor staged → w ≡ 512 * chunkIn k + 8 * linesIn k + at → v ≡ getD (padded (bufferPart b 0 (min (c .words) batchRoom))) at 0
-        → R.Store w v ≡ nthReport (commitActions c k b) at
-    unfolding batchWords
-    shows-store w v h e q = rw q (sym (ap asReport (commit-store at w (omega arith) (omega arith))))
-
-    pub shows-flush : (line : ℕ) → 8 * linesFor staged ≤ at → at < 9 * linesFor staged → line ≡ 64 * chunkIn k + linesIn k + (at - 8 * linesFor staged)
-        → R.Flush line ≡ nthReport (commitActions c k b) at
-    shows-flush line h q e = sym (ap asReport (commit-flush at (at - 8 * linesFor staged) line (omega arith) (omega arith) (omega arith)))
-
-    pub shows-fence : at ≡ 9 * linesFor staged → R.Fence ≡ nthReport (commitActions c k b) at
-    shows-fence e = sym (ap asReport (commit-fence at (omega arith)))
-
-    pub shows-seal : (w v n : ℕ) → at ≡ 9 * linesFor staged + 1 → w ≡ 8 + chunkIn k → n ≡ linesIn k + linesFor staged → v ≡ logWord (k .old) n
-        → R.Store w v ≡ nthReport (commitActions c k b) at
-    shows-seal w v n e q r s =
-        let x : w ≡ directoryWord (chunkIn k) = omega arith in
-        let y : n ≡ linesIn k + batchLines = omega arith in
-        rw (s, x, y) (sym (ap asReport (commit-seal at (omega arith))))
-
-    pub shows-seal-flush : (line : ℕ) → at ≡ 9 * linesFor staged + 2 → line ≡ (8 + chunkIn k) / 8 → R.Flush line ≡ nthReport (commitActions c k b) at
-    shows-seal-flush line e q = ap R.Flush (let z : line ≡ lineOf (directoryWord (chunkIn k)) = omega arith in z) ∙ sym (ap asReport (commit-seal-flush at (omega arith)))
-
-    pub shows-last : 9 * linesFor staged + 3 ≤ at → R.Fence ≡ nthReport (commitActions c k b) at
-    shows-last h = sym (ap asReport (commit-last at (omega arith)))

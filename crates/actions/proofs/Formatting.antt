@@ -20,7 +20,7 @@ use Rattle.theory_crash.proofs.Cells.{length-writes, length-flushes}
 use Rattle.theory_crash.proofs.Format.{blank-length, format-count}
 use Rattle.actions.specs.Nth.{nth, nthReport, formatCount, registerWord}
 use Rattle.actions.proofs.Nth.{nth-writes, nth-flushes, nth-front, nth-back, drop-nth, drop-past}
-use Rattle.actions.proofs.Append.{zeros-behind}
+use Rattle.actions.proofs.Appends.{zeros-behind}
 
 -- ANY FILL: word 0 zeroed, the words from word 1 on, so many lines, word 0 at last
 module _ (words : List ℕ) (count lines first : ℕ) (sized : length words ≡ count) where

@@ -1,1 +1,3 @@
 pub mod Nth
+pub mod Staging
+pub mod Record

@@ -10,7 +10,8 @@ use Rattle.spec.specs.Actions.{linesFor}
 use Rattle.spec.specs.Reports.{asReport}
 use Rattle.spec.specs.declared.Report.{Report}
 use Rattle.session.specs.declared.Setup.{Setup}
-use Rattle.session.specs.State.{batchRoom, givenBy}
+use Rattle.buffer.specs.Areas.{batchRoom}
+use Rattle.session.specs.State.{givenBy}
 
 -- the action number i, counted from 0, and its report; past the end a fence
 abbrev pub nth : List Action → ℕ → Action

@@ -11,10 +11,10 @@ use Rattle.spec.specs.Reports.{number, numbersOf, refusalOf, placeOf}
 use Rattle.spec.specs.declared.Refusal.{Refusal}
 use Rattle.spec.specs.declared.Report.{Report}
 use Rattle.spec.specs.declared.Report.the-variants as R
-use Rattle.listing.specs.declared.Counted.{Counted}
-use Rattle.listing.specs.declared.Counted.the-variants as C
-use Rattle.listing.specs.declared.Listed.{Listed}
-use Rattle.listing.specs.declared.Listed.the-variants as L
+use Rattle.lookup.specs.declared.Counted.{Counted}
+use Rattle.lookup.specs.declared.Counted.the-variants as C
+use Rattle.lookup.specs.declared.Listed.{Listed}
+use Rattle.lookup.specs.declared.Listed.the-variants as L
 use Rattle.answers.specs.declared.Answer.{Answer}
 
 abbrev pub answer : ℕ → ℕ → ℕ → Answer
@@ -39,8 +39,8 @@ abbrev pub answerOf : Report → Answer
 answerOf r = answer (kindIn r) (getD (numbersOf r) 0 0) (getD (numbersOf r) 1 0)
 
 -- The numbers are those of a report of which P holds.
-abbrev pub Told : (Report → Type 0) → Answer → Type 0
-Told P a = (r : Report) × (P r × (a ≡ answerOf r))
+abbrev pub Encodes : (Report → Type 0) → Answer → Type 0
+Encodes P a = (r : Report) × (P r × (a ≡ answerOf r))
 
 -- A host marks a number as given by anything but 0.
 abbrev pub isGiven : ℕ → Bool

@@ -2,8 +2,8 @@
 // returns an enum.
 ghost use mathlib.Core.Path.{_≡_};
 ghost use Rattle.answers.specs.Answers.{answerOf, isGiven, ShownBy, VersionShown, CountedBy, bit, ListedBy};
-use listing::Counted;
-use listing::Listed;
+use lookup::Counted;
+use lookup::Listed;
 use spec::Refusal;
 use spec::Report;
 
@@ -16,8 +16,8 @@ pub struct Answer {
 }
 
 // The numbers of a report; a refusal has that of the rules' table. Two different reports have different numbers,
-// but for a part's version, for which there is `shown_with` (proofs/Lossless.antt).
-pub fn told(report: Report) -> Answer
+// but for a part's version, for which there is `encode_version` (proofs/Lossless.antt).
+pub fn encode_report(report: Report) -> Answer
     ensures { λ r. ⌜ r ≡ answerOf report ⌝ }
 {
     match report {
@@ -104,7 +104,7 @@ pub fn is_given(mark: u64) -> bool
 // A look-up's report in numbers: 0 or the refusal's number, and the part's first byte and length, 0 where there is
 // none. An absent key has an arm of its own, and neighbouring arms store in another order: so the compiler keeps them
 // apart, and a key that is found pays for neither.
-pub fn shown(report: Report, start: &mut u64, length: &mut u64) -> u64
+pub fn encode_look_up(report: Report, start: &mut u64, length: &mut u64) -> u64
     ensures { λ r. ⌜ ShownBy report r (now (start .exit)) (now (length .exit)) ⌝ }
 {
     match report {
@@ -138,7 +138,7 @@ pub fn shown(report: Report, start: &mut u64, length: &mut u64) -> u64
 }
 
 // The same, with the value's version, 0 where there is none.
-pub fn shown_with(report: Report, start: &mut u64, length: &mut u64, version: &mut u64) -> u64
+pub fn encode_version(report: Report, start: &mut u64, length: &mut u64, version: &mut u64) -> u64
     ensures { λ r. ⌜ VersionShown report r (now (start .exit)) (now (length .exit)) (now (version .exit)) ⌝ }
 {
     match report {
@@ -176,7 +176,7 @@ pub fn shown_with(report: Report, start: &mut u64, length: &mut u64, version: &m
 }
 
 // The numbers of a count: 0, or the refusal's number with a count of 0.
-pub fn counted(listed: Counted, count: &mut u64) -> u64
+pub fn encode_count(listed: Counted, count: &mut u64) -> u64
     ensures { λ r. ⌜ CountedBy listed r (now (count .exit)) ⌝ }
 {
     match listed {
@@ -198,7 +198,7 @@ pub fn bit_of(b: bool) -> u64
 }
 
 // The numbers of what is listed of a key.
-pub fn spelt(listed: Listed, version: &mut u64, length: &mut u64, block: &mut u64) -> u64
+pub fn encode_listed(listed: Listed, version: &mut u64, length: &mut u64, block: &mut u64) -> u64
     ensures { λ r. ⌜ ListedBy listed r (now (version .exit)) (now (length .exit)) (now (block .exit)) ⌝ }
 {
     match listed {

@@ -21,19 +21,21 @@ use Rattle.theory_log.specs.Contents.{Mem, Top, CountsOn}
 use Rattle.theory_log.proofs.Contents.{larger-r, below-highest, counts-same, highest-insert}
 use Rattle.theory_log.proofs.Clean.{mem-placed}
 use Rattle.theory_crash.proofs.Blocks.{block-fits}
-use Rattle.blocks.proofs.Laws.{front-kept, front-all, front-then}
+use Rattle.buffer.specs.Areas.{batchRoom, unitCount, bufferWords}
+use Rattle.buffer.proofs.Laws.{front-kept, front-all, front-then}
 use Rattle.volatile.specs.Known.{extentOf, alone, ownOf}
 use Rattle.volatile.specs.Sums.{weight}
-use Rattle.sums.specs.Change.{Weighed}
+use Rattle.volatile.specs.Change.{Weighed}
 use Rattle.session.specs.Fits.{ItemsFit}
 use Rattle.session.proofs.Part.{part-agree}
-use Rattle.apply.specs.declared.Item.{Item}
-use Rattle.apply.specs.declared.Item.the-variants as I
-use Rattle.apply.specs.Blocks.{bitRoom, blockAt, Claimed}
-use Rattle.apply.specs.Joining.{Later, Shown, Awaited, OneJoined, Taken, StagedFrom, Staged, Left, Going, Fenced, Joining}
+use Rattle.batch.specs.declared.StagedItem.{StagedItem}
+use Rattle.batch.specs.declared.StagedItem.the-variants as I
+use Rattle.volatile.specs.Blocks.{blockAt, Claimed}
+use Rattle.apply.specs.Joining.{Later, Shown, Awaited, OneJoined, Left, Going, Fenced, Joining}
+use Rattle.batch.specs.Staged.{Taken, StagedFrom, Staged}
 use Rattle.apply.proofs.Joined.{which}
 use Rattle.apply.proofs.Claiming.{joined-shown}
-use Rattle.apply.proofs.Staging.{told-none, told-fits, told-entry}
+use Rattle.batch.proofs.Staged.{told-none, told-fits, told-entry}
 
 -- Items that count on are above the entries of their keys, also where they are placed.
 highest-more : (k : ℕ) (e : Entry) (es : List Entry) → highest k es ≤ highest k (e ∷ es)
@@ -69,7 +71,7 @@ items-next n ws xs ys x at es counts fit = record {
     go e f m p q z (inr t) = fit .dead e f (inr m) (t .1) p q z
 
 -- A right block has a bit.
-small-block : (n : ℕ) (ws : List ℕ) (e : Entry) → n ≤ maxChunks → fine basePower n ws e ≡ true → pointed e ≡ true → e .field < bitRoom
+small-block : (n : ℕ) (ws : List ℕ) (e : Entry) → n ≤ maxChunks → fine basePower n ws e ≡ true → pointed e ≡ true → e .field < unitCount
 unfolding unitChunk chunkUnits
 small-block n ws e most f p =
     let x = block-fits basePower n (e .field) (sizeOf basePower ws (unitChunk basePower (e .field))) (getD ws (unitWord (e .field)) 0) _ (rw p at f) in
@@ -79,12 +81,12 @@ small-block n ws e most f p =
 -- ## The beginning
 
 left-start : (n place words known : ℕ) (buffer ws table : List ℕ) (front back items : List Entry) → Fenced n place words known buffer ws table front back items
-    → Left n ws buffer table known place 0 (min words 512) (front ++ (placed place items ++ back)) back
+    → Left n ws buffer table known place 0 (min words batchRoom) (front ++ (placed place items ++ back)) back
 left-start n place words known buffer ws table front back items f = record {
   joined = front;
   rest = items;
   parts = rw (add-zero place);
-  words = let z : min words 512 - 0 ≡ min words 512 = omega arith in rw z (f .written);
+  words = let z : min words batchRoom - 0 ≡ min words batchRoom = omega arith in rw z (f .written);
   right = f .right;
   counts = f .counts;
   fit = f .fit;
@@ -96,7 +98,7 @@ left-start n place words known buffer ws table front back items f = record {
 
 -- ## One more item
 
-left-next : (n : ℕ) (ws buffer buffer′ buffer″ table table′ : List ℕ) (keys keys′ place at end op placement version field key words extent own w : ℕ) (whole back : List Entry) → end ≤ 512
+left-next : (n : ℕ) (ws buffer buffer′ buffer″ table table′ : List ℕ) (keys keys′ place at end op placement version field key words extent own w : ℕ) (whole back : List Entry) → end ≤ batchRoom
     → ((rest : List Entry) → StagedFrom buffer at end rest → Taken buffer at end op placement version field key words rest) → at + (2 + words) ≤ end
     → extent ≡ extentOf placement field → own ≡ alone extent (place + at) version → Weighed op words w → OneJoined ws buffer buffer′ table table′ keys key own w keys′ → Claimed buffer′ buffer″ (blockAt op placement field)
     → Left n ws buffer table keys place at end whole back → Left n ws buffer″ table′ keys′ place (at + (2 + words)) end whole back
@@ -154,7 +156,7 @@ left-next n ws buffer buffer′ buffer″ table table′ keys keys′ place at e
 
 -- ## The loop: what was left at the beginning says what is left now
 
-pub going-start : (ws buffer table : List ℕ) (keys place at end : ℕ) → length buffer ≡ 1664 → Going ws buffer table keys place at end buffer table keys at
+pub going-start : (ws buffer table : List ℕ) (keys place at end : ℕ) → length buffer ≡ bufferWords → Going ws buffer table keys place at end buffer table keys at
 going-start ws buffer table keys place at end long = record { kept = front-all buffer long; sized = refl; goes = λ n whole back l. l }
 
 pub going-then : (ws buffer₀ table₀ : List ℕ) (keys₀ place at₀ end : ℕ) (buffer table : List ℕ) (keys at : ℕ) (buffer′ table′ : List ℕ) (keys′ at′ : ℕ) → Going ws buffer₀ table₀ keys₀ place at₀ end buffer table keys at
@@ -166,8 +168,8 @@ going-then ws buffer₀ table₀ keys₀ place at₀ end buffer table keys at bu
 }
 
 module _ (ws buffer₀ table₀ : List ℕ) (keys₀ place at₀ end : ℕ) (buffer table : List ℕ) (keys at : ℕ) (inv : Going ws buffer₀ table₀ keys₀ place at₀ end buffer table keys at)
-    (r : Item) (told : Staged buffer at end r) where
-  pub going-next : (op placement version field key words : ℕ) → r ≡ I.Entry op placement version field key words → end ≤ 512 → (extent own : ℕ) → extent ≡ extentOf placement field → own ≡ alone extent (place + at) version
+    (r : StagedItem) (told : Staged buffer at end r) where
+  pub going-next : (op placement version field key words : ℕ) → r ≡ I.Entry op placement version field key words → end ≤ batchRoom → (extent own : ℕ) → extent ≡ extentOf placement field → own ≡ alone extent (place + at) version
       → (w : ℕ) → Weighed op words w → (buffer′ table′ : List ℕ) (keys′ : ℕ) → OneJoined ws buffer buffer′ table table′ keys key own w keys′ → (buffer″ : List ℕ) → Claimed buffer′ buffer″ (blockAt op placement field)
       → Going ws buffer₀ table₀ keys₀ place at₀ end buffer″ table′ keys′ (at + (2 + words))
   going-next op placement version field key words e short extent own is-extent is-own w weighed buffer′ table′ keys′ one buffer″ claimed = record {
@@ -186,7 +188,7 @@ module _ (ws buffer₀ table₀ : List ℕ) (keys₀ place at₀ end : ℕ) (buf
       rw (m .parts, z) (m .shown)
 
 pub going-joins : (words : ℕ) (ws buffer₀ table₀ : List ℕ) (keys₀ place at₀ end : ℕ) (buffer table : List ℕ) (keys at : ℕ) (inv : Going ws buffer₀ table₀ keys₀ place at₀ end buffer table keys at)
-    (r : Item) → Staged buffer at end r → r ≡ I.Nothing → at₀ ≡ 0 → end ≡ min words 512 → Joining place words keys₀ buffer₀ buffer ws table₀ table keys
+    (r : StagedItem) → Staged buffer at end r → r ≡ I.Nothing → at₀ ≡ 0 → end ≡ min words batchRoom → Joining place words keys₀ buffer₀ buffer ws table₀ table keys
 going-joins words ws buffer₀ table₀ keys₀ place at₀ end buffer table keys at inv r told e q4 q5 = record {
   kept = inv .kept;
   sized = inv .sized;

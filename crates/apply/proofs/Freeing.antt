@@ -19,13 +19,14 @@ use Rattle.spec.specs.Contents.{chosen}
 use Rattle.theory_log.proofs.Contents.{chosen-is}
 use Rattle.log.proofs.Stands.{image-stands}
 use Rattle.index.specs.declared.Info.{Info}
-use Rattle.blocks.specs.Bits.{hasBit, BitWritten}
-use Rattle.blocks.proofs.Laws.{bit-beyond, kept-all}
+use Rattle.buffer.specs.Areas.{unitCount, bufferWords}
+use Rattle.buffer.specs.Bits.{hasBit, BitWritten}
+use Rattle.buffer.proofs.Laws.{bit-beyond, kept-all}
 use Rattle.volatile.specs.Known.{extentOf}
 use Rattle.volatile.proofs.Info.{said}
-use Rattle.apply.specs.Blocks.{points, namedBy, blockOf, topBlock, Freed}
+use Rattle.volatile.specs.Blocks.{points, namedBy, blockOf, topBlock, Freed}
 use Rattle.apply.specs.Joining.{Superseded}
-use Rattle.apply.proofs.Live.{mem-around}
+use Rattle.volatile.proofs.Live.{mem-around}
 
 -- Tests.
 pub both-none : (b : Bool) → both b false ≡ false
@@ -37,13 +38,13 @@ both-true true = refl
 both-true false = refl
 
 -- Blocks that leave: none, one, the same, some and then others.
-pub freed-none : (b : List ℕ) → length b ≡ 1664 → (gone : ℕ → Bool) → ((u : ℕ) → gone u ≡ false) → Freed b b gone
+pub freed-none : (b : List ℕ) → length b ≡ bufferWords → (gone : ℕ → Bool) → ((u : ℕ) → gone u ≡ false) → Freed b b gone
 freed-none b n gone z = record { bits = λ u. rw (z u) (sym (both-true (hasBit b u))); kept = kept-all b n }
 
 pub freed-one : (b d : List ℕ) (u : ℕ) → BitWritten b d u false → Freed b d (eqb u)
 freed-one b d u w = record {
   bits = λ v. by-cases (ℕ-discrete v u)
-      (λ q. rw (eq-eqb u v (sym q), both-none (hasBit b v)) (by-cases (decLt u 8064) (λ l. ap (hasBit d) q ∙ w .at l) (λ l. bit-beyond d v (omega arith))))
+      (λ q. rw (eq-eqb u v (sym q), both-none (hasBit b v)) (by-cases (decLt u unitCount) (λ l. ap (hasBit d) q ∙ w .at l) (λ l. bit-beyond d v (omega arith))))
       (λ n. rw (ne-eqb u v (λ q. n (sym q)), both-true (hasBit b v)) (w .other v n));
   kept = w .kept;
 }
@@ -56,10 +57,10 @@ module _ (a x b y : ℕ) (gone : ℕ → Bool) where
   pub freed-both : (before after : List ℕ) → a ≡ x → b ≡ y → Freed before after gone → Freed before after (λ u. both (both (eqb a x) (eqb b y)) (gone u))
   freed-both before after p q f = freed-as before after gone _ (λ u. rw (eq-eqb a x p, eq-eqb b y q)) f
 
-  pub unlike-first : (before : List ℕ) → length before ≡ 1664 → (a ≡ x → ⊥) → Freed before before (λ u. both (both (eqb a x) (eqb b y)) (gone u))
+  pub unlike-first : (before : List ℕ) → length before ≡ bufferWords → (a ≡ x → ⊥) → Freed before before (λ u. both (both (eqb a x) (eqb b y)) (gone u))
   unlike-first before long n = freed-none before long _ (λ u. rw (ne-eqb a x n))
 
-  pub unlike-second : (before : List ℕ) → length before ≡ 1664 → (b ≡ y → ⊥) → Freed before before (λ u. both (both (eqb a x) (eqb b y)) (gone u))
+  pub unlike-second : (before : List ℕ) → length before ≡ bufferWords → (b ≡ y → ⊥) → Freed before before (λ u. both (both (eqb a x) (eqb b y)) (gone u))
   unlike-second before long n = freed-none before long _ (λ u. rw (ne-eqb b y n, both-none (eqb a x)))
 
 -- ## The entry at a place
@@ -68,10 +69,10 @@ module _ (ws : List ℕ) (place w : ℕ) (r : FirstWord) (is-word : w ≡ getD w
   named : (u : ℕ) → namedBy r u ≡ namedBy (firstOf (getD ws place 0)) u
   named u = ap (λ (f : FirstWord). namedBy f u) (is-first ∙ ap firstOf is-word)
 
-  pub at-padding : (b : List ℕ) → length b ≡ 1664 → r ≡ F.Padding → Freed b b (namedBy (firstOf (getD ws place 0)))
+  pub at-padding : (b : List ℕ) → length b ≡ bufferWords → r ≡ F.Padding → Freed b b (namedBy (firstOf (getD ws place 0)))
   at-padding b n e = freed-none b n _ (λ u. sym (named u) ∙ ap (λ (f : FirstWord). namedBy f u) e)
 
-  pub at-wrong : (b : List ℕ) → length b ≡ 1664 → r ≡ F.Wrong → Freed b b (namedBy (firstOf (getD ws place 0)))
+  pub at-wrong : (b : List ℕ) → length b ≡ bufferWords → r ≡ F.Wrong → Freed b b (namedBy (firstOf (getD ws place 0)))
   at-wrong b n e = freed-none b n _ (λ u. sym (named u) ∙ ap (λ (f : FirstWord). namedBy f u) e)
 
   pub at-entry : (b d : List ℕ) (op pl v x : ℕ) → r ≡ F.Entry op pl v x → Freed b d (namedBy (F.Entry op pl v x)) → Freed b d (namedBy (firstOf (getD ws place 0)))
@@ -81,7 +82,7 @@ module _ (ws : List ℕ) (place w : ℕ) (r : FirstWord) (is-word : w ≡ getD w
 
 -- the chosen entry has its value in the log: no block leaves
 module _ (ws before : List ℕ) (info : Info) where
-  pub tops-in-log : length before ≡ 1664 → 0 < info .extent → Superseded ws before before info
+  pub tops-in-log : length before ≡ bufferWords → 0 < info .extent → Superseded ws before before info
   tops-in-log long x = record { kept = kept-all before long; freed = λ n key xs more ys t shown c i. freed-none before long _ (λ u. ap (λ (q : Option Entry). blockOf q u) c ∙ clear key (xs ++ ys) t i u) }
     where
       clear : (key : ℕ) (es : List Entry) (t : Entry) → info ≡ said key es t → (u : ℕ) → points u t ≡ false

@@ -18,20 +18,20 @@ use Rattle.index.specs.Index.{infoAt, stopOf, get, insert, putAt, capacity as t
 use Rattle.index.proofs.Laws.{insert-length}
 use Rattle.index.proofs.Answers.{look-in, put-insert}
 use Rattle.index.specs.Packed.{unpackOf}
-use Rattle.blocks.specs.Bits.{hasBit}
-use Rattle.blocks.proofs.Laws.{front-kept, front-then}
+use Rattle.buffer.specs.Bits.{hasBit}
+use Rattle.buffer.proofs.Laws.{front-kept, front-then}
 use Rattle.log.proofs.Stands.{image-stands}
 use Rattle.volatile.specs.Sums.{weight, Summed}
 use Rattle.volatile.proofs.Sums.{summed-same}
-use Rattle.sums.specs.Change.{Renewed}
-use Rattle.sums.proofs.Laws.{alone-front, alone-bits}
-use Rattle.sums.proofs.Joins.{joins-above}
+use Rattle.volatile.specs.Change.{Renewed}
+use Rattle.volatile.proofs.Laws.{alone-front, alone-bits}
+use Rattle.volatile.proofs.Joins.{joins-above}
 use Rattle.volatile.specs.Known.{ownOf, noted, Bounded}
 use Rattle.volatile.proofs.Image.{image-bounded}
 use Rattle.volatile.proofs.Grow.{Grows, grows-above, capacity-same, found-none, found-chosen, was-unknown, indexed-old, indexed-new}
-use Rattle.apply.specs.Blocks.{topBlock}
+use Rattle.volatile.specs.Blocks.{topBlock}
 use Rattle.apply.specs.Joining.{Superseded, Shown, Awaited, OneJoined}
-use Rattle.apply.proofs.Live.{mem-around}
+use Rattle.volatile.proofs.Live.{mem-around}
 use Rattle.apply.proofs.Freeing.{both-true}
 
 -- Entries put anywhere into a list: numbers stay small without them, and keys are more with them.

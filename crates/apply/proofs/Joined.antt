@@ -16,8 +16,8 @@ use Rattle.theory_base.proofs.Lists.{not-both, both-i}
 use Rattle.theory_log.specs.Contents.{Mem, Top, Agree}
 use Rattle.theory_log.proofs.Contents.{below-highest, mem-r}
 use Rattle.session.specs.Fits.{BlocksApart}
-use Rattle.apply.specs.Blocks.{points, topBlock}
-use Rattle.apply.proofs.Live.{mem-between, mem-around, Holder, holder, live-holder, holder-live, own-holder, holder-own}
+use Rattle.volatile.specs.Blocks.{points, topBlock}
+use Rattle.volatile.proofs.Live.{mem-between, mem-around, Holder, holder, live-holder, holder-live, own-holder, holder-own}
 
 module _ (xs ys : List Entry) (e : Entry) (above : highest (e .key) (xs ++ ys) < e .version)
     (dead : (f : Entry) → Top (xs ++ ys) f → pointed e ≡ true → pointed f ≡ true → e .field ≡ f .field → ⊥) where

@@ -1,8 +1,13 @@
-pub mod Live
 pub mod Joined
 pub mod Freeing
 pub mod Claiming
 pub mod Growing
-pub mod Staging
 pub mod Batch
 pub mod Puts
+pub mod Lists
+pub mod Steps
+pub mod Walks
+pub mod Shows
+pub mod Ends
+pub mod Fence
+pub mod Turns

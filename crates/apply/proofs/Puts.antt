@@ -10,24 +10,26 @@ use lib.ListN.{length}
 use Rattle.index.specs.declared.Info.{Info}
 use Rattle.index.specs.Index.{infoAt, stopOf, putAt}
 use Rattle.index.specs.Packed.{unpackOf}
+use Rattle.buffer.specs.Areas.{batchRoom, sumsCount, bufferWords}
 use Rattle.volatile.specs.Known.{extentOf, alone, noted}
 use Rattle.volatile.proofs.Info.{noted-new}
-use Rattle.sums.specs.Change.{only, nothing, extentWeight, Changed}
-use Rattle.sums.proofs.Laws.{changed-place}
-use Rattle.sums.proofs.Weights.{weighed-put, at-extent}
-use Rattle.sums.proofs.Renews.{renewed-new, renewed-high}
-use Rattle.apply.specs.declared.Item.the-variants as I
-use Rattle.apply.specs.Joining.{OneJoined, PutJoined, Staged, PutsJoined}
+use Rattle.volatile.specs.Change.{only, nothing, extentWeight, Changed}
+use Rattle.volatile.proofs.Laws.{changed-place}
+use Rattle.volatile.proofs.Weights.{weighed-put, at-extent}
+use Rattle.volatile.proofs.Renews.{renewed-new, renewed-high}
+use Rattle.batch.specs.declared.StagedItem.the-variants as I
+use Rattle.apply.specs.Joining.{OneJoined, PutJoined, PutsJoined}
+use Rattle.batch.specs.Staged.{Staged}
 use Rattle.apply.proofs.Freeing.{tops-in-log}
 use Rattle.apply.proofs.Claiming.{no-block}
 use Rattle.apply.proofs.Growing.{joined-new, joined-old}
-use Rattle.apply.proofs.Staging.{told-fits}
+use Rattle.batch.proofs.Staged.{told-fits}
 use Rattle.apply.proofs.Batch.{going-start, going-next}
 
 -- ## One put
 
 -- the word of a key with one entry has the chunk of its place
-alone-place : (extent place version : ℕ) → place / 512 % 512 ≡ unpackOf (alone extent place version) .place / 512 % 512
+alone-place : (extent place version : ℕ) → place / 512 % sumsCount ≡ unpackOf (alone extent place version) .place / 512 % sumsCount
 unfolding alone
 alone-place extent place version =
     let low : ℕ = extent % 0x100 in
@@ -38,8 +40,8 @@ alone-place extent place version =
     rw p (omega arith)
 
 module _ (buffer table : List ℕ) (keys key extent place version own w slot old : ℕ) (is-own : own ≡ alone extent place version) (is-slot : slot ≡ stopOf table key) (is-word : old ≡ infoAt table slot) where
-  own-chunk : place / 512 % 512 ≡ unpackOf own .place / 512 % 512
-  own-chunk = alone-place extent place version ∙ ap (λ (x : ℕ). unpackOf x .place / 512 % 512) (sym is-own)
+  own-chunk : place / 512 % sumsCount ≡ unpackOf own .place / 512 % sumsCount
+  own-chunk = alone-place extent place version ∙ ap (λ (x : ℕ). unpackOf x .place / 512 % sumsCount) (sym is-own)
 
   -- of a new key
   pub put-new : (d table′ : List ℕ) → old ≡ 0 → Changed buffer d (only place w) nothing → table′ ≡ putAt table slot key own
@@ -57,7 +59,7 @@ module _ (buffer table : List ℕ) (keys key extent place version own w slot old
   put-over i j is-i is-j x v gone is-gone d f table′ k m info is-info is-put = record {
     joins = λ e ws. rw (← is-own)
         (joined-old ws buffer f f table table′ keys key own w slot old info is-slot is-word is-info
-        (renewed-high ws buffer old own w j is-j i is-i no-zero d f gone v (at-extent ws (i .extent) (i .place) gone x is-gone) k (changed-place d f place (j .place) w (own-chunk ∙ ap (λ (y : Info). y .place / 512 % 512) (sym is-j)) m)) is-put i is-i
+        (renewed-high ws buffer old own w j is-j i is-i no-zero d f gone v (at-extent ws (i .extent) (i .place) gone x is-gone) k (changed-place d f place (j .place) w (own-chunk ∙ ap (λ (y : Info). y .place / 512 % sumsCount) (sym is-j)) m)) is-put i is-i
         (tops-in-log ws f i (m .kept .long ∙ m .kept .size) x) no-zero);
     left = λ e. absurd (subst T e tt);
   }
@@ -71,11 +73,11 @@ put-left buffer table keys key own w = record { joins = λ e. absurd (subst T (s
 
 -- ## The pass
 
-pub puts-start : (place end : ℕ) (buffer table : List ℕ) (keys at : ℕ) → length buffer ≡ 1664 → PutsJoined place end buffer table keys at buffer table keys at
+pub puts-start : (place end : ℕ) (buffer table : List ℕ) (keys at : ℕ) → length buffer ≡ bufferWords → PutsJoined place end buffer table keys at buffer table keys at
 puts-start place end buffer table keys at long = record { farther = omega arith; goes = λ ws. going-start ws buffer table keys place at end long }
 
 module _ (place end : ℕ) (buffer₀ table₀ : List ℕ) (keys₀ at₀ : ℕ) (buffer table : List ℕ) (keys at : ℕ) (inv : PutsJoined place end buffer₀ table₀ keys₀ at₀ buffer table keys at) where
-  pub puts-next : (version field key words : ℕ) → Staged buffer at end (I.Entry 1 0 version field key words) → end ≤ 512 → (extent : ℕ) → extent ≡ extentOf 0 field → (w : ℕ) → w ≡ 2 + words
+  pub puts-next : (version field key words : ℕ) → Staged buffer at end (I.Entry 1 0 version field key words) → end ≤ batchRoom → (extent : ℕ) → extent ≡ extentOf 0 field → (w : ℕ) → w ≡ 2 + words
       → (buffer′ table′ : List ℕ) (keys′ : ℕ) → ((ws : List ℕ) → OneJoined ws buffer buffer′ table table′ keys key (alone extent (place + at) version) w keys′)
       → PutsJoined place end buffer₀ table₀ keys₀ at₀ buffer′ table′ keys′ (at + (2 + words))
   puts-next version field key words told short extent is-extent w is-w buffer′ table′ keys′ one = record {

@@ -3,7 +3,7 @@
 use mathlib.Core.Path.{_≡_}
 use mathlib.Core.Bool.{Bool, true, false}
 use mathlib.Core.Option.{some}
-use mathlib.Core.List.{List, [], _∷_, _++_}
+use mathlib.Core.List.{List, _∷_, _++_}
 use Prim.Native.Nat.{ℕ, _+_, _-_, _≤_, _<_, min}
 use lib.ListN.{length}
 use Rattle.spec.specs.Basics.{both, negate, isIn}
@@ -14,17 +14,14 @@ use Rattle.spec.specs.Contents.{highest, chosen, keysOf, capacity, liveBlocks}
 use Rattle.theory_log.specs.Batch.{AllRight}
 use Rattle.theory_log.specs.Contents.{Mem, Top, CountsOn, Agree}
 use Rattle.index.specs.declared.Info.{Info}
-use Rattle.blocks.specs.Bits.{hasBit, WordsKept, FrontKept}
+use Rattle.buffer.specs.Bits.{hasBit, WordsKept, FrontKept}
 use Rattle.volatile.specs.Known.{ownOf, Indexed}
 use Rattle.volatile.specs.Sums.{weight, Summed}
 use Rattle.volatile.proofs.Info.{said}
-use Rattle.session.specs.State.{bufferPart, batchRoom}
+use Rattle.buffer.specs.Areas.{batchRoom}
+use Rattle.session.specs.State.{bufferPart}
 use Rattle.session.specs.Fits.{ItemsFit, BlocksApart}
-use Rattle.apply.specs.Blocks.{topBlock, Freed}
-use Rattle.log.specs.declared.Short.{Short}
-use Rattle.log.specs.declared.Short.the-variants as S
-use Rattle.apply.specs.declared.Item.{Item}
-use Rattle.apply.specs.declared.Item.the-variants as I
+use Rattle.volatile.specs.Blocks.{topBlock, Freed}
 
 -- these entries are above all of es of their keys
 abbrev pub Later : (es more : List Entry) → Type 0
@@ -72,33 +69,6 @@ pub record OneJoined (ws buffer buffer′ table table′ : List ℕ) (keys key o
 pub record PutJoined (buffer buffer′ table table′ : List ℕ) (keys key own w : ℕ) (joined : Bool) (keys′ : ℕ) : Type 0 where
   pub joins : joined ≡ true → (ws : List ℕ) → OneJoined ws buffer buffer′ table table′ keys key own w keys′
   pub left : joined ≡ false → (buffer′ ≡ buffer) × (table′ ≡ table)
-
--- what stands in the buffer's words from `at` to `end`, if they are those of entries: none, or one with so many words
--- of value, and the others behind it
-pub record Taken (buffer : List ℕ) (at end op placement version field key words : ℕ) (rest : List Entry) : Type 0 where
-  pub entry : Entry
-  pub others : List Entry
-  pub all : rest ≡ entry ∷ others
-  pub of-op : entry .op ≡ op
-  pub of-placement : entry .placement ≡ placement
-  pub of-version : entry .version ≡ version
-  pub of-field : entry .field ≡ field
-  pub of-key : entry .key ≡ key
-  pub size : length (entry .value) ≡ words
-  pub behind : bufferPart buffer (at + (2 + words)) (end - (at + (2 + words))) ≡ encodeAll others
-
-abbrev pub StagedFrom : List ℕ → (at end : ℕ) → List Entry → Type 0
-StagedFrom buffer at end rest = AllRight rest × (bufferPart buffer at (end - at) ≡ encodeAll rest)
-
-abbrev pub Staged : List ℕ → (at end : ℕ) → Item → Type 0
-Staged buffer at end I.Nothing = (rest : List Entry) → StagedFrom buffer at end rest → rest ≡ []
-Staged buffer at end (I.Entry op placement version field key words) =
-    (at + (2 + words) ≤ end) × ((rest : List Entry) → StagedFrom buffer at end rest → Taken buffer at end op placement version field key words rest)
-
--- the same of a put with its value in the log; of anything else nothing is said
-abbrev pub ShortStaged : List ℕ → (at end : ℕ) → Short → Type 0
-ShortStaged buffer at end S.Other = Unit {0}
-ShortStaged buffer at end (S.Put version field key words) = Staged buffer at end (I.Entry 1 0 version field key words)
 
 -- THE BATCH, so many words of the buffer: what holds at a commit's last fence. The image, of n chunks, shows it at
 -- `place`, between front and back; table, bits and sums know front and back alone.

@@ -1,2 +1,3 @@
-pub mod Blocks
 pub mod Joining
+pub mod Leaving
+pub mod Passes

@@ -1,24 +1,19 @@
 -- One more item written behind the staged ones: the code's stores lay its words over the buffer.
 -- Assumes nothing.
 use mathlib.Core.Path.{_≡_, refl, sym, _∙_, ap}
-use mathlib.Core.Logic.{by-cases}
 use mathlib.Core.List.{List, [], _∷_, _++_, append-nil, append-assoc}
-use Prim.Native.Nat.{ℕ, suc, _+_, _-_, _/_, _%_, _^_, _≤_, _<_}
+use Prim.Native.Nat.{ℕ, suc, _+_, _-_, _%_, _^_, _≤_, _<_}
 use native.Mathlib.Omega.{arith}
-use native.Mathlib.Decide.{decLt}
-use borrow.Author.Tests.{le-ltb}
-use lib.Dec.{eqb, ltb}
-use lib.ListN.{length, getD, set, take, length-set}
-use lib.Seq.{take-all, getD-set-same, getD-set-other}
-use Rattle.spec.specs.Basics.{both}
+use lib.ListN.{length, getD, set, length-set}
+use lib.Seq.{getD-set-same, getD-set-other}
 use Rattle.spec.specs.Log.{Entry, headOf, encode, encodeAll}
 use Rattle.spec.specs.Plans.{entry}
 use Rattle.theory_log.specs.Batch.{Kind, put, block, delete}
 use Rattle.codec.specs.Firsts.{headWord}
 use Rattle.words.specs.Overlay.{overlay, length-overlay, getD-overlay-outside}
-use Rattle.blocks.specs.Bits.{wordOf, hasBit}
+use Rattle.buffer.proofs.Laws.{bits-agree}
 use Rattle.session.specs.State.{bufferPart}
-use Rattle.session.specs.Filter.{filterPlace}
+use Rattle.buffer.specs.Areas.{batchRoom, secondStart, filterPlace, bufferWords}
 use Rattle.session.proofs.Part.{part-agree}
 use Rattle.batch.specs.Added.{Added}
 use Rattle.batch.specs.Marks.{marksOf, MarkedWith}
@@ -44,15 +39,8 @@ head-same op pl v x k h l =
     let d : x % 2 ^ 40 ≡ x = omega arith in
     rw (a, b, c, d)
 
--- the bits lie above the batch
-bits-kept : (b d : List ℕ) → ((i : ℕ) → 512 ≤ i → i < 1150 → getD d i 0 ≡ getD b i 0) → (u : ℕ) → hasBit d u ≡ hasBit b u
-unfolding hasBit
-bits-kept b d h u = by-cases (decLt u 8064)
-    (λ l. ap (λ (w : ℕ). both (ltb u 8064) (eqb (w / 2 ^ (u % 64) % 2) 1)) (h (wordOf u) (omega arith) (omega arith)))
-    (λ l. rw (le-ltb u 8064 (omega arith)))
-
 -- no room
-pub add-none : (b : List ℕ) (words : ℕ) (e : Entry) → length b ≡ 1664 → 512 < words + (2 + length (e .value)) → Added b b words words e
+pub add-none : (b : List ℕ) (words : ℕ) (e : Entry) → length b ≡ bufferWords → batchRoom < words + (2 + length (e .value)) → Added b b words words e
 add-none b words e n h =
     record {
       size = n;
@@ -67,10 +55,10 @@ add-none b words e n h =
     }
 
 -- the filter's word is stored first, and then the item's
-module _ (b d : List ℕ) (words next op pl v x key head marks : ℕ) (vs : List ℕ) (n : length b ≡ 1664) (room : words + (2 + length vs) ≤ 512)
+module _ (b d : List ℕ) (words next op pl v x key head marks : ℕ) (vs : List ℕ) (n : length b ≡ bufferWords) (room : words + (2 + length vs) ≤ batchRoom)
     (counted : next ≡ words + (2 + length vs))
     (told : head ≡ headWord (op % 4) (pl % 4) (v % 1048576) (x % 2 ^ 40)) (mark : MarkedWith (marksOf b words) marks key)
-    (stored : d ≡ overlay (set (set (set b filterPlace marks) words head) (words + 1) key) (words + 2) (take (1664 - (words + 2)) vs)) where
+    (stored : d ≡ overlay (set (set (set b filterPlace marks) words head) (words + 1) key) (words + 2) vs) where
   abbrev m : List ℕ
   m = set b filterPlace marks
 
@@ -78,15 +66,15 @@ module _ (b d : List ℕ) (words next op pl v x key head marks : ℕ) (vs : List
   laid =
       let one : words + 1 ≡ suc words = omega arith in
       let two : words + 2 ≡ suc (suc words) = omega arith in
-      stored ∙ rw (take-all (1664 - (words + 2)) vs (omega arith), one, two)
+      stored ∙ rw (one, two)
 
   long-m : length m ≡ length b
   long-m = length-set b filterPlace marks
 
-  outside : (i : ℕ) → 512 ≤ i → getD d i 0 ≡ getD m i 0
+  outside : (i : ℕ) → secondStart ≤ i → getD d i 0 ≡ getD m i 0
   outside i l = ap (λ (xs : List ℕ). getD xs i 0) laid ∙ getD-overlay-outside (head ∷ key ∷ vs) m words i (λ p q. omega arith)
 
-  above-kept : (i : ℕ) → 512 ≤ i → i < 1150 → getD d i 0 ≡ getD b i 0
+  above-kept : (i : ℕ) → secondStart ≤ i → i < filterPlace → getD d i 0 ≡ getD b i 0
   above-kept i l h = outside i l ∙ getD-set-other b filterPlace i marks 0 (λ q. omega arith)
 
   behind-kept : (i : ℕ) → filterPlace < i → getD d i 0 ≡ getD b i 0
@@ -109,7 +97,7 @@ module _ (b d : List ℕ) (words next op pl v x key head marks : ℕ) (vs : List
         long = ap length laid ∙ length-overlay m words (head ∷ key ∷ vs) ∙ long-m;
         above = above-kept;
         behind = behind-kept;
-        bits = bits-kept b d above-kept;
+        bits = bits-agree b d (λ i l h. above-kept i (omega arith) h);
         full = λ l. absurd (omega arith);
         count = λ l. counted;
         written = λ l r f items w.

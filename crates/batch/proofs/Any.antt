@@ -12,7 +12,8 @@ use Rattle.spec.specs.Log.{Entry, Parsed, Wrong, Entries, cons, parse, stepOf}
 use Rattle.spec.specs.Contents.{listed}
 use Rattle.spec.specs.declared.LogStep.the-variants as S
 use Rattle.theory_log.proofs.Walk.{slice-head, slice-more, parse-end, parse-wrong, parse-padding, parse-next}
-use Rattle.session.specs.State.{batchRoom, bufferPart}
+use Rattle.buffer.specs.Areas.{batchRoom}
+use Rattle.session.specs.State.{bufferPart}
 use Rattle.batch.specs.Items.{anyItem}
 
 -- the buffer's words one by one are a part of it

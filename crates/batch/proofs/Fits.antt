@@ -20,7 +20,8 @@ use Rattle.theory_base.proofs.Lists.{not-both}
 use Rattle.theory_log.specs.Batch.{Kind, put, block, delete, Right}
 use Rattle.theory_log.specs.Contents.{Mem, CountsOn}
 use Rattle.theory_log.proofs.Contents.{mem-cases, highest-insert}
-use Rattle.session.specs.State.{batchRoom, batchWords}
+use Rattle.buffer.specs.Areas.{batchRoom}
+use Rattle.session.specs.State.{batchWords}
 use Rattle.session.specs.Fits.{ItemsFit, BatchFits}
 use Rattle.session.proofs.Part.{words-within, words-counted}
 use Rattle.batch.specs.Items.{StagedIn}
@@ -39,12 +40,12 @@ in-log-small op pl x (put h) z = omega arith
 in-log-small op pl x block z = absurd (omega arith)
 in-log-small op pl x delete z = omega arith
 
-lines-bytes : (n : ℕ) → leb (8 * n) 4096 ≡ leb n 512
-lines-bytes n = go (decLe n 512)
+lines-bytes : (n : ℕ) → leb (8 * n) 4096 ≡ leb n batchRoom
+lines-bytes n = go (decLe n batchRoom)
   where
-    go : Dec (n ≤ 512) → leb (8 * n) 4096 ≡ leb n 512
-    go (yes h) = le-leb (8 * n) 4096 (omega arith) ∙ sym (le-leb n 512 h)
-    go (no h) = lt-leb (8 * n) 4096 (omega arith) ∙ sym (lt-leb n 512 (omega arith))
+    go : Dec (n ≤ batchRoom) → leb (8 * n) 4096 ≡ leb n batchRoom
+    go (yes h) = le-leb (8 * n) 4096 (omega arith) ∙ sym (le-leb n batchRoom h)
+    go (no h) = lt-leb (8 * n) 4096 (omega arith) ∙ sym (lt-leb n batchRoom (omega arith))
 
 -- an item in the log has no block
 items-more : (n : ℕ) (ws : List ℕ) (es items : List Entry) (e : Entry) → e .placement ≡ 0 → ItemsFit n ws es items → ItemsFit n ws es (items ++ (e ∷ []))

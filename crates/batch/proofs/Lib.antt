@@ -7,3 +7,4 @@ pub mod Items
 pub mod Count
 pub mod Fits
 pub mod Any
+pub mod Staged

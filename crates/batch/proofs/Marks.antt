@@ -16,9 +16,10 @@ use Rattle.spec.specs.Basics.{pick}
 use Rattle.spec.specs.Log.{Entry, encodeAll}
 use Rattle.theory_base.proofs.Lists.{not-both}
 use Rattle.theory_log.specs.Fold.{foldE}
-use Rattle.blocks.proofs.Word.{shifted, set-same, set-other}
+use Rattle.buffer.proofs.Word.{shifted, set-same, set-other}
 use Rattle.session.specs.State.{bufferPart}
-use Rattle.session.specs.Filter.{filterPlace, filterBit, isMarked, AllMarked}
+use Rattle.buffer.specs.Areas.{filterPlace}
+use Rattle.session.specs.Filter.{filterBit, isMarked, AllMarked}
 use Rattle.batch.specs.declared.Latest.{Latest}
 use Rattle.batch.specs.Items.{nothing, pass, latestOf}
 use Rattle.batch.specs.Marks.{marksOf, MarkedWith}

@@ -12,7 +12,8 @@ use Rattle.spec.specs.declared.FirstWord.the-variants as F
 use Rattle.theory_log.specs.Batch.{Kind, put, block, delete, Right, AllRight}
 use Rattle.theory_log.specs.Fold.{foldE}
 use Rattle.theory_log.proofs.Batch.{first-right}
-use Rattle.session.specs.State.{batchRoom, bufferPart}
+use Rattle.buffer.specs.Areas.{batchRoom}
+use Rattle.session.specs.State.{bufferPart}
 use Rattle.session.proofs.Part.{length-part}
 use Rattle.batch.specs.declared.Item.{Item}
 use Rattle.batch.specs.declared.Latest.{Latest}

@@ -14,14 +14,15 @@ use Rattle.spec.specs.declared.FirstWord.{FirstWord}
 use Rattle.spec.specs.declared.FirstWord.the-variants as F
 use Rattle.theory_log.specs.Batch.{AllRight}
 use Rattle.theory_log.specs.Fold.{foldE}
-use Rattle.session.specs.State.{batchRoom, bufferPart}
-use Rattle.session.specs.Filter.{filterPlace, AllMarked}
+use Rattle.buffer.specs.Areas.{batchStart, batchRoom, filterPlace}
+use Rattle.session.specs.State.{bufferPart}
+use Rattle.session.specs.Filter.{AllMarked}
 use Rattle.batch.specs.declared.Latest.{Latest}
 use Rattle.batch.specs.declared.Item.{Item}
 
 -- the words of the buffer are those of these items, and its filter has their keys
 pub record StagedIn (buffer : List ℕ) (words : ℕ) (items : List Entry) : Type 0 where
-  pub written : bufferPart buffer 0 (min words batchRoom) ≡ encodeAll items
+  pub written : bufferPart buffer batchStart (min words batchRoom) ≡ encodeAll items
   pub right : AllRight items
   pub marked : AllMarked (getD buffer filterPlace 0) items
 
@@ -57,4 +58,4 @@ OnlyDeletes buffer words r = (items : List Entry) → StagedIn buffer words item
 
 -- whether the staged words say an item, whatever they are
 unfoldable pub anyItem : List ℕ → ℕ → Bool
-anyItem buffer words = negate (isEmpty (listed (parse (bufferPart buffer 0 (min words batchRoom)) 0 0)))
+anyItem buffer words = negate (isEmpty (listed (parse (bufferPart buffer batchStart (min words batchRoom)) 0 0)))

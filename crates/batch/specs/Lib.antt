@@ -1,3 +1,4 @@
 pub mod Items
 pub mod Marks
 pub mod Added
+pub mod Staged

@@ -7,7 +7,8 @@ use Prim.Native.Nat.{ℕ}
 use lib.Dec.{eqb}
 use lib.ListN.{getD}
 use Rattle.spec.specs.Basics.{pick}
-use Rattle.session.specs.Filter.{filterPlace, isMarked}
+use Rattle.buffer.specs.Areas.{filterPlace}
+use Rattle.session.specs.Filter.{isMarked}
 
 -- the filter of so many staged words: where there are none, its word is not read
 abbrev pub marksOf : (buffer : List ℕ) (words : ℕ) → ℕ

@@ -1,23 +1,25 @@
-// The staged entries, kept in words 0 to 511 of the station record's buffer as the very words that a commit writes.
+// The staged entries, kept in the batch of the station record's buffer as the very words that a commit writes.
 ghost use mathlib.Core.Path.{_≡_};
-ghost use Prim.Native.Nat.{_+_, _-_, _^_, _<_, _≤_, min};
-ghost use lib.ListN.{getD, take, drop};
+ghost use Prim.Native.Nat.{_+_, _/_, _^_, _<_, _≤_};
+ghost use lib.ListN.{length, getD, drop};
 ghost use lib.Seq.{slice};
 ghost use Rattle.spec.specs.Words.{packed};
 ghost use Rattle.spec.specs.Log.{wordsFor, filled, stepOf};
 ghost use Rattle.spec.specs.Plans.{entry};
 ghost use Rattle.words.specs.Overlay.{overlay};
-ghost use Rattle.blocks.specs.Bits.{bufferWords};
-ghost use Rattle.session.specs.State.{batchRoom};
+ghost use Rattle.buffer.specs.Areas.{batchRoom, bufferWords};
 ghost use Rattle.session.specs.Filter.{filterBit, isMarked};
 ghost use Rattle.batch.specs.Items.{itemOf, laterOf, LastStaged, OnlyDeletes, anyItem};
 ghost use Rattle.batch.specs.Marks.{marksOf, MarkedWith};
 ghost use Rattle.batch.specs.Added.{Added};
-use blocks::BUFFER_WORDS;
-use blocks::Buffer;
-use blocks::buffer_length;
+ghost use Rattle.batch.specs.Staged.{Staged, ShortStaged};
+use buffer::BATCH_WORDS;
+use buffer::Buffer;
+use buffer::FILTER;
+use buffer::buffer_length;
 use codec::first_of;
 use codec::first_word;
+use log::Short;
 use log::words_for;
 use spec::FirstWord;
 use spec::LogStep;
@@ -39,6 +41,19 @@ pub struct Item {
     pub size: usize,
 }
 
+// What stands at a place of the staged words: an entry that ends within them, or nothing.
+pub enum StagedItem {
+    Nothing,
+    Entry {
+        op: u64,
+        placement: u64,
+        version: u64,
+        field: u64,
+        key: u64,
+        words: usize,
+    },
+}
+
 // What two words say, of an item's: of others something, and a size.
 fn item_of(word: u64, key: u64) -> Item
     ensures { λ r. ⌜ (r ≡ itemOf word key) × (1 ≤ r .size) × (r .size < 2 ^ 62) ⌝ }
@@ -52,8 +67,9 @@ fn item_of(word: u64, key: u64) -> Item
     }
 }
 
+// What the words at `at` say, of a batch that is known to have an item there.
 fn item_at(buffer: &Buffer, at: usize) -> Item
-    requires { ⌜ at < 512 ⌝ }
+    requires { ⌜ at < batchRoom ⌝ }
     ensures { λ r. ⌜ (r ≡ itemOf (getD (now (buffer .entry)) at 0) (getD (now (buffer .entry)) (at + 1) 0)) × (1 ≤ r .size) × (r .size < 2 ^ 62) ⌝ }
 {
     let word = buffer[at];
@@ -89,7 +105,7 @@ fn marks_of(buffer: &Buffer, words: usize) -> u64
     if words == 0 {
         return 0;
     }
-    buffer[1150]
+    buffer[FILTER]
 }
 
 fn is_marked(marks: u64, key: u64) -> bool
@@ -108,7 +124,7 @@ fn marked_with(marks: u64, key: u64) -> u64
 fn last_of(buffer: &Buffer, words: usize, key: u64) -> Latest
     ensures { λ r. ⌜ LastStaged (now (buffer .entry)) words key r ⌝ }
 {
-    let end = lesser(words, 512);
+    let end = lesser(words, BATCH_WORDS);
     let mut latest = Latest { op: 0, version: 0 };
     let mut at = 0;
     while at < end {
@@ -134,7 +150,7 @@ pub fn last_staged(buffer: &Buffer, words: usize, key: u64) -> Latest
 pub fn only_deletes(buffer: &Buffer, words: usize) -> bool
     ensures { λ r. ⌜ OnlyDeletes (now (buffer .entry)) words r ⌝ }
 {
-    let end = lesser(words, 512);
+    let end = lesser(words, BATCH_WORDS);
     let mut at = 0;
     while at < end {
         let word = buffer[at];
@@ -146,6 +162,68 @@ pub fn only_deletes(buffer: &Buffer, words: usize) -> bool
         }
     }
     true
+}
+
+// The entry that stands at word `at` of the staged words before word `end`, if one does. Its fill is not looked at.
+pub fn staged_entry(buffer: &Buffer, at: usize, end: usize) -> StagedItem
+    requires { ⌜ end ≤ batchRoom ⌝ }
+    ensures { λ r. ⌜ Staged (now (buffer .entry)) at end r ⌝ }
+{
+    if end <= at {
+        return StagedItem::Nothing;
+    }
+    let first = first_of(buffer[at]);
+    match first {
+        FirstWord::Padding => StagedItem::Nothing,
+        FirstWord::Wrong => StagedItem::Nothing,
+        FirstWord::Entry {
+            op,
+            placement,
+            version,
+            field,
+        } => {
+            let words = words_for(placement, field);
+            if end - at < 2 + words {
+                return StagedItem::Nothing;
+            }
+            StagedItem::Entry {
+                op,
+                placement,
+                version,
+                field,
+                key: buffer[at + 1],
+                words,
+            }
+        }
+    }
+}
+
+// The put with its value in the log that stands at word `at` of the staged words before word `end`, if one does.
+pub fn short_at(buffer: &Buffer, at: usize, end: usize) -> Short
+    requires { ⌜ end ≤ batchRoom ⌝ }
+    ensures { λ r. ⌜ ShortStaged (now (buffer .entry)) at end r ⌝ }
+{
+    if end <= at {
+        return Short::Other;
+    }
+    let word = buffer[at];
+    let field = word / 16777216;
+    if word % 16 == 1 {
+        if 256 < field {
+            return Short::Other;
+        }
+        let words = (field as usize + 7) / 8;
+        if end - at < 2 + words {
+            return Short::Other;
+        }
+        return Short::Put {
+            version: word / 16 % 1048576,
+            field,
+            key: buffer[at + 1],
+            words,
+        };
+    }
+    Short::Other
 }
 
 // Whether the value of an item at word `at`, which takes so many words and ends within the batch, is zero-filled.
@@ -208,7 +286,7 @@ fn step_at(buffer: &Buffer, at: usize, end: usize) -> LogStep
 pub fn any_item(buffer: &Buffer, words: usize) -> bool
     ensures { λ r. ⌜ r ≡ anyItem (now (buffer .entry)) words ⌝ }
 {
-    let end = lesser(words, 512);
+    let end = lesser(words, BATCH_WORDS);
     let mut any = false;
     let mut at = 0;
     buffer_length(buffer);
@@ -240,22 +318,13 @@ pub fn any_item(buffer: &Buffer, words: usize) -> bool
 }
 
 // VALUES
-// How many words of a value are copied to place `at` of the record's buffer: all, or as many as fit.
-fn copied(words: usize, at: usize) -> usize
-    ensures { λ r. ⌜ r ≡ min words (bufferWords - at) ⌝ }
-{
-    if BUFFER_WORDS <= at {
-        return 0;
-    }
-    lesser(words, BUFFER_WORDS - at)
-}
-
-// The words of a value laid over the record's buffer from place `at`; what does not fit is dropped.
+// The words of a value laid over the record's buffer from place `at`, where they fit.
 pub fn pack_into(value: &[u8], buffer: &mut Buffer, at: usize)
-    ensures { λ _. ⌜ now (buffer .exit) ≡ overlay (now (buffer .entry)) at (take (bufferWords - at) (packed (now (value .entry)))) ⌝ }
+    requires { ⌜ at + (length (now value) + 7) / 8 ≤ bufferWords ⌝ }
+    ensures { λ _. ⌜ now (buffer .exit) ≡ overlay (now (buffer .entry)) at (packed (now (value .entry))) ⌝ }
 {
-    let count = copied((value.len() + 7) / 8, at);
-    let whole = copied(value.len() / 8, at);
+    let count = (value.len() + 7) / 8;
+    let whole = value.len() / 8;
     let mut i = 0;
     while i < whole {
         let v = read_word(value, i);
@@ -285,14 +354,14 @@ pub fn add_entry(
 {
     buffer_length(buffer);
     let more = 2 + (value.len() + 7) / 8;
-    if 512 < words {
+    if BATCH_WORDS < words {
         return words;
     }
-    if 512 - words < more {
+    if BATCH_WORDS - words < more {
         return words;
     }
     let marks = marks_of(buffer, words);
-    buffer[1150] = marked_with(marks, key);
+    buffer[FILTER] = marked_with(marks, key);
     buffer[words] = first_word(op, placement, version, field);
     buffer[words + 1] = key;
     pack_into(value, buffer, words + 2);

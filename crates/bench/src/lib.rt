@@ -1,8 +1,7 @@
 // Exports for the benchmarks under bench/: the key table and the words of an image, called from C.
 ghost use mathlib.Core.Path.{_≡_};
-ghost use lib.ListN.{length};
+ghost use lib.ListN.{length, getD};
 ghost use Rattle.index.specs.Index.{get, insert, zeros, used, Removal};
-ghost use lib.ListN.{getD};
 ghost use Rattle.spec.specs.Words.{wordsOf};
 ghost use Rattle.words.specs.Image.{Saved};
 use index::Put;
@@ -18,7 +17,7 @@ pub extern "C" fn bench_index_clear(table: &mut [u64])
 pub extern "C" fn bench_index_look(table: &[u64], key: u64) -> u64
     ensures { λ r. ⌜ r ≡ get (now (table .entry)) key ⌝ }
 {
-    index::look(table, key)
+    index::get(table, key)
 }
 
 // 0: the key is new. 1: it was there. 2: there is no slot for it.

@@ -1,37 +1,38 @@
 // The public calls that only read, for a host in C: each stands for the call whose contract it cites, with plain
-// numbers in and out, as `capi` says of all. None has a `requires`.
+// numbers in and out, as `capi` says of all. None has a `requires`. They are a library of their own: in one with those
+// that change a register choosing takes 9 % more instructions.
+ghost use Rattle.answers.specs.Answers.{Encodes, Shown, CountTold, ListTold};
 ghost use mathlib.Core.Path.{_≡_};
 ghost use lib.ListN.{length};
 ghost use Rattle.spec.specs.Words.{wordsOf};
 ghost use Rattle.spec.specs.Places.{chunksIn};
 ghost use Rattle.spec.specs.Directory.{freeChunks};
-ghost use Rattle.store_read.specs.Look.{Reported};
-ghost use Rattle.store_read.specs.Choice.{Chosen};
-ghost use Rattle.store_read.specs.List.{KeysListed, KeyListed};
+ghost use Rattle.store.specs.Look.{Reported};
+ghost use Rattle.store.specs.Choice.{Chosen};
+ghost use Rattle.store.specs.List.{KeysListed, KeyListed};
 ghost use Rattle.directory.specs.Counts.{linesUsed};
-ghost use Rattle.stat.specs.Counts.{Known};
+ghost use Rattle.inspect.specs.KnownKeys.{Known};
 ghost use Rattle.inspect.specs.Numbers.{stationOf, centreOf, ToldAs};
 ghost use Rattle.inspect.specs.History.{entryFrom};
-ghost use Rattle.entries.specs.KeyEntries.{entriesFrom, EntriesListed};
+ghost use Rattle.inspect.specs.KeyEntries.{entriesFrom, EntriesListed};
 ghost use Rattle.faults.specs.Faults.{Told as Located};
-ghost use Rattle.chunk_stat.specs.Contract.{Described, Emptied};
-ghost use Rattle.answers.specs.Answers.{Told, Shown, CountTold, ListTold};
+ghost use Rattle.inspect.specs.Contract.{Described, Emptied};
 use answers::Answer;
-use chunk_stat::ChunkRow;
 use faults::FaultPlace;
-use inspect::KeyEntry;
+use inspect::ChunkRow;
+use inspect::history::KeyEntry;
 use session::Session;
 
-// The chunk to clean (`store_read::choose`).
+// The chunk to clean (`store::choose`).
 #[no_mangle]
 pub extern "C" fn zkv_choose(s: &Session, image: &[u8], table: &[u64]) -> Answer
-    ensures { λ r. ⌜ Told (Chosen (now (s .entry)) (now (image .entry)) (now (table .entry))) r ⌝ }
+    ensures { λ r. ⌜ Encodes (Chosen (now (s .entry)) (now (image .entry)) (now (table .entry))) r ⌝ }
 {
-    let report = store_read::choose(s, image, table);
-    answers::told(report)
+    let report = store::choose(s, image, table);
+    answers::encode_report(report)
 }
 
-// Where in the image the value of a key lies (`store_read::find`): the answer is 0, or the refusal's number with
+// Where in the image the value of a key lies (`store::find`): the answer is 0, or the refusal's number with
 // `start` and `length` 0.
 #[no_mangle]
 pub extern "C" fn zkv_look_up(
@@ -44,11 +45,11 @@ pub extern "C" fn zkv_look_up(
 ) -> u64
     ensures { λ r. ⌜ Shown (Reported (now (s .entry)) key (now (image .entry)) (now (table .entry))) r (now (start .exit)) (now (length .exit)) ⌝ }
 {
-    let report = store_read::find(s, image, table, key);
-    answers::shown(report, start, length)
+    let report = store::find(s, image, table, key);
+    answers::encode_look_up(report, start, length)
 }
 
-// The present keys, rising, into the lent words as far as these reach (`store_read::list_keys`); `count` gets how many
+// The present keys, rising, into the lent words as far as these reach (`store::list_keys`); `count` gets how many
 // there are.
 #[no_mangle]
 pub extern "C" fn zkv_list_keys(
@@ -60,12 +61,12 @@ pub extern "C" fn zkv_list_keys(
 ) -> u64
     ensures { λ r. ⌜ CountTold (KeysListed (now (s .entry)) (now (image .entry)) (now (table .entry)) (now (keys .entry)) (now (keys .exit))) r (now (count .exit)) ⌝ }
 {
-    let listed = store_read::list_keys(s, image, table, keys);
-    answers::counted(listed, count)
+    let listed = store::list_keys(s, image, table, keys);
+    answers::encode_count(listed, count)
 }
 
 // Of a present key its version, its value's length, and 1 where a block has it, 0 where the log has
-// (`store_read::list_key`).
+// (`store::list_key`).
 #[no_mangle]
 pub extern "C" fn zkv_list_key(
     s: &Session,
@@ -78,16 +79,16 @@ pub extern "C" fn zkv_list_key(
 ) -> u64
     ensures { λ r. ⌜ ListTold (KeyListed (now (s .entry)) key (now (image .entry)) (now (table .entry))) r (now (version .exit)) (now (length .exit)) (now (block .exit)) ⌝ }
 {
-    let listed = store_read::list_key(s, image, table, key);
-    answers::spelt(listed, version, length, block)
+    let listed = store::list_key(s, image, table, key);
+    answers::encode_listed(listed, version, length, block)
 }
 
-// The known keys of the open register (`stat::keys`).
+// The known keys of the open register (`inspect::keys`).
 #[no_mangle]
 pub extern "C" fn zkv_keys(s: &Session) -> u64
     ensures { λ r. ⌜ Known (now (s .entry)) r ⌝ }
 {
-    stat::keys(s)
+    inspect::keys(s)
 }
 
 // How many chunks the directory says are free (`directory::free_chunks`).
@@ -106,37 +107,37 @@ pub extern "C" fn zkv_lines_used(image: &[u8]) -> u64
     directory::lines_used(image)
 }
 
-// The station number that the header names: 1 and the number, or 0 and 0 (`inspect::tell_station`).
+// The station number that the header names: 1 and the number, or 0 and 0 (`inspect::header::tell_station`).
 #[no_mangle]
 pub extern "C" fn zkv_station(image: &[u8], number: &mut u64) -> u64
     ensures { λ r. ⌜ ToldAs (stationOf (chunksIn 12 (length (now (image .entry)))) (wordsOf (now (image .entry)))) r (now (number .exit)) ⌝ }
 {
-    inspect::tell_station(image, number)
+    inspect::header::tell_station(image, number)
 }
 
-// The centre number that the header names: 1 and the number, or 0 and 0 (`inspect::tell_centre`).
+// The centre number that the header names: 1 and the number, or 0 and 0 (`inspect::header::tell_centre`).
 #[no_mangle]
 pub extern "C" fn zkv_centre(image: &[u8], number: &mut u64) -> u64
     ensures { λ r. ⌜ ToldAs (centreOf (chunksIn 12 (length (now (image .entry)))) (wordsOf (now (image .entry)))) r (now (number .exit)) ⌝ }
 {
-    inspect::tell_centre(image, number)
+    inspect::header::tell_centre(image, number)
 }
 
 // The entries of a key that stand at or behind a word of the image, into the lent words as far as these reach
-// (`entries::entries_from`); how many there are.
+// (`inspect::entries::entries_from`); how many there are.
 #[no_mangle]
 pub extern "C" fn zkv_entries(image: &[u8], key: u64, from: usize, words: &mut [u64]) -> usize
     ensures { λ r. ⌜ EntriesListed (entriesFrom 12 (chunksIn 12 (length (now (image .entry)))) (wordsOf (now (image .entry))) key from) (now (words .entry)) (now (words .exit)) r ⌝ }
 {
-    entries::entries_from(image, key, from, words)
+    inspect::entries::entries_from(image, key, from, words)
 }
 
-// The first entry of a key that stands at or behind a word of the image (`inspect::entry_from`).
+// The first entry of a key that stands at or behind a word of the image (`inspect::history::entry_from`).
 #[no_mangle]
 pub extern "C" fn zkv_entry(image: &[u8], key: u64, from: usize) -> KeyEntry
     ensures { λ r. ⌜ r ≡ entryFrom 12 (chunksIn 12 (length (now (image .entry)))) (wordsOf (now (image .entry))) key from ⌝ }
 {
-    inspect::entry_from(image, key, from)
+    inspect::history::entry_from(image, key, from)
 }
 
 // Why an opening refuses the image, and where (`faults::find_fault`).
@@ -147,20 +148,20 @@ pub extern "C" fn zkv_fault(image: &[u8]) -> FaultPlace
     faults::find_fault(image)
 }
 
-// What a chunk of the open register holds (`chunk_stat::describe_chunk`).
+// What a chunk of the open register holds (`inspect::describe_chunk`).
 #[no_mangle]
 pub extern "C" fn zkv_chunk(s: &Session, image: &[u8], table: &[u64], chunk: usize) -> ChunkRow
     ensures { λ r. ⌜ Described (now (s .entry)) chunk (now (image .entry)) (now (table .entry)) r ⌝ }
 {
-    chunk_stat::describe_chunk(s, image, table, chunk)
+    inspect::describe_chunk(s, image, table, chunk)
 }
 
 // The first data chunk of the open register from a number on with no live block, which can be cleaned
-// (`chunk_stat::empty_chunk`).
+// (`inspect::empty_chunk`).
 #[no_mangle]
 pub extern "C" fn zkv_empty_chunk(s: &Session, image: &[u8], table: &[u64], from: usize) -> Answer
-    ensures { λ r. ⌜ Told (Emptied (now (s .entry)) from (now (image .entry)) (now (table .entry))) r ⌝ }
+    ensures { λ r. ⌜ Encodes (Emptied (now (s .entry)) from (now (image .entry)) (now (table .entry))) r ⌝ }
 {
-    let report = chunk_stat::empty_chunk(s, image, table, from);
-    answers::told(report)
+    let report = inspect::empty_chunk(s, image, table, from);
+    answers::encode_report(report)
 }

@@ -4,13 +4,13 @@
 // calls alone need.
 ghost use Rattle.spec.specs.Machine.{Put, Delete};
 ghost use Rattle.spec.specs.declared.Given.the-variants.{Number};
-ghost use Rattle.store_read.specs.Look.{Reported};
-ghost use Rattle.answers.specs.Answers.{Told, ShownWith};
+ghost use Rattle.store.specs.Look.{Reported};
+ghost use Rattle.answers.specs.Answers.{Encodes, ShownWith};
 ghost use Rattle.session.specs.Promise.{Does, memory};
 use answers::Answer;
 use session::Session;
 
-// Where in the image the value of a key lies, and its version (`store_read::find`): the answer is 0, or the refusal's
+// Where in the image the value of a key lies, and its version (`store::find`): the answer is 0, or the refusal's
 // number with 0 in all three.
 #[no_mangle]
 pub extern "C" fn zkv_look_up_version(
@@ -24,11 +24,11 @@ pub extern "C" fn zkv_look_up_version(
 ) -> u64
     ensures { λ r. ⌜ ShownWith (Reported (now (s .entry)) key (now (image .entry)) (now (table .entry))) r (now (start .exit)) (now (length .exit)) (now (version .exit)) ⌝ }
 {
-    let report = store_read::find(s, image, table, key);
-    answers::shown_with(report, start, length, version)
+    let report = store::find(s, image, table, key);
+    answers::encode_version(report, start, length, version)
 }
 
-// Begins staging a put for the version named (`store_stage::stage_put_at`).
+// Begins staging a put for the version named (`store::stage_put_at`).
 #[no_mangle]
 pub extern "C" fn zkv_put_at(
     s: &mut Session,
@@ -38,13 +38,13 @@ pub extern "C" fn zkv_put_at(
     value: &[u8],
     version: u64,
 ) -> Answer
-    ensures { λ r. ⌜ Told (Does (Put (Number version) key (now (value .entry))) (memory (now (s .entry)) (now (image .entry)) (now (table .entry))) (memory (now (s .exit)) (now (image .entry)) (now (table .entry)))) r ⌝ }
+    ensures { λ r. ⌜ Encodes (Does (Put (Number version) key (now (value .entry))) (memory (now (s .entry)) (now (image .entry)) (now (table .entry))) (memory (now (s .exit)) (now (image .entry)) (now (table .entry)))) r ⌝ }
 {
-    let report = store_stage::stage_put_at(s, image, table, key, value, version);
-    answers::told(report)
+    let report = store::stage_put_at(s, image, table, key, value, version);
+    answers::encode_report(report)
 }
 
-// Begins staging a delete for the version named (`store_stage::stage_delete_at`).
+// Begins staging a delete for the version named (`store::stage_delete_at`).
 #[no_mangle]
 pub extern "C" fn zkv_delete_at(
     s: &mut Session,
@@ -53,8 +53,8 @@ pub extern "C" fn zkv_delete_at(
     key: u64,
     version: u64,
 ) -> Answer
-    ensures { λ r. ⌜ Told (Does (Delete (Number version) key) (memory (now (s .entry)) (now (image .entry)) (now (table .entry))) (memory (now (s .exit)) (now (image .entry)) (now (table .entry)))) r ⌝ }
+    ensures { λ r. ⌜ Encodes (Does (Delete (Number version) key) (memory (now (s .entry)) (now (image .entry)) (now (table .entry))) (memory (now (s .exit)) (now (image .entry)) (now (table .entry)))) r ⌝ }
 {
-    let report = store_stage::stage_delete_at(s, image, table, key, version);
-    answers::told(report)
+    let report = store::stage_delete_at(s, image, table, key, version);
+    answers::encode_report(report)
 }

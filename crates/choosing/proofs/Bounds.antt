@@ -25,12 +25,13 @@ use Rattle.theory_log.proofs.Places.{chunk-sound, all-sound, rising-apart}
 use Rattle.theory_log.proofs.Walk.{slice-long}
 use Rattle.theory_crash.specs.Accepted.{Ok}
 use Rattle.theory_plans.proofs.Cleaning.{parse-words, filter-words}
+use Rattle.buffer.specs.Areas.{sumsStart, sumsCount}
 use Rattle.volatile.specs.Sums.{highHalf, sumOver, chosenSum, Summed}
 use Rattle.volatile.proofs.Sums.{sum-same}
-use Rattle.apply.proofs.Live.{mem-between}
-use Rattle.keeping.proofs.Freed.{lines-few}
-use Rattle.keeping.proofs.Weights.{putWords, deleteWords, copiedDeletes, Weights, weights}
-use Rattle.measuring.proofs.Chunks.{gathered-kept}
+use Rattle.volatile.proofs.Live.{mem-between}
+use Rattle.forward.proofs.Freed.{lines-few}
+use Rattle.forward.proofs.Weights.{putWords, deleteWords, copiedDeletes, Weights, weights}
+use Rattle.gathering.proofs.Sizes.{gathered-kept}
 
 lo : 12 ≤ 12
 lo = omega arith
@@ -119,11 +120,11 @@ module _ (n s : ℕ) (ws : List ℕ) (es : List Entry) (ok : Ok 12 n ws es) (low
   bounds = let q = parts 12 lo hi n s ws es low high (ok .parsed) in bounds-in (q .0) (q .1) (q .2) (q .3)
 
   -- by the word that the buffer holds
-  module _ (buffer : List ℕ) (sums : Summed buffer es) (sum : ℕ) (is-sum : sum ≡ getD buffer (1152 + s % 512) 0) where
+  module _ (buffer : List ℕ) (sums : Summed buffer es) (sum : ℕ) (is-sum : sum ≡ getD buffer (sumsStart + s % sumsCount) 0) where
     sum-is : sum ≡ chosenSum s es
     sum-is =
         let m = ok .most in
-        let q : 1152 + s % 512 ≡ 1152 + s = omega arith in
+        let q : sumsStart + s % sumsCount ≡ sumsStart + s = omega arith in
         let b = bounds in
         let f = b .few in
         let z : chosenSum s es % 2 ^ 64 ≡ chosenSum s es = rw (b .sum) (omega arith) in

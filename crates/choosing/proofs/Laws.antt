@@ -17,18 +17,19 @@ use Rattle.spec.specs.Log.{Entry}
 use Rattle.spec.specs.Actions.{linesFor}
 use Rattle.spec.specs.Plans.{copyWords, worthCleaning, isBetter, better}
 use Rattle.theory_crash.specs.Accepted.{Ok}
+use Rattle.buffer.specs.Areas.{sumsStart, sumsCount}
 use Rattle.volatile.specs.Known.{Indexed}
 use Rattle.volatile.specs.Sums.{highHalf, Summed}
 use Rattle.choosing.proofs.Bounds.{least-copied, all-copied}
 use Rattle.directory.proofs.Roles.{log-lines}
-use Rattle.measuring.specs.declared.Tally.{Tally}
-use Rattle.measuring.specs.Measuring.{Measured}
-use Rattle.measuring.proofs.Chunks.{chunk-measured}
+use Rattle.gathering.specs.declared.size.Size.{Size}
+use Rattle.gathering.specs.Measuring.{Measured}
+use Rattle.gathering.proofs.Sizes.{chunk-measured}
 use Rattle.choosing.specs.declared.Candidate.{Candidate}
 use Rattle.choosing.specs.Choices.{Describes, Weighed, Counted, Worth, Compared, bestSoFar, Known, Bettered, BetteredAt}
 
 -- ONE CHUNK
-pub weighed : (ws table : List ℕ) (c lines at end : ℕ) (t : Tally) → lines ≡ linesOf 12 ws c → at ≡ 512 * (c % 512) → end ≡ at + 8 * lines → Measured ws table at end t
+pub weighed : (ws table : List ℕ) (c lines at end : ℕ) (t : Size) → lines ≡ linesOf 12 ws c → at ≡ 512 * (c % 512) → end ≡ at + 8 * lines → Measured ws table at end t
     → Weighed ws table c (record { chunk = c; lines = lines; words = t .words })
 weighed ws table c lines at end t el ea ee m = record {
   chunk = refl;
@@ -111,7 +112,7 @@ module _ (ws table buffer : List ℕ) (x : Candidate) (c : ℕ) where
   pub better-weighed : (y z : Candidate) → Weighed ws table c y → Bettered x y z → BetteredAt ws table buffer x c z
   better-weighed y z w b = better-by y z (w .chunk) (λ n keys es ok indexed sums low high. w .describes n keys es ok indexed low high) b
 
-  module _ (sum least : ℕ) (is-sum : sum ≡ getD buffer (1152 + c % 512) 0) (is-least : least ≡ sum % highHalf) where
+  module _ (sum least : ℕ) (is-sum : sum ≡ getD buffer (sumsStart + c % sumsCount) 0) (is-least : least ≡ sum % highHalf) where
     -- it has no chosen delete
     pub better-counted : (y z : Candidate) → sum < highHalf → Counted ws c least y → Bettered x y z → BetteredAt ws table buffer x c z
     better-counted y z l w b =

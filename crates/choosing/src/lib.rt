@@ -5,7 +5,7 @@ ghost use mathlib.Core.Path.{_≡_};
 ghost use Rattle.spec.specs.Words.{wordsOf};
 ghost use Rattle.spec.specs.Actions.{linesFor};
 ghost use Rattle.choosing.specs.Choices.{Weighed, Counted, Worth, Compared, Bettered, BetteredAt, Chooses, Choosing};
-use blocks::Buffer;
+use buffer::Buffer;
 use directory::lines_of;
 use session::Control;
 use session::Gated;
@@ -35,7 +35,7 @@ fn candidate_at(image: &[u8], table: &[u64], chunk: usize) -> Candidate
     let lines = lines_of(image, chunk);
     let at = 512 * (chunk % 512);
     let end = at + 8 * lines;
-    let tally = measuring::measure(image, table, at, end);
+    let tally = gathering::size::kept_size(image, table, at, end);
     Candidate {
         chunk,
         lines,
@@ -108,7 +108,7 @@ fn better_at(
 ) -> Candidate
     ensures { λ r. ⌜ BetteredAt (wordsOf (now (image .entry))) (now (table .entry)) (now (buffer .entry)) best chunk r ⌝ }
 {
-    let sum = sums::sum_at(buffer, chunk);
+    let sum = volatile::chunk_sums::sum_at(buffer, chunk);
     let least = (sum % 0x1_0000_0000) as usize;
     if 0 < best.chunk {
         if best.words < least {

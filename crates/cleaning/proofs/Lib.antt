@@ -1,4 +1,6 @@
-pub mod Forward
-pub mod Acting
-pub mod Keeping
+pub mod Starts
+pub mod Finding
+pub mod PlanShows
+pub mod Begun
+pub mod BeginShows
 pub mod Begins

@@ -1,3 +1,3 @@
-pub mod Ahead
-pub mod Record
-pub mod Ends
+pub mod Plans
+pub mod Begun
+pub mod Outsets

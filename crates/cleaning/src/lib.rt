@@ -1,107 +1,264 @@
-// A cleaning's actions one by one, made from the record without reading the image.
+// Plan and begin of a cleaning. The plan changes neither record, image nor key table: it is a refusal, or the words
+// that are kept, the place of their copies and how many actions there are. The begin stores these words in the record.
 ghost use mathlib.Core.Path.{_≡_};
-ghost use Prim.Native.Nat.{min};
-ghost use lib.ListN.{getD};
-ghost use Rattle.spec.specs.Actions.{padded, freeOf};
-ghost use Rattle.actions.specs.Nth.{nthReport};
-ghost use Rattle.session.specs.State.{sourceIn, keptWords, appendActions, cleanActions};
-ghost use Rattle.cleaning.specs.Record.{copyCount, cleanCount};
-use blocks::Buffer;
+ghost use Prim.Native.Nat.{_%_};
+ghost use Rattle.spec.specs.Words.{wordsOf};
+ghost use Rattle.spec.specs.Places.{firstUnit};
+ghost use Rattle.spec.specs.Plans.{logPlace};
+ghost use Rattle.placing.specs.Found.{placeOf};
+ghost use Rattle.cleaning.specs.Plans.{anyBit, LogPlanned, DataPlanned, CleanPlanned};
+ghost use Rattle.spec.specs.Machine.{Clean};
+ghost use Rattle.cleaning.specs.Outsets.{KeptStored, Outsets};
+ghost use Rattle.session.specs.Promise.{Does, memoryOf};
+use buffer::BATCH_WORDS;
+use buffer::Buffer;
+use codec::Unit;
+use directory::Found;
+use directory::lines_of;
+use gathering::Kept;
+use placing::lines::Place;
+use session::Control;
+use session::Gated;
+use session::Outcome;
 use session::Setup;
 use session::Source;
+use spec::Refusal;
 use spec::Report;
 
-// How many actions copy so many words: none where there are none.
-pub fn copy_count(words: usize) -> usize
-    ensures { λ r. ⌜ r ≡ copyCount words ⌝ }
+// A cleaning's begin: turned down, or where its copies go (chunk, its directory word, its committed lines), where the
+// next commit looks for space, what the record is to hold of the cleaned chunk, and the number of actions.
+pub enum CleanPlan {
+    Refused(Refusal),
+    At {
+        chunk: usize,
+        old: u64,
+        lines: usize,
+        first: usize,
+        source: Source,
+        actions: usize,
+    },
+}
+
+// WHERE THE COPIES GO
+// The place for so many lines of copies: the first log chunk other than x with space, else the first free chunk.
+fn copy_place(image: &[u8], count: usize, lines: usize, x: usize) -> Place
+    ensures { λ r. ⌜ r ≡ placeOf (wordsOf (now (image .entry))) (logPlace 12 count (wordsOf (now (image .entry))) lines x 1) ⌝ }
 {
+    let next = placing::lines::next_chunk(image, 1, count, lines, x);
+    if next < count {
+        return placing::lines::place_at(image, next);
+    }
+    let free = directory::free_chunk(image, count, 1);
+    match free {
+        Found::At(c) => placing::lines::place_at(image, c),
+        Found::Nothing => Place {
+            found: false,
+            chunk: 0,
+            committed: 0,
+            old: 0,
+        },
+    }
+}
+
+// Whether a block of the chunk is in use.
+fn has_live(buffer: &Buffer, chunk: usize) -> bool
+    ensures { λ r. ⌜ r ≡ anyBit (now (buffer .entry)) (firstUnit 12 (chunk % 512)) 16 ⌝ }
+{
+    let mut i = 0;
+    while i < 16 {
+        if buffer::has_bit(buffer, Unit::of(chunk % 512, i)) {
+            return true;
+        }
+        i += 1;
+    }
+    false
+}
+
+// THE PLAN of a log chunk: its kept entries are gathered, and a place is looked for if there are any
+fn plan_log(
+    image: &[u8],
+    table: &[u64],
+    kept: &mut Kept,
+    count: usize,
+    chunk: usize,
+    first: usize,
+) -> CleanPlan
+    ensures { λ r. ⌜ LogPlanned (wordsOf (now (image .entry))) (now (table .entry)) (now (kept .exit)) count chunk first r ⌝ }
+{
+    let old = directory::directory_word(image, chunk);
+    let lines = lines_of(image, chunk);
+    let at = 512 * (chunk % 512);
+    let end = at + 8 * lines;
+    let tally = gathering::gather(image, table, kept, at, end);
+    let words = tally.words;
+    let source = Source {
+        chunk,
+        old,
+        lines,
+        words,
+        entries: tally.entries,
+    };
     if words == 0 {
-        return 0;
+        return CleanPlan::At {
+            chunk: 0,
+            old: 0,
+            lines: 0,
+            first,
+            source,
+            actions: 3,
+        };
     }
-    actions::commit_count(words)
+    let place = copy_place(image, count, (words + 7) / 8, chunk);
+    if place.found {
+        let actions = actions::clean::clean_count(words);
+        let low = words::lesser(first, place.chunk);
+        return CleanPlan::At {
+            chunk: place.chunk,
+            old: place.old,
+            lines: place.committed,
+            first: low,
+            source,
+            actions,
+        };
+    }
+    CleanPlan::Refused(Refusal::NoSpace)
 }
 
-// How many actions a cleaning has that keeps so many words.
-pub fn clean_count(words: usize) -> usize
-    ensures { λ r. ⌜ r ≡ cleanCount words ⌝ }
+// of a chunk that is no log chunk: it is only freed
+fn plan_data(buffer: &Buffer, image: &[u8], chunk: usize, first: usize) -> CleanPlan
+    ensures { λ r. ⌜ DataPlanned (wordsOf (now (image .entry))) (now (buffer .entry)) chunk first r ⌝ }
 {
-    if words == 0 {
-        return 3;
+    if has_live(buffer, chunk) {
+        return CleanPlan::Refused(Refusal::NotCleanable);
     }
-    actions::commit_count(words) + 3
+    let old = directory::directory_word(image, chunk);
+    let lines = lines_of(image, chunk);
+    let source = Source {
+        chunk,
+        old,
+        lines,
+        words: 0,
+        entries: 0,
+    };
+    CleanPlan::At {
+        chunk: 0,
+        old: 0,
+        lines: 0,
+        first,
+        source,
+        actions: 3,
+    }
 }
 
-// Word i of the kept words padded to whole lines: 0 behind them.
-fn kept_word(buffer: &Buffer, words: usize, i: usize) -> u64
-    ensures { λ r. ⌜ r ≡ getD (padded (keptWords words (now (buffer .entry)))) i 0 ⌝ }
+// 15, 16, 13, or what the cleaning begins with: the words that it keeps go to `kept`, and to no other memory.
+pub fn plan_clean(
+    control: Control,
+    setup: Setup,
+    buffer: &Buffer,
+    image: &[u8],
+    table: &[u64],
+    kept: &mut Kept,
+    chunk: usize,
+) -> CleanPlan
+    ensures { λ r. ⌜ CleanPlanned control setup (now (buffer .entry)) (now (image .entry)) (now (table .entry)) (now (kept .exit)) chunk r ⌝ }
 {
-    let kept = words::lesser(words, 512);
-    if i < kept {
-        return buffer[512 + i];
+    if control.items == 0 {
+        let count = image.len() / 4096;
+        if chunk == 0 {
+            return CleanPlan::Refused(Refusal::NotCleanable);
+        }
+        if count <= chunk {
+            return CleanPlan::Refused(Refusal::NotCleanable);
+        }
+        if directory::is_free(image, chunk) {
+            return CleanPlan::Refused(Refusal::NotCleanable);
+        }
+        if lines_of(image, chunk) == 0 {
+            return plan_data(buffer, image, chunk, setup.first % 512);
+        }
+        return plan_log(image, table, kept, count, chunk, setup.first % 512);
     }
-    0
+    CleanPlan::Refused(Refusal::BatchStaged)
 }
 
-// The action number `at` of the copying: the kept words, their lines, a fence; the directory word, its line, a fence.
-fn copy_action(setup: Setup, buffer: &Buffer, words: usize, at: usize) -> Report
-    ensures { λ r. ⌜ r ≡ nthReport (appendActions setup words (now (buffer .entry))) at ⌝ }
+// The kept words go to the buffer's second area, if there are any.
+fn store_kept(source: Source, buffer: &mut Buffer, kept: &Kept)
+    ensures { λ _. ⌜ KeptStored source (now (kept .entry)) (now (buffer .entry)) (now (buffer .exit)) ⌝ }
 {
-    let lines = (words::lesser(words, 512) + 7) / 8;
-    let chunk = setup.chunk % 512;
-    let committed = setup.lines % 128;
-    let stores = 8 * lines;
-    let fence = 9 * lines;
-    let seal = fence + 1;
-    let flush = fence + 2;
-    if at < stores {
-        let word = 512 * chunk + 8 * committed + at;
-        let value = kept_word(buffer, words, at);
-        return Report::Store { word, value };
-    }
-    if at < fence {
-        let line = 64 * chunk + committed + (at - stores);
-        return Report::Flush(line);
-    }
-    if at == fence {
-        return Report::Fence;
-    }
-    if at <= seal {
-        let word = 8 + chunk;
-        let value = codec::log_word(setup.old, (committed + lines) as u64);
-        return Report::Store { word, value };
-    }
-    if at <= flush {
-        let line = (8 + chunk) / 8;
-        return Report::Flush(line);
-    }
-    Report::Fence
-}
-
-// The action number `at` of the freeing: the directory word, its line, a fence.
-fn free_action(source: Source, at: usize) -> Report
-    ensures { λ r. ⌜ r ≡ nthReport (freeOf (sourceIn source) (source .old)) at ⌝ }
-{
-    let chunk = source.chunk % 512;
-    if at == 0 {
-        let word = 8 + chunk;
-        let value = codec::freed_word(source.old);
-        return Report::Store { word, value };
-    }
-    if at == 1 {
-        let line = (8 + chunk) / 8;
-        return Report::Flush(line);
-    }
-    Report::Fence
-}
-
-// The action number `at` of a cleaning: the copying's, then the freeing's.
-pub fn clean_action(setup: Setup, source: Source, buffer: &Buffer, at: usize) -> Report
-    ensures { λ r. ⌜ r ≡ nthReport (cleanActions setup source (now (buffer .entry))) at ⌝ }
-{
+    buffer::buffer_length(buffer);
     let words = source.words;
-    let copies = copy_count(words);
-    if at < copies {
-        return copy_action(setup, buffer, words, at);
+    if words == 0 {
+        return;
     }
-    free_action(source, at - copies)
+    let n = words::lesser(words, BATCH_WORDS);
+    gathering::store_kept(buffer, kept, n);
+}
+
+// Behind the gate: 15, 16, 13, or begun.
+fn begin_clean(
+    control: Control,
+    setup: Setup,
+    buffer: &mut Buffer,
+    image: &[u8],
+    table: &[u64],
+    number: usize,
+) -> Outcome
+    ensures { λ r. ⌜ Outsets control (r .control) setup (r .setup) (now (buffer .entry)) (now (buffer .exit)) (now (image .entry)) (now (table .entry)) number (r .report) ⌝ }
+{
+    let mut kept: Kept = [0; BATCH_WORDS];
+    let plan = plan_clean(control, setup, buffer, image, table, &mut kept, number);
+    match plan {
+        CleanPlan::Refused(n) => Outcome {
+            control,
+            setup,
+            report: Report::Refused(n),
+        },
+        CleanPlan::At {
+            chunk,
+            old,
+            lines,
+            first,
+            source,
+            actions,
+        } => {
+            store_kept(source, buffer, &kept);
+            let begun = session::in_phase(control, session::CLEANING, 0);
+            let target = session::append_setup(
+                setup,
+                chunk,
+                old,
+                lines,
+                first,
+                setup.least,
+                source,
+            );
+            Outcome {
+                control: begun,
+                setup: target,
+                report: Report::Begun(actions),
+            }
+        }
+    }
+}
+
+// 2, 1, 8, 15, 16, 13, or begun: what is kept of the chunk is gathered now, and the chunk is to be freed.
+pub fn clean_core(
+    control: Control,
+    setup: Setup,
+    buffer: &mut Buffer,
+    image: &[u8],
+    table: &[u64],
+    number: usize,
+) -> Outcome
+    ensures { λ r. ⌜ Does (Clean number) (memoryOf control setup (now (buffer .entry)) (now (image .entry)) (now (table .entry))) (memoryOf (r .control) (r .setup) (now (buffer .exit)) (now (image .entry)) (now (table .entry))) (r .report) ⌝ }
+{
+    let gated = session::gate(control, setup, image.len(), table.len());
+    match gated {
+        Gated::Refused(n) => Outcome {
+            control,
+            setup,
+            report: Report::Refused(n),
+        },
+        Gated::Open => begin_clean(control, setup, buffer, image, table, number),
+    }
 }

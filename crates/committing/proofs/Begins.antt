@@ -29,15 +29,16 @@ use Rattle.spec.specs.declared.Refusal.the-variants as N
 use Rattle.spec.specs.declared.Report.{Report}
 use Rattle.spec.specs.declared.Report.the-variants as R
 use Rattle.theory_base.proofs.Lists.{not-both}
-use Rattle.session.specs.State.{batchRoom, batchWords, batchItems, commitActions, commitOlds, stateOf, limit}
+use Rattle.buffer.specs.Areas.{batchRoom}
+use Rattle.session.specs.State.{batchWords, batchItems, commitActions, commitOlds, stateOf, limit}
 use Rattle.session.specs.Fits.{ItemsFit, Hint, soleMark, RestFits, CommitFits, Shown, Reads, Fits}
 use Rattle.session.proofs.Phases.{rest-items}
 use Rattle.session.proofs.Part.{length-part, chunk-in, lines-in, words-counted}
 use Rattle.batch.specs.Items.{OnlyDeletes}
-use Rattle.space.specs.declared.Place.{Place}
-use Rattle.space.specs.declared.Placed.{Placed}
-use Rattle.space.specs.Found.{placeOf, Searched, Searching}
-use Rattle.space.proofs.Hint.{same-space}
+use Rattle.placing.specs.declared.lines.Place.{Place}
+use Rattle.placing.specs.declared.lines.Placed.{Placed}
+use Rattle.placing.specs.Found.{placeOf, Searched, Searching}
+use Rattle.placing.proofs.Hint.{same-space}
 use Rattle.actions.specs.Nth.{nth, commitCount}
 use Rattle.actions.proofs.Committing.{length-commit, commit-next}
 use Rattle.session.specs.declared.Gated.{Gated}
@@ -47,7 +48,7 @@ use Rattle.session.proofs.Gates as Gates
 use Rattle.committing.specs.declared.CommitPlan.{CommitPlan}
 use Rattle.committing.specs.declared.CommitPlan.the-variants as P
 use Rattle.committing.specs.Planned.{PlaceFor, CommitPlanned, committing, writingTo}
-use Rattle.ahead.proofs.Commits.{Forward, forward}
+use Rattle.forward.proofs.Commits.{Forward, forward}
 use Rattle.actions.proofs.States.{at-3}
 use Rattle.session.specs.Promise.{Does, memory, memoryOf}
 use Rattle.session.specs.Fits.{Proper}

@@ -14,12 +14,12 @@ use Rattle.session.specs.declared.Setup.{Setup}
 use Rattle.spec.specs.declared.Report.the-variants as R
 use Rattle.session.specs.Fits.{Hint}
 use Rattle.batch.specs.Items.{StagedIn}
-use Rattle.space.specs.declared.Placed.{Placed}
-use Rattle.space.specs.Found.{Searched}
+use Rattle.placing.specs.declared.lines.Placed.{Placed}
+use Rattle.placing.specs.Found.{Searched}
 use Rattle.committing.specs.declared.CommitPlan.{CommitPlan}
 use Rattle.committing.specs.declared.CommitPlan.the-variants as P
 use Rattle.session.specs.Promise.{Does, memoryOf}
-use Rattle.session.specs.Numbers.{acting, writing}
+use Rattle.session.specs.Numbers.{inPhase, appendSetup}
 
 -- the place that the definition finds for the staged items, where the hint holds
 abbrev pub PlaceFor : (buffer : List ℕ) (words : ℕ) (image : List ℕ) (first least : ℕ) → Placed → Type 0
@@ -30,11 +30,11 @@ PlaceFor buffer words image first least r =
 -- the record's small parts at a commit's begin: no action done yet, where it writes, and where the next one looks for
 -- space
 abbrev pub committing : Control → Control
-committing c = acting 3 0 c
+committing c = inPhase 3 0 c
 
 abbrev pub writingTo : Setup → (chunk old lines first least : ℕ) → Setup
 writingTo k chunk old lines first least =
-    writing k chunk old lines first least (k .source)
+    appendSetup k chunk old lines first least (k .source)
 
 -- a plan is right if the call that follows it does what it promises
 abbrev pub CommitPlanned : Control → Setup → (buffer image table : List ℕ) → CommitPlan → Type 0

@@ -1,23 +1,20 @@
 // Plan and begin of a commit.
 ghost use mathlib.Core.Path.{_≡_};
-ghost use Prim.Native.Nat.{min};
 ghost use Rattle.spec.specs.Basics.{pick};
-ghost use Rattle.spec.specs.Actions.{linesFor};
 ghost use Rattle.spec.specs.Machine.{Commit};
-ghost use Rattle.session.specs.State.{batchRoom};
 ghost use Rattle.committing.specs.Planned.{PlaceFor, CommitPlanned};
 ghost use Rattle.session.specs.Promise.{Does, memoryOf};
-use blocks::Buffer;
+use buffer::Buffer;
+use placing::lines::Placed;
 use session::Control;
 use session::Gated;
 use session::Outcome;
 use session::Setup;
-use space::Placed;
 use spec::Refusal;
 use spec::Report;
 
-// COMMIT What a commit finds: a refusal, or where it writes (chunk, its directory word, its committed lines), where the
-// next one looks for space, and how many actions it has.
+// What a commit finds: a refusal, or where it writes (chunk, its directory word, its committed lines), where the next
+// one looks for space, and how many actions it has.
 pub enum CommitPlan {
     Refused(Refusal),
     At {
@@ -28,16 +25,6 @@ pub enum CommitPlan {
         least: usize,
         actions: usize,
     },
-}
-
-// How many lines the staged words take.
-fn batch_lines(words: usize) -> usize
-    ensures { λ r. ⌜ r ≡ linesFor (min words batchRoom) ⌝ }
-{
-    if words < 512 {
-        return (words + 7) / 8;
-    }
-    64
 }
 
 // How many free chunks a commit asks for.
@@ -52,10 +39,10 @@ fn commit_place(buffer: &Buffer, words: usize, first: usize, least: usize, image
     ensures { λ r. ⌜ PlaceFor (now (buffer .entry)) words (now (image .entry)) first least r ⌝ }
 {
     let count = image.len() / 4096;
-    let lines = batch_lines(words);
+    let lines = actions::append::batch_lines(words);
     let deletes = batch::only_deletes(buffer, words);
     let needed = free_needed(deletes);
-    space::log_place(image, count, lines, needed, first, least)
+    placing::lines::log_place(image, count, lines, needed, first, least)
 }
 
 // 2, 1, 8, 14, 13, or the place. Nothing is changed.
@@ -78,7 +65,7 @@ pub fn plan_commit(
             let placed = commit_place(buffer, control.words, setup.first, setup.least, image);
             let place = placed.place;
             if place.found {
-                let actions = actions::commit_count(control.words);
+                let actions = actions::append::commit_count(control.words);
                 return CommitPlan::At {
                     chunk: place.chunk,
                     old: place.old,
@@ -118,7 +105,7 @@ pub fn commit_core(
             least,
             actions,
         } => {
-            let begun = session::acting(control, session::COMMIT, 0);
+            let begun = session::in_phase(control, session::COMMIT, 0);
             let source = setup.source;
             // A literal: through constructors zkv_commit takes twelve instructions more (bench/instructions.sh).
             let bound = Setup {

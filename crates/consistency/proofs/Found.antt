@@ -19,8 +19,8 @@ use Rattle.log.proofs.Scan.{best-chosen}
 use Rattle.volatile.specs.Known.{Bounded}
 use Rattle.volatile.proofs.Grow.{found-none, found-chosen}
 use Rattle.volatile.proofs.Image.{image-bounded}
-use Rattle.classes.specs.Classes.{classIn}
-use Rattle.classes.proofs.Classes.{class-bounded, class-chosen}
+use Rattle.consistency.specs.Classes.{classIn}
+use Rattle.consistency.proofs.Classes.{class-bounded, class-chosen}
 use Rattle.consistency.specs.Pass.{TopIs}
 
 abbrev bestIs : Info → Best

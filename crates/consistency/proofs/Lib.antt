@@ -1,3 +1,9 @@
+pub mod Classes
+pub mod Asked
+pub mod Passed
+pub mod Collects
+pub mod Twins
+pub mod Onwards
 pub mod Blocks
 pub mod Same
 pub mod Found

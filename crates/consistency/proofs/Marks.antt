@@ -10,7 +10,7 @@ use Rattle.spec.specs.Contents.{chosen}
 use Rattle.theory_base.proofs.Lists.{not-both}
 use Rattle.theory_log.specs.Contents.{Mem, Apart}
 use Rattle.theory_log.proofs.Contents.{chosen-is}
-use Rattle.blocks.specs.Bits.{hasBit, BitWritten}
+use Rattle.buffer.specs.Bits.{hasBit, BitWritten}
 use Rattle.volatile.proofs.Marks.{marks-skip, marks-new, marks-clash}
 use Rattle.consistency.specs.declared.Head.{Head}
 use Rattle.consistency.specs.Heads.{entryOf, points}

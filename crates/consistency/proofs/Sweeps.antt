@@ -18,8 +18,8 @@ use Rattle.theory_log.specs.Contents.{Mem}
 use Rattle.theory_log.proofs.Places.{rising-before, all-sound}
 use Rattle.theory_log.proofs.Contents.{mem-l, mem-r, mem-cases, mem-filter}
 use Rattle.theory_log.proofs.Tops.{all-in, in-all}
-use Rattle.blocks.specs.Bits.{hasBit, WordsKept}
-use Rattle.blocks.proofs.Laws.{kept-all, kept-then}
+use Rattle.buffer.specs.Bits.{hasBit, WordsKept}
+use Rattle.buffer.proofs.Laws.{kept-all, kept-then}
 use Rattle.index.specs.Index.{get}
 use Rattle.log.specs.declared.Cursor.{Cursor}
 use Rattle.log.specs.declared.Next.{Next}
@@ -30,11 +30,11 @@ use Rattle.volatile.specs.Check.{Live, CheckInv}
 use Rattle.volatile.specs.Known.{several}
 use Rattle.volatile.specs.Plain.{Single}
 use Rattle.volatile.proofs.Plain.{low-single, single-agrees}
-use Rattle.classes.specs.Classes.{within, marked, asked, classIn}
-use Rattle.classes.specs.Passing.{Passed, PassedOver, TwinsMarked}
-use Rattle.classes.proofs.Classes.{class-several}
-use Rattle.classes.proofs.Passed.{passed-start, passed-done, passed-wrong, passed-split, passed-next}
-use Rattle.classes.proofs.Collects.{marked-none}
+use Rattle.consistency.specs.Classes.{within, marked, asked, classIn}
+use Rattle.consistency.specs.Passing.{Passed, PassedOver, TwinsMarked}
+use Rattle.consistency.proofs.Classes.{class-several}
+use Rattle.consistency.proofs.Passed.{passed-start, passed-done, passed-wrong, passed-split, passed-next}
+use Rattle.consistency.proofs.Collects.{marked-none}
 use Rattle.consistency.specs.declared.Checked.{Checked}
 use Rattle.consistency.specs.Pass.{Part, VisitedIs, Ahead, Noted, SweptAs, ClassChecked}
 

@@ -18,15 +18,15 @@ use Rattle.theory_log.specs.Contents.{Mem}
 use Rattle.theory_log.proofs.Places.{all-sound}
 use Rattle.theory_log.proofs.Contents.{mem-l, mem-r, mem-cases, mem-filter, filter-mem}
 use Rattle.theory_log.proofs.Tops.{in-all}
-use Rattle.blocks.specs.Bits.{hasBit, WordsKept, BitsCleared}
-use Rattle.blocks.proofs.Laws.{kept-all, kept-then}
+use Rattle.buffer.specs.Bits.{hasBit, WordsKept, BitsCleared}
+use Rattle.buffer.proofs.Laws.{kept-all, kept-then}
 use Rattle.volatile.specs.Check.{CheckInv}
 use Rattle.volatile.specs.Plain.{Single}
 use Rattle.volatile.proofs.Check.{check-start, check-blocks, check-tops, check-live}
 use Rattle.volatile.proofs.Plain.{plain-check}
-use Rattle.classes.specs.Classes.{within, classIn}
-use Rattle.classes.specs.Passing.{Collecting}
-use Rattle.classes.proofs.Classes.{not-within, within-other, within-first, within-second, within-either, class-all}
+use Rattle.consistency.specs.Classes.{within, classIn}
+use Rattle.consistency.specs.Passing.{Collecting}
+use Rattle.consistency.proofs.Classes.{not-within, within-other, within-first, within-second, within-either, class-all}
 use Rattle.consistency.specs.declared.Checked.{Checked}
 use Rattle.consistency.specs.Pass.{Listed, Part, Ahead, ClassChecked, Tested, AllChecked, Examined}
 use Rattle.consistency.proofs.Sweeps.{check-more}

@@ -18,14 +18,14 @@ use Rattle.theory_base.proofs.Lists.{not-both}
 use Rattle.theory_log.specs.Contents.{Mem}
 use Rattle.theory_log.proofs.Contents.{chosen-is}
 use Rattle.theory_log.proofs.Tops.{is-top, top-chosen}
-use Rattle.blocks.specs.Bits.{hasBit}
+use Rattle.buffer.specs.Bits.{hasBit}
 use Rattle.log.specs.declared.Best.{Best}
 use Rattle.log.specs.Best.{bestOf}
 use Rattle.log.specs.Stands.{StandsIn}
 use Rattle.log.proofs.Stands.{image-stands, image-apart}
 use Rattle.volatile.specs.Check.{Marks}
 use Rattle.volatile.proofs.Check.{agreed-own, agreed-other, block-bit, block-wrong, check-skip, check-top}
-use Rattle.classes.specs.Classes.{within, classIn}
+use Rattle.consistency.specs.Classes.{within, classIn}
 use Rattle.consistency.specs.declared.Head.{Head}
 use Rattle.consistency.specs.declared.Checked.{Checked}
 use Rattle.consistency.specs.Heads.{entryOf, points}

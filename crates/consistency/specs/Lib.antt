@@ -1,2 +1,4 @@
+pub mod Classes
+pub mod Passing
 pub mod Heads
 pub mod Pass

@@ -12,14 +12,15 @@ use Rattle.spec.specs.Log.{Entry, Entries, imageEntries}
 use Rattle.spec.specs.Contents.{chosen, agree, liveBlocks}
 use Rattle.spec.specs.Opening.{blocksTest, agreeTest, apartTest}
 use Rattle.theory_log.specs.Contents.{Mem, Apart}
-use Rattle.blocks.specs.Bits.{hasBit, WordsKept}
+use Rattle.buffer.specs.Areas.{unitCount}
+use Rattle.buffer.specs.Bits.{hasBit, WordsKept}
 use Rattle.log.specs.declared.Best.{Best}
 use Rattle.log.specs.Best.{bestOf}
 use Rattle.log.specs.Stands.{StandsIn}
 use Rattle.volatile.specs.Known.{several, Indexed}
 use Rattle.volatile.specs.Check.{Marks, CheckInv}
 use Rattle.volatile.specs.Plain.{Single, Direct}
-use Rattle.classes.specs.Classes.{within, asked, classIn}
+use Rattle.consistency.specs.Classes.{within, asked, classIn}
 use Rattle.consistency.specs.Heads.{entryOf, points}
 use Rattle.consistency.specs.declared.Head.{Head}
 use Rattle.consistency.specs.declared.Checked.{Checked}
@@ -61,7 +62,7 @@ Part xs es = (e : Entry) → Mem e xs → Mem e es
 pub record MarkedIs (apart : Bool) (h : Head) (place : ℕ) (before after : List ℕ) (r : Bool) : Type 0 where
   pub kept : WordsKept before before → WordsKept before after
   pub marks : (ws : List ℕ) (es xs : List Entry) (words : ℕ) (f : Entry) → Apart es → Mem (entryOf ws h words) es → Part xs es → (Mem (entryOf ws h words) xs → ⊥)
-      → chosen (h .key) es ≡ some f → f .at ≡ place → (points (h .op) (h .placement) ≡ true → h .field < 8064)
+      → chosen (h .key) es ≡ some f → f .at ≡ place → (points (h .op) (h .placement) ≡ true → h .field < unitCount)
       → Marks es xs (hasBit before) apart → Marks es (xs ++ entryOf ws h words ∷ []) (hasBit after) r
 
 -- the tests with one more entry, if its key's class is within the range, after none failed

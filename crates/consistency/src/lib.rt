@@ -11,19 +11,22 @@ ghost use Rattle.spec.specs.Words.{wordsOf};
 ghost use Rattle.spec.specs.Blocks.{startTests, lengthTests, blockRight};
 ghost use Rattle.consistency.specs.Heads.{sameFrom, points};
 ghost use Rattle.consistency.specs.Pass.{AgreesWith, TopIs, AgreedIs, MarkedIs, VisitedIs, SweptAs, ClassChecked, AllChecked, Examined};
-use blocks::Buffer;
-use blocks::clear_bits;
-use blocks::has_bit;
-use blocks::set_bit;
-use classes::MARKS;
-use classes::collect;
-use classes::is_within;
-use classes::mark_twins;
-use classes::onward;
-use classes::pass_over;
+
+pub mod partition;
+
+use crate::partition::MARKS;
+use crate::partition::collect;
+use crate::partition::is_within;
+use crate::partition::mark_twins;
+use crate::partition::onward;
+use crate::partition::pass_over;
+use buffer::Buffer;
+use buffer::clear_bits;
+use buffer::has_bit;
+use buffer::set_bit;
 use codec::Unit;
 use directory::size_of;
-use index::look;
+use index::get;
 use index::unpack;
 use log::Best;
 use log::best_of;
@@ -139,7 +142,7 @@ pub fn top_of(image: &[u8], count: usize, table: &[u64], fits: bool, key: u64) -
     ensures { λ r. ⌜ TopIs count (wordsOf (now (image .entry))) (now (table .entry)) fits key r ⌝ }
 {
     if fits {
-        let info = unpack(look(table, key));
+        let info = unpack(get(table, key));
         return Best {
             version: info.version,
             place: info.place as usize,

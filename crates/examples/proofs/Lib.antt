@@ -3,3 +3,4 @@ pub mod Counts
 pub mod FromFormatToCleaning
 pub mod CallRefusals
 pub mod Cuts
+pub mod Refusals

@@ -1,1 +1,1 @@
-// The rules' worked cases, refused images and power cuts, computed: the crate is its proofs/.
+// The rules' worked cases, refused images and power cuts, computed by the prover: the crate is its proofs/.

@@ -22,9 +22,9 @@ use Rattle.theory_base.proofs.Places.{length-allowed}
 use Rattle.theory_log.specs.Contents.{Mem}
 use Rattle.theory_log.proofs.Contents.{mem-filter}
 use Rattle.log.proofs.Stands.{image-low}
-use Rattle.top_faults.specs.declared.Spots.{Spots}
-use Rattle.top_faults.specs.Spots.{Spotted}
-use Rattle.top_faults.specs.Tops.{firstTop, apartFrom, atOne, placeOr}
+use Rattle.faults.specs.declared.top.Spots.{Spots}
+use Rattle.faults.specs.Spots.{Spotted}
+use Rattle.faults.specs.Tops.{firstTop, apartFrom, atOne, placeOr}
 use Rattle.faults.specs.declared.Fault.{Fault}
 use Rattle.faults.specs.declared.Fault.the-variants as F
 use Rattle.faults.specs.declared.Stop.the-variants as T

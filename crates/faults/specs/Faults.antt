@@ -16,7 +16,7 @@ use Rattle.spec.specs.Log.{Entry}
 use Rattle.spec.specs.Opening.{Opening, Refused, Accepted, opening, fine}
 use Rattle.spec.specs.declared.Refusal.the-variants as N
 use Rattle.directory.specs.Tests.{directoryFault}
-use Rattle.top_faults.specs.Tops.{firstTop, atOne}
+use Rattle.faults.specs.Tops.{firstTop, atOne}
 use Rattle.faults.specs.declared.Fault.{Fault}
 use Rattle.faults.specs.declared.Fault.the-variants as F
 use Rattle.faults.specs.declared.FaultPlace.{FaultPlace}
@@ -39,7 +39,7 @@ failing (b ∷ bs) = pick b (suc (failing bs)) 0
 unfoldable pub headerFault : ℕ → List ℕ → ℕ
 headerFault n ws = failing (wordTests n (getD ws 0 0) (getD ws 1 0) (getD ws 2 0) (getD ws 3 0) (getD ws 4 0) (getD ws 5 0) (getD ws 6 0))
 
--- ## 5 and 6: top entries (`top_faults.Tops`)
+-- ## 5 and 6: top entries (`faults.Tops`)
 
 abbrev pub topsFault : Option Entry → Fault
 topsFault none = F.Nothing

@@ -1,2 +1,4 @@
+pub mod Tops
+pub mod Spots
 pub mod Reading
 pub mod Faults

@@ -8,8 +8,11 @@ ghost use Rattle.spec.specs.Basics.{pick, either};
 ghost use Rattle.spec.specs.Words.{wordsOf};
 ghost use Rattle.faults.specs.Reading.{readImage, stopBy};
 ghost use Rattle.faults.specs.Faults.{failing, headerFault, spotFault, logFault, placeAt, numbersOf, Located, Told};
+
+pub mod top;
+
+use crate::top::Spots;
 use spec::LogStep;
-use top_faults::Spots;
 
 // Why an opening refuses an image, and where: the word of the header, the chunk whose directory word is wrong and that
 // word, the first word of the entry; `before` is how many entries stand before it in the log.
@@ -185,7 +188,7 @@ fn log_fault(image: &[u8], count: usize) -> Fault
     match stop {
         Stop::At { word, before } => Fault::Entry { word, before },
         Stop::Nowhere => {
-            let s = top_faults::find_spots(image, count);
+            let s = top::find_spots(image, count);
             spot_fault(s)
         }
     }

@@ -29,7 +29,7 @@ use Rattle.session.proofs.Phases.{past}
 use Rattle.session.proofs.Gates.{refused}
 use Rattle.formatting.specs.Begun.{numberIn, unfinishedAt, formattingAt}
 use Rattle.session.specs.Promise.{Does, memory, memoryOf}
-use Rattle.session.specs.Numbers.{formattingIn, told as toldSetup}
+use Rattle.session.specs.Numbers.{formattingIn, formatSetup}
 
 module _ (c : Control) (k : Setup) (b bytes table : List ℕ) where
   abbrev s : Session
@@ -74,7 +74,7 @@ module _ (c : Control) (k : Setup) (b bytes table : List ℕ) where
     abbrev formatting : Session
     formatting = record {
       control = formattingIn (formattingAt (c .phase));
-      setup = toldSetup (length bytes) (length table) (headerMap station centre) (numberIn station) (numberIn centre);
+      setup = formatSetup (length bytes) (length table) (headerMap station centre) (numberIn station) (numberIn centre);
       buffer = b;
     }
 
@@ -120,7 +120,7 @@ module _ (c : Control) (k : Setup) (b bytes table : List ℕ) where
     }
 
     pub format-begun : (phase fields x y : ℕ) (c′ : Control) (k′ : Setup) → phase ≡ formattingAt (c .phase) → fields ≡ headerMap station centre → x ≡ numberIn station → y ≡ numberIn centre
-        → c′ ≡ formattingIn phase → k′ ≡ toldSetup (length bytes) (length table) fields x y
+        → c′ ≡ formattingIn phase → k′ ≡ formatSetup (length bytes) (length table) fields x y
         → lengthAllowed 12 (length bytes) ≡ true → unfinishedAt (c .phase) ≡ false
         → Does (Format station centre) (memory s bytes table) (memoryOf c′ k′ b bytes table) (R.Begun 582)
     format-begun phase fields x y c′ k′ p q d e i j h u = rw (i, j, p, q, d, e) (begins h u)

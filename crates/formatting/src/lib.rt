@@ -3,7 +3,7 @@ ghost use mathlib.Core.Path.{_≡_};
 ghost use Rattle.spec.specs.Machine.{Format};
 ghost use Rattle.formatting.specs.Begun.{given, numberIn, unfinishedAt, formattingAt};
 ghost use Rattle.session.specs.Promise.{Does, memoryOf};
-use blocks::Buffer;
+use buffer::Buffer;
 use session::Control;
 use session::Outcome;
 use session::Setup;
@@ -62,7 +62,7 @@ pub fn format_core(
             };
         }
         let begun = session::formatting(formatting_phase(control.phase));
-        let told = session::told(
+        let told = session::format_setup(
             bytes,
             words,
             codec::header_map(station, centre),
@@ -84,7 +84,7 @@ pub fn format_core(
 }
 
 // A number that is told with a mark whether it is given: what a host in C passes.
-fn told(is_given: bool, number: u64) -> Given
+fn given_setup(is_given: bool, number: u64) -> Given
     ensures { λ r. ⌜ r ≡ given «is_given» number ⌝ }
 {
     if is_given {
@@ -108,7 +108,7 @@ pub fn format_told(
 ) -> Outcome
     ensures { λ r. ⌜ Does (Format (given «station_given» station) (given «centre_given» centre)) (memoryOf control setup (now (buffer .entry)) (now (image .entry)) (now (table .entry))) (memoryOf (r .control) (r .setup) (now (buffer .entry)) (now (image .entry)) (now (table .entry))) (r .report) ⌝ }
 {
-    let a = told(station_given, station);
-    let b = told(centre_given, centre);
+    let a = given_setup(station_given, station);
+    let b = given_setup(centre_given, centre);
     format_core(control, setup, buffer, image, table, a, b)
 }

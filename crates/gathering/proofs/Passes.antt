@@ -28,13 +28,14 @@ use Rattle.log.specs.declared.Next.the-variants as N
 use Rattle.log.specs.Stands.{entryIn, StandsIn}
 use Rattle.log.specs.Cursor.{cursorAt, remaining, left, Advanced, Handed}
 use Rattle.log.proofs.Walk.{handed, next-found}
+use Rattle.buffer.specs.Areas.{batchRoom}
 use Rattle.volatile.specs.Known.{entryCount}
 use Rattle.session.specs.State.{bufferPart}
 use Rattle.session.specs.Cleaned.{keptOf, Stand}
-use Rattle.keeping.proofs.Walks.{Left, from-here, none-left, not-wrong, one-left}
-use Rattle.measuring.specs.declared.Tally.{Tally}
-use Rattle.measuring.specs.Measuring.{Gatherable, Counted, Decided, KeptTest, keptTest}
-use Rattle.measuring.proofs.Words.{kept-words}
+use Rattle.forward.proofs.Walks.{Left, from-here, none-left, not-wrong, one-left}
+use Rattle.gathering.specs.declared.size.Size.{Size}
+use Rattle.gathering.specs.Measuring.{Gatherable, Counted, Decided, KeptTest, keptTest}
+use Rattle.gathering.proofs.SizeWords.{kept-words}
 use Rattle.gathering.specs.Reading.{ChunkRead, lifted, Owing, OneTaken, Collecting, PutsTaken, Walked, RestTaken, Collected}
 
 -- ## The reading
@@ -153,7 +154,7 @@ owing-start : (kept : List ℕ) (test : Entry → Bool) (mid todo : List Entry) 
 owing-start kept test mid todo e = record { words = rw e; count = rw e (omega arith); inside = λ f m. rw e m }
 
 module _ (ws table : List ℕ) (at n : ℕ) where
-  pub collects-start : (kept : List ℕ) → length kept ≡ 512 → Collecting ws table kept at n (record { words = 0; entries = 0 }) (cursorAt 0 0 n)
+  pub collects-start : (kept : List ℕ) → length kept ≡ batchRoom → Collecting ws table kept at n (record { words = 0; entries = 0 }) (cursorAt 0 0 n)
   collects-start kept long = record {
     long = long;
     bound = omega arith;
@@ -163,9 +164,9 @@ module _ (ws table : List ℕ) (at n : ℕ) where
   }
 
   -- one entry more, which stands in the copy at word a
-  collects-one : (kept : List ℕ) (t : Tally) (c behind : Cursor) → Collecting ws table kept at n t c → (op pl v x k m a : ℕ) → Handed 0 ws c op pl v x k m a behind
+  collects-one : (kept : List ℕ) (t : Size) (c behind : Cursor) → Collecting ws table kept at n t c → (op pl v x k m a : ℕ) → Handed 0 ws c op pl v x k m a behind
       → (counts : List ℕ) → Decided ws table counts 0 n op k → (place : ℕ) → place ≡ at + a → (is : Bool) → KeptTest table counts op k place is
-      → (kept′ : List ℕ) (t′ : Tally) → OneTaken ws kept kept′ t is a m t′ → Collecting ws table kept′ at n t′ behind
+      → (kept′ : List ℕ) (t′ : Size) → OneTaken ws kept kept′ t is a m t′ → Collecting ws table kept′ at n t′ behind
   collects-one kept t c behind inv op pl v x k m a h counts decided place ep is test kept′ t′ one = record {
     long = one .long;
     bound = one .bound (inv .bound);
@@ -182,7 +183,7 @@ module _ (ws table : List ℕ) (at n : ℕ) where
   }
 
   -- an entry, or the end
-  module _ (kept : List ℕ) (t : Tally) (c : Cursor) (inv : Collecting ws table kept at n t c) (r : Next) (told : Advanced 0 ws c r) where
+  module _ (kept : List ℕ) (t : Size) (c : Cursor) (inv : Collecting ws table kept at n t c) (r : Next) (told : Advanced 0 ws c r) where
     pub collects-done : r ≡ N.Done → Walked ws table kept at n t
     collects-done d = record {
       long = inv .long;
@@ -201,29 +202,29 @@ module _ (ws table : List ℕ) (at n : ℕ) where
     }
 
     pub collects-next : (op pl v x k m a : ℕ) (behind : Cursor) → r ≡ N.Entry op pl v x k m a behind → (counts : List ℕ) → Decided ws table counts 0 n op k → (place : ℕ) → place ≡ at + a → (is : Bool) → KeptTest table counts op k place is
-        → (kept′ : List ℕ) (t′ : Tally) → OneTaken ws kept kept′ t is a m t′ → Collecting ws table kept′ at n t′ behind
+        → (kept′ : List ℕ) (t′ : Size) → OneTaken ws kept kept′ t is a m t′ → Collecting ws table kept′ at n t′ behind
     collects-next op pl v x k m a behind d counts decided place ep is test kept′ t′ one = collects-one kept t c behind inv op pl v x k m a (handed 0 ws c r told op pl v x k m a behind d) counts decided place ep is test kept′ t′ one
 
 -- a run of puts: at its beginning, and after one more
 module _ (ws table : List ℕ) (at until : ℕ) where
-  pub puts-start : (kept : List ℕ) (from : ℕ) (t : Tally) → PutsTaken ws table kept kept at until from t from t
+  pub puts-start : (kept : List ℕ) (from : ℕ) (t : Size) → PutsTaken ws table kept kept at until from t from t
   puts-start kept from t = record { nearer = λ c. omega arith; keeps = λ n c i. i }
 
-  pub puts-more : (kept₀ kept : List ℕ) (from : ℕ) (t₀ : Tally) (a : ℕ) (t : Tally) → PutsTaken ws table kept₀ kept at until from t₀ a t → (v x k m : ℕ) → stepOf (slice a until ws) ≡ S.Entry 1 0 v x k m
-      → (counts : List ℕ) (place : ℕ) → place ≡ at + a → (is : Bool) → KeptTest table counts 1 k place is → (kept′ : List ℕ) (t′ : Tally) → OneTaken ws kept kept′ t is a m t′ → PutsTaken ws table kept₀ kept′ at until from t₀ (a + (2 + m)) t′
+  pub puts-more : (kept₀ kept : List ℕ) (from : ℕ) (t₀ : Size) (a : ℕ) (t : Size) → PutsTaken ws table kept₀ kept at until from t₀ a t → (v x k m : ℕ) → stepOf (slice a until ws) ≡ S.Entry 1 0 v x k m
+      → (counts : List ℕ) (place : ℕ) → place ≡ at + a → (is : Bool) → KeptTest table counts 1 k place is → (kept′ : List ℕ) (t′ : Size) → OneTaken ws kept kept′ t is a m t′ → PutsTaken ws table kept₀ kept′ at until from t₀ (a + (2 + m)) t′
   puts-more kept₀ kept from t₀ a t p v x k m q counts place ep is test kept′ t′ one = record {
     nearer = λ c. let f = next-found 0 ws c a until 1 0 v x k m q .falls in let g = p .nearer c in omega arith;
     keeps = λ n c i. collects-one ws table at n kept t (cursorAt c a until) (cursorAt c (a + (2 + m)) until) (p .keeps n c i) 1 0 v x k m a (next-found 0 ws c a until 1 0 v x k m q) counts (inl refl) place ep is test kept′ t′ one;
   }
 
 -- what is left to `take_rest`: up to a cursor, from what it began with
-pub record RestOn (ws table kept₀ : List ℕ) (at n : ℕ) (start : Cursor) (t₀ : Tally) (kept : List ℕ) (t : Tally) (c : Cursor) : Type 0 where
+pub record RestOn (ws table kept₀ : List ℕ) (at n : ℕ) (start : Cursor) (t₀ : Size) (kept : List ℕ) (t : Size) (c : Cursor) : Type 0 where
   pub goes : Collecting ws table kept₀ at n t₀ start → Collecting ws table kept at n t c
 
-pub rest-start : (ws table kept : List ℕ) (at n : ℕ) (start : Cursor) (t : Tally) → RestOn ws table kept at n start t kept t start
+pub rest-start : (ws table kept : List ℕ) (at n : ℕ) (start : Cursor) (t : Size) → RestOn ws table kept at n start t kept t start
 rest-start ws table kept at n start t = record { goes = λ c. c }
 
-module _ (ws table kept₀ : List ℕ) (at n : ℕ) (start : Cursor) (t₀ : Tally) (kept : List ℕ) (t : Tally) (c : Cursor) (inv : RestOn ws table kept₀ at n start t₀ kept t c) (r : Next) (told : Advanced 0 ws c r) where
+module _ (ws table kept₀ : List ℕ) (at n : ℕ) (start : Cursor) (t₀ : Size) (kept : List ℕ) (t : Size) (c : Cursor) (inv : RestOn ws table kept₀ at n start t₀ kept t c) (r : Next) (told : Advanced 0 ws c r) where
   pub rest-done : r ≡ N.Done → RestTaken ws table kept₀ kept at n start t₀ t
   rest-done d = record { walks = λ i. collects-done ws table at n kept t c (inv .goes i) r told d }
 
@@ -231,11 +232,11 @@ module _ (ws table kept₀ : List ℕ) (at n : ℕ) (start : Cursor) (t₀ : Tal
   rest-wrong d = record { walks = λ i. collects-wrong ws table at n kept t c (inv .goes i) r told d }
 
   pub rest-next : (op pl v x k m a : ℕ) (behind : Cursor) → r ≡ N.Entry op pl v x k m a behind → (counts : List ℕ) → Decided ws table counts 0 n op k → (place : ℕ) → place ≡ at + a → (is : Bool) → KeptTest table counts op k place is
-      → (kept′ : List ℕ) (t′ : Tally) → OneTaken ws kept kept′ t is a m t′ → RestOn ws table kept₀ at n start t₀ kept′ t′ behind
+      → (kept′ : List ℕ) (t′ : Size) → OneTaken ws kept kept′ t is a m t′ → RestOn ws table kept₀ at n start t₀ kept′ t′ behind
   rest-next op pl v x k m a behind d counts decided place ep is test kept′ t′ one = record { goes = λ i. collects-next ws table at n kept t c (inv .goes i) r told op pl v x k m a behind d counts decided place ep is test kept′ t′ one }
 
 -- all of it, with the words read from the image
-pub collected : (image copy table kept : List ℕ) (at end n : ℕ) (t : Tally) → ChunkRead image copy at end n → Walked (wordsOf copy) table kept at n t → Collected (wordsOf image) table kept at end t
+pub collected : (image copy table kept : List ℕ) (at end n : ℕ) (t : Size) → ChunkRead image copy at end n → Walked (wordsOf copy) table kept at n t → Collected (wordsOf image) table kept at end t
 collected image copy table kept at end n t r w = record {
   long = w .long;
   bound = w .bound;

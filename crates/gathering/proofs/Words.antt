@@ -12,11 +12,12 @@ use lib.ListN.{length, getD, set, take, drop, length-append, length-set}
 use lib.Seq.{drop-cons, getD-set-same, getD-set-other}
 use Rattle.spec.specs.Basics.{filter}
 use Rattle.spec.specs.Log.{Entry, encode, encodeAll}
+use Rattle.buffer.specs.Areas.{batchRoom, secondStart, bufferWords}
 use Rattle.session.specs.State.{bufferPart}
 use Rattle.session.proofs.Part.{length-part, part-agree}
-use Rattle.measuring.specs.declared.Tally.{Tally}
-use Rattle.measuring.specs.Measuring.{Room, Measured}
-use Rattle.measuring.proofs.Words.{few-words}
+use Rattle.gathering.specs.declared.size.Size.{Size}
+use Rattle.gathering.specs.Measuring.{Room, Measured}
+use Rattle.gathering.proofs.SizeWords.{few-words}
 use Rattle.gathering.specs.Gathering.{Copied, Gathered}
 use Rattle.gathering.specs.Reading.{Owing, OneTaken, Collected}
 
@@ -68,7 +69,7 @@ part-words b ws i j (suc n) h l =
 
 -- ## One entry
 
-module _ (kept : List ℕ) (test : Entry → Bool) (mid todo : List Entry) (t : Tally) (e : Entry) (o : Owing kept test mid t (e ∷ todo)) where
+module _ (kept : List ℕ) (test : Entry → Bool) (mid todo : List Entry) (t : Size) (e : Entry) (o : Owing kept test mid t (e ∷ todo)) where
   -- it is not kept
   owing-skip : test e ≡ false → Owing kept test mid t todo
   owing-skip h = record {
@@ -97,7 +98,7 @@ module _ (kept : List ℕ) (test : Entry → Bool) (mid todo : List Entry) (t : 
           inside = λ f m. o .inside f (inr m);
         }
 
-    owing-room : length (encodeAll (filter test mid)) ≤ 512 → (t .words + (2 + length (e .value)) ≤ 512) × (t .entries < 512)
+    owing-room : length (encodeAll (filter test mid)) ≤ batchRoom → (t .words + (2 + length (e .value)) ≤ batchRoom) × (t .entries < batchRoom)
     owing-room l =
         let a = ap length owing-words in
         let b = length-append (bufferPart kept 0 (t .words)) (encode e ++ encodeAll (filter test todo)) in
@@ -109,7 +110,7 @@ module _ (kept : List ℕ) (test : Entry → Bool) (mid todo : List Entry) (t : 
 
 -- ## What the code shows of one entry
 
-module _ (ws kept : List ℕ) (t : Tally) (place size : ℕ) (long : length kept ≡ 512) where
+module _ (ws kept : List ℕ) (t : Size) (place size : ℕ) (long : length kept ≡ batchRoom) where
   pub take-not : OneTaken ws kept kept t false place size t
   take-not = record { long = long; bound = λ l. l; adds = λ test mid todo e few low h ev es fits o. owing-skip kept test mid todo t e o (sym h) }
 
@@ -149,7 +150,7 @@ part-same b kept i j (suc n) h =
     rw (p, q) at x) in
     rw (first, rest)
 
-pub stored-gathered : (ws table kept b b′ : List ℕ) (at end n : ℕ) (t : Tally) → Collected ws table kept at end t → n ≡ t .words → length b ≡ 1664 → Copied kept b b′ 0 512 n → Gathered ws table b b′ at end t
+pub stored-gathered : (ws table kept b b′ : List ℕ) (at end n : ℕ) (t : Size) → Collected ws table kept at end t → n ≡ t .words → length b ≡ bufferWords → Copied kept b b′ 0 secondStart n → Gathered ws table b b′ at end t
 stored-gathered ws table kept b b′ at end n t g is size c = record {
   area = record {
     size = size;
@@ -160,11 +161,11 @@ stored-gathered ws table kept b b′ at end n t g is size c = record {
   bound = g .bound;
   gathers = λ keys xs mid ys u.
       let p = g .gathers keys xs mid ys u in
-      (part-same b′ kept 512 0 (t .words) (λ k l. c .words k (omega arith)) ∙ p .0, p .1);
+      (part-same b′ kept secondStart 0 (t .words) (λ k l. c .words k (omega arith)) ∙ p .0, p .1);
 }
 
 -- what is gathered is measured
-pub collected-measured : (ws table kept : List ℕ) (at end : ℕ) (t : Tally) → Collected ws table kept at end t → Measured ws table at end t
+pub collected-measured : (ws table kept : List ℕ) (at end : ℕ) (t : Size) → Collected ws table kept at end t → Measured ws table at end t
 collected-measured ws table kept at end t g = record {
   bound = g .bound;
   measures = λ keys xs mid ys u. let p = g .gathers keys xs mid ys u in (sym (length-part kept 0 (t .words)) ∙ ap length (p .0), p .1);

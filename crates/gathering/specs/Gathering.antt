@@ -1,19 +1,17 @@
 -- What a cleaning gathers at its begin: the words of the entries that it keeps, in the second area of the record's
--- buffer.
+-- buffer, one behind the other, as a commit writes them.
 -- Assumes nothing.
---
---   buffer words | 512 to 1023: the entries that a cleaning keeps, one behind the other, as a commit writes them
 use mathlib.Core.Path.{_≡_}
 use mathlib.Core.Logic.{_⊎_}
 use mathlib.Core.List.{List}
 use Prim.Native.Nat.{ℕ, _+_, _≤_, _<_}
 use lib.ListN.{length, getD}
 use Rattle.spec.specs.Log.{Entry, encodeAll}
-use Rattle.blocks.specs.Bits.{bufferWords}
-use Rattle.session.specs.State.{batchRoom, bufferPart}
+use Rattle.buffer.specs.Areas.{batchRoom, secondStart, bitsStart, bufferWords}
+use Rattle.session.specs.State.{bufferPart}
 use Rattle.session.specs.Cleaned.{keptOf}
-use Rattle.measuring.specs.declared.Tally.{Tally}
-use Rattle.measuring.specs.Measuring.{Gatherable}
+use Rattle.gathering.specs.declared.size.Size.{Size}
+use Rattle.gathering.specs.Measuring.{Gatherable}
 
 -- n words are copied from one list of words into another
 pub record Copied (ws buffer buffer′ : List ℕ) (from to n : ℕ) : Type 0 where
@@ -25,13 +23,13 @@ pub record Copied (ws buffer buffer′ : List ℕ) (from to n : ℕ) : Type 0 wh
 pub record AreaWritten (buffer buffer′ : List ℕ) : Type 0 where
   pub size : length buffer ≡ bufferWords
   pub long : length buffer′ ≡ length buffer
-  pub below : (j : ℕ) → j < batchRoom → getD buffer′ j 0 ≡ getD buffer j 0
-  pub above : (j : ℕ) → 1024 ≤ j → getD buffer′ j 0 ≡ getD buffer j 0
+  pub below : (j : ℕ) → j < secondStart → getD buffer′ j 0 ≡ getD buffer j 0
+  pub above : (j : ℕ) → bitsStart ≤ j → getD buffer′ j 0 ≡ getD buffer j 0
 
 -- THE GATHERING, with the words in the record's buffer: of any memory, and where the table is that of the image's
 -- entries
-pub record Gathered (ws table buffer buffer′ : List ℕ) (at end : ℕ) (t : Tally) : Type 0 where
+pub record Gathered (ws table buffer buffer′ : List ℕ) (at end : ℕ) (t : Size) : Type 0 where
   pub area : AreaWritten buffer buffer′
   pub bound : t .words ≤ batchRoom
   pub gathers : (keys : ℕ) (xs mid ys : List Entry) → Gatherable ws table keys at end xs mid ys
-      → (bufferPart buffer′ batchRoom (t .words) ≡ encodeAll (keptOf xs mid ys)) × (t .entries ≡ length (keptOf xs mid ys))
+      → (bufferPart buffer′ secondStart (t .words) ≡ encodeAll (keptOf xs mid ys)) × (t .entries ≡ length (keptOf xs mid ys))

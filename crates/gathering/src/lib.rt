@@ -4,21 +4,26 @@ ghost use mathlib.Core.Path.{_≡_};
 ghost use Prim.Native.Nat.{_+_, _≤_, _<_, _^_};
 ghost use lib.ListN.{length};
 ghost use Rattle.spec.specs.Words.{wordsOf};
-ghost use Rattle.session.specs.State.{batchRoom};
+ghost use Rattle.buffer.specs.Areas.{batchRoom, secondStart};
 ghost use Rattle.gathering.specs.Gathering.{Copied};
 ghost use Rattle.gathering.specs.Reading.{ChunkRead, OneTaken, PutsTaken, RestTaken, Walked, Collected};
-use blocks::Buffer;
+
+pub mod size;
+
+use crate::size::Run;
+use crate::size::Size;
+use crate::size::count_once;
+use crate::size::has_room;
+use crate::size::is_kept;
+use buffer::BATCH_WORDS;
+use buffer::Buffer;
+use buffer::SECOND;
 use log::Cursor;
 use log::Next;
 use log::Short;
-use measuring::Run;
-use measuring::Tally;
-use measuring::count_once;
-use measuring::has_room;
-use measuring::is_kept;
 
 // Words that a cleaning keeps: as many as a batch has room for.
-pub type Kept = [u64; 512];
+pub type Kept = [u64; BATCH_WORDS];
 
 fn count(words: &[u64]) -> usize
     ensures { λ r. ⌜ r ≡ length (now (words .entry)) ⌝ }
@@ -81,7 +86,7 @@ fn copy_words(copy: &[u8], kept: &mut Kept, from: usize, to: usize, n: usize)
 }
 
 // One entry: its words are gathered if it is kept.
-fn take(copy: &[u8], kept: &mut Kept, so: Tally, is: bool, place: usize, size: usize) -> Tally
+fn take(copy: &[u8], kept: &mut Kept, so: Size, is: bool, place: usize, size: usize) -> Size
     ensures { λ r. ⌜ OneTaken (wordsOf (now (copy .entry))) (now (kept .entry)) (now (kept .exit)) so is place size r ⌝ }
 {
     kept_length(kept);
@@ -90,7 +95,7 @@ fn take(copy: &[u8], kept: &mut Kept, so: Tally, is: bool, place: usize, size: u
         let entries = so.entries;
         if has_room(words, entries, place, size) {
             copy_words(copy, kept, place, words, 2 + size);
-            return Tally {
+            return Size {
                 words: words + (2 + size),
                 entries: entries + 1,
             };
@@ -108,7 +113,7 @@ fn take_puts(
     at: usize,
     from: usize,
     until: usize,
-    so: Tally,
+    so: Size,
 ) -> Run
     requires { ⌜ at < 2 ^ 62 ⌝ }
     ensures { λ r. ⌜ PutsTaken (wordsOf (now (copy .entry))) (now (table .entry)) (now (kept .entry)) (now (kept .exit)) at until from so (r .at) (r .tally) ⌝ }
@@ -143,8 +148,8 @@ fn take_rest(
     at: usize,
     n: usize,
     start: Cursor,
-    so: Tally,
-) -> Tally
+    so: Size,
+) -> Size
     requires { ⌜ at < 2 ^ 62 ⌝ }
     ensures { λ r. ⌜ RestTaken (wordsOf (now (copy .entry))) (now (table .entry)) (now (kept .entry)) (now (kept .exit)) at n start so r ⌝ }
 {
@@ -181,12 +186,12 @@ fn take_rest(
 }
 
 // All entries of the copy's first n words.
-fn take_all(copy: &[u8], table: &[u64], kept: &mut Kept, at: usize, n: usize) -> Tally
+fn take_all(copy: &[u8], table: &[u64], kept: &mut Kept, at: usize, n: usize) -> Size
     requires { ⌜ at < 2 ^ 62 ⌝ }
     ensures { λ r. ⌜ Walked (wordsOf (now (copy .entry))) (now (table .entry)) (now (kept .exit)) at n r ⌝ }
 {
     kept_length(kept);
-    let mut tally = Tally {
+    let mut tally = Size {
         words: 0,
         entries: 0,
     };
@@ -236,7 +241,7 @@ fn take_all(copy: &[u8], table: &[u64], kept: &mut Kept, at: usize, n: usize) ->
 }
 
 // What a cleaning keeps of the words from `at` to `end`: its words, and how many words and entries there are.
-pub fn gather(image: &[u8], table: &[u64], kept: &mut Kept, at: usize, end: usize) -> Tally
+pub fn gather(image: &[u8], table: &[u64], kept: &mut Kept, at: usize, end: usize) -> Size
     requires { ⌜ at < 2 ^ 62 ⌝ }
     ensures { λ r. ⌜ Collected (wordsOf (now (image .entry))) (now (table .entry)) (now (kept .exit)) at end r ⌝ }
 {
@@ -248,13 +253,13 @@ pub fn gather(image: &[u8], table: &[u64], kept: &mut Kept, at: usize, end: usiz
 // The words that are kept go to the second area of the record's buffer.
 pub fn store_kept(buffer: &mut Buffer, kept: &Kept, n: usize)
     requires { ⌜ n ≤ batchRoom ⌝ }
-    ensures { λ _. ⌜ Copied (now (kept .entry)) (now (buffer .entry)) (now (buffer .exit)) 0 batchRoom n ⌝ }
+    ensures { λ _. ⌜ Copied (now (kept .entry)) (now (buffer .entry)) (now (buffer .exit)) 0 secondStart n ⌝ }
 {
-    blocks::buffer_length(buffer);
+    buffer::buffer_length(buffer);
     kept_length(kept);
     let mut i = 0;
     while i < n {
-        buffer[512 + i] = kept[i];
+        buffer[SECOND + i] = kept[i];
         i += 1;
     }
 }

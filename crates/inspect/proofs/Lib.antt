@@ -1,2 +1,10 @@
+pub mod Counted
+pub mod KeysAlike
 pub mod Numbers
 pub mod Passed
+pub mod Laws
+pub mod Example
+pub mod Filled
+pub mod Tallies
+pub mod Shows
+pub mod ChunksAlike

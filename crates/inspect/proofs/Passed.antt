@@ -21,7 +21,7 @@ use Rattle.log.specs.declared.Best.{Best}
 use Rattle.log.specs.Best.{bestIn, bestOf}
 use Rattle.log.proofs.Stands.{image-low}
 use Rattle.log.proofs.Scan.{best-chosen}
-use Rattle.inspect.specs.declared.KeyEntry.{KeyEntry}
+use Rattle.inspect.specs.declared.history.KeyEntry.{KeyEntry}
 use Rattle.inspect.specs.History.{isFrom, nextOf, noEntry, entryWith, numbersOf, entryFrom, pass, firstIn, markOf}
 use Rattle.inspect.proofs.Numbers.{chunks-are}
 

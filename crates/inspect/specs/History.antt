@@ -10,7 +10,7 @@ use Rattle.spec.specs.Log.{Entry, imageEntries}
 use Rattle.spec.specs.Contents.{chosen, isAt, entriesIn}
 use Rattle.theory_log.specs.Fold.{foldP}
 use Rattle.log.specs.declared.Best.{Best}
-use Rattle.inspect.specs.declared.KeyEntry.{KeyEntry}
+use Rattle.inspect.specs.declared.history.KeyEntry.{KeyEntry}
 
 -- ## The log
 

@@ -1,2 +1,9 @@
+pub mod KnownKeys
 pub mod Numbers
 pub mod History
+pub mod KeyEntries
+pub mod Filling
+pub mod ChunkCounts
+pub mod Rows
+pub mod ByTable
+pub mod Contract

@@ -1,222 +1,246 @@
-// What can be asked of an image alone, whether it is open or not: the station and the centre that its header names, and
-// the entries of a key that stand in its log. Nothing is changed, and nothing is asked of the arguments.
+// What a station's display asks, with nothing changed. Of the record: the known keys; what a chunk of the open register
+// holds, its role and how many of its entries or blocks the register still goes by; the first data chunk from a number
+// on that holds no live block. Of an image alone, open or not: modules `header`, `history`, `entries`. Module `counts`
+// counts what a chunk holds.
 ghost use mathlib.Core.Path.{_≡_};
+ghost use lib.Dec.{eqb};
+ghost use Rattle.spec.specs.Basics.{either};
+ghost use Rattle.inspect.specs.KnownKeys.{Known, KnownBy};
 ghost use lib.ListN.{length};
 ghost use Rattle.spec.specs.Words.{wordsOf};
 ghost use Rattle.spec.specs.Places.{chunksIn};
-ghost use Rattle.inspect.specs.Numbers.{stationBy, centreBy, stationOf, centreOf, ToldAs};
-ghost use Rattle.inspect.specs.History.{noteOf, firstIn, markOf, entryFrom};
-use log::Best;
-use log::Next;
-use spec::Given;
+ghost use Rattle.directory.specs.Found.{Stops};
+ghost use Rattle.inspect.specs.Rows.{blocksFor, plainRow};
+ghost use Rattle.inspect.specs.ByTable.{rowBy, rowAt, emptyBy, foundBy};
+ghost use Rattle.inspect.specs.Contract.{Described, DescribedBy, Emptied, EmptiedBy};
 
-// THE HEADER'S NUMBERS
-// By the bit map and the word behind the count.
-fn station_by(map: u64, first: u64) -> Given
-    ensures { λ r. ⌜ r ≡ stationBy map first ⌝ }
+pub mod counts;
+pub mod entries;
+pub mod header;
+pub mod history;
+
+use session::Control;
+use session::Gated;
+use session::Session;
+use session::Setup;
+use spec::Refusal;
+use spec::Report;
+use spec::Role;
+
+// A register open and at rest, in a staging, in a commit, or in a cleaning.
+fn is_counted(phase: u64) -> bool
+    ensures { λ r. ⌜ r ≡ either (eqb phase 1) (either (eqb phase 2) (either (eqb phase 3) (eqb phase 6))) ⌝ }
 {
-    if map == 3 {
-        return Given::Number(first);
+    if phase == 1 {
+        return true;
     }
-    if map == 7 {
-        return Given::Number(first);
+    if phase == 2 {
+        return true;
     }
-    Given::Absent
+    if phase == 3 {
+        return true;
+    }
+    phase == 6
 }
 
-// By the bit map and the two words behind the count.
-fn centre_by(map: u64, first: u64, second: u64) -> Given
-    ensures { λ r. ⌜ r ≡ centreBy map first second ⌝ }
+// The known keys, by the record's control.
+pub fn known_keys(control: Control) -> u64
+    ensures { λ r. ⌜ KnownBy control r ⌝ }
 {
-    if map == 5 {
-        return Given::Number(first);
+    let keys = control.keys as u64;
+    if is_counted(control.phase) { keys } else { 0 }
+}
+
+// The known keys of the open register; 0 where none is open, and while a formatting is unfinished.
+pub fn keys(s: &Session) -> u64
+    ensures { λ r. ⌜ Known (now (s .entry)) r ⌝ }
+{
+    let c = s.control;
+    known_keys(c)
+}
+
+// THE ROW OF A CHUNK
+// How many blocks of so many units a chunk has.
+fn blocks_of(size: u64) -> u64
+    ensures { λ r. ⌜ r ≡ blocksFor size ⌝ }
+{
+    if size == 0 {
+        return 0;
     }
-    if map == 7 {
-        return Given::Number(second);
-    }
-    Given::Absent
+    16 / size
 }
 
-// The station number that the header names; absent where it names none, or is not right.
-pub fn station(image: &[u8]) -> Given
-    ensures { λ r. ⌜ r ≡ stationOf (chunksIn 12 (length (now (image .entry)))) (wordsOf (now (image .entry))) ⌝ }
-{
-    let count = image.len() / 4096;
-    if opening::header_fits(image, count) {
-        let map = words::load(image, 0);
-        let first = words::load(image, 2);
-        return station_by(map, first);
-    }
-    Given::Absent
-}
-
-// The centre number that the header names; absent where it names none, or is not right.
-pub fn centre(image: &[u8]) -> Given
-    ensures { λ r. ⌜ r ≡ centreOf (chunksIn 12 (length (now (image .entry)))) (wordsOf (now (image .entry))) ⌝ }
-{
-    let count = image.len() / 4096;
-    if opening::header_fits(image, count) {
-        let map = words::load(image, 0);
-        let first = words::load(image, 2);
-        let second = words::load(image, 3);
-        return centre_by(map, first, second);
-    }
-    Given::Absent
-}
-
-// 1 and the number, or 0 and 0 where it is absent.
-fn tell(given: Given, number: &mut u64) -> u64
-    ensures { λ r. ⌜ ToldAs given r (now (number .exit)) ⌝ }
-{
-    match given {
-        Given::Number(n) => {
-            *number = n;
-            1
-        }
-        Given::Absent => {
-            *number = 0;
-            0
-        }
-    }
-}
-
-pub fn tell_station(image: &[u8], number: &mut u64) -> u64
-    ensures { λ r. ⌜ ToldAs (stationOf (chunksIn 12 (length (now (image .entry)))) (wordsOf (now (image .entry)))) r (now (number .exit)) ⌝ }
-{
-    let given = station(image);
-    tell(given, number)
-}
-
-pub fn tell_centre(image: &[u8], number: &mut u64) -> u64
-    ensures { λ r. ⌜ ToldAs (centreOf (chunksIn 12 (length (now (image .entry)))) (wordsOf (now (image .entry)))) r (now (number .exit)) ⌝ }
-{
-    let given = centre(image);
-    tell(given, number)
-}
-
-// THE ENTRIES OF A KEY
-// An entry in numbers: `found` is 1, or 0 with all others 0 where there is none; `place` is its first word, `block` 1
-// where its value is in a block, `field` the value's length or the block's unit, `chosen` 1 where the register goes by
-// it.
+// A row in numbers: `refused` is 0, or the refusal's number with all others 0.
 #[repr(C)]
-pub struct KeyEntry {
-    pub found: u64,
-    pub place: u64,
-    pub op: u64,
-    pub version: u64,
-    pub block: u64,
-    pub field: u64,
-    pub chosen: u64,
+pub struct ChunkRow {
+    pub refused: u64,
+    pub role: u64,
+    pub size: u64,
+    pub live: u64,
+    pub deletes: u64,
+    pub superseded: u64,
+    pub blocks: u64,
+    pub used: u64,
 }
 
-// The entry found so far, or the next one if it is the first of the key at or behind a word.
-fn note(
-    so: KeyEntry,
-    key: u64,
-    from: usize,
-    k: u64,
-    place: usize,
-    op: u64,
-    version: u64,
-    block: u64,
-    field: u64,
-) -> KeyEntry
-    ensures { λ r. ⌜ r ≡ noteOf key from so k place op version block field ⌝ }
+// With nothing in it.
+fn plain_row(refused: u64, role: u64) -> ChunkRow
+    ensures { λ r. ⌜ r ≡ plainRow refused role ⌝ }
 {
-    if so.found == 0 {
-        if k == key {
-            if from <= place {
-                return KeyEntry {
-                    found: 1,
-                    place: place as u64,
-                    op,
-                    version,
-                    block,
-                    field,
-                    chosen: 0,
-                };
+    ChunkRow {
+        refused,
+        role,
+        size: 0,
+        live: 0,
+        deletes: 0,
+        superseded: 0,
+        blocks: 0,
+        used: 0,
+    }
+}
+
+// By what the directory says of the chunk.
+fn row_for(image: &[u8], table: &[u64], count: usize, chunk: usize, role: Role) -> ChunkRow
+    ensures { λ r. ⌜ r ≡ rowBy (wordsOf (now (image .entry))) (now (table .entry)) count chunk role ⌝ }
+{
+    match role {
+        Role::Free => plain_row(0, 0),
+        Role::Log(lines) => {
+            let t = counts::count_entries(image, table, chunk);
+            ChunkRow {
+                refused: 0,
+                role: 1,
+                size: lines,
+                live: t.live,
+                deletes: t.deletes,
+                superseded: t.superseded,
+                blocks: 0,
+                used: 0,
             }
         }
-    }
-    so
-}
-
-// The first entry of a key at or behind a word, by a pass over the log of an image of `count` chunks; none where an
-// entry of the log is wrong.
-fn first_in(image: &[u8], count: usize, key: u64, from: usize) -> KeyEntry
-    ensures { λ r. ⌜ r ≡ firstIn 12 count (wordsOf (now (image .entry))) key from ⌝ }
-{
-    let mut so = KeyEntry {
-        found: 0,
-        place: 0,
-        op: 0,
-        version: 0,
-        block: 0,
-        field: 0,
-        chosen: 0,
-    };
-    let mut cursor = log::first_cursor();
-    loop {
-        let n = log::next_in_log(image, count, cursor);
-        match n {
-            Next::Done => {
-                return so;
-            }
-            Next::Wrong => {
-                return KeyEntry {
-                    found: 0,
-                    place: 0,
-                    op: 0,
-                    version: 0,
-                    block: 0,
-                    field: 0,
-                    chosen: 0,
-                };
-            }
-            Next::Entry {
-                op,
-                placement,
-                version,
-                field,
-                key: k,
-                words: _,
-                place,
-                cursor: after,
-            } => {
-                so = note(so, key, from, k, place, op, version, placement, field);
-                cursor = after;
+        Role::Data(size) => {
+            let blocks = blocks_of(size);
+            let used = counts::count_blocks(image, table, count, chunk);
+            ChunkRow {
+                refused: 0,
+                role: 2,
+                size,
+                live: 0,
+                deletes: 0,
+                superseded: 0,
+                blocks,
+                used,
             }
         }
+        Role::Wrong => plain_row(0, 3),
     }
 }
 
-// The entry, with whether it is the chosen one.
-fn mark(e: KeyEntry, best: Best) -> KeyEntry
-    ensures { λ r. ⌜ r ≡ markOf e best ⌝ }
-{
-    if e.found == 0 {
-        return e;
-    }
-    if best.place as u64 == e.place {
-        return KeyEntry {
-            found: e.found,
-            place: e.place,
-            op: e.op,
-            version: e.version,
-            block: e.block,
-            field: e.field,
-            chosen: 1,
-        };
-    }
-    e
-}
-
-// The first entry of a key that stands at or behind a word of the image; none where an entry of the log is wrong.
-pub fn entry_from(image: &[u8], key: u64, from: usize) -> KeyEntry
-    ensures { λ r. ⌜ r ≡ entryFrom 12 (chunksIn 12 (length (now (image .entry)))) (wordsOf (now (image .entry))) key from ⌝ }
+// The row of a chunk, 16 where the image has no such chunk.
+fn row_at(image: &[u8], table: &[u64], chunk: usize) -> ChunkRow
+    ensures { λ r. ⌜ r ≡ rowAt (wordsOf (now (image .entry))) (now (table .entry)) (chunksIn 12 (length (now (image .entry)))) chunk ⌝ }
 {
     let count = image.len() / 4096;
-    let e = first_in(image, count, key, from);
-    let best = log::best_of(image, count, key);
-    mark(e, best)
+    if 1 <= chunk {
+        if chunk < count {
+            let role = directory::role_at(image, chunk);
+            return row_for(image, table, count, chunk, role);
+        }
+    }
+    plain_row(16, 0)
+}
+
+// 2, 1, 8, 16, or the row of a chunk of the open register, by the record's small parts.
+pub fn describe(
+    control: Control,
+    setup: Setup,
+    image: &[u8],
+    table: &[u64],
+    chunk: usize,
+) -> ChunkRow
+    ensures { λ r. ⌜ DescribedBy control setup chunk (now (image .entry)) (now (table .entry)) r ⌝ }
+{
+    let g = session::gate(control, setup, image.len(), table.len());
+    match g {
+        Gated::Refused(n) => plain_row(session::number(n), 0),
+        Gated::Open => row_at(image, table, chunk),
+    }
+}
+
+// The same through the record, which is only read.
+pub fn describe_chunk(s: &Session, image: &[u8], table: &[u64], chunk: usize) -> ChunkRow
+    ensures { λ r. ⌜ Described (now (s .entry)) chunk (now (image .entry)) (now (table .entry)) r ⌝ }
+{
+    let c = s.control;
+    let k = s.setup;
+    describe(c, k, image, table, chunk)
+}
+
+// A DATA CHUNK TO CLEAN
+// Whether a chunk is a data chunk none of whose blocks is live, and not below `from`.
+fn is_empty(image: &[u8], table: &[u64], count: usize, from: usize, chunk: usize) -> bool
+    ensures { λ r. ⌜ r ≡ emptyBy (wordsOf (now (image .entry))) (now (table .entry)) count from chunk ⌝ }
+{
+    if from <= chunk {
+        if directory::is_data(directory::role_at(image, chunk)) {
+            let used = counts::count_blocks(image, table, count, chunk);
+            return used == 0;
+        }
+    }
+    false
+}
+
+// The first such chunk of an image of `count` chunks; where there is none, a number not below the count.
+fn next_empty(image: &[u8], table: &[u64], count: usize, from: usize) -> usize
+    ensures { λ r. ⌜ Stops (emptyBy (wordsOf (now (image .entry))) (now (table .entry)) count from) 1 count r ⌝ }
+{
+    let mut c = 1;
+    while c < count {
+        if is_empty(image, table, count, from, c) {
+            return c;
+        }
+        c += 1;
+    }
+    c
+}
+
+// The chunk found, or 16.
+fn report_of(chunk: usize, count: usize) -> Report
+    ensures { λ r. ⌜ r ≡ foundBy chunk count ⌝ }
+{
+    if chunk < count {
+        return Report::Chosen(chunk);
+    }
+    Report::Refused(Refusal::NotCleanable)
+}
+
+// 2, 1, 8, or the first data chunk of the open register from chunk `from` on with no live block, or 16; by the record's
+// small parts.
+pub fn find_empty(
+    control: Control,
+    setup: Setup,
+    image: &[u8],
+    table: &[u64],
+    from: usize,
+) -> Report
+    ensures { λ r. ⌜ EmptiedBy control setup from (now (image .entry)) (now (table .entry)) r ⌝ }
+{
+    let g = session::gate(control, setup, image.len(), table.len());
+    match g {
+        Gated::Refused(n) => Report::Refused(n),
+        Gated::Open => {
+            let count = image.len() / 4096;
+            let chunk = next_empty(image, table, count, from);
+            report_of(chunk, count)
+        }
+    }
+}
+
+// The same through the record, which is only read.
+pub fn empty_chunk(s: &Session, image: &[u8], table: &[u64], from: usize) -> Report
+    ensures { λ r. ⌜ Emptied (now (s .entry)) from (now (image .entry)) (now (table .entry)) r ⌝ }
+{
+    let c = s.control;
+    let k = s.setup;
+    find_empty(c, k, image, table, from)
 }

@@ -1,4 +1,5 @@
 // Program: prints the present keys of the image on standard input with what is listed of each, or why it is refused.
+
 fn main() {
-    list_text::print_list();
+    printing::print_list();
 }

@@ -1,1 +1,5 @@
 pub mod Looks
+pub mod Entries
+pub mod Slots
+pub mod Answers
+pub mod Alike

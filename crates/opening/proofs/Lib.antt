@@ -1,1 +1,5 @@
+pub mod Pass
+pub mod Runs
+pub mod Sums
+pub mod Skips
 pub mod Opens

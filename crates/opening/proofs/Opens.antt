@@ -26,7 +26,7 @@ use Rattle.theory_base.proofs.Lists.{not-both, both-l}
 use Rattle.theory_base.proofs.Places.{length-allowed}
 use Rattle.log.proofs.Chunks.{base-is}
 use Rattle.index.specs.Index.{zeros}
-use Rattle.blocks.specs.Bits.{hasBit}
+use Rattle.buffer.specs.Bits.{hasBit}
 use Rattle.volatile.specs.Known.{Indexed, FillInv}
 use Rattle.volatile.proofs.Fill.{fill-end, fill-fits}
 use Rattle.volatile.specs.Sums.{Summed}
@@ -36,12 +36,12 @@ use Rattle.consistency.specs.Pass.{Listed, Tested, Examined}
 use Rattle.session.specs.State.{batchWords, batchItems, stateAt, stateOf}
 use Rattle.session.specs.Fits.{RestFits}
 use Rattle.session.proofs.Kept.{none-fit}
-use Rattle.opening.specs.declared.Verdict.{Verdict}
-use Rattle.opening.specs.declared.Verdict.the-variants as J
-use Rattle.filling.specs.Pass.{Filling}
+use Rattle.opening.specs.declared.CheckedImage.{CheckedImage}
+use Rattle.opening.specs.declared.CheckedImage.the-variants as J
+use Rattle.opening.specs.Pass.{Filling}
 use Rattle.opening.specs.Judged.{firstRefusal, Judged, JudgingLog, Judging}
 use Rattle.session.specs.Promise.{Does, memory}
-use Rattle.session.specs.Numbers.{closed, opened, lent}
+use Rattle.session.specs.Numbers.{closed, opened, openedSetup}
 
 -- ## The log
 
@@ -125,7 +125,7 @@ module _ (n : ℕ) (ws table table′ start buffer : List ℕ) (right fits singl
             summed-same buffer buffer′ (es most long) (λ j l. checked .kept .above j (omega arith)) (filled .summed most (es most long) (found most long .1) i),
           )
 
-      pub log-end : (v : Verdict) → v ≡ firstRefusal agreed N.TopsDisagree fits N.TableFull keys → JudgingLog n ws table table′ start buffer′ v
+      pub log-end : (v : CheckedImage) → v ≡ firstRefusal agreed N.TopsDisagree fits N.TableFull keys → JudgingLog n ws table table′ start buffer′ v
       log-end v e = record { sized = filled .sized; kept = checked .kept .long ∙ filled .kept .long; judged = λ most long. rw e (last most long agreed refl fits refl) }
 
 -- ## The image
@@ -165,7 +165,7 @@ module _ (bytes table : List ℕ) where
       pub judge-directory : (buffer : List ℕ) → d ≡ false → Judging bytes table table buffer buffer (J.Refused N.DirectoryWrong)
       judge-directory buffer e = record { sized = refl; kept = refl; judged = (by-tests ∙ rw (yes-a, yes-b, e), inr (inr (inl refl))) }
 
-      pub judge-rest : d ≡ true → (table′ buffer buffer′ : List ℕ) (r : Verdict) → JudgingLog count (wordsOf bytes) table table′ buffer buffer′ r → Judging bytes table table′ buffer buffer′ r
+      pub judge-rest : d ≡ true → (table′ buffer buffer′ : List ℕ) (r : CheckedImage) → JudgingLog count (wordsOf bytes) table table′ buffer buffer′ r → Judging bytes table table′ buffer buffer′ r
       judge-rest e table′ buffer buffer′ r j =
           let l = length-allowed 12 (omega arith) (omega arith) (length bytes) (sym is-a ∙ yes-a) in
           let n = count-is in
@@ -191,12 +191,12 @@ no-items : (keys : ℕ) (b : List ℕ) → batchItems (opened keys) b ≡ []
 unfolding batchItems
 no-items keys b = rw (no-words keys b)
 
-state-rest : (keys bytes words : ℕ) (b : List ℕ) → stateOf (session (opened keys) (lent bytes words) b) ≡ Rest bytes words []
+state-rest : (keys bytes words : ℕ) (b : List ℕ) → stateOf (session (opened keys) (openedSetup bytes words) b) ≡ Rest bytes words []
 unfolding stateAt
 state-rest keys bytes words b = ap (Rest bytes words) (no-items keys b)
 
 -- nothing is barred, and the image stays
-module _ (c : Control) (k : Setup) (buffer bytes table table′ buffer′ : List ℕ) (v : Verdict) (judging : Judging bytes table table′ buffer buffer′ v) where
+module _ (c : Control) (k : Setup) (buffer bytes table table′ buffer′ : List ℕ) (v : CheckedImage) (judging : Judging bytes table table′ buffer buffer′ v) where
   pub opens-refused : (n : Refusal) → v ≡ J.Refused n → (table″ : List ℕ) → table″ ≡ zeros (length table′)
       → Does Open (memory (session c k buffer) bytes table) (memory (session closed k buffer′) bytes table″) (R.Refused n)
   unfolding next
@@ -216,7 +216,7 @@ module _ (c : Control) (k : Setup) (buffer bytes table table′ buffer′ : List
         anyway = inl (n, refl);
       }
 
-  opens : (keys : ℕ) → v ≡ J.Accepted keys → Does Open (memory (session c k buffer) bytes table) (memory (session (opened keys) (lent (length bytes) (length table)) buffer′) bytes table′) R.Opened
+  opens : (keys : ℕ) → v ≡ J.Accepted keys → Does Open (memory (session c k buffer) bytes table) (memory (session (opened keys) (openedSetup (length bytes) (length table)) buffer′) bytes table′) R.Opened
   unfolding next
   opens keys e =
       let j : Judged (opening 12 (length bytes) (wordsOf bytes) (length table)) table′ buffer′ (J.Accepted keys) = rw e at (judging .judged) in
@@ -235,7 +235,7 @@ module _ (c : Control) (k : Setup) (buffer bytes table table′ buffer′ : List
       }
     where
       fits : (keys : ℕ) (es : List Entry) → opening 12 (length bytes) (wordsOf bytes) (length table) ≡ Accepted es → Indexed table′ keys es → ((u : ℕ) → hasBit buffer′ u ≡ isIn u (liveBlocks es))
-          → Summed buffer′ es → RestFits (session (opened keys) (lent (length bytes) (length table)) buffer′) (wordsOf bytes) table′ []
+          → Summed buffer′ es → RestFits (session (opened keys) (openedSetup (length bytes) (length table)) buffer′) (wordsOf bytes) table′ []
       fits keys es o ix bits sums =
           let m : keys ≡ length (keysOf es) = ix .count in
           let l : keys ≤ capacity (length table) = rw (judging .sized) at (ix .fits) in
@@ -260,6 +260,6 @@ module _ (c : Control) (k : Setup) (buffer bytes table table′ buffer′ : List
             hint = record { below = λ c l u m. absurd (omega arith); above = λ l. absurd (omega arith); taken = λ l. absurd (omega arith) };
           }
 
-  pub opens-accepted : (keys : ℕ) (c′ : Control) (k′ : Setup) → v ≡ J.Accepted keys → c′ ≡ opened keys → k′ ≡ lent (length bytes) (length table)
+  pub opens-accepted : (keys : ℕ) (c′ : Control) (k′ : Setup) → v ≡ J.Accepted keys → c′ ≡ opened keys → k′ ≡ openedSetup (length bytes) (length table)
       → Does Open (memory (session c k buffer) bytes table) (memory (session c′ k′ buffer′) bytes table′) R.Opened
   opens-accepted keys c′ k′ e p q = rw (p, q) (opens keys e)

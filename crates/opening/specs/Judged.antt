@@ -14,28 +14,28 @@ use Rattle.spec.specs.Opening.{Opening, Refused, Accepted, openLog, opening}
 use Rattle.spec.specs.Machine.{Open, refusals}
 use Rattle.spec.specs.Contract.{MemRefusal}
 use Rattle.spec.specs.declared.Refusal.{Refusal}
-use Rattle.blocks.specs.Bits.{hasBit}
+use Rattle.buffer.specs.Bits.{hasBit}
 use Rattle.volatile.specs.Known.{Indexed}
 use Rattle.volatile.specs.Sums.{Summed}
-use Rattle.opening.specs.declared.Verdict.{Verdict}
-use Rattle.opening.specs.declared.Verdict.the-variants as J
+use Rattle.opening.specs.declared.CheckedImage.{CheckedImage}
+use Rattle.opening.specs.declared.CheckedImage.the-variants as J
 
-abbrev pub firstRefusal : Bool → Refusal → Bool → Refusal → ℕ → Verdict
+abbrev pub firstRefusal : Bool → Refusal → Bool → Refusal → ℕ → CheckedImage
 firstRefusal first a second b keys = pick first (pick second (J.Accepted keys) (J.Refused b)) (J.Refused a)
 
 -- the verdict is the definition's; of an accepted image table, bits and sums are its entries'
-abbrev pub Judged : Opening → List ℕ → List ℕ → Verdict → Type 0
+abbrev pub Judged : Opening → List ℕ → List ℕ → CheckedImage → Type 0
 Judged o table buffer (J.Refused n) = (o ≡ Refused n) × MemRefusal n (refusals Open)
 Judged o table buffer (J.Accepted keys) = (es : List Entry) × (o ≡ Accepted es) × Indexed table keys es × ((u : ℕ) → hasBit buffer u ≡ isIn u (liveBlocks es)) × Summed buffer es
 
 -- of the log alone, in an image of n chunks
-pub record JudgingLog (n : ℕ) (ws table table′ buffer buffer′ : List ℕ) (r : Verdict) : Type 0 where
+pub record JudgingLog (n : ℕ) (ws table table′ buffer buffer′ : List ℕ) (r : CheckedImage) : Type 0 where
   pub sized : length table′ ≡ length table
   pub kept : length buffer′ ≡ length buffer
   pub judged : n ≤ maxChunks → 512 * n ≤ length ws → Judged (openLog 12 n ws (length table) (imageEntries 12 n ws)) table′ buffer′ r
 
 -- of the whole image
-pub record Judging (bytes table table′ buffer buffer′ : List ℕ) (r : Verdict) : Type 0 where
+pub record Judging (bytes table table′ buffer buffer′ : List ℕ) (r : CheckedImage) : Type 0 where
   pub sized : length table′ ≡ length table
   pub kept : length buffer′ ≡ length buffer
   pub judged : Judged (opening 12 (length bytes) (wordsOf bytes) (length table)) table′ buffer′ r

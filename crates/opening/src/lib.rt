@@ -1,5 +1,5 @@
 // An opening: the refusals 1 to 7, and the volatile memory built. One pass over the entries fills key table and sums
-// (`filling`); a second one, where it is needed, asks blocks and top entries (`consistency`).
+// (`opening::fill`); a second one, where it is needed, asks blocks and top entries (`consistency`).
 ghost use mathlib.Core.Path.{_≡_};
 ghost use lib.ListN.{length};
 ghost use Rattle.spec.specs.Basics.{both};
@@ -10,7 +10,10 @@ ghost use Rattle.spec.specs.Machine.{Open};
 ghost use Rattle.index.specs.Index.{zeros};
 ghost use Rattle.opening.specs.Judged.{firstRefusal, JudgingLog, Judging};
 ghost use Rattle.session.specs.Promise.{Does, memoryOf};
-use blocks::Buffer;
+
+pub mod fill;
+
+use buffer::Buffer;
 use session::Control;
 use session::Outcome;
 use session::Setup;
@@ -50,7 +53,7 @@ pub fn header_fits(image: &[u8], count: usize) -> bool
 
 // OPENING
 // Why an image is refused, or how many keys it has.
-pub enum Verdict {
+pub enum CheckedImage {
     Refused(Refusal),
     Accepted(usize),
 }
@@ -65,23 +68,23 @@ fn both(a: bool, b: bool) -> bool
 }
 
 // Accepted unless a test fails: the first that does gives the refusal.
-fn first_refusal(first: bool, a: Refusal, second: bool, b: Refusal, keys: usize) -> Verdict
+fn first_refusal(first: bool, a: Refusal, second: bool, b: Refusal, keys: usize) -> CheckedImage
     ensures { λ r. ⌜ r ≡ firstRefusal first a second b keys ⌝ }
 {
     if first {
         if second {
-            return Verdict::Accepted(keys);
+            return CheckedImage::Accepted(keys);
         }
-        return Verdict::Refused(b);
+        return CheckedImage::Refused(b);
     }
-    Verdict::Refused(a)
+    CheckedImage::Refused(a)
 }
 
 // 4 to 7, of an image of `count` chunks: key table, block bits and sums are built anew.
-pub fn judge_log(image: &[u8], count: usize, table: &mut [u64], buffer: &mut Buffer) -> Verdict
+pub fn check_log(image: &[u8], count: usize, table: &mut [u64], buffer: &mut Buffer) -> CheckedImage
     ensures { λ r. ⌜ JudgingLog count (wordsOf (now (image .entry))) (now (table .entry)) (now (table .exit)) (now (buffer .entry)) (now (buffer .exit)) r ⌝ }
 {
-    let filled = filling::fill(image, count, table, buffer);
+    let filled = fill::fill(image, count, table, buffer);
     if filled.right {
         let checked = consistency::examine(
             image,
@@ -104,13 +107,13 @@ pub fn judge_log(image: &[u8], count: usize, table: &mut [u64], buffer: &mut Buf
                 keys,
             );
         }
-        return Verdict::Refused(Refusal::BlockWrong);
+        return CheckedImage::Refused(Refusal::BlockWrong);
     }
-    Verdict::Refused(Refusal::EntryWrong)
+    CheckedImage::Refused(Refusal::EntryWrong)
 }
 
 // 1 to 7.
-fn judge(image: &[u8], table: &mut [u64], buffer: &mut Buffer) -> Verdict
+fn check_image(image: &[u8], table: &mut [u64], buffer: &mut Buffer) -> CheckedImage
     ensures { λ r. ⌜ Judging (now (image .entry)) (now (table .entry)) (now (table .exit)) (now (buffer .entry)) (now (buffer .exit)) r ⌝ }
 {
     let bytes = image.len();
@@ -118,13 +121,13 @@ fn judge(image: &[u8], table: &mut [u64], buffer: &mut Buffer) -> Verdict
         let count = bytes / 4096;
         if header_fits(image, count) {
             if directory::directory_fits(image, count) {
-                return judge_log(image, count, table, buffer);
+                return check_log(image, count, table, buffer);
             }
-            return Verdict::Refused(Refusal::DirectoryWrong);
+            return CheckedImage::Refused(Refusal::DirectoryWrong);
         }
-        return Verdict::Refused(Refusal::NotOpen);
+        return CheckedImage::Refused(Refusal::NotOpen);
     }
-    Verdict::Refused(Refusal::ImageLength)
+    CheckedImage::Refused(Refusal::ImageLength)
 }
 
 // A refused opening leaves nothing in the table.
@@ -146,9 +149,9 @@ pub fn open_core(
 {
     let bytes = image.len();
     let words = table.len();
-    let verdict = judge(image, table, buffer);
+    let verdict = check_image(image, table, buffer);
     match verdict {
-        Verdict::Refused(n) => {
+        CheckedImage::Refused(n) => {
             empty(table);
             Outcome {
                 control: session::closed(),
@@ -156,9 +159,9 @@ pub fn open_core(
                 report: Report::Refused(n),
             }
         }
-        Verdict::Accepted(keys) => Outcome {
+        CheckedImage::Accepted(keys) => Outcome {
             control: session::opened(keys),
-            setup: session::lent(bytes, words),
+            setup: session::opened_setup(bytes, words),
             report: Report::Opened,
         },
     }

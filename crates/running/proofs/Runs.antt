@@ -10,9 +10,11 @@ use native.Mathlib.Omega.{arith}
 use native.Mathlib.Decide.{ℕ-discrete}
 use lib.ListN.{length}
 use Rattle.spec.specs.Medium.{Action}
+use Rattle.spec.specs.Actions.{linesFor}
 use Rattle.spec.specs.Reports.{asReport}
 use Rattle.spec.specs.Machine.{Step, stepsLeft}
 use Rattle.spec.specs.Contract.{Changed}
+use Rattle.buffer.specs.Areas.{batchRoom, secondStart}
 use Rattle.session.specs.declared.Control.{Control}
 use Rattle.session.specs.declared.Setup.{Setup}
 use Rattle.session.specs.declared.Session.{Session}
@@ -20,32 +22,33 @@ use Rattle.spec.specs.declared.Report.{Report}
 use Rattle.spec.specs.declared.Report.the-variants as R
 use Rattle.theory_base.proofs.Lists.{not-both}
 use Rattle.words.specs.Image.{Saved}
-use Rattle.session.specs.State.{chunkIn, linesIn, cleanActions, stateOf}
+use Rattle.session.specs.State.{bufferPart, chunkIn, linesIn, cleanActions, stateOf}
 use Rattle.actions.specs.Nth.{nthReport}
+use Rattle.actions.proofs.Appending.{lines-of, word-inside, shows-store}
 use Rattle.actions.proofs.Performed.{changed-length, changed-store}
-use Rattle.cleaning.specs.Record.{copyCount, cleanCount}
-use Rattle.cleaning.proofs.Acting.{kept-inside, count-some, shows-store, shows-copy, clean-flush}
-use Rattle.cleaning.proofs.Keeping.{acted}
-use Rattle.cleaning_step.proofs.Shows.{shows-acts}
-use Rattle.fast_path.specs.Run.{Runs, RunsOn, isStore}
+use Rattle.actions.specs.Record.{copyCount, cleanCount}
+use Rattle.actions.proofs.Acting.{count-some, shows-copy, clean-flush}
+use Rattle.stepping.specs.Ends.{acted}
+use Rattle.stepping.proofs.CleanShows.{shows-acts}
+use Rattle.running.specs.Run.{Runs, RunsOn, isStore}
 use Rattle.stepping.proofs.Cleaning.{cleans}
-use Rattle.fast_path.specs.Stores.{areaWord, Filled}
-use Rattle.fast_path.proofs.Run.{stored-first, store-is}
-use Rattle.fast_path.proofs.Stores.{before-none, filled-length, filled-runs}
-use Rattle.running.specs.Run.{Copying, CleaningRun, KeptStores}
+use Rattle.running.specs.Stores.{areaWord, Filled}
+use Rattle.running.proofs.Run.{stored-first, store-is}
+use Rattle.running.proofs.Stores.{before-none, filled-length, filled-runs}
+use Rattle.running.specs.Copying.{Copying, CleaningRun, KeptStores}
 use Rattle.session.specs.Promise.{Does, memory, memoryOf}
-use Rattle.session.specs.Numbers.{toNext, acting}
+use Rattle.session.specs.Numbers.{atAction, inPhase}
 
 -- the record after an action
-counted : (c : Control) → c .phase ≡ 6 → acted c (c .keys) ≡ toNext (c .next + 1) c
-counted c e = ap (λ (p : ℕ). acting p (c .next + 1) c) (sym e)
+counted : (c : Control) → c .phase ≡ 6 → acted c (c .keys) ≡ atAction (c .next + 1) c
+counted c e = ap (λ (p : ℕ). inPhase p (c .next + 1) c) (sym e)
 
 -- ONE ACTION that is not the last
 module _ (c : Control) (k : Setup) (b bytes bytes′ table : List ℕ) (h : Copying c k (length bytes) (length table)) where
   abbrev Stepping : Report → Control → Type 0
   Stepping r x = Does Step (memoryOf c k b bytes table) (memoryOf x k b bytes′ table) r
 
-  acts-once : (r : Report) → r ≡ nthReport (cleanActions k (k .source) b) (c .next) → Changed r bytes bytes′ → Stepping r (toNext (c .next + 1) c)
+  acts-once : (r : Report) → r ≡ nthReport (cleanActions k (k .source) b) (c .next) → Changed r bytes bytes′ → Stepping r (atAction (c .next + 1) c)
   acts-once r e changed =
       subst (Stepping r) (counted c (h .0))
       (cleans c k b bytes table (h .0) (h .1 .0) (h .1 .1 .0) (acted c (c .keys)) b bytes′ table r (shows-acts c k (k .source) b bytes table bytes′ r e changed (h .1 .1 .1)))
@@ -57,7 +60,7 @@ pub record StoredTo (c : Control) (k : Setup) (b bytes bytes′ : List ℕ) (n :
   pub from : c .next ≤ n
   pub stores : (i : ℕ) → c .next ≤ i → i < n → isStore (nthReport (cleanActions k (k .source) b) i) ≡ true
   pub run : (table : List ℕ) → Copying c k (length bytes) (length table) → (s′ : Session) (bytes″ table″ : List ℕ) (r : Report)
-      → Runs (memoryOf (toNext n c) k b bytes′ table) (memory s′ bytes″ table″) r
+      → Runs (memoryOf (atAction n c) k b bytes′ table) (memory s′ bytes″ table″) r
       → Runs (memoryOf c k b bytes table) (memory s′ bytes″ table″) r
 
 module _ (c : Control) (k : Setup) (b bytes : List ℕ) where
@@ -69,12 +72,12 @@ module _ (c : Control) (k : Setup) (b bytes : List ℕ) where
 
   module _ (bytes₁ : List ℕ) (n : ℕ) (so-far : StoredTo c k b bytes bytes₁ n) (inside : n + 1 < cleanCount (k .source .words))
       (bytes₂ : List ℕ) (r : Report) (e : r ≡ nthReport acts n) (changed : Changed r bytes₁ bytes₂) where
-    still : (table : List ℕ) → Copying c k (length bytes) (length table) → Copying (toNext n c) k (length bytes₁) (length table)
+    still : (table : List ℕ) → Copying c k (length bytes) (length table) → Copying (atAction n c) k (length bytes₁) (length table)
     still table h = (h .0, (h .1 .0 ∙ sym (so-far .sized), (h .1 .1 .0, inside)))
 
     stepped : (table : List ℕ) → Copying c k (length bytes) (length table)
-        → Does Step (memoryOf (toNext n c) k b bytes₁ table) (memoryOf (toNext (n + 1) c) k b bytes₂ table) r
-    stepped table h = acts-once (toNext n c) k b bytes₁ bytes₂ table (still table h) r e changed
+        → Does Step (memoryOf (atAction n c) k b bytes₁ table) (memoryOf (atAction (n + 1) c) k b bytes₂ table) r
+    stepped table h = acts-once (atAction n c) k b bytes₁ bytes₂ table (still table h) r e changed
 
     pub one-stored : isStore r ≡ true → StoredTo c k b bytes bytes₂ (n + 1)
     one-stored t =
@@ -110,30 +113,31 @@ module _ (c : Control) (k : Setup) (b bytes : List ℕ) where
   kept-none = record { made = before-none Copying c k b bytes; before-last = λ h. h }
 
   -- action number j stores word j of those kept
-  kept-store : (j w : ℕ) → j < min (k .source .words) 512 → w ≡ 512 * chunkIn k + 8 * linesIn k + j → R.Store w (areaWord b j) ≡ nthReport (cleanActions k (k .source) b) j
+  kept-store : (j w : ℕ) → j < min (k .source .words) batchRoom → w ≡ 512 * chunkIn k + 8 * linesIn k + j → R.Store w (areaWord b j) ≡ nthReport (cleanActions k (k .source) b) j
   kept-store j w l e =
+      let kept : ℕ = min (k .source .words) batchRoom in
       let some : k .source .words ≡ 0 → ⊥ = λ z. omega arith in
       let n = count-some (k .source .words) some in
       shows-copy k (k .source) b (R.Store w (areaWord b j)) j (copyCount (k .source .words)) refl (omega arith)
-      (shows-store k (k .source .words) b j (min (k .source .words) 512) refl w (areaWord b j) (omega arith) e (kept-inside b (k .source .words) j (512 + j) l refl))
+      (shows-store k (bufferPart b secondStart kept) j (linesFor kept) (lines-of b secondStart kept _ refl) w (areaWord b j) (omega arith) e (word-inside b secondStart kept j (secondStart + j) l refl))
 
-  module _ (start kept : ℕ) (es : start ≡ 512 * chunkIn k + 8 * linesIn k) (ek : kept ≡ min (k .source .words) 512) (l : c .next < kept) where
+  module _ (start kept : ℕ) (es : start ≡ 512 * chunkIn k + 8 * linesIn k) (ek : kept ≡ min (k .source .words) batchRoom) (l : c .next < kept) where
     inside : (j : ℕ) → j < kept → j + 1 < cleanCount (k .source .words)
     inside j h = let some : k .source .words ≡ 0 → ⊥ = λ z. omega arith in let n = count-some (k .source .words) some in omega arith
 
     stepped-kept : (table : List ℕ) → Copying c k (length bytes) (length table) → (j : ℕ) → j < kept → (bytes₁ bytes₂ : List ℕ) → length bytes₁ ≡ length bytes → Saved bytes₁ bytes₂ (start + j) (areaWord b j)
-        → Does Step (memoryOf (toNext j c) k b bytes₁ table) (memoryOf (toNext (suc j) c) k b bytes₂ table) (R.Store (start + j) (areaWord b j))
+        → Does Step (memoryOf (atAction j c) k b bytes₁ table) (memoryOf (atAction (suc j) c) k b bytes₂ table) (R.Store (start + j) (areaWord b j))
     stepped-kept table h j u bytes₁ bytes₂ el saved =
         let n : j + 1 ≡ suc j = omega arith in
-        subst (λ (x : ℕ). Does Step (memoryOf (toNext j c) k b bytes₁ table) (memoryOf (toNext x c) k b bytes₂ table) (R.Store (start + j) (areaWord b j))) n
-        (acts-once (toNext j c) k b bytes₁ bytes₂ table (h .0, (h .1 .0 ∙ sym el, (h .1 .1 .0, inside j u))) _ (kept-store j (start + j) (omega arith) (omega arith)) (changed-store _ bytes₁ bytes₂ _ _ refl saved))
+        subst (λ (x : ℕ). Does Step (memoryOf (atAction j c) k b bytes₁ table) (memoryOf (atAction x c) k b bytes₂ table) (R.Store (start + j) (areaWord b j))) n
+        (acts-once (atAction j c) k b bytes₁ bytes₂ table (h .0, (h .1 .0 ∙ sym el, (h .1 .1 .0, inside j u))) _ (kept-store j (start + j) (omega arith) (omega arith)) (changed-store _ bytes₁ bytes₂ _ _ refl saved))
 
     pub kept-stored : (bytes′ : List ℕ) → Filled (areaWord b) start (c .next) (kept - c .next) bytes bytes′ → KeptStores c k b bytes bytes′ kept
     kept-stored bytes′ f = record {
       made = record {
         sized = filled-length (areaWord b) start (kept - c .next) (c .next) bytes bytes′ f;
         run = λ table h s′ bytes″ table″ r q.
-            filled-runs (λ j. toNext j c) k b table (areaWord b) start (length bytes) (kept - c .next) (c .next) kept bytes bytes′ f (omega arith) (λ j a d. stepped-kept table h j d) refl s′ bytes″ table″ r q;
+            filled-runs (λ j. atAction j c) k b table (areaWord b) start (length bytes) (kept - c .next) (c .next) kept bytes bytes′ f (omega arith) (λ j a d. stepped-kept table h j d) refl s′ bytes″ table″ r q;
       };
       before-last = λ h. last;
     }
@@ -142,7 +146,7 @@ module _ (c : Control) (k : Setup) (b bytes : List ℕ) where
         last = let some : k .source .words ≡ 0 → ⊥ = λ z. omega arith in let n = count-some (k .source .words) some in omega arith
 
   -- and then the run of what is left
-  pub copies : (bytes₁ bytes₂ : List ℕ) (n next : ℕ) (r : Report) → KeptStores c k b bytes bytes₁ n → CleaningRun (toNext n c) k b bytes₁ bytes₂ next r → CleaningRun c k b bytes bytes₂ next r
+  pub copies : (bytes₁ bytes₂ : List ℕ) (n next : ℕ) (r : Report) → KeptStores c k b bytes bytes₁ n → CleaningRun (atAction n c) k b bytes₁ bytes₂ next r → CleaningRun c k b bytes bytes₂ next r
   copies bytes₁ bytes₂ n next r kept more = record {
     sized = more .sized ∙ kept .made .sized;
     runs = λ table h.

@@ -1,1 +1,5 @@
 pub mod Run
+pub mod Stores
+pub mod Fast
+pub mod Staging
+pub mod Copying

@@ -1,34 +1,43 @@
--- Where a cleaning's run goes by its own short loop, and what it comes to.
+-- Several steps taken in one call: those that store a word, as many as come next, and then one that stores none, whose
+-- report is told.
 -- Assumes nothing.
 use mathlib.Core.Path.{_≡_}
+use mathlib.Core.Bool.{Bool, true, false}
 use mathlib.Core.List.{List}
-use Prim.Native.Nat.{ℕ, _+_, _<_}
-use lib.ListN.{length}
+use Prim.Native.Nat.{ℕ, zero, suc}
 use Rattle.spec.specs.Machine.{Step}
-use Rattle.spec.specs.Contract.{Called}
 use Rattle.session.specs.declared.Control.{Control}
-use Rattle.session.specs.declared.Setup.{Setup}
 use Rattle.session.specs.declared.Session.{Session}
 use Rattle.spec.specs.declared.Report.{Report}
-use Rattle.session.specs.State.{stateOf, limit}
-use Rattle.session.specs.Fits.{Fits}
-use Rattle.cleaning.specs.Record.{cleanCount}
-use Rattle.fast_path.specs.Run.{RunsOn}
-use Rattle.fast_path.specs.Stores.{Before}
-use Rattle.session.specs.Promise.{memoryOf}
-use Rattle.session.specs.Numbers.{toNext}
+use Rattle.spec.specs.declared.Report.the-variants as R
+use Rattle.session.specs.Promise.{Memory, Does}
 
--- The next action is one of a cleaning's but not its last, and the lent lengths are those at its begin.
-abbrev pub Copying : Control → Setup → (bytes words : ℕ) → Type 0
-Copying c k bytes words = (c .phase ≡ 6) × ((k .image ≡ bytes) × ((k .table ≡ words) × (c .next + 1 < cleanCount (k .source .words))))
+-- n steps that each store a word, and then one with this report
+abbrev pub Ran : ℕ → (m m′ : Memory) → Report → Type 0
+Ran zero m m′ r = Does Step m m′ r
+Ran (suc n) m m′ r = (m₁ : Memory) × ((w : ℕ) × ((v : ℕ) × (Does Step m m₁ (R.Store w v) × Ran n m₁ m′ r)))
 
--- what several actions of a cleaning come to, whatever the table holds
-pub record CleaningRun (c : Control) (k : Setup) (b bytes bytes′ : List ℕ) (next : ℕ) (r : Report) : Type 0 where
-  pub sized : length bytes′ ≡ length bytes
-  pub runs : (table : List ℕ) → Copying c k (length bytes) (length table)
-      → RunsOn (memoryOf c k b bytes table) (memoryOf (toNext next c) k b bytes′ table) r
+abbrev pub isStore : Report → Bool
+isStore (R.Refused n) = false
+isStore (R.Begun a) = false
+isStore (R.Store w v) = true
+isStore (R.Flush l) = false
+isStore R.Fence = false
+isStore (R.End n) = false
+isStore R.Idle = false
+isStore R.Opened = false
+isStore R.Abandoned = false
+isStore (R.Chosen c) = false
+isStore (R.Part a n v) = false
 
--- Stores of a cleaning up to action n are made; and the last action is still to come if it was.
-pub record KeptStores (c : Control) (k : Setup) (b bytes bytes′ : List ℕ) (n : ℕ) : Type 0 where
-  pub made : Before Copying c k b bytes bytes′ n
-  pub before-last : c .next + 1 < cleanCount (k .source .words) → n + 1 < cleanCount (k .source .words)
+-- one step, whose report tells of no store
+abbrev pub StepsOn : (m m′ : Memory) → Report → Type 0
+StepsOn m m′ r = Does Step m m′ r × (isStore r ≡ false)
+
+-- some steps that each store a word, and then one with this report
+abbrev pub Runs : (m m′ : Memory) → Report → Type 0
+Runs m m′ r = (n : ℕ) × Ran n m m′ r
+
+-- the stores that come next, and then the action behind them, which is none and is told
+abbrev pub RunsOn : (m m′ : Memory) → Report → Type 0
+RunsOn m m′ r = Runs m m′ r × (isStore r ≡ false)

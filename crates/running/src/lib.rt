@@ -1,12 +1,17 @@
-// Several steps in one call: those that store a word, as many as come next, and the one behind them. A cleaning has a
-// short loop of its own.
+// Several steps in one call: those that store a word, as many as come next, and the one behind them. A commit (module
+// `commit`), a staging (`stage`) and a cleaning have short loops of their own.
 ghost use mathlib.Core.Path.{_≡_};
 ghost use mathlib.Core.Bool.{true, false};
-ghost use Rattle.fast_path.specs.Run.{isStore, RunsOn};
-ghost use Rattle.running.specs.Run.{Copying, CleaningRun, KeptStores};
+ghost use Rattle.running.specs.Run.{isStore, RunsOn};
+ghost use Rattle.running.specs.Copying.{Copying, CleaningRun, KeptStores};
 ghost use Rattle.session.specs.Promise.{memoryOf};
-use blocks::Buffer;
-use fast_path::Advanced;
+
+pub mod commit;
+pub mod stage;
+
+use crate::commit::Advanced;
+use buffer::BATCH_WORDS;
+use buffer::Buffer;
 use session::Control;
 use session::Setup;
 use session::Stepped;
@@ -42,7 +47,7 @@ pub fn is_copying(control: Control, setup: Setup, bytes: usize, words: usize) ->
     if control.phase == 6 {
         if setup.image == bytes {
             if setup.table == words {
-                if control.next < cleaning::clean_count(source.words) - 1 {
+                if control.next < actions::clean::clean_count(source.words) - 1 {
                     return true;
                 }
             }
@@ -57,10 +62,10 @@ fn run_cleaning(control: Control, setup: Setup, buffer: &Buffer, image: &mut [u8
     ensures { λ r. ⌜ CleaningRun control setup (now (buffer .entry)) (now (image .entry)) (now (image .exit)) (r .next) (r .report) ⌝ }
 {
     let source = setup.source;
-    let last = cleaning::clean_count(source.words) - 1;
+    let last = actions::clean::clean_count(source.words) - 1;
     let mut at = control.next;
     while at < last {
-        let action = cleaning::clean_action(setup, source, buffer, at);
+        let action = actions::clean::clean_action(setup, source, buffer, at);
         actions::perform(image, action);
         at += 1;
         if is_store(action) {} else {
@@ -81,13 +86,13 @@ fn store_kept(control: Control, setup: Setup, buffer: &Buffer, image: &mut [u8])
     ensures { λ r. ⌜ KeptStores control setup (now (buffer .entry)) (now (image .entry)) (now (image .exit)) r ⌝ }
 {
     let source = setup.source;
-    let kept = words::lesser(source.words, 512);
+    let kept = words::lesser(source.words, BATCH_WORDS);
     let at = control.next;
     if kept <= at {
         return at;
     }
-    let start = actions::batch_start(setup);
-    staging_path::store_area(buffer, image, start, at, kept);
+    let start = actions::append::batch_start(setup);
+    stage::store_area(buffer, image, start, at, kept);
     kept
 }
 
@@ -96,7 +101,7 @@ fn run_copying(control: Control, setup: Setup, buffer: &Buffer, image: &mut [u8]
     ensures { λ r. ⌜ CleaningRun control setup (now (buffer .entry)) (now (image .entry)) (now (image .exit)) (r .next) (r .report) ⌝ }
 {
     let at = store_kept(control, setup, buffer, image);
-    let stored = session::moved(control, at);
+    let stored = session::at_action(control, at);
     run_cleaning(stored, setup, buffer, image)
 }
 
@@ -137,7 +142,7 @@ pub fn run_core(
     if is_copying(control, setup, image.len(), table.len()) {
         let run = run_copying(control, setup, buffer, image);
         let report = run.report;
-        let moved = session::moved(control, run.next);
+        let moved = session::at_action(control, run.next);
         return Stepped {
             control: moved,
             report,

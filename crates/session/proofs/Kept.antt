@@ -16,10 +16,10 @@ use Rattle.spec.specs.Actions.{appendOf}
 use Rattle.session.specs.declared.Control.{Control}
 use Rattle.session.specs.declared.Setup.{Setup}
 use Rattle.session.specs.declared.Session.{Session}
-use Rattle.blocks.specs.Bits.{FrontKept}
-use Rattle.session.specs.State.{batchRoom, batchWords, batchItems, chunkIn, linesIn, commitActions}
-use Rattle.session.specs.Filter.{filterPlace}
-use Rattle.session.specs.Numbers.{emptied, staged}
+use Rattle.buffer.specs.Bits.{FrontKept}
+use Rattle.buffer.specs.Areas.{batchRoom, filterPlace}
+use Rattle.session.specs.State.{batchWords, batchItems, chunkIn, linesIn, commitActions}
+use Rattle.session.specs.Numbers.{endedEmpty, ended}
 use Rattle.session.specs.Fits.{NoneBelow, soleMark, Hint, ItemsFit, BatchFits, Built, RestFits, batchPlace, CommitFits, Shown, Reads}
 use Rattle.theory_base.proofs.PutBack.{AreLow}
 use Rattle.session.proofs.Part.{part-agree}
@@ -86,7 +86,7 @@ module _ (c : Control) (k : Setup) (b ws table : List ℕ) (items : List Entry) 
   s = record { control = c; setup = k; buffer = b }
 
   -- A COMMIT'S END
-  pub end-kept : CommitFits s ws table items [] → RestFits (record { control = emptied c; setup = k; buffer = b }) ws table []
+  pub end-kept : CommitFits s ws table items [] → RestFits (record { control = endedEmpty c; setup = k; buffer = b }) ws table []
   unfolding batchWords
   end-kept f =
       let n = f .built .indexed .count in
@@ -103,7 +103,7 @@ module _ (c : Control) (k : Setup) (b ws table : List ℕ) (items : List Entry) 
       }
 
   -- A STAGING'S END
-  pub staging-kept : RestFits s ws table items → RestFits (record { control = staged c; setup = k; buffer = b }) ws table items
+  pub staging-kept : RestFits s ws table items → RestFits (record { control = ended c; setup = k; buffer = b }) ws table items
   unfolding batchWords
   staging-kept f = record {
     entries = f .entries;
@@ -111,7 +111,7 @@ module _ (c : Control) (k : Setup) (b ws table : List ℕ) (items : List Entry) 
     long = f .long;
     lent = f .lent;
     built = record { indexed = f .built .indexed; blocks = f .built .blocks; sums = f .built .sums };
-    batch = batch-kept c (staged c) b b (chunksIn basePower (k .image)) ws (f .entries) items refl refl refl refl refl (f .batch);
+    batch = batch-kept c (ended c) b b (chunksIn basePower (k .image)) ws (f .entries) items refl refl refl refl refl (f .batch);
     table-room = f .table-room;
     hint = f .hint;
   }

@@ -10,7 +10,8 @@ use lib.ListN.{length, getD}
 use Rattle.spec.specs.Log.{Entry, encodeAll}
 use Rattle.session.specs.declared.Control.{Control}
 use Rattle.session.specs.declared.Setup.{Setup}
-use Rattle.session.specs.State.{bufferPart, batchRoom, batchWords, chunkIn, linesIn}
+use Rattle.buffer.specs.Areas.{batchRoom}
+use Rattle.session.specs.State.{bufferPart, batchWords, chunkIn, linesIn}
 use Rattle.session.specs.Fits.{BatchFits}
 
 -- A PART OF THE BUFFER

@@ -8,7 +8,7 @@ use lib.ListN.{length, replicate, length-replicate}
 use Rattle.spec.specs.Machine.{Closed}
 use Rattle.session.specs.declared.Session.{Session}
 use Rattle.session.specs.State.{noSource, stateAt, stateOf}
-use Rattle.blocks.specs.Bits.{bufferWords}
+use Rattle.buffer.specs.Areas.{bufferWords}
 use Rattle.session.specs.Fits.{Fits}
 use Rattle.session.specs.Numbers.{closed}
 

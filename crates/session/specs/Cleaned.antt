@@ -14,7 +14,7 @@ use Rattle.spec.specs.Contents.{isKept, inChunk}
 use Rattle.theory_log.specs.Contents.{Mem}
 use Rattle.theory_log.proofs.Places.{Rising}
 use Rattle.volatile.specs.Known.{Bounded}
-use Rattle.volatile.specs.Sums.{sumsCount}
+use Rattle.buffer.specs.Areas.{batchRoom, sumsCount}
 
 -- `mid` are the entries of the chunk, `xs` and `ys` those below and above; the kept ones stand anew from word `at` on
 abbrev pub before : (xs mid ys : List Entry) → List Entry
@@ -50,7 +50,7 @@ pub record Moves (s words : ℕ) (xs mid ys as′ bs : List Entry) (at : ℕ) : 
   pub outside : (e : Entry) → Mem e (after xs mid ys as′ bs at) → inChunk basePower s e ≡ false
   pub together : (e : Entry) → Mem e (copiesOf xs mid ys at) → wordChunk basePower (e .at) ≡ wordChunk basePower at
   pub keeps : words ≡ length (encodeAll (keptOf xs mid ys))
-  pub few : words ≤ 512
+  pub few : words ≤ batchRoom
 
 -- the entries in the words from `at` to `end`
 abbrev pub Stand : List ℕ → (at end : ℕ) → List Entry → Type 0

@@ -1,5 +1,6 @@
--- The filter of the staged keys: one word of the record's buffer has a bit for each of them, so that a key whose bit is
--- 0 is not looked for among the staged items. Its bits are not those by which the key table is probed.
+-- The filter of the staged keys: one word of the record's buffer, where `buffer.Areas` says, has a bit for each of
+-- them, so that a key whose bit is 0 is not looked for among the staged items. Its bits are not those by which the key
+-- table is probed.
 -- Assumes nothing.
 use mathlib.Core.Path.{_≡_}
 use mathlib.Core.Bool.{Bool, true}
@@ -7,10 +8,6 @@ use mathlib.Core.List.{List, [], _∷_}
 use Prim.Native.Nat.{ℕ, _+_, _*_, _/_, _%_, _^_}
 use lib.Dec.{eqb}
 use Rattle.spec.specs.Log.{Entry}
-
--- the filter's word of the buffer
-abbrev pub filterPlace : ℕ
-filterPlace = 1150
 
 -- the number of a key's bit, 0 to 63: the upper bits of a product of its two halves' sum
 unfoldable pub filterBit : ℕ → ℕ

@@ -26,15 +26,16 @@ use Rattle.session.specs.declared.Session.{Session}
 use Rattle.theory_base.proofs.PutBack.{AreLow}
 use Rattle.theory_log.specs.Batch.{AllRight}
 use Rattle.theory_log.specs.Contents.{CountsOn, Mem, Top, Agree}
-use Rattle.blocks.specs.Bits.{bufferWords, hasBit}
+use Rattle.buffer.specs.Areas.{batchRoom, filterPlace, bufferWords}
+use Rattle.buffer.specs.Bits.{hasBit}
 use Rattle.volatile.specs.Known.{Indexed}
 use Rattle.volatile.specs.Sums.{Summed}
-use Rattle.session.specs.State.{batchRoom, batchWords, stateOf}
-use Rattle.session.specs.Filter.{filterPlace, AllMarked}
+use Rattle.session.specs.State.{batchWords, stateOf}
+use Rattle.session.specs.Filter.{AllMarked}
 use Rattle.session.specs.Cleaned.{before, copiesOf, after, Cleaned, Moves, Stand}
 
 -- A value of the type `Session`: antt's list has no length, the array has so many words. Every record that is lent is
--- one: `blocks::buffer_length` shows it of any such array.
+-- one: `buffer::buffer_length` shows it of any such array.
 abbrev pub Proper : Session → Type 0
 Proper s = length (s .buffer) ≡ bufferWords
 

@@ -15,23 +15,23 @@ abbrev pub opened : ℕ → Control
 opened keys = record { phase = 1; next = 0; items = 0; words = 0; keys = keys; fresh = 0 }
 
 -- another next action
-abbrev pub toNext : ℕ → Control → Control
-toNext n c = record { phase = c .phase; next = n; items = c .items; words = c .words; keys = c .keys; fresh = c .fresh }
+abbrev pub atAction : ℕ → Control → Control
+atAction n c = record { phase = c .phase; next = n; items = c .items; words = c .words; keys = c .keys; fresh = c .fresh }
 
 -- before an action of a call of this phase; the same, with the known keys and the staged ones that are not known
 -- counted anew
-abbrev pub acting : (phase next : ℕ) → Control → Control
-acting phase next c = record { phase = phase; next = next; items = c .items; words = c .words; keys = c .keys; fresh = c .fresh }
+abbrev pub inPhase : (phase next : ℕ) → Control → Control
+inPhase phase next c = record { phase = phase; next = next; items = c .items; words = c .words; keys = c .keys; fresh = c .fresh }
 
-abbrev pub keyed : (phase next keys fresh : ℕ) → Control → Control
-keyed phase next keys fresh c = record { phase = phase; next = next; items = c .items; words = c .words; keys = keys; fresh = fresh }
+abbrev pub withKeys : (phase next keys fresh : ℕ) → Control → Control
+withKeys phase next keys fresh c = record { phase = phase; next = next; items = c .items; words = c .words; keys = keys; fresh = fresh }
 
 -- at rest with nothing staged; at rest with what is staged
-abbrev pub emptied : Control → Control
-emptied c = record { phase = 1; next = 0; items = 0; words = 0; keys = c .keys; fresh = 0 }
+abbrev pub endedEmpty : Control → Control
+endedEmpty c = record { phase = 1; next = 0; items = 0; words = 0; keys = c .keys; fresh = 0 }
 
-abbrev pub staged : Control → Control
-staged c = record { phase = 1; next = 0; items = c .items; words = c .words; keys = c .keys; fresh = c .fresh }
+abbrev pub ended : Control → Control
+ended c = record { phase = 1; next = 0; items = c .items; words = c .words; keys = c .keys; fresh = c .fresh }
 
 -- a staging of one more item begun
 abbrev pub stagedMore : (next words fresh : ℕ) → Control → Control
@@ -43,19 +43,19 @@ formattingIn phase = record { phase = phase; next = 0; items = 0; words = 0; key
 
 -- what a step only reads: nothing at all; a register opened with these lengths; a formatting begun with what it was
 -- told; a staging begun whose block is written to a chunk; a commit or a cleaning begun that writes to one
-abbrev pub nothing : Setup
-nothing = record { image = 0; table = 0; chunk = 0; old = 0; lines = 0; first = 0; least = 0; fields = 0; station = 0; centre = 0; source = noSource }
+abbrev pub emptySetup : Setup
+emptySetup = record { image = 0; table = 0; chunk = 0; old = 0; lines = 0; first = 0; least = 0; fields = 0; station = 0; centre = 0; source = noSource }
 
-abbrev pub lent : (image table : ℕ) → Setup
-lent image table =
+abbrev pub openedSetup : (image table : ℕ) → Setup
+openedSetup image table =
     record { image = image; table = table; chunk = 0; old = 0; lines = 0; first = 1; least = 64; fields = 0; station = 0; centre = 0; source = noSource }
 
-abbrev pub told : (image table fields station centre : ℕ) → Setup
-told image table fields station centre =
+abbrev pub formatSetup : (image table fields station centre : ℕ) → Setup
+formatSetup image table fields station centre =
     record { image = image; table = table; chunk = 0; old = 0; lines = 0; first = 0; least = 0; fields = fields; station = station; centre = centre; source = noSource }
 
-abbrev pub placing : Setup → (chunk old lines fields : ℕ) → Setup
-placing k chunk old lines fields =
+abbrev pub blockSetup : Setup → (chunk old lines fields : ℕ) → Setup
+blockSetup k chunk old lines fields =
     record {
       image = k .image;
       table = k .table;
@@ -70,8 +70,8 @@ placing k chunk old lines fields =
       source = k .source;
     }
 
-abbrev pub writing : Setup → (chunk old lines first least : ℕ) → Source → Setup
-writing k chunk old lines first least source =
+abbrev pub appendSetup : Setup → (chunk old lines first least : ℕ) → Source → Setup
+appendSetup k chunk old lines first least source =
     record {
       image = k .image;
       table = k .table;

@@ -11,10 +11,7 @@
 --   6             | a cleaning, from its action number control.next on; nothing is staged
 --   others        | as 0
 --
---   buffer words  | 0 to 511: the staged entries, as a commit writes them; 1024 to 1149: the blocks in use
---                 | 1150: the filter of the staged keys; from 1152: the words of the chosen entries of each chunk
---                 | in a cleaning, 512 to 1023: the entries that it keeps, as a commit writes them
---                 | in a staging with actions, 512: the value's length in bytes; 513 to 1023: its words, zero-filled
+--   buffer        | by areas: the head of `buffer.Areas` says what each holds
 --   setup         | in a staging with actions, chunk: the block's chunk; lines: the block's first unit there; fields: 0
 --                 | if that is a data chunk already, else it is free, its directory word is old, and it is taken for
 --                 | blocks of so many units
@@ -32,15 +29,13 @@ use Rattle.spec.specs.Contents.{listed}
 use Rattle.spec.specs.Actions.{takeOf, blockOf, appendOf, freeOf, formatOf}
 use Rattle.spec.specs.Plans.{Staging, Committing, Cleaning, Olds}
 use Rattle.spec.specs.Machine.{State, Closed, Rest, Busy, Formatting}
+use Rattle.buffer.specs.Areas.{batchStart, batchRoom, secondStart}
 use Rattle.session.specs.declared.Control.{Control}
 use Rattle.session.specs.declared.Setup.{Setup}
 use Rattle.session.specs.declared.Source.{Source}
 use Rattle.session.specs.declared.Session.{Session}
 use Rattle.spec.specs.declared.Given.{Given}
 use Rattle.spec.specs.declared.Given.the-variants as G
-
-abbrev pub batchRoom : ℕ
-batchRoom = 512
 
 -- n words of the buffer from word i, read one by one
 abbrev pub bufferPart : List ℕ → ℕ → ℕ → List ℕ
@@ -49,7 +44,7 @@ bufferPart b i (suc n) = getD b i 0 ∷ bufferPart b (suc i) n
 
 -- the staged words, and the staged items that they say
 unfoldable pub batchWords : Control → List ℕ → List ℕ
-batchWords c b = bufferPart b 0 (min (c .words) batchRoom)
+batchWords c b = bufferPart b batchStart (min (c .words) batchRoom)
 
 unfoldable pub batchItems : Control → List ℕ → List Entry
 batchItems c b = map (moved 0) (listed (parse (batchWords c b) 0 0))
@@ -61,9 +56,12 @@ chunkIn k = k .chunk % 512
 abbrev pub linesIn : Setup → ℕ
 linesIn k = k .lines % 128
 
--- a commit's actions
+-- the actions that put words behind those lines; a commit's, which puts the staged words there
+abbrev pub appendActions : Setup → List ℕ → List Action
+appendActions k words = appendOf basePower (chunkIn k) (k .old) (linesIn k) words
+
 unfoldable pub commitActions : Control → Setup → List ℕ → List Action
-commitActions c k b = appendOf basePower (chunkIn k) (k .old) (linesIn k) (batchWords c b)
+commitActions c k b = appendActions k (batchWords c b)
 
 -- a formatting's actions: what it was told, by the header's map
 abbrev pub givenBy : ℕ → ℕ → Given
@@ -74,9 +72,6 @@ formatActions k = formatOf (chunksIn basePower (k .image)) (givenBy (k .fields /
 
 -- A STAGING'S ACTIONS, which put a large value into its block: a longer value is read as one of the most bytes, a unit
 -- by its remainder
-abbrev pub areaStart : ℕ
-areaStart = 512
-
 abbrev pub mostBytes : ℕ
 mostBytes = 4088
 
@@ -86,10 +81,10 @@ limit = blockLimit basePower
 
 -- the words held: length word and value
 abbrev pub heldCount : List ℕ → ℕ
-heldCount b = 1 + (min (getD b areaStart 0) mostBytes + 7) / 8
+heldCount b = 1 + (min (getD b secondStart 0) mostBytes + 7) / 8
 
 unfoldable pub heldWords : List ℕ → List ℕ
-heldWords b = bufferPart b areaStart (heldCount b)
+heldWords b = bufferPart b secondStart (heldCount b)
 
 -- the block's first unit
 unfoldable pub unitOf : Setup → ℕ
@@ -118,14 +113,11 @@ abbrev pub noSource : Source
 noSource = record { chunk = 0; old = 0; lines = 0; words = 0; entries = 0 }
 
 unfoldable pub keptWords : ℕ → List ℕ → List ℕ
-keptWords words b = bufferPart b batchRoom (min words batchRoom)
+keptWords words b = bufferPart b secondStart (min words batchRoom)
 
 -- the copying, which is nothing where nothing is kept; then the freeing
-unfoldable pub appendActions : Setup → ℕ → List ℕ → List Action
-appendActions k words b = appendOf basePower (chunkIn k) (k .old) (linesIn k) (keptWords words b)
-
 unfoldable pub copyActions : Setup → ℕ → List ℕ → List Action
-copyActions k words b = pick (eqb (min words batchRoom) 0) [] (appendActions k words b)
+copyActions k words b = pick (eqb (min words batchRoom) 0) [] (appendActions k (keptWords words b))
 
 unfoldable pub cleanActions : Setup → Source → List ℕ → List Action
 cleanActions k f b = copyActions k (f .words) b ++ freeOf (sourceIn f) (f .old)

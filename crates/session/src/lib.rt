@@ -4,10 +4,10 @@ ghost use mathlib.Core.Path.{_≡_};
 ghost use Prim.Native.Nat.{_<_};
 ghost use lib.Dec.{eqb};
 ghost use Rattle.session.specs.State.{noSource};
-ghost use Rattle.session.specs.Numbers.{closed, opened, toNext, acting, keyed, staged, emptied, stagedMore, formattingIn, nothing, lent, told, placing, writing};
+ghost use Rattle.session.specs.Numbers.{closed, opened, atAction, inPhase, withKeys, ended, endedEmpty, stagedMore, formattingIn, emptySetup, openedSetup, formatSetup, blockSetup, appendSetup};
 ghost use Rattle.spec.specs.Reports.{number};
 ghost use Rattle.session.specs.Asks.{phaseOf, readAt, closedOr, Asking, ReadAsking};
-use blocks::Buffer;
+use buffer::Buffer;
 use spec::Refusal;
 use spec::Report;
 
@@ -57,10 +57,8 @@ pub struct Setup {
     pub source: Source,
 }
 
-// The station record: 64-bit numbers alone, in this order, so that a host in C may lend any memory of its size. Its
-// buffer has the staged entries (512 words), a large value on its way or the entries that a cleaning keeps (512 words),
-// a bit for each unit that starts a block in use (126 words), the filter of the staged keys (1 word, and 1 to spare),
-// and for each chunk the words of its chosen entries (512 words).
+// The station record: 64-bit numbers alone, in this order, so that a host in C may lend any memory of its size. What
+// its buffer holds, area by area, stands at the head of `buffer.Areas`.
 #[repr(C)]
 pub struct Session {
     pub control: Control,
@@ -110,8 +108,8 @@ pub fn opened(keys: usize) -> Control
 }
 
 // The begun call is before its action of this number.
-pub fn moved(control: Control, next: usize) -> Control
-    ensures { λ r. ⌜ r ≡ toNext next control ⌝ }
+pub fn at_action(control: Control, next: usize) -> Control
+    ensures { λ r. ⌜ r ≡ atAction next control ⌝ }
 {
     Control {
         phase: control.phase,
@@ -145,8 +143,8 @@ pub fn formatting(phase: u64) -> Control
 }
 
 // A call of this phase is before its action of this number.
-pub fn acting(control: Control, phase: u64, next: usize) -> Control
-    ensures { λ r. ⌜ r ≡ acting phase next control ⌝ }
+pub fn in_phase(control: Control, phase: u64, next: usize) -> Control
+    ensures { λ r. ⌜ r ≡ inPhase phase next control ⌝ }
 {
     Control {
         phase,
@@ -159,8 +157,8 @@ pub fn acting(control: Control, phase: u64, next: usize) -> Control
 }
 
 // The same, with the known keys and the staged ones that are not known counted anew.
-pub fn keyed(control: Control, phase: u64, next: usize, keys: usize, fresh: usize) -> Control
-    ensures { λ r. ⌜ r ≡ keyed phase next keys fresh control ⌝ }
+pub fn with_keys(control: Control, phase: u64, next: usize, keys: usize, fresh: usize) -> Control
+    ensures { λ r. ⌜ r ≡ withKeys phase next keys fresh control ⌝ }
 {
     Control {
         phase,
@@ -173,8 +171,8 @@ pub fn keyed(control: Control, phase: u64, next: usize, keys: usize, fresh: usiz
 }
 
 // At rest, with what is staged.
-pub fn at_rest(control: Control) -> Control
-    ensures { λ r. ⌜ r ≡ staged control ⌝ }
+pub fn ended(control: Control) -> Control
+    ensures { λ r. ⌜ r ≡ ended control ⌝ }
 {
     Control {
         phase: 1,
@@ -187,8 +185,8 @@ pub fn at_rest(control: Control) -> Control
 }
 
 // At rest, with nothing staged.
-pub fn emptied(control: Control) -> Control
-    ensures { λ r. ⌜ r ≡ emptied control ⌝ }
+pub fn ended_empty(control: Control) -> Control
+    ensures { λ r. ⌜ r ≡ endedEmpty control ⌝ }
 {
     Control {
         phase: 1,
@@ -217,8 +215,8 @@ pub fn one_more(control: Control, next: usize, words: usize, fresh: usize) -> Co
 }
 
 // WHAT A STEP ONLY READS. Nothing at all.
-pub fn nothing() -> Setup
-    ensures { λ r. ⌜ r ≡ nothing ⌝ }
+pub fn empty_setup() -> Setup
+    ensures { λ r. ⌜ r ≡ emptySetup ⌝ }
 {
     Setup {
         image: 0,
@@ -236,8 +234,8 @@ pub fn nothing() -> Setup
 }
 
 // A register opened with these lengths: the next commit looks for space from the first chunk on.
-pub fn lent(image: usize, table: usize) -> Setup
-    ensures { λ r. ⌜ r ≡ lent image table ⌝ }
+pub fn opened_setup(image: usize, table: usize) -> Setup
+    ensures { λ r. ⌜ r ≡ openedSetup image table ⌝ }
 {
     Setup {
         image,
@@ -255,8 +253,8 @@ pub fn lent(image: usize, table: usize) -> Setup
 }
 
 // A formatting begun on an image and a table of these lengths, with what it was told.
-pub fn told(image: usize, table: usize, fields: u64, station: u64, centre: u64) -> Setup
-    ensures { λ r. ⌜ r ≡ told image table fields station centre ⌝ }
+pub fn format_setup(image: usize, table: usize, fields: u64, station: u64, centre: u64) -> Setup
+    ensures { λ r. ⌜ r ≡ formatSetup image table fields station centre ⌝ }
 {
     Setup {
         image,
@@ -274,8 +272,8 @@ pub fn told(image: usize, table: usize, fields: u64, station: u64, centre: u64) 
 }
 
 // A staging begun whose block is written to a chunk: at which of its units, and for blocks of which size it is taken.
-pub fn placing(setup: Setup, chunk: usize, old: u64, lines: usize, fields: u64) -> Setup
-    ensures { λ r. ⌜ r ≡ placing setup chunk old lines fields ⌝ }
+pub fn block_setup(setup: Setup, chunk: usize, old: u64, lines: usize, fields: u64) -> Setup
+    ensures { λ r. ⌜ r ≡ blockSetup setup chunk old lines fields ⌝ }
 {
     let source = setup.source;
     Setup {
@@ -295,7 +293,7 @@ pub fn placing(setup: Setup, chunk: usize, old: u64, lines: usize, fields: u64) 
 
 // A commit or a cleaning begun that writes behind the committed lines of a chunk with this directory word; the next one
 // looks for space from `first` on, for `least` lines; what is cleaned.
-pub fn writing(
+pub fn append_setup(
     setup: Setup,
     chunk: usize,
     old: u64,
@@ -304,7 +302,7 @@ pub fn writing(
     least: usize,
     source: Source,
 ) -> Setup
-    ensures { λ r. ⌜ r ≡ writing setup chunk old lines first least source ⌝ }
+    ensures { λ r. ⌜ r ≡ appendSetup setup chunk old lines first least source ⌝ }
 {
     Setup {
         image: setup.image,

@@ -52,7 +52,7 @@ abbrev pub freeOf : ℕ → ℕ → List Action
 freeOf c old = sealOf c (freedWord old)
 
 -- STAGING of a large value: a free chunk becomes one of blocks of s units, with no fence
--- R51
+-- R50
 abbrev pub takeOf : ℕ → ℕ → ℕ → List Action
 takeOf c old s = Store (directoryWord c) (dataWord old s) ∷ Flush (lineOf (directoryWord c)) ∷ []
 

@@ -85,6 +85,7 @@ CommitsIn b t items acts σ = (olds : Olds) × (σ ≡ Busy b t items (Committin
 abbrev pub CleansIn : ℕ → ℕ → List Action → State → Type 0
 CleansIn b t acts σ = (n : ℕ) × ((olds : Olds) × (σ ≡ Busy b t [] (Cleaning n olds) acts))
 
+-- R37
 abbrev pub Anyway : (p limit : ℕ) → Call → (σ σ′ : State) → (ws : List ℕ) → (bytes table : ℕ) → Report → Type 0
 Anyway p limit (Format x y) σ σ′ ws bytes table r = (r ≡ answer p limit (Format x y) σ ws bytes table) × (σ′ ≡ next p limit (Format x y) σ ws bytes table)
 Anyway p limit Open σ σ′ ws bytes table r = Refuses r ⊎ ((r ≡ R.Opened) × (σ′ ≡ Rest bytes table []))
@@ -126,7 +127,7 @@ module _ {S : Type 0} (Proper : S → Type 0) (stateOf : S → State) (Fits : S 
   Ready k s ws table = ReadyBy (kindOf k) s ws table
 
   -- on memory as our calls left it: the definition's answer, the definition's state, and memory fits again
-  -- R36
+  -- R29, R36
   pub record Exact (k : Call) (s s′ : S) (bytes bytes′ table table′ : List ℕ) (r : Report) : Type 0 where
     pub answered : r ≡ answer p limit k (stateOf s) (wordsOf bytes) (length bytes) (length table)
     pub became : stateOf s′ ≡ next p limit k (stateOf s) (wordsOf bytes) (length bytes) (length table)

@@ -33,7 +33,7 @@ module _ {S : Type 0} (Proper : S → Type 0) (stateOf : S → State) (Fits : S 
 
   -- A formatting begun on any medium m, unfenced words included; any number of its steps, its end and idle ones
   -- included; a cut with any picks; an opening with any record and table.
-  -- R81
+  -- R43, R81
   abbrev pub FormatCut : Type 0
   FormatCut =
       (m m′ : Medium) (s s₀ s₁ : S) (image image₁ table table₀ table₁ : List ℕ) (station centre : Given) (a : ℕ) (rs : List Report)

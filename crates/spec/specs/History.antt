@@ -195,6 +195,6 @@ module _ {S : Type 0} (Proper : S → Type 0) (stateOf : S → State) (Fits : S 
       (newBook (contents p (chunksIn p (length image)) (wordsOf image)))
 
   -- DEMAND 3, one claim over every list of calls and power cuts
-  -- R68
+  -- R62, R68
   abbrev pub Demand3 : Type 0
   Demand3 = (events : List Event) → AfterFormat events × AfterOpening events

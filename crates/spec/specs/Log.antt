@@ -39,7 +39,7 @@ partsOf op placement version field =
     (pick (eqb placement 0) (pick (eqb field 0) (F.Entry 2 0 version 0) F.Wrong) F.Wrong)
     F.Wrong))
 
--- R8
+-- R8, R9
 unfoldable pub firstOf : ℕ → FirstWord
 firstOf w = pick (eqb w 0) F.Padding (partsOf (w % 4) (w / 4 % 4) (w / 16 % 1048576) (w / 16777216))
 

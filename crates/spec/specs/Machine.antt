@@ -153,6 +153,7 @@ abbrev pub formatAnswer : ℕ → Given → Given → State → ℕ → Report
 formatAnswer p s c σ bytes =
     pick (lengthAllowed p bytes) (pick (isUnfinished σ) (R.Refused N.Unfinished) (R.Begun (length (formatOf (chunksIn p bytes) s c)))) (R.Refused N.ImageLength)
 
+-- R31
 abbrev pub formatState : ℕ → Given → Given → State → ℕ → ℕ → State
 formatState p s c σ bytes table =
     pick (lengthAllowed p bytes) (pick (isUnfinished σ) σ (Formatting (isOpen σ) bytes table (formatOf (chunksIn p bytes) s c))) σ
@@ -196,7 +197,7 @@ abbrev pub planAnswer : Option Plan → Report
 planAnswer none = R.Idle
 planAnswer (some q) = planned q
 
--- R36
+-- R36, R55
 abbrev pub answer : ℕ → ℕ → Call → State → List ℕ → ℕ → ℕ → Report
 answer p limit (Format s c) σ ws bytes table = formatAnswer p s c σ bytes
 answer p limit Open σ ws bytes table = opened (opening p bytes ws table)

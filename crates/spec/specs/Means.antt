@@ -25,7 +25,7 @@ meant p image = contents p (chunksIn p (length image)) (wordsOf image)
 
 -- What a call does to the register from its begin to its end, with these items in the tray: a commit does them in
 -- order; a staging and a cleaning keep the register the same; a formatting makes it empty.
--- R79
+-- R62, R79
 abbrev pub does : Call → List Item → (ℕ → Held) → ℕ → Held
 does (Format a b) tray register = nothing
 does Open tray register = register

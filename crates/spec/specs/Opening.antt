@@ -55,7 +55,7 @@ sharing e f = both (pointed e) (both (pointed f) (eqb (e .field) (f .field)))
 abbrev pub apartTest : List Entry → Bool
 apartTest es = eachTop es (λ e. eachTop es (λ f. pick (sharing e f) (eqb (e .key) (f .key)) true))
 
--- 7: the known keys exceed the table of so many words
+-- not 7: the table of so many words holds the known keys
 -- R28
 abbrev pub fitsTable : ℕ → List Entry → Bool
 fitsTable table es = leb (length (keysOf es)) (capacity table)

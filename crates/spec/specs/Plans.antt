@@ -308,7 +308,7 @@ oldsOf Staging = []
 oldsOf (Committing olds) = olds
 oldsOf (Cleaning n olds) = olds
 
--- R88
+-- R54, R88
 abbrev pub readBy : Task → List Action → List ℕ → List ℕ
 readBy task [] ws = ws
 readBy task (a ∷ rest) ws = putBack (oldsOf task) ws

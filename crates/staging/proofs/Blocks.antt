@@ -1,9 +1,8 @@
--- What the code of a staging in a block shows at each return is what the contract says.
+-- What the code of a staging in a block shows at each return, of its plan and of the call, is what the contract says.
 -- Assumes nothing.
 use mathlib.Core.Path.{_≡_, refl, sym, _∙_, ap, subst}
 use mathlib.Core.Logic.{inl, inr}
-use mathlib.Core.Bool.{Bool, true, false}
-use mathlib.Core.Option.{none, some}
+use mathlib.Core.Option.{some}
 use mathlib.Core.List.{List, [], _∷_, _++_}
 use Prim.Native.Nat.{ℕ, suc, _+_, _-_, _*_, _/_, _<_, _≤_}
 use native.Mathlib.Omega.{arith}
@@ -26,9 +25,11 @@ use Rattle.spec.specs.declared.Given.{Given}
 use Rattle.spec.specs.declared.Refusal.{Refusal}
 use Rattle.spec.specs.declared.Refusal.the-variants as N
 use Rattle.spec.specs.declared.Report.the-variants as R
-use Rattle.theory_log.specs.Batch.{AllRight}
-use Rattle.session.specs.State.{batchRoom, batchWords, batchItems, blockActions, limit, stateAt, stateOf}
-use Rattle.session.specs.Filter.{filterPlace, AllMarked}
+use Rattle.codec.specs.declared.Unit.{Unit as UnitNumber}
+use Rattle.theory_log.specs.Batch.{Right, AllRight}
+use Rattle.buffer.specs.Areas.{batchRoom, filterPlace}
+use Rattle.session.specs.State.{bufferPart, batchWords, batchItems, blockActions, limit, stateAt, stateOf}
+use Rattle.session.specs.Filter.{AllMarked}
 use Rattle.session.specs.Fits.{keyList, Shown, Reads, Fits}
 use Rattle.session.proofs.Kept.{reads-from}
 use Rattle.volatile.proofs.Sums.{summed-same}
@@ -37,22 +38,27 @@ use Rattle.session.proofs.Part.{words-within}
 use Rattle.batch.proofs.Items.{AtZero, zero-more, items-zero, items-read, right-more}
 use Rattle.batch.proofs.Count.{isOld, freshWith, keys-more}
 use Rattle.batch.proofs.Fits.{fits-staged, counts-more}
-use Rattle.ahead.specs.Ahead.{Ahead}
-use Rattle.ahead.proofs.Plans.{plan-ahead}
-use Rattle.ahead.proofs.Steps.{stage-begun}
-use Rattle.large.specs.declared.Large.{Large}
-use Rattle.large.specs.Large.{Begins, Planned, LargeStaged}
-use Rattle.large.proofs.Begun.{block-right}
+use Rattle.forward.specs.Ahead.{Ahead}
+use Rattle.forward.proofs.Plans.{plan-ahead}
+use Rattle.forward.proofs.Steps.{stage-begun}
+use Rattle.staging.specs.declared.large.Large.{Large}
+use Rattle.staging.specs.declared.large.LargePlan.{LargePlan}
+use Rattle.staging.specs.declared.large.LargePlan.the-variants as P
+use Rattle.staging.specs.Large.{actionsAt, countFor, FoundAt, FoundNowhere, Where, LargePlanned, BlockBegun}
+use Rattle.staging.proofs.Begun.{actions-counted, placed-count, placed-actions, placed-same, block-right, unit-small}
 use Rattle.session.specs.declared.Gated.{Gated}
 use Rattle.session.specs.declared.Gated.the-variants as G
 use Rattle.session.specs.Asks.{Asking}
 use Rattle.session.proofs.Gates.{refused, gate-passed, AtRest}
-use Rattle.admitting.specs.declared.Admission.{Admission}
-use Rattle.admitting.specs.declared.Admission.the-variants as A
-use Rattle.admitting.specs.declared.Newest.{Newest}
-use Rattle.admitting.specs.Admitting.{NewestOf, VersionOf, admitNamed}
+use Rattle.staging.specs.declared.admit.Admission.{Admission}
+use Rattle.staging.specs.declared.admit.Admission.the-variants as A
+use Rattle.staging.specs.declared.admit.Newest.{Newest}
+use Rattle.staging.specs.Admitting.{NewestOf, VersionOf, admitNamed}
+use Rattle.staging.specs.declared.BlockPlan.{BlockPlan}
+use Rattle.staging.specs.declared.BlockPlan.the-variants as B
+use Rattle.staging.specs.Planned.{Begins, BlockPlanned}
 use Rattle.staging.proofs.Staging as S
-use Rattle.admitting.proofs.Admits.{planBy, Admitting, named-admitted, named-turned, asked-behind, fresh-then, plan-named}
+use Rattle.staging.proofs.Admits.{planBy, Admitting, named-admitted, named-turned, asked-behind, fresh-then, plan-named}
 use Rattle.session.specs.Promise.{Does, memory, memoryOf}
 use Rattle.session.specs.Numbers.{stagedMore}
 
@@ -112,13 +118,13 @@ module _ (c : Control) (k : Setup) (b bytes table : List ℕ) (g : Gated) (asks 
       ∙ ap (λ (h : ℕ). planBy (admitNamed named c maxPutVersion last 2 room) (placing chunks (suc h) f)) (sym (y .version)))
 
   -- 12, 10, 7
-  pub block-refused : (x : Refusal) → a ≡ A.Refused x → Does (Put named key v) (memory s bytes table) (memory s bytes table) (R.Refused x)
+  block-refused : (x : Refusal) → a ≡ A.Refused x → Does (Put named key v) (memory s bytes table) (memory s bytes table) (R.Refused x)
   block-refused x e =
       refused 12 limit s bytes table x (Put named key v) refl (λ f. f) (λ f. sym (rw (S.opened c k b bytes table g asks passes, block-plan f, sym told ∙ e)))
       (S.barred c k b bytes table g asks passes (R.Refused x)) (inr (inr (inr (inr (named-turned named c maxPutVersion last 2 room (N.NoSpace ∷ []) x (sym told ∙ e)))))) (refl, refl) (inl (x, refl))
 
   -- ADMITTED, and its block looked for
-  module _ (fresh : ℕ) (e : a ≡ A.Admitted fresh) (are : AreBytes v) (after : List ℕ) (r : Large) (staged : LargeStaged bytes b after k (c .words) (last + 1) key v r) where
+  module _ (fresh : ℕ) (e : a ≡ A.Admitted fresh) where
     adm : Admitting c maxPutVersion last 2 room fresh
     adm = named-admitted named c maxPutVersion last 2 room fresh (sym told ∙ e)
 
@@ -140,130 +146,194 @@ module _ (c : Control) (k : Setup) (b bytes table : List ℕ) (g : Gated) (asks 
     unfolding blockLimit chunkUnits
     short = let h : length v ≤ 256 * 16 - 8 = high in omega arith
 
-    shown : (f : Fits s ws table) → Planned (r .found) (placing n (last + 1) f) after (items f) r
-    shown f =
-        let u = adm .unspent in
-        staged .exact (in-image (rests f .same-bytes)) (S.ok c k b bytes table g asks passes f .most) (omega arith) short (adm .fits) (omega arith) (omega arith) (es f) (items f)
+    -- the search is the definitions' on memory that fits
+    searched : (Finds : (es items : List Entry) → Type 0) → Where bytes b k (c .words) (length v) Finds → (f : Fits s ws table) → Finds (es f) (items f)
+    searched Finds h f =
+        h (in-image (rests f .same-bytes)) (S.ok c k b bytes table g asks passes f .most) (omega arith) short (es f) (items f)
         (record { blocks = rests f .fits .built .blocks; staged = fits-staged c b n ws (es f) (items f) (rests f .fits .batch) })
 
     -- 13
-    pub block-nowhere : r .found ≡ false → Does (Put named key v) (memory s bytes table) (memoryOf c k after bytes table) (R.Refused N.NoSpace)
-    block-nowhere z =
-        rw (staged .nothing z .0)
-        (refused 12 limit s bytes table N.NoSpace (Put named key v) refl (λ f. f) (λ f. sym (rw (S.opened c k b bytes table g asks passes, plan-is f, none-found f)))
-        (S.barred c k b bytes table g asks passes (R.Refused N.NoSpace)) (inr (inr (inr (inr (asked-behind named N.NoSpace _ (inr (inr (inr (inl refl))))))))) (refl, refl) (inl (N.NoSpace, refl)))
+    block-nowhere : Where bytes b k (c .words) (length v) (FoundNowhere bytes k (length v)) → Does (Put named key v) (memory s bytes table) (memory s bytes table) (R.Refused N.NoSpace)
+    block-nowhere h =
+        refused 12 limit s bytes table N.NoSpace (Put named key v) refl (λ f. f) (λ f. sym (rw (S.opened c k b bytes table g asks passes, plan-is f, none-found f)))
+        (S.barred c k b bytes table g asks passes (R.Refused N.NoSpace)) (inr (inr (inr (inr (asked-behind named N.NoSpace _ (inr (inr (inr (inl refl))))))))) (refl, refl) (inl (N.NoSpace, refl))
       where
         none-found : (f : Fits s ws table) → placing n (last + 1) f ≡ Refuse N.NoSpace
-        none-found f = subst (λ (x : Bool). Planned x (placing n (last + 1) f) after (items f) r) z (shown f)
+        none-found f = searched (FoundNowhere bytes k (length v)) h f (last + 1) key v refl
 
     -- BEGUN
-    module _ (z : r .found ≡ true) where
-      abbrev c′ : Control
-      c′ = stagedMore 0 (r .words) fresh c
+    module _ (u old fields actions : ℕ) (counts : actions ≡ countFor (length v) fields) (at : Where bytes b k (c .words) (length v) (FoundAt bytes k (length v) u old fields)) where
+      abbrev item : Entry
+      item = entry 1 1 (last + 1) u key []
 
-      abbrev s′ : Session
-      s′ = record { control = c′; setup = r .setup; buffer = after }
+      found : (f : Fits s ws table) → FoundAt bytes k (length v) u old fields (es f) (items f)
+      found = searched (FoundAt bytes k (length v) u old fields) at
 
-      abbrev acts : List Action
-      acts = blockActions (r .setup) after
+      planned : (f : Fits s ws table) → planPut 12 limit chunks ws (length table) (entriesIn 12 chunks ws) (itemsOf (stateOf s)) named key v ≡ Begin (items f ++ (item ∷ [])) Staging (actionsAt u old fields v)
+      planned f = plan-is f ∙ found f .plan (last + 1) key v refl
 
-      stages : StagesIn (length bytes) (length table) acts (stateOf s′)
-      unfolding stateAt
-      stages =
-          let l = gate-passed s (length bytes) (length table) (S.opened c k b bytes table g asks passes) in (
-            batchItems c′ after,
-            ap (λ (x : ℕ). Busy x (r .setup .table) (batchItems c′ after) Staging acts) (staged .same .0 ∙ l .same-bytes)
-                ∙ ap (λ (x : ℕ). Busy (length bytes) x (batchItems c′ after) Staging acts) (staged .same .1 ∙ l .same-words),
+      block-begins : Begins (Put named key v) (memory s bytes table) item (actionsAt u old fields v) actions
+      block-begins =
+          S.begins c k b bytes table g asks passes (Put named key v) item (actionsAt u old fields v) actions (adm .few) (counts ∙ sym (actions-counted u old fields v short)) (λ f. ap (λ (q : Plan). some q) (planned f))
+
+      module _ (are : AreBytes v) (after : List ℕ) (r : Large) (begun : BlockBegun b after k (c .words) (last + 1) key v u old fields r) where
+        abbrev c′ : Control
+        c′ = stagedMore 0 (r .words) fresh c
+
+        abbrev s′ : Session
+        s′ = record { control = c′; setup = r .setup; buffer = after }
+
+        abbrev acts : List Action
+        acts = blockActions (r .setup) after
+
+        same : (r .setup .image ≡ k .image) × (r .setup .table ≡ k .table) × (r .setup .first ≡ k .first) × (r .setup .least ≡ k .least)
+        same = placed-same (r .setup) k u old fields (begun .setup)
+
+        count : actions ≡ length acts
+        count = counts ∙ sym (ap (λ (x : Setup). length (blockActions x after)) (begun .setup) ∙ placed-count k after v u old fields (begun .held short) short)
+
+        stages : StagesIn (length bytes) (length table) acts (stateOf s′)
+        unfolding stateAt
+        stages =
+            let l = gate-passed s (length bytes) (length table) (S.opened c k b bytes table g asks passes) in (
+              batchItems c′ after,
+              ap (λ (x : ℕ). Busy x (r .setup .table) (batchItems c′ after) Staging acts) (same .0 ∙ l .same-bytes)
+                  ∙ ap (λ (x : ℕ). Busy (length bytes) x (batchItems c′ after) Staging acts) (same .1 ∙ l .same-words),
+            )
+
+        steps : stepsLeft (stateOf s′) ≡ suc actions
+        unfolding stateAt
+        steps = ap suc (sym count)
+
+        module _ (f : Fits s ws table) where
+          abbrev more : List Entry
+          more = items f ++ (item ∷ [])
+
+          -- the record's actions are the plan's
+          acts-are : actionsAt u old fields v ≡ acts
+          acts-are = sym (ap (λ (x : Setup). blockActions x after) (begun .setup) ∙ placed-actions k after v u old fields (begun .held short) (found f .low) (found f .few))
+
+          plan : planPut 12 limit chunks ws (length table) (entriesIn 12 chunks ws) (itemsOf (stateOf s)) named key v ≡ Begin more Staging acts
+          plan = planned f ∙ ap (Begin more Staging) acts-are
+
+          goes : Ahead (k .image) (k .table) ws (es f) more acts
+          goes =
+              let q = rests f .fits in
+              plan-ahead (k .image) (k .table) ws (es f) (items f) (q .accepted) (q .long) (q .batch .fit) v are (omega arith) high (last + 1) key more acts
+              (found f .plan (last + 1) key v refl ∙ ap (Begin more Staging) acts-are) .2
+
+          in-room : c′ .words ≤ batchRoom
+          in-room = let w = begun .words′ (adm .fits) in let l = adm .fits in omega arith
+
+          right-item : Right item
+          right-item = let w = adm .unspent in block-right (last + 1) u key (omega arith) (omega arith)
+
+          staged-words : bufferPart b 0 (c .words) ≡ encodeAll (items f)
+          staged-words =
+              let l = adm .fits in
+              sym (words-within c b (omega arith)) ∙ rests f .fits .batch .written
+
+          written : batchWords c′ after ≡ encodeAll more
+          written = words-within c′ after in-room ∙ begun .written (adm .fits) right-item (unit-small u (found f .low)) (items f) staged-words
+
+          marked : AllMarked (getD after filterPlace 0) more
+          marked = begun .marked (adm .fits) (items f) staged-words (rests f .fits .batch .marked)
+
+          right : AllRight more
+          right = right-more (items f) item (rests f .fits .batch .right) right-item
+
+          items-then : batchItems c′ after ≡ more
+          items-then =
+              let q = sym (rest-items c k b (k .image) (k .table) (items f) (rests f .state)) in
+              let y : AtZero (items f) = rw q (items-zero c b) in
+              items-read c′ after more written right (zero-more (items f) item y refl)
+
+          state-then : stateOf s′ ≡ Busy (k .image) (k .table) more Staging acts
+          unfolding stateAt
+          state-then =
+              ap (λ (x : ℕ). Busy x (r .setup .table) (batchItems c′ after) Staging acts) (same .0)
+              ∙ ap (λ (x : ℕ). Busy (k .image) x (batchItems c′ after) Staging acts) (same .1)
+              ∙ ap (λ (l : List Entry). Busy (k .image) (k .table) l Staging acts) items-then
+
+          keys : c .keys + fresh ≡ length (distinct (keyList more ++ keyList (es f)))
+          keys =
+              let y = S.numbered c k b bytes table g asks passes f key last is in
+              let q : fresh ≡ freshWith (isOld key (es f) (items f)) (c .fresh) = adm .counted ∙ sym (fresh-then (isOld key (es f) (items f)) last (c .fresh) (y .old)) in
+              ap (λ (x : ℕ). c .keys + x) q ∙ keys-more (c .keys) (c .fresh) (es f) (items f) (rests f .fits .batch .keys) item
+
+          fits-then : Fits s′ ws table
+          fits-then =
+              let q = rests f .fits in
+              let y = S.numbered c k b bytes table g asks passes f key last is in
+              let h : last + 1 ≡ suc (highest key (es f ++ items f)) = next-is ∙ ap suc (y .version) in
+              let m : length more ≡ length (items f) + 1 = length-append (items f) (item ∷ []) in
+              let i = q .batch .count in
+              let w = adm .few in
+              let l = q .lent in
+              let o = adm .keys in (
+                begun .long ∙ f .0,
+                rw state-then (
+                  stage-begun c c′ k (r .setup) b after ws table (items f) item acts q goes (same .0) (same .1) (same .2) (same .3) (begun .bits) (begun .behind) refl
+                      in-room written (omega arith) (omega arith) right (counts-more (es f) (items f) item (q .batch .counts) h) marked keys (rw l at o),
+                  reads-then,
+                ),
+              )
+            where
+              reads-then : Reads s′ [] acts ws table
+              reads-then =
+                  let q = rests f .fits in
+                  reads-from s′ [] (es f) acts ws table tt (rw (same .0) (q .long)) (subst (λ (x : ℕ). Shown x (r .setup .table) [] (es f) acts ws) (sym (same .0)) (subst (λ (y : ℕ). Shown (k .image) y [] (es f) acts ws) (sym (same .1)) (goes .shown)))
+                  (record { indexed = q .built .indexed; blocks = λ u. begun .bits u ∙ q .built .blocks u; sums = summed-same b after (es f) (λ i l. begun .behind i (omega arith)) (q .built .sums) })
+
+        block-begun : Does (Put named key v) (memory s bytes table) (memory s′ bytes table) (R.Begun actions)
+        unfolding next
+        block-begun = record {
+          exact = λ f. record {
+            answered = sym (rw (S.opened c k b bytes table g asks passes, plan f) (ap R.Begun (sym count)));
+            became = state-then f ∙ sym (rw (S.opened c k b bytes table g asks passes, plan f, rests f .state));
+            fits = fits-then f;
+          };
+          first = S.barred c k b bytes table g asks passes (R.Begun actions);
+          image = refl;
+          sized = refl;
+          outcome = (steps, refl);
+          anyway = inr (acts, (stages, ap R.Begun count));
+        }
+
+-- BY THE VALUE'S LENGTH
+module _ (c : Control) (k : Setup) (b bytes table : List ℕ) (g : Gated) (asks : Asking c k (length bytes) (length table) g) (passes : g ≡ G.Open) (named : Given) (key n : ℕ) where
+  pub long-refused : 4088 < n → BlockPlanned named key n (memoryOf c k b bytes table) (B.Refused N.TooLong)
+  long-refused l v q = S.put-long c k b bytes table g asks passes named key v (beyond (rw q l))
+
+  module _ (last : ℕ) (is : VersionOf b (c .words) table key last) (low : 256 < n) (high : n ≤ 4088) (a : Admission) (told : a ≡ admitNamed named c maxPutVersion last 2 (capacity (length table))) where
+    pub large-refused : (x : Refusal) → a ≡ A.Refused x → BlockPlanned named key n (memoryOf c k b bytes table) (B.Refused x)
+    large-refused x e v q = block-refused c k b bytes table g asks passes named key last is v (rw q low) (within (rw q high)) a told x e
+
+    module _ (fresh : ℕ) (e : a ≡ A.Admitted fresh) (p : LargePlan) (slot : LargePlanned bytes b k (c .words) n p) where
+      pub large-nowhere : p ≡ P.Nowhere → BlockPlanned named key n (memoryOf c k b bytes table) (B.Refused N.NoSpace)
+      large-nowhere z v q =
+          block-nowhere c k b bytes table g asks passes named key last is v (rw q low) (within (rw q high)) a told fresh e
+          (subst (λ (m : ℕ). LargePlanned bytes b k (c .words) m P.Nowhere) (sym q) (subst (LargePlanned bytes b k (c .words) n) z slot))
+
+      pub large-item : (unit : UnitNumber) (old size actions : ℕ) → p ≡ P.At unit old size actions → BlockPlanned named key n (memoryOf c k b bytes table) (B.Item (last + 1) fresh unit old size actions)
+      large-item unit old size actions z v q =
+          let at : LargePlanned bytes b k (c .words) (length v) (P.At unit old size actions) = subst (λ (m : ℕ). LargePlanned bytes b k (c .words) m (P.At unit old size actions)) (sym q) (subst (LargePlanned bytes b k (c .words) n) z slot) in (
+            block-begins c k b bytes table g asks passes named key last is v (rw q low) (within (rw q high)) a told fresh e (unit .0) old size actions (at .0) (at .1),
+            block-begun c k b bytes table g asks passes named key last is v (rw q low) (within (rw q high)) a told fresh e (unit .0) old size actions (at .0) (at .1),
           )
 
-      steps : stepsLeft (stateOf s′) ≡ suc (r .count)
-      unfolding stateAt
-      steps = ap suc (sym (staged .count z))
+-- WHAT FOLLOWS A PLAN
+module _ (c : Control) (k : Setup) (b bytes table : List ℕ) (named : Given) (key : ℕ) (v : List ℕ) (p : BlockPlan) (planned : BlockPlanned named key (length v) (memoryOf c k b bytes table) p) where
+  pub block-left : (n : Refusal) → p ≡ B.Refused n → Does (Put named key v) (memoryOf c k b bytes table) (memoryOf c k b bytes table) (R.Refused n)
+  block-left n e = subst (BlockPlanned named key (length v) (memoryOf c k b bytes table)) e planned v refl
 
-      module _ (f : Fits s ws table) where
-        begins : Begins (placing n (last + 1) f) after (items f) r
-        begins = subst (λ (x : Bool). Planned x (placing n (last + 1) f) after (items f) r) z (shown f)
+  module _ (version fresh : ℕ) (unit : UnitNumber) (old size actions : ℕ) (e : p ≡ B.Item version fresh unit old size actions) where
+    found-item : BlockPlanned named key (length v) (memoryOf c k b bytes table) (B.Item version fresh unit old size actions)
+    found-item = subst (BlockPlanned named key (length v) (memoryOf c k b bytes table)) e planned
 
-        goes : (u : ℕ) × (items f ++ (begins .item ∷ []) ≡ items f ++ (entry 1 1 (last + 1) u key [] ∷ [])) × Ahead (k .image) (k .table) ws (es f) (items f ++ (begins .item ∷ [])) acts
-        goes =
-            let q = rests f .fits in
-            plan-ahead (k .image) (k .table) ws (es f) (items f) (q .accepted) (q .long) (q .batch .fit) v are (omega arith) high (last + 1) key (items f ++ (begins .item ∷ [])) acts (begins .plan′)
+    pub block-few : c .items < maxItems
+    block-few = found-item v refl .0 .few
 
-        abbrev item : Entry
-        item = entry 1 1 (last + 1) (goes .0) key []
-
-        abbrev more : List Entry
-        more = items f ++ (item ∷ [])
-
-        plan : planPut 12 limit chunks ws (length table) (entriesIn 12 chunks ws) (itemsOf (stateOf s)) named key v ≡ Begin more Staging acts
-        plan = plan-is f ∙ begins .plan′ ∙ ap (λ (l : List Entry). Begin l Staging acts) (goes .1)
-
-        in-room : c′ .words ≤ batchRoom
-        in-room = let w = staged .words′ z (adm .fits) in let l = adm .fits in omega arith
-
-        written : batchWords c′ after ≡ encodeAll more
-        written = words-within c′ after in-room ∙ begins .written ∙ ap encodeAll (goes .1)
-
-        marked : AllMarked (getD after filterPlace 0) more
-        marked = subst (AllMarked (getD after filterPlace 0)) (goes .1) (begins .marked)
-
-        right : AllRight more
-        right = let u = adm .unspent in right-more (items f) item (rests f .fits .batch .right) (block-right (last + 1) (goes .0) key (omega arith) (omega arith))
-
-        items-then : batchItems c′ after ≡ more
-        items-then =
-            let q = sym (rest-items c k b (k .image) (k .table) (items f) (rests f .state)) in
-            let y : AtZero (items f) = rw q (items-zero c b) in
-            items-read c′ after more written right (zero-more (items f) item y refl)
-
-        state-then : stateOf s′ ≡ Busy (k .image) (k .table) more Staging acts
-        unfolding stateAt
-        state-then =
-            ap (λ (x : ℕ). Busy x (r .setup .table) (batchItems c′ after) Staging acts) (staged .same .0)
-            ∙ ap (λ (x : ℕ). Busy (k .image) x (batchItems c′ after) Staging acts) (staged .same .1)
-            ∙ ap (λ (l : List Entry). Busy (k .image) (k .table) l Staging acts) items-then
-
-        keys : c .keys + fresh ≡ length (distinct (keyList more ++ keyList (es f)))
-        keys =
-            let y = S.numbered c k b bytes table g asks passes f key last is in
-            let q : fresh ≡ freshWith (isOld key (es f) (items f)) (c .fresh) = adm .counted ∙ sym (fresh-then (isOld key (es f) (items f)) last (c .fresh) (y .old)) in
-            ap (λ (x : ℕ). c .keys + x) q ∙ keys-more (c .keys) (c .fresh) (es f) (items f) (rests f .fits .batch .keys) item
-
-        fits-then : Fits s′ ws table
-        fits-then =
-            let q = rests f .fits in
-            let y = S.numbered c k b bytes table g asks passes f key last is in
-            let h : last + 1 ≡ suc (highest key (es f ++ items f)) = next-is ∙ ap suc (y .version) in
-            let m : length more ≡ length (items f) + 1 = length-append (items f) (item ∷ []) in
-            let i = q .batch .count in
-            let w = adm .few in
-            let l = q .lent in
-            let o = adm .keys in (
-              staged .long ∙ f .0,
-              rw state-then (
-                stage-begun c c′ k (r .setup) b after ws table (items f) item acts q (rw (goes .1) at (goes .2)) (staged .same .0) (staged .same .1) (staged .same .2) (staged .same .3) (staged .bits) (staged .behind) refl
-                    in-room written (omega arith) (omega arith) right (counts-more (es f) (items f) item (q .batch .counts) h) marked keys (rw l at o),
-                reads-then,
-              ),
-            )
-          where
-            reads-then : Reads s′ [] acts ws table
-            reads-then =
-                let q = rests f .fits in
-                reads-from s′ [] (es f) acts ws table tt (rw (staged .same .0) (q .long)) (subst (λ (x : ℕ). Shown x (r .setup .table) [] (es f) acts ws) (sym (staged .same .0)) (subst (λ (y : ℕ). Shown (k .image) y [] (es f) acts ws) (sym (staged .same .1)) (goes .2 .shown)))
-                (record { indexed = q .built .indexed; blocks = λ u. staged .bits u ∙ q .built .blocks u; sums = summed-same b after (es f) (λ i l. staged .behind i (omega arith)) (q .built .sums) })
-
-      pub block-begun : Does (Put named key v) (memory s bytes table) (memory s′ bytes table) (R.Begun (r .count))
-      unfolding next
-      block-begun = record {
-        exact = λ f. record {
-          answered = sym (rw (S.opened c k b bytes table g asks passes, plan f) (ap R.Begun (sym (staged .count z))));
-          became = state-then f ∙ sym (rw (S.opened c k b bytes table g asks passes, plan f, rests f .state));
-          fits = fits-then f;
-        };
-        first = S.barred c k b bytes table g asks passes (R.Begun (r .count));
-        image = refl;
-        sized = refl;
-        outcome = (steps, refl);
-        anyway = inr (acts, (stages, ap R.Begun (staged .count z)));
-      }
+    pub block-done : AreBytes v → (after : List ℕ) (r : Large) → BlockBegun b after k (c .words) version key v (unit .0) old size r
+        → Does (Put named key v) (memoryOf c k b bytes table) (memoryOf (stagedMore 0 (r .words) fresh c) (r .setup) after bytes table) (R.Begun actions)
+    block-done = found-item v refl .1

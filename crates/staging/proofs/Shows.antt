@@ -21,7 +21,8 @@ use Rattle.spec.specs.declared.Refusal.{Refusal}
 use Rattle.spec.specs.declared.Refusal.the-variants as N
 use Rattle.spec.specs.declared.Report.{Report}
 use Rattle.spec.specs.declared.Report.the-variants as R
-use Rattle.session.specs.State.{batchRoom, bufferPart, batchWords, batchItems, stateAt, stateOf, limit}
+use Rattle.buffer.specs.Areas.{batchRoom}
+use Rattle.session.specs.State.{bufferPart, batchWords, batchItems, stateAt, stateOf, limit}
 use Rattle.batch.specs.Items.{anyItem}
 use Rattle.session.specs.Fits.{RestFits, Fits}
 use Rattle.session.proofs.Kept.{none-fit}
@@ -30,7 +31,7 @@ use Rattle.session.specs.declared.Gated.the-variants as G
 use Rattle.session.specs.Asks.{gateOf, Asking}
 use Rattle.session.proofs.Gates.{refused, Gating, turned-down, AtRest, at-rest, Passed, gate-passed}
 use Rattle.session.specs.Promise.{Does, memory}
-use Rattle.session.specs.Numbers.{emptied}
+use Rattle.session.specs.Numbers.{endedEmpty}
 
 module _ (c : Control) (k : Setup) (b bytes table : List ℕ) where
   abbrev s : Session
@@ -80,7 +81,7 @@ module _ (c : Control) (k : Setup) (b bytes table : List ℕ) where
 
       -- the record with nothing staged
       abbrev bare : Session
-      bare = record { control = emptied c; setup = k; buffer = b }
+      bare = record { control = endedEmpty c; setup = k; buffer = b }
 
       bare-fits : (items : List Entry) → RestFits s (wordsOf bytes) table items → RestFits bare (wordsOf bytes) table []
       unfolding batchWords

@@ -1,6 +1,6 @@
--- What the code of a staging shows at each return is what the contract says.
+-- What the code of a staging shows at each return, of its plan and of the call, is what the contract says.
 -- Assumes nothing.
-use mathlib.Core.Path.{_≡_, refl, sym, _∙_, ap}
+use mathlib.Core.Path.{_≡_, refl, sym, _∙_, ap, subst}
 use mathlib.Core.Logic.{inl, inr}
 use mathlib.Core.Bool.{Bool, true, false}
 use mathlib.Core.Option.{none, some}
@@ -16,8 +16,8 @@ use Rattle.spec.specs.Medium.{Action}
 use Rattle.spec.specs.Log.{Entry, Entries, filled, maxInLog, imageEntries}
 use Rattle.spec.specs.Blocks.{blockLimit}
 use Rattle.spec.specs.Contents.{highest, capacity, entriesIn}
-use Rattle.spec.specs.Plans.{Staging, Begin, entry, maxVersion, maxPutVersion, planPut, planDelete}
-use Rattle.spec.specs.Machine.{Call, Put, Delete, Busy, itemsOf, stepsLeft, gate, refusedBy, answer, next}
+use Rattle.spec.specs.Plans.{Staging, Plan, Begin, entry, maxItems, maxVersion, maxPutVersion, planPut, planDelete}
+use Rattle.spec.specs.Machine.{Call, Put, Delete, Busy, itemsOf, stepsLeft, gate, refusedBy, planOf, answer, next}
 use Rattle.spec.specs.Contract.{StagesIn, Anyway, Again, Ready, Barred}
 use Rattle.session.specs.declared.Control.{Control}
 use Rattle.session.specs.declared.Setup.{Setup}
@@ -38,7 +38,7 @@ use Rattle.session.specs.State.{batchItems, blockActions, behindAll, stateAt, s
 use Rattle.session.specs.Fits.{BatchFits, Fits}
 use Rattle.session.proofs.Phases.{rest-items}
 use Rattle.actions.proofs.Nth.{drop-past}
-use Rattle.block_acts.proofs.Filling.{none-left}
+use Rattle.actions.proofs.Filling.{none-left}
 use Rattle.batch.specs.Added.{Added}
 use Rattle.batch.proofs.Items.{AtZero, zero-more, items-zero, items-read}
 use Rattle.batch.proofs.Count.{isOld, freshWith}
@@ -47,15 +47,18 @@ use Rattle.session.specs.declared.Gated.{Gated}
 use Rattle.session.specs.declared.Gated.the-variants as G
 use Rattle.session.specs.Asks.{Asking}
 use Rattle.session.proofs.Gates.{refused, gate-passed, AtRest}
-use Rattle.admitting.specs.declared.Newest.{Newest}
-use Rattle.admitting.specs.declared.Admission.{Admission}
-use Rattle.admitting.specs.declared.Admission.the-variants as A
+use Rattle.staging.specs.declared.admit.Newest.{Newest}
+use Rattle.staging.specs.declared.admit.Admission.{Admission}
+use Rattle.staging.specs.declared.admit.Admission.the-variants as A
 use Rattle.session.specs.declared.Stepped.{Stepped}
-use Rattle.admitting.specs.Admitting.{NewestOf, VersionOf, presentBy, admitNamed}
+use Rattle.staging.specs.Admitting.{NewestOf, VersionOf, presentBy, admitNamed}
 use Rattle.staging.specs.Staging.{refusedWith, oneMore}
+use Rattle.staging.specs.declared.ItemPlan.{ItemPlan}
+use Rattle.staging.specs.declared.ItemPlan.the-variants as I
+use Rattle.staging.specs.Planned.{Begins, ItemRecords, LogPlanned, DeletePlanned}
 use Rattle.staging.proofs.Shows as Shows
-use Rattle.admitting.proofs.Known.{Numbered, Says, newest-says, version-says}
-use Rattle.admitting.proofs.Admits.{planBy, Admitting, named-admitted, named-turned, fresh-then, plan-named}
+use Rattle.staging.proofs.Known.{Numbered, Says, newest-says, version-says}
+use Rattle.staging.proofs.Admits.{planBy, Admitting, named-admitted, named-turned, fresh-then, plan-named}
 use Rattle.session.specs.Promise.{Does, memory, memoryOf}
 use Rattle.session.specs.Fits.{Proper}
 use Rattle.session.specs.Numbers.{stagedMore}
@@ -85,9 +88,46 @@ module _ (c : Control) (k : Setup) (b bytes table : List ℕ) where
   room = capacity (length table)
 
   -- a refusal that is answered leaves the record
-  pub left : (call : Call) (n : Refusal) (r : Stepped) → r ≡ refusedWith c n → Does call (memory s bytes table) (memory s bytes table) (R.Refused n)
+  left : (call : Call) (n : Refusal) (r : Stepped) → r ≡ refusedWith c n → Does call (memory s bytes table) (memory s bytes table) (R.Refused n)
       → Does call (memory s bytes table) (memoryOf (r .control) k b bytes table) (r .report)
   left call n r e h = rw e h
+
+  -- one more item recorded
+  recorded : (call : Call) (item : Entry) (fresh : ℕ) → ItemRecords call (memory s bytes table) item fresh → (after : List ℕ) (words : ℕ) → Added b after (c .words) words item
+      → (r : Stepped) → r ≡ oneMore c words fresh → Does call (memory s bytes table) (memoryOf (r .control) k after bytes table) (r .report)
+  recorded call item fresh records after words added r e = rw e (records after words added)
+
+  -- ## What follows a plan
+
+  module _ (named : Given) (key : ℕ) (v : List ℕ) (p : ItemPlan) (planned : LogPlanned named key (length v) (memory s bytes table) p) where
+    pub put-left : (n : Refusal) → p ≡ I.Refused n → (r : Stepped) → r ≡ refusedWith c n → Does (Put named key v) (memory s bytes table) (memoryOf (r .control) k b bytes table) (r .report)
+    put-left n e r is-r = left (Put named key v) n r is-r (subst (LogPlanned named key (length v) (memory s bytes table)) e planned v refl)
+
+    module _ (version fresh : ℕ) (e : p ≡ I.Item version fresh) where
+      found : LogPlanned named key (length v) (memory s bytes table) (I.Item version fresh)
+      found = subst (LogPlanned named key (length v) (memory s bytes table)) e planned
+
+      pub put-few : c .items < maxItems
+      put-few = found v refl .0 .few
+
+      pub put-done : AreBytes v → (after : List ℕ) (words : ℕ) → Added b after (c .words) words (entry 1 0 version (length v) key (packed v)) → (r : Stepped) → r ≡ oneMore c words fresh
+          → Does (Put named key v) (memory s bytes table) (memoryOf (r .control) k after bytes table) (r .report)
+      put-done small = recorded (Put named key v) (entry 1 0 version (length v) key (packed v)) fresh (found v refl .1 small)
+
+  module _ (named : Given) (key : ℕ) (p : ItemPlan) (planned : DeletePlanned named key (memory s bytes table) p) where
+    pub delete-left : (n : Refusal) → p ≡ I.Refused n → (r : Stepped) → r ≡ refusedWith c n → Does (Delete named key) (memory s bytes table) (memoryOf (r .control) k b bytes table) (r .report)
+    delete-left n e r is-r = left (Delete named key) n r is-r (subst (DeletePlanned named key (memory s bytes table)) e planned)
+
+    module _ (version fresh : ℕ) (e : p ≡ I.Item version fresh) where
+      removal : DeletePlanned named key (memory s bytes table) (I.Item version fresh)
+      removal = subst (DeletePlanned named key (memory s bytes table)) e planned
+
+      pub delete-few : c .items < maxItems
+      delete-few = removal .0 .few
+
+      pub delete-done : (after : List ℕ) (words : ℕ) → Added b after (c .words) words (entry 2 0 version 0 key []) → (r : Stepped) → r ≡ oneMore c words fresh
+          → Does (Delete named key) (memory s bytes table) (memoryOf (r .control) k after bytes table) (r .report)
+      delete-done = recorded (Delete named key) (entry 2 0 version 0 key []) fresh (removal .1)
 
   module _ (g : Gated) (asks : Asking c k (length bytes) (length table) g) (passes : g ≡ G.Open) where
     pub opened : gate (stateOf s) (length bytes) (length table) ≡ none
@@ -125,6 +165,17 @@ module _ (c : Control) (k : Setup) (b bytes table : List ℕ) where
 
       says : (key : ℕ) (n : Newest) → NewestOf b (c .words) table key n → Says key es items ws n
       says key n is = newest-says key chunks ws es items parsed small (batch .counts) table (c .keys) (rests .fits .built .indexed) n (is items (fits-staged c b (chunksIn 12 (k .image)) ws es items batch))
+
+    -- the call is begun as the definitions plan it
+    pub begins : (call : Call) (item : Entry) (acts : List Action) (actions : ℕ) → c .items < maxItems → actions ≡ length acts
+        → ((f : Fits s ws table) → planOf 12 limit call (itemsOf (stateOf s)) ws (length bytes) (length table) ≡ some (Begin (items f ++ (item ∷ [])) Staging acts))
+        → Begins call (memory s bytes table) item acts actions
+    begins call item acts actions few counted plan = record {
+      passes = opened;
+      few = few;
+      counted = counted;
+      plan = λ f. plan f ∙ ap (λ (l : List Entry). some (Begin (l ++ (item ∷ [])) Staging acts)) (sym (ap itemsOf (rests f .state)));
+    }
 
     -- ## Too long
 
@@ -246,33 +297,43 @@ module _ (c : Control) (k : Setup) (b bytes table : List ℕ) where
             ∙ ap (λ (h : ℕ). planBy (admitNamed named c maxPutVersion last need-words room) (Begin (items f ++ (entry 1 0 (suc h) (length v) key (packed v) ∷ [])) Staging [])) (sym (y .version)))
 
         module _ (l : length v ≤ 256) (a : Admission) (told : a ≡ admitNamed named c maxPutVersion last need-words room) where
-          pub put-refused : (x : Refusal) → a ≡ A.Refused x → Does (Put named key v) (memory s bytes table) (memory s bytes table) (R.Refused x)
+          put-refused : (x : Refusal) → a ≡ A.Refused x → Does (Put named key v) (memory s bytes table) (memory s bytes table) (R.Refused x)
           put-refused x e =
               refused 12 limit s bytes table x (Put named key v) refl (λ f. f) (λ f. sym (rw (opened, put-plan l f, sym told ∙ e)))
               (barred (R.Refused x)) (inr (inr (inr (inr (named-turned named c maxPutVersion last need-words room (N.NoSpace ∷ []) x (sym told ∙ e)))))) (refl, refl) (inl (x, refl))
 
-          pub put-done : (small : AreBytes v) (fresh : ℕ) → a ≡ A.Admitted fresh → (after : List ℕ) (words : ℕ)
-              → Added b after (c .words) words (entry 1 0 (last + 1) (length v) key (packed v)) → (r : Stepped) → r ≡ oneMore c words fresh
-              → Does (Put named key v) (memory s bytes table) (memoryOf (r .control) k after bytes table) (r .report)
-          unfolding next
-          put-done small fresh e after words added r is-r = rw is-r
-              (staged item maxPutVersion fresh adm after words added (Put named key v) (λ f. f) (λ Fit f. f) (barred (R.Begun 0)) right refl refl next-is refl
-              (λ f. (rw (opened, plan f), rw (opened, plan f, rests f .state))) (inr ([], (stages item maxPutVersion fresh adm after words added, refl))))
-            where
-              next-is : last + 1 ≡ suc last
-              next-is = omega arith
+          module _ (fresh : ℕ) (e : a ≡ A.Admitted fresh) where
+            next-is : last + 1 ≡ suc last
+            next-is = omega arith
 
-              item : Entry
-              item = entry 1 0 (last + 1) (length v) key (packed v)
+            abbrev item : Entry
+            item = entry 1 0 (last + 1) (length v) key (packed v)
 
-              adm : Admitting c maxPutVersion last (2 + length (packed v)) room fresh
-              adm = rw (length-packed v) (named-admitted named c maxPutVersion last need-words room fresh (sym told ∙ e))
+            adm : Admitting c maxPutVersion last (2 + length (packed v)) room fresh
+            adm = rw (length-packed v) (named-admitted named c maxPutVersion last need-words room fresh (sym told ∙ e))
 
-              right : Right item
-              right = let u = adm .unspent in put-right v small (last + 1) key (omega arith) (omega arith) l
+            plan : (f : Fits s ws table) → planPut 12 limit chunks ws (length table) (entriesIn 12 chunks ws) (itemsOf (stateOf s)) named key v ≡ Begin (items f ++ (item ∷ [])) Staging []
+            plan f = put-plan l f ∙ rw (sym told ∙ e, next-is)
 
-              plan : (f : Fits s ws table) → planPut 12 limit chunks ws (length table) (entriesIn 12 chunks ws) (itemsOf (stateOf s)) named key v ≡ Begin (items f ++ (item ∷ [])) Staging []
-              plan f = put-plan l f ∙ rw (sym told ∙ e, next-is)
+            put-begins : Begins (Put named key v) (memory s bytes table) item [] 0
+            put-begins = begins (Put named key v) item [] 0 (adm .few) refl (λ f. ap (λ (q : Plan). some q) (plan f))
+
+            put-records : AreBytes v → ItemRecords (Put named key v) (memory s bytes table) item fresh
+            unfolding next
+            put-records small after words added =
+                staged item maxPutVersion fresh adm after words added (Put named key v) (λ f. f) (λ Fit f. f) (barred (R.Begun 0)) right refl refl next-is refl
+                (λ f. (rw (opened, plan f), rw (opened, plan f, rests f .state))) (inr ([], (stages item maxPutVersion fresh adm after words added, refl)))
+              where
+                right : Right item
+                right = let u = adm .unspent in put-right v small (last + 1) key (omega arith) (omega arith) l
+
+      -- by the value's length
+      module _ (n : ℕ) (l : n ≤ 256) (a : Admission) (told : a ≡ admitNamed named c maxPutVersion last (2 + (n + 7) / 8) room) where
+        pub log-refused : (x : Refusal) → a ≡ A.Refused x → LogPlanned named key n (memory s bytes table) (I.Refused x)
+        log-refused x e v q = put-refused v (rw q l) a (rw q told) x e
+
+        pub log-item : (fresh : ℕ) → a ≡ A.Admitted fresh → LogPlanned named key n (memory s bytes table) (I.Item (last + 1) fresh)
+        log-item fresh e v q = (put-begins v (rw q l) a (rw q told) fresh e, put-records v (rw q l) a (rw q told) fresh e)
 
     -- ## Delete
 
@@ -298,30 +359,32 @@ module _ (c : Control) (k : Setup) (b bytes table : List ℕ) where
           (barred (R.Refused N.KeyAbsent)) (inr (inr (inr (inl refl)))) (refl, refl) (inl (N.KeyAbsent, refl))
 
       module _ (h : presentBy ws n ≡ true) (a : Admission) (told : a ≡ admitNamed named c maxVersion (n .version) 2 room) where
-        pub delete-refused : (x : Refusal) → a ≡ A.Refused x → Does (Delete named key) (memory s bytes table) (memory s bytes table) (R.Refused x)
+        pub delete-refused : (x : Refusal) → a ≡ A.Refused x → DeletePlanned named key (memory s bytes table) (I.Refused x)
         delete-refused x e =
             refused 12 limit s bytes table x (Delete named key) refl (λ f. f) (λ f. sym (rw (opened, delete-plan h f, sym told ∙ e)))
             (barred (R.Refused x)) (inr (inr (inr (inr (named-turned named c maxVersion (n .version) 2 room [] x (sym told ∙ e)))))) (refl, refl) (inl (x, refl))
 
-        pub delete-done : (fresh : ℕ) → a ≡ A.Admitted fresh → (after : List ℕ) (words : ℕ)
-            → Added b after (c .words) words (entry 2 0 (n .version + 1) 0 key []) → (r : Stepped) → r ≡ oneMore c words fresh
-            → Does (Delete named key) (memory s bytes table) (memoryOf (r .control) k after bytes table) (r .report)
-        unfolding next
-        delete-done fresh e after words added r is-r = rw is-r
-            (staged named key (n .version) version-is item maxVersion fresh adm after words added (Delete named key) (λ f. f) (λ Fit f. f) (barred (R.Begun 0)) right refl refl next-is refl
-            (λ f. (rw (opened, plan f), rw (opened, plan f, rests f .state))) (inr ([], (stages named key (n .version) version-is item maxVersion fresh adm after words added, refl))))
-          where
-            next-is : n .version + 1 ≡ suc (n .version)
-            next-is = omega arith
+        module _ (fresh : ℕ) (e : a ≡ A.Admitted fresh) where
+          delete-next : n .version + 1 ≡ suc (n .version)
+          delete-next = omega arith
 
-            item : Entry
-            item = entry 2 0 (n .version + 1) 0 key []
+          abbrev delete-entry : Entry
+          delete-entry = entry 2 0 (n .version + 1) 0 key []
 
-            adm : Admitting c maxVersion (n .version) 2 room fresh
-            adm = named-admitted named c maxVersion (n .version) 2 room fresh (sym told ∙ e)
+          delete-adm : Admitting c maxVersion (n .version) 2 room fresh
+          delete-adm = named-admitted named c maxVersion (n .version) 2 room fresh (sym told ∙ e)
 
-            right : Right item
-            right = let u = adm .unspent in delete-right (n .version + 1) key (omega arith) (omega arith)
+          delete-begun : (f : Fits s ws table) → planDelete (length table) (entriesIn 12 chunks ws) (itemsOf (stateOf s)) named key ≡ Begin (items f ++ (delete-entry ∷ [])) Staging []
+          delete-begun f = delete-plan h f ∙ rw (sym told ∙ e, delete-next)
 
-            plan : (f : Fits s ws table) → planDelete (length table) (entriesIn 12 chunks ws) (itemsOf (stateOf s)) named key ≡ Begin (items f ++ (item ∷ [])) Staging []
-            plan f = delete-plan h f ∙ rw (sym told ∙ e, next-is)
+          delete-records : ItemRecords (Delete named key) (memory s bytes table) delete-entry fresh
+          unfolding next
+          delete-records after words added =
+              staged named key (n .version) version-is delete-entry maxVersion fresh delete-adm after words added (Delete named key) (λ f. f) (λ Fit f. f) (barred (R.Begun 0)) right refl refl delete-next refl
+              (λ f. (rw (opened, delete-begun f), rw (opened, delete-begun f, rests f .state))) (inr ([], (stages named key (n .version) version-is delete-entry maxVersion fresh delete-adm after words added, refl)))
+            where
+              right : Right delete-entry
+              right = let u = delete-adm .unspent in delete-right (n .version + 1) key (omega arith) (omega arith)
+
+          pub delete-item : DeletePlanned named key (memory s bytes table) (I.Item (n .version + 1) fresh)
+          delete-item = (begins (Delete named key) delete-entry [] 0 (delete-adm .few) refl (λ f. ap (λ (q : Plan). some q) (delete-begun f)), delete-records)

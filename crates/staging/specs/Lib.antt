@@ -1,1 +1,4 @@
+pub mod Large
+pub mod Admitting
 pub mod Staging
+pub mod Planned

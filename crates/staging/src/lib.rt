@@ -1,4 +1,5 @@
-// Staging: put, delete and abandon. Each finds its refusal or the new item and changes the record alone.
+// Staging: put, delete and abandon. A plan finds the refusal or the new item and changes nothing; the call records the
+// item, which changes the record alone.
 ghost use mathlib.Core.Path.{_≡_};
 ghost use mathlib.Core.Bool.{true, false};
 ghost use Prim.Native.Nat.{_≤_, _<_};
@@ -6,9 +7,16 @@ ghost use lib.ListN.{length};
 ghost use Rattle.spec.specs.Machine.{Put, Delete, Abandon};
 ghost use Rattle.spec.specs.declared.Given.the-variants.{Absent, Number};
 ghost use Rattle.staging.specs.Staging.{refusedWith, oneMore, PutWhere, Short, Long};
+ghost use Rattle.staging.specs.Planned.{LogPlanned, BlockPlanned, DeletePlanned};
 ghost use Rattle.session.specs.Promise.{Does, memoryOf};
-use admitting::Admission;
-use blocks::Buffer;
+
+pub mod admit;
+pub mod large;
+
+use crate::admit::Admission;
+use crate::large::LargePlan;
+use buffer::Buffer;
+use codec::Unit;
 use session::Control;
 use session::Gated;
 use session::Outcome;
@@ -41,7 +49,7 @@ pub fn abandon_core(
             let held = control.words;
             let staged = batch::any_item(buffer, held);
             if staged {
-                let next = session::emptied(control);
+                let next = session::ended_empty(control);
                 return Outcome {
                     control: next,
                     setup,
@@ -84,7 +92,51 @@ fn one_more(control: Control, words: usize, fresh: usize) -> Stepped
     }
 }
 
-// A put whose value goes into the log: 17, 12, 10, 7. All is asked before the buffer is written.
+// PUT
+// What a staging with no action finds: a refusal, or the version of its item and how many staged keys are not known
+// then.
+pub enum ItemPlan {
+    Refused(Refusal),
+    Item { version: u64, fresh: usize },
+}
+
+// A put of so many bytes that go into the log: 2, 1, 8, 17, 12, 10, 7, or its item. Nothing is changed.
+pub fn plan_in_log(
+    control: Control,
+    setup: Setup,
+    buffer: &Buffer,
+    image: &[u8],
+    table: &[u64],
+    key: u64,
+    bytes: usize,
+    named: Given,
+) -> ItemPlan
+    requires { ⌜ Short bytes ⌝ }
+    ensures { λ r. ⌜ LogPlanned named key bytes (memoryOf control setup (now (buffer .entry)) (now (image .entry)) (now (table .entry))) r ⌝ }
+{
+    let g = session::gate(control, setup, image.len(), table.len());
+    match g {
+        Gated::Refused(n) => ItemPlan::Refused(n),
+        Gated::Open => {
+            let version = admit::version_of(buffer, control.words, table, key);
+            let more = 2 + (bytes + 7) / 8;
+            let room = index::capacity(table.len());
+            let a = admit::admit(control, named, LAST_PUT, version, more, room);
+            match a {
+                Admission::Refused(n) => ItemPlan::Refused(n),
+                Admission::Admitted(fresh) => {
+                    let next = version + 1;
+                    ItemPlan::Item {
+                        version: next,
+                        fresh,
+                    }
+                }
+            }
+        }
+    }
+}
+
+// A put whose value goes into the log, as its plan says.
 fn put_in_log(
     control: Control,
     setup: Setup,
@@ -98,35 +150,92 @@ fn put_in_log(
     requires { ⌜ length (now value) ≤ 256 ⌝ }
     ensures { λ r. ⌜ Does (Put named key (now (value .entry))) (memoryOf control setup (now (buffer .entry)) (now (image .entry)) (now (table .entry))) (memoryOf (r .control) setup (now (buffer .exit)) (now (image .entry)) (now (table .entry))) (r .report) ⌝ }
 {
+    let bytes = value.len();
+    let plan = plan_in_log(control, setup, buffer, image, table, key, bytes, named);
+    match plan {
+        ItemPlan::Refused(n) => refused(control, n),
+        ItemPlan::Item { version, fresh } => {
+            let field = bytes as u64;
+            let end = batch::add_entry(buffer, control.words, 1, 0, version, field, key, value);
+            one_more(control, end, fresh)
+        }
+    }
+}
+
+// What a staging in a block finds: a refusal, or the version of its item, how many staged keys are not known then, and
+// where the value goes (`staging::large::LargePlan`).
+pub enum BlockPlan {
+    Refused(Refusal),
+    Item {
+        version: u64,
+        fresh: usize,
+        unit: Unit,
+        old: u64,
+        size: u64,
+        actions: usize,
+    },
+}
+
+// A put of so many bytes that go into a block: 2, 1, 8, 9, 17, 12, 10, 7, 13, or its item. Nothing is changed.
+pub fn plan_in_block(
+    control: Control,
+    setup: Setup,
+    buffer: &Buffer,
+    image: &[u8],
+    table: &[u64],
+    key: u64,
+    bytes: usize,
+    named: Given,
+) -> BlockPlan
+    requires { ⌜ Long bytes ⌝ }
+    ensures { λ r. ⌜ BlockPlanned named key bytes (memoryOf control setup (now (buffer .entry)) (now (image .entry)) (now (table .entry))) r ⌝ }
+{
     let g = session::gate(control, setup, image.len(), table.len());
     match g {
-        Gated::Refused(n) => refused(control, n),
+        Gated::Refused(n) => BlockPlan::Refused(n),
         Gated::Open => {
-            let bytes = value.len();
+            if 4088 < bytes {
+                return BlockPlan::Refused(Refusal::TooLong);
+            }
             let words = control.words;
-            let version = admitting::version_of(buffer, words, table, key);
-            let more = 2 + (bytes + 7) / 8;
-            let a = admitting::admit(
+            let known = admit::known_of(buffer, words, table, key);
+            let version = known.version;
+            let a = admit::admit(
                 control,
                 named,
                 LAST_PUT,
                 version,
-                more,
+                2,
                 index::capacity(table.len()),
             );
             match a {
-                Admission::Refused(n) => refused(control, n),
+                Admission::Refused(n) => BlockPlan::Refused(n),
                 Admission::Admitted(fresh) => {
-                    let field = bytes as u64;
-                    let end = batch::add_entry(buffer, words, 1, 0, version + 1, field, key, value);
-                    one_more(control, end, fresh)
+                    let next = version + 1;
+                    let slot = large::plan_large(setup, buffer, words, image, bytes);
+                    match slot {
+                        LargePlan::At {
+                            unit,
+                            old,
+                            size,
+                            actions,
+                        } => BlockPlan::Item {
+                            version: next,
+                            fresh,
+                            unit,
+                            old,
+                            size,
+                            actions,
+                        },
+                        LargePlan::Nowhere => BlockPlan::Refused(Refusal::NoSpace),
+                    }
                 }
             }
         }
     }
 }
 
-// A put whose value goes into a block: 9, 17, 12, 10, 7, 13; else the call has the block's actions to come.
+// A put whose value goes into a block, as its plan says: the call has the block's actions to come.
 fn put_in_block(
     control: Control,
     setup: Setup,
@@ -140,63 +249,40 @@ fn put_in_block(
     requires { ⌜ 256 < length (now value) ⌝ }
     ensures { λ r. ⌜ Does (Put named key (now (value .entry))) (memoryOf control setup (now (buffer .entry)) (now (image .entry)) (now (table .entry))) (memoryOf (r .control) (r .setup) (now (buffer .exit)) (now (image .entry)) (now (table .entry))) (r .report) ⌝ }
 {
-    let g = session::gate(control, setup, image.len(), table.len());
-    match g {
-        Gated::Refused(n) => Outcome {
+    let bytes = value.len();
+    let plan = plan_in_block(control, setup, buffer, image, table, key, bytes, named);
+    match plan {
+        BlockPlan::Refused(n) => Outcome {
             control,
             setup,
             report: Report::Refused(n),
         },
-        Gated::Open => {
-            if 4088 < value.len() {
-                return Outcome {
-                    control,
-                    setup,
-                    report: Report::Refused(Refusal::TooLong),
-                };
-            }
+        BlockPlan::Item {
+            version,
+            fresh,
+            unit,
+            old,
+            size,
+            actions,
+        } => {
             let words = control.words;
-            let known = admitting::known_of(buffer, words, table, key);
-            let version = known.version;
-            let a = admitting::admit(
-                control,
-                named,
-                LAST_PUT,
+            let large = large::record_large(
+                setup,
+                buffer,
+                words,
                 version,
-                2,
-                index::capacity(table.len()),
+                key,
+                value,
+                unit,
+                old,
+                size,
             );
-            match a {
-                Admission::Refused(n) => Outcome {
-                    control,
-                    setup,
-                    report: Report::Refused(n),
-                },
-                Admission::Admitted(fresh) => {
-                    let large = large::stage_large(
-                        setup,
-                        buffer,
-                        words,
-                        image,
-                        version + 1,
-                        key,
-                        value,
-                    );
-                    if large.found {
-                        let begun = session::one_more(control, 0, large.words, fresh);
-                        let bound = large.setup;
-                        return Outcome {
-                            control: begun,
-                            setup: bound,
-                            report: Report::Begun(large.count),
-                        };
-                    }
-                    Outcome {
-                        control,
-                        setup,
-                        report: Report::Refused(Refusal::NoSpace),
-                    }
-                }
+            let begun = session::one_more(control, 0, large.words, fresh);
+            let bound = large.setup;
+            Outcome {
+                control: begun,
+                setup: bound,
+                report: Report::Begun(actions),
             }
         }
     }
@@ -339,7 +425,52 @@ pub fn put_at(
     put_core(control, setup, buffer, image, table, key, value, named)
 }
 
-// Stages a delete: 11, 17, 12, 10, 7.
+// DELETE
+// 2, 1, 8, 11, 17, 12, 10, 7, or the item. Nothing is changed.
+pub fn plan_delete(
+    control: Control,
+    setup: Setup,
+    buffer: &Buffer,
+    image: &[u8],
+    table: &[u64],
+    key: u64,
+    named: Given,
+) -> ItemPlan
+    ensures { λ r. ⌜ DeletePlanned named key (memoryOf control setup (now (buffer .entry)) (now (image .entry)) (now (table .entry))) r ⌝ }
+{
+    let g = session::gate(control, setup, image.len(), table.len());
+    match g {
+        Gated::Refused(n) => ItemPlan::Refused(n),
+        Gated::Open => {
+            let known = admit::known_of(buffer, control.words, table, key);
+            if admit::is_present(image, known) {
+                let version = known.version;
+                let a = admit::admit(
+                    control,
+                    named,
+                    LAST_DELETE,
+                    version,
+                    2,
+                    index::capacity(table.len()),
+                );
+                match a {
+                    Admission::Refused(n) => ItemPlan::Refused(n),
+                    Admission::Admitted(fresh) => {
+                        let next = version + 1;
+                        ItemPlan::Item {
+                            version: next,
+                            fresh,
+                        }
+                    }
+                }
+            } else {
+                ItemPlan::Refused(Refusal::KeyAbsent)
+            }
+        }
+    }
+}
+
+// Stages a delete as its plan says.
 pub fn delete_core(
     control: Control,
     setup: Setup,
@@ -351,33 +482,13 @@ pub fn delete_core(
 ) -> Stepped
     ensures { λ r. ⌜ Does (Delete named key) (memoryOf control setup (now (buffer .entry)) (now (image .entry)) (now (table .entry))) (memoryOf (r .control) setup (now (buffer .exit)) (now (image .entry)) (now (table .entry))) (r .report) ⌝ }
 {
-    let g = session::gate(control, setup, image.len(), table.len());
-    match g {
-        Gated::Refused(n) => refused(control, n),
-        Gated::Open => {
-            let words = control.words;
-            let known = admitting::known_of(buffer, words, table, key);
-            if admitting::is_present(image, known) {
-                let a = admitting::admit(
-                    control,
-                    named,
-                    LAST_DELETE,
-                    known.version,
-                    2,
-                    index::capacity(table.len()),
-                );
-                match a {
-                    Admission::Refused(n) => refused(control, n),
-                    Admission::Admitted(fresh) => {
-                        let next = known.version + 1;
-                        let none = &image[0..0];
-                        let end = batch::add_entry(buffer, words, 2, 0, next, 0, key, none);
-                        one_more(control, end, fresh)
-                    }
-                }
-            } else {
-                refused(control, Refusal::KeyAbsent)
-            }
+    let plan = plan_delete(control, setup, buffer, image, table, key, named);
+    match plan {
+        ItemPlan::Refused(n) => refused(control, n),
+        ItemPlan::Item { version, fresh } => {
+            let none = &image[0..0];
+            let end = batch::add_entry(buffer, control.words, 2, 0, version, 0, key, none);
+            one_more(control, end, fresh)
         }
     }
 }

@@ -17,12 +17,12 @@ use Rattle.spec.specs.declared.Report.{Report}
 use Rattle.session.specs.State.{cleanOlds, batchWords, batchItems, cleanActions, stateAt}
 use Rattle.session.specs.Fits.{CleanFits, RestFits, Fits, Reads}
 use Rattle.actions.specs.Nth.{nth}
-use Rattle.cleaning.specs.Record.{cleanCount}
-use Rattle.cleaning.proofs.Acting.{clean-next, clean-done}
-use Rattle.cleaning_step.specs.Moves.{Acts, Over, CleanStepped}
+use Rattle.actions.specs.Record.{cleanCount}
+use Rattle.actions.proofs.Acting.{clean-next, clean-done}
+use Rattle.stepping.specs.Moves.{Acts, Over, CleanStepped}
 use Rattle.actions.proofs.States.{busy, at-6, step-acts, step-ends}
 use Rattle.session.specs.Promise.{Does, memory}
-use Rattle.session.specs.Numbers.{emptied}
+use Rattle.session.specs.Numbers.{endedEmpty}
 
 module _ (c : Control) (k : Setup) (b bytes table : List ℕ) (e : c .phase ≡ 6) (same-bytes : k .image ≡ length bytes) (same-words : k .table ≡ length table) where
   abbrev s : Session
@@ -66,14 +66,14 @@ module _ (c : Control) (k : Setup) (b bytes table : List ℕ) (e : c .phase ≡ 
     last : stateAt c k b ≡ F []
     last = at-6 c k b e ∙ ap F (clean-done k f b (c .next) (t .past))
 
-    rests : CleanFits c k f b (wordsOf bytes) table (drop (c .next) acts) → RestFits (with′ (emptied c) b) (wordsOf bytes) table []
+    rests : CleanFits c k f b (wordsOf bytes) table (drop (c .next) acts) → RestFits (with′ (endedEmpty c) b) (wordsOf bytes) table []
     rests = rw (t .control, t .buffer, t .unchanged, t .same) at (t .fits)
 
     over : Does Step (memory s bytes table) (memory (with′ c′ b′) bytes′ table′) r
     unfolding stateAt batchItems batchWords
     over =
         rw (t .report, t .control, t .buffer, t .unchanged, t .same)
-        (step-ends s (with′ (emptied c) b) bytes bytes table table (k .image) (k .table) (f .entries) (Rest (k .image) (k .table) []) F (busy (k .image) (k .table) [] (Cleaning (f .entries) (cleanOlds k f)))
+        (step-ends s (with′ (endedEmpty c) b) bytes bytes table table (k .image) (k .table) (f .entries) (Rest (k .image) (k .table) []) F (busy (k .image) (k .table) [] (Cleaning (f .entries) (cleanOlds k f)))
         same-bytes same-words last refl (λ q. (q .0, rests (fitting q .0))))
 
   pub cleans : (c′ : Control) (b′ bytes′ table′ : List ℕ) (r : Report) → CleanStepped c c′ k f b b′ bytes bytes′ table table′ r → Does Step (memory s bytes table) (memory (with′ c′ b′) bytes′ table′) r

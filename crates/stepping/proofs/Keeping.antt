@@ -19,14 +19,14 @@ use Rattle.theory_base.proofs.Lists.{number-l, number-r, number-cases, distinct
 use Rattle.theory_crash.specs.Accepted.{Ok}
 use Rattle.theory_crash.proofs.Opening.{keys-fit, opens-ok}
 use Rattle.session.specs.State.{batchWords, chunkIn, linesIn}
-use Rattle.session.specs.Filter.{filterPlace}
+use Rattle.buffer.specs.Areas.{filterPlace}
 use Rattle.session.specs.Fits.{keyList, batchPlace, CommitFits}
 use Rattle.session.proofs.Part.{chunk-in, lines-in}
 use Rattle.session.proofs.Kept.{words-kept, batch-kept, built-kept}
 use Rattle.apply.specs.Joining.{Shown, Fenced, Joining}
-use Rattle.ahead.proofs.Staged.{action-length}
-use Rattle.ahead.proofs.Shown.{lo, hi}
-use Rattle.session.specs.Numbers.{keyed}
+use Rattle.forward.proofs.Staged.{action-length}
+use Rattle.forward.proofs.Shown.{lo, hi}
+use Rattle.session.specs.Numbers.{withKeys}
 
 -- THE KNOWN KEYS, with a batch placed among the entries.
 placed-keys : (at : ℕ) (items : List Entry) → keyList (placed at items) ≡ keyList items
@@ -52,7 +52,7 @@ joined-keys at front back items =
 
 -- after an action of a commit: its number counted on, so many known keys, so many fresh ones
 abbrev pub acted : Control → ℕ → ℕ → Control
-acted c keys fresh = keyed 3 (c .next + 1) keys fresh c
+acted c keys fresh = withKeys 3 (c .next + 1) keys fresh c
 
 module _ (c : Control) (k : Setup) (b : List ℕ) where
   abbrev s : Session

@@ -1,3 +1,5 @@
+pub mod Cleaned
+pub mod CleanShows
 pub mod Keeping
 pub mod Shows
 pub mod Cleaning

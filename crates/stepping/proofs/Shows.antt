@@ -1,6 +1,6 @@
 -- What the code of a step shows at each return is what the contract says.
 -- Assumes nothing.
-use mathlib.Core.Path.{_≡_, refl, _∙_, ap}
+use mathlib.Core.Path.{_≡_, refl, sym, _∙_, ap}
 use mathlib.Core.Bool.{Bool, true, false}
 use mathlib.Core.List.{List, [], _∷_}
 use Prim.Native.Nat.{ℕ, _+_, _*_, _≤_, _<_, min}
@@ -24,20 +24,22 @@ use Rattle.spec.specs.declared.Refusal.the-variants as N
 use Rattle.spec.specs.declared.Report.{Report}
 use Rattle.spec.specs.declared.Report.the-variants as R
 use Rattle.words.specs.Image.{Saved}
-use Rattle.session.specs.State.{commitOlds, bufferPart, batchRoom, batchWords, batchItems, chunkIn, linesIn, commitActions, formatActions, blockActions, stateAt}
+use Rattle.buffer.specs.Areas.{batchRoom}
+use Rattle.session.specs.State.{commitOlds, bufferPart, batchWords, batchItems, chunkIn, linesIn, commitActions, formatActions, blockActions, stateAt}
 use Rattle.session.specs.Fits.{CommitFits, TaskFits, Reads, Fits}
 use Rattle.session.proofs.Kept.{words-kept, same-items, same-acts, end-kept, staging-kept, reads-kept}
 use Rattle.actions.specs.Nth.{nth, nthReport, commitCount, formatCount}
 use Rattle.actions.proofs.Nth.{drop-nth, drop-past}
-use Rattle.actions.proofs.Committing.{commit-next, commit-done, shows-store}
+use Rattle.actions.proofs.Appending.{lines-of, shows-store}
+use Rattle.actions.proofs.Committing.{commit-next, commit-done, commit-last}
 use Rattle.actions.proofs.Formatting.{format-next, format-done}
 use Rattle.actions.proofs.Performed.{changed-store, changed-words}
-use Rattle.ahead.proofs.Steps.{rest-same}
+use Rattle.forward.proofs.Steps.{rest-same}
 use Rattle.apply.specs.Joining.{Joining}
 use Rattle.actions.proofs.States.{busy, formatting, at-2, at-3, at-4, at-5, nothing-begun, in-call, table-kept, step-idle, step-refused, step-acts, step-ends}
 use Rattle.stepping.proofs.Keeping.{acted, action-kept, last-kept}
 use Rattle.session.specs.Promise.{Does, memory}
-use Rattle.session.specs.Numbers.{closed, emptied, toNext, acting, staged}
+use Rattle.session.specs.Numbers.{closed, endedEmpty, atAction, inPhase, ended}
 
 -- NOTHING BEGUN, and lengths unlike those at the begin
 module _ (c : Control) (k : Setup) (b bytes table : List ℕ) where
@@ -65,16 +67,16 @@ module _ (c : Control) (k : Setup) (b bytes table : List ℕ) (same-bytes : k .i
   -- STAGING
   -- after an action of one
   abbrev pub stored : Control
-  stored = acting 2 (c .next + 1) c
+  stored = inPhase 2 (c .next + 1) c
 
   module _ (e : c .phase ≡ 2) where
     abbrev S : List Action → State
     S = Busy (k .image) (k .table) (batchItems c b) Staging
 
-    pub staging-ends : length (blockActions k b) ≤ c .next → Does Step (memory s bytes table) (memory (with′ (staged c) b) bytes table) (R.End 0)
+    pub staging-ends : length (blockActions k b) ≤ c .next → Does Step (memory s bytes table) (memory (with′ (ended c) b) bytes table) (R.End 0)
     unfolding stateAt batchItems batchWords
     staging-ends h =
-        step-ends s (with′ (staged c) b) bytes bytes table table (k .image) (k .table) 0 (Rest (k .image) (k .table) (batchItems c b)) S (busy (k .image) (k .table) (batchItems c b) Staging)
+        step-ends s (with′ (ended c) b) bytes bytes table table (k .image) (k .table) 0 (Rest (k .image) (k .table) (batchItems c b)) S (busy (k .image) (k .table) (batchItems c b) Staging)
         same-bytes same-words last refl (λ f. (f .0, staging-kept c k b (wordsOf bytes) table (batchItems c b) ((rw last at (f .1)) .0)))
       where
         last : stateAt c k b ≡ S []
@@ -187,18 +189,26 @@ module _ (c : Control) (k : Setup) (b bytes table : List ℕ) (same-bytes : k .i
           fits : Fits s (wordsOf bytes) table → Fits s′ (wordsOf bytes′) table′
           fits f = (j .kept .long ∙ f .0, rw (after, none, words) (last-kept c k b (wordsOf bytes) table (batchItems c b) act ((rw (here (omega arith), none) at (f .1)) .0) place is-place b′ table′ keys (rw words at j), tt))
 
+    -- that is a fence
+    pub commit-fences : (b′ table′ : List ℕ) (keys place : ℕ) → place ≡ 512 * chunkIn k + 8 * linesIn k → c .next < commitCount (c .words) → commitCount (c .words) ≤ c .next + 1
+        → Joining place (c .words) (c .keys) b b′ (wordsOf bytes) table table′ keys → Does Step (memory s bytes table) (memory (with′ (acted c keys 0) b′) bytes table′) R.Fence
+    commit-fences b′ table′ keys place is-place l h j =
+        commit-joins bytes R.Fence (sym (ap asReport (commit-last c k b (c .next) h))) refl b′ table′ keys place is-place (omega arith) j
+
     -- a store of one of the batch's words
     pub commit-stores : (bytes′ : List ℕ) (w v : ℕ) → c .next < 8 * linesFor (min (c .words) batchRoom) → w ≡ 512 * chunkIn k + 8 * linesIn k + c .next
         → v ≡ getD (padded (bufferPart b 0 (min (c .words) batchRoom))) (c .next) 0 → Saved bytes bytes′ w v
         → Does Step (memory s bytes table) (memory (with′ (acted c (c .keys) (c .fresh)) b) bytes′ table) (R.Store w v)
+    unfolding commitActions batchWords
     commit-stores bytes′ w v h ew ev saved =
-        commit-acts bytes′ (R.Store w v) (shows-store c k b (c .next) (min (c .words) batchRoom) refl w v h ew ev)
+        let n : ℕ = min (c .words) batchRoom in
+        commit-acts bytes′ (R.Store w v) (shows-store k (bufferPart b 0 n) (c .next) (linesFor n) (lines-of b 0 n _ refl) w v h ew ev)
         (changed-store (R.Store w v) bytes bytes′ w v refl saved) (omega arith)
 
-    pub commit-ends : commitCount (c .words) ≤ c .next → Does Step (memory s bytes table) (memory (with′ (emptied c) b) bytes table) (R.End 0)
+    pub commit-ends : commitCount (c .words) ≤ c .next → Does Step (memory s bytes table) (memory (with′ (endedEmpty c) b) bytes table) (R.End 0)
     unfolding stateAt batchItems batchWords
     commit-ends h =
-        step-ends s (with′ (emptied c) b) bytes bytes table table (k .image) (k .table) 0 (Rest (k .image) (k .table) []) F (busy (k .image) (k .table) (batchItems c b) (Committing (commitOlds k)))
+        step-ends s (with′ (endedEmpty c) b) bytes bytes table table (k .image) (k .table) 0 (Rest (k .image) (k .table) []) F (busy (k .image) (k .table) (batchItems c b) (Committing (commitOlds k)))
         same-bytes same-words last refl (λ f. (f .0, end-kept c k b (wordsOf bytes) table (batchItems c b) ((rw last at (f .1)) .0)))
       where
         last : stateAt c k b ≡ F []
@@ -207,7 +217,7 @@ module _ (c : Control) (k : Setup) (b bytes table : List ℕ) (same-bytes : k .i
   -- FORMAT
   -- after an action; after the last
   abbrev pub counted : Control
-  counted = toNext (c .next + 1) c
+  counted = atAction (c .next + 1) c
 
   module _ (low : 4 ≤ c .phase) (high : c .phase ≤ 5) where
     abbrev isOpen : Dec (c .phase ≡ 5) → Bool

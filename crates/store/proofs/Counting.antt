@@ -13,7 +13,7 @@ use Rattle.session.specs.State.{stateOf, limit}
 use Rattle.session.specs.Fits.{Proper, Fits}
 use Rattle.session.specs.Promise.{Memory, memory, Does}
 use Rattle.theory_histories.proofs.Twins.{alike}
-use Rattle.stat.proofs.Alike.{SameIn, countIn, counts-alike}
+use Rattle.inspect.proofs.KeysAlike.{SameIn, countIn, counts-alike}
 use Rattle.store.proofs.Closing.{closing}
 
 -- Whatever the calls answer, as their contracts allow: the same count behind each. (An image is bytes.)

@@ -1,3 +1,7 @@
+pub mod Lent
+pub mod Runs
+pub mod Alike
+pub mod Listings
 pub mod Demand
 pub mod Fixed
 pub mod Meaning

@@ -13,7 +13,7 @@ use lib.ListN.{length, take, drop, set, length-set, length-append, length-drop}
 use lib.Seq.{take-set-le, take-take, drop-cons, drop-set-lt, getD-set-same}
 use borrow.Author.Tests.{eq-eqb, ne-eqb, eqb-true, le-leb}
 use Rattle.spec.specs.Basics.{pick}
-use Rattle.script.specs.Spelled.{isDigit, withDigit, spelled}
+use Rattle.text.specs.Spelled.{isDigit, withDigit, spelled}
 use Rattle.text.specs.Text.{lastDigits, mostDigits, decimal, Digits}
 
 -- ## One digit after the other

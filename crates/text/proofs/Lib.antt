@@ -1,3 +1,4 @@
+pub mod Spelling
 pub mod Decimals
 pub mod Texts
 pub mod Columns

@@ -1,8 +1,84 @@
-// Numbers and words as text: bytes and the decimal digits of a number, put behind a text in lent bytes.
+// Numbers and words as text: a decimal number read, and bytes and the decimal digits of a number put behind a text in
+// lent bytes.
 ghost use mathlib.Core.Path.{_≡_};
-ghost use Prim.Native.Nat.{_≤_};
-ghost use lib.ListN.{length};
+ghost use Prim.Native.Nat.{_+_, _-_, _*_, _%_, _^_, _<_, _≤_};
+ghost use lib.ListN.{length, drop};
+ghost use Rattle.text.specs.Spelled.{isDigit, withDigit, spelled};
 ghost use Rattle.text.specs.Text.{mostDigits, decimal, rightIn, withBytes, behind, Digits};
+
+// What stands at a place of a line, and where the text goes on behind it: a word's letters or a number; `given` if
+// there is one.
+pub struct Token {
+    pub given: bool,
+    pub value: u64,
+    pub at: usize,
+}
+
+pub fn wide(b: u8) -> u64
+    ensures { λ r. ⌜ r ≡ b ⌝ }
+{
+    b as u64
+}
+
+fn is_digit(b: u8) -> bool
+    ensures { λ r. ⌜ r ≡ isDigit b ⌝ }
+{
+    if b'0' <= b {
+        return b <= b'9';
+    }
+    false
+}
+
+fn twice(x: u64) -> u64
+    ensures { λ r. ⌜ r ≡ (x + x) % 2 ^ 64 ⌝ }
+{
+    std::num::wrapping_add_u64(x, x)
+}
+
+fn ten_times(x: u64) -> u64
+    ensures { λ r. ⌜ r ≡ 10 * x % 2 ^ 64 ⌝ }
+{
+    std::num::wrapping_add_u64(twice(twice(twice(x))), twice(x))
+}
+
+fn digit(b: u8) -> u64
+    ensures { λ r. ⌜ r ≡ b - 48 ⌝ }
+{
+    if b < 48 { 0 } else { wide(b) - 48 }
+}
+
+// One digit more behind a number, modulo 2^64.
+fn with_digit(value: u64, b: u8) -> u64
+    ensures { λ r. ⌜ r ≡ withDigit value b ⌝ }
+{
+    std::num::wrapping_add_u64(ten_times(value), digit(b))
+}
+
+// The decimal number at a place, modulo 2^64.
+pub fn number(text: &[u8], from: usize) -> Token
+    ensures { λ r. ⌜ r .value ≡ spelled (drop from (now (text .entry))) 0 ⌝ }
+{
+    let mut at = from;
+    let mut value: u64 = 0;
+    while at < text.len() {
+        let b = text[at];
+        if is_digit(b) {
+            value = with_digit(value, b);
+            at += 1;
+        } else {
+            return Token {
+                given: from < at,
+                value,
+                at,
+            };
+        }
+    }
+    Token {
+        given: from < at,
+        value,
+        at,
+    }
+}
 
 // A number of 64 bits has so many decimal digits at most.
 const MOST_DIGITS: usize = 20;

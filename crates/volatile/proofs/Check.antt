@@ -21,6 +21,7 @@ use Rattle.theory_log.specs.Contents.{Mem, Apart}
 use Rattle.theory_log.proofs.Contents.{chosen-is}
 use Rattle.theory_log.proofs.Tops.{all-in, top-highest, chosen-top, top-is}
 use Rattle.theory_log.proofs.Agree.{same-agrees, test-agree}
+use Rattle.buffer.specs.Areas.{unitCount}
 use Rattle.volatile.specs.Check.{Marks, CheckInv}
 use Rattle.volatile.proofs.Marks.{marks-start, marks-skip, marks-apart, marks-live}
 
@@ -76,7 +77,7 @@ block-unit p n ws e low high h points =
     omega (arith, base-next p low high c, units-words p low high, units-base p low high c, units-base p low high n)
 
 -- which in the base has a bit
-pub block-bit : (n : ℕ) (ws : List ℕ) (e : Entry) → n ≤ maxChunks → fine basePower n ws e ≡ true → pointed e ≡ true → e .field < 8064
+pub block-bit : (n : ℕ) (ws : List ℕ) (e : Entry) → n ≤ maxChunks → fine basePower n ws e ≡ true → pointed e ≡ true → e .field < unitCount
 unfolding firstUnit chunkUnits
 block-bit n ws e most h points = let a = block-unit basePower n ws e (omega arith) (omega arith) h points in omega arith
 

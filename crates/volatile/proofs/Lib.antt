@@ -8,3 +8,9 @@ pub mod Check
 pub mod Plain
 pub mod Sums
 pub mod Chosen
+pub mod Laws
+pub mod Weights
+pub mod Renews
+pub mod Joins
+pub mod Turns
+pub mod Live

@@ -18,7 +18,8 @@ use Rattle.spec.specs.Log.{Entry}
 use Rattle.spec.specs.Contents.{chosen, known, keysOf}
 use Rattle.theory_base.proofs.Lists.{not-both, isIn-mem, mem-isIn, Once, distinct-once}
 use Rattle.theory_log.proofs.Keys.{keyList, keys-known}
-use Rattle.volatile.specs.Sums.{shareIn, sumOver, chosenSum, sumsStart, Summed}
+use Rattle.buffer.specs.Areas.{sumsStart}
+use Rattle.volatile.specs.Sums.{shareIn, sumOver, chosenSum, Summed}
 
 -- ## Sums over a list
 

@@ -1,10 +1,9 @@
 -- For each chunk the words of its chosen entries, in one number: what a cleaning of the chunk copies, at least and at
--- most.
+-- most. They stand in the record's buffer, where `buffer.Areas` says.
 -- Assumes nothing.
 --
 --   low 32 bits  | the words of the chunk's chosen puts: a cleaning copies them all
 --   high 32 bits | the words of its chosen deletes: a cleaning copies those whose key has an entry elsewhere
---   buffer words | from 1152: the number of chunk c is word 1152 + c
 use mathlib.Core.Path.{_≡_}
 use mathlib.Core.Option.{Option, none, some}
 use mathlib.Core.List.{List, [], _∷_}
@@ -15,6 +14,7 @@ use Rattle.spec.specs.Basics.{pick}
 use Rattle.spec.specs.Places.{basePower}
 use Rattle.spec.specs.Log.{Entry}
 use Rattle.spec.specs.Contents.{chosen, keysOf, inChunk}
+use Rattle.buffer.specs.Areas.{sumsStart, sumsCount}
 
 -- an entry's words, for a put in the low half, for a delete in the high one
 abbrev pub highHalf : ℕ
@@ -40,11 +40,5 @@ unfoldable pub chosenSum : ℕ → List Entry → ℕ
 chosenSum c es = sumOver (λ k. shareIn c (chosen k es)) (keysOf es)
 
 -- the record's buffer has the sums of these entries
-abbrev pub sumsStart : ℕ
-sumsStart = 1152
-
-abbrev pub sumsCount : ℕ
-sumsCount = 512
-
 pub record Summed (buffer : List ℕ) (es : List Entry) : Type 0 where
   pub each : (c : ℕ) → c < sumsCount → getD buffer (sumsStart + c) 0 ≡ chosenSum c es % 2 ^ 64

@@ -1,7 +1,10 @@
-// What the key table and the block bits hold of an image, and the laws by which one pass over the log builds them: the
-// crate is its definitions and proofs.
+// What the key table, the block bits and the chunks' sums hold of an image, one entry more and one entry less, and the
+// laws by which one pass over the log builds them. Here the words of the key table; module `chunk_sums` has the sums.
 ghost use mathlib.Core.Path.{_≡_};
 ghost use Rattle.volatile.specs.Known.{extentOf, alone, noted};
+
+pub mod chunk_sums;
+
 use index::Info;
 
 // One less than the bytes of an entry's value, where it lies in the log and is longer than a byte; else 0.
@@ -17,7 +20,7 @@ pub fn extent_of(placement: u64, field: u64) -> u64
 }
 
 // What the table is to hold of a key whose only entry stands at word `place` of the image.
-pub fn alone(extent: u64, place: usize, version: u64) -> u64
+pub fn single_entry(extent: u64, place: usize, version: u64) -> u64
     ensures { λ r. ⌜ r ≡ alone extent place version ⌝ }
 {
     index::pack(Info {
@@ -31,7 +34,7 @@ pub fn alone(extent: u64, place: usize, version: u64) -> u64
 
 // What the table is to hold of a key, of which it holds `word`, with one more entry: `own` is what it would hold with
 // that one alone.
-pub fn noted(word: u64, own: u64) -> u64
+pub fn with_entry(word: u64, own: u64) -> u64
     ensures { λ r. ⌜ r ≡ noted word own ⌝ }
 {
     if word == 0 {

@@ -1,14 +1,13 @@
 -- A list with another laid over it from a place on: what a run of stores leaves. What does not fit is dropped.
 -- Assumes nothing.
-use mathlib.Core.Path.{_≡_, refl, sym, _∙_, ap}
+use mathlib.Core.Path.{_≡_, refl, sym, _∙_}
 use mathlib.Core.List.{List, [], _∷_, _++_}
-use Prim.Native.Nat.{ℕ, zero, suc, _+_, _-_, _<_, _≤_, min}
+use Prim.Native.Nat.{ℕ, zero, suc, _+_, _-_, _<_, _≤_}
 use native.Mathlib.Omega.{arith}
 use native.Mathlib.Nat.{add-zero}
 use native.Mathlib.Numerals.{add-one}
-use native.Mathlib.Decide.{decLe}
-use lib.ListN.{length, getD, set, take, drop, length-set, length-take, length-drop, length-append}
-use lib.Seq.{sets, length-sets, getD-set-same, getD-set-other, set-out, take-set-le, take-suc, take-all, slice, length-slice, length-take-le, getD-take, getD-drop, ext-getD, sets-eq}
+use lib.ListN.{length, getD, set, take, length-set}
+use lib.Seq.{sets, length-sets, getD-set-same, getD-set-other, set-out, take-set-le, take-suc, slice, length-slice, length-take-le, getD-take, getD-drop, ext-getD}
 
 abbrev pub overlay : List ℕ → ℕ → List ℕ → List ℕ
 overlay xs at ws = sets xs at ws
@@ -52,14 +51,6 @@ overlay-next xs at ws k h =
 pub overlay-turn : (xs now ws : List ℕ) (at i w : ℕ) → now ≡ overlay xs at (take i ws) → i < length ws → w ≡ getD ws i 0
     → set now (at + i) w ≡ overlay xs at (take (i + 1) ws)
 overlay-turn xs now ws at i w e h v = rw (e, v, add-one) (overlay-next xs at ws i h)
-
-pub overlay-end : (xs now ws : List ℕ) (at i room : ℕ) → now ≡ overlay xs at (take i ws) → i ≡ min (length ws) room
-    → now ≡ overlay xs at (take room ws)
-overlay-end xs now ws at i room e q = e ∙ ap (overlay xs at) (go (decLe room (length ws)))
-  where
-    go : Dec (room ≤ length ws) → take i ws ≡ take room ws
-    go (yes h) = let k : i ≡ room = omega arith in rw k
-    go (no n) = take-all i ws (omega arith) ∙ sym (take-all room ws (omega arith))
 
 -- past the end nothing changes
 pub overlay-past : (ws xs : List ℕ) (at : ℕ) → length xs ≤ at → overlay xs at ws ≡ xs

@@ -25,8 +25,11 @@ same-length c = search needs
 
 returns : tie.Need-returns
 returns c =
-    let a = c .before .before .before .before .before .before .before .before .args in
-    changed-store (a .act) (a .image .now) (c .before .before .save .last .0) _ _ (c .before .before .before .before .before .act .given .1) (c .before .before .save .ensures)
+    let at-act = c .before .before .before .before .before in
+    let at-start = at-act .before .before .before in
+    let a = at-start .args in
+    changed-store (a .act) (a .image .now) (c .before .before .save .last .0) _ _ (at-act .act .given .1)
+    (c .before .before .save .ensures)
 
 -- the numbers of the variants but for a store's
 others : List ℕ

@@ -25,7 +25,8 @@ returns c = let a = c .before .before .before .before .args in Add.add-none (a .
 
 returns-2 : tie.Need-returns-2
 returns-2 c =
-    let a = c .before .before .before .before .before .args in
+    let at-start = c .before .before .before .before .before in
+    let a = at-start .args in
     Add.add-none (a .buffer .now) (a .words) _ (omega arith) (omega (arith, length-packed (a .value .now)))
 
 marks-of-requires : tie.Need-marks-of-requires
@@ -66,13 +67,17 @@ add-result c = search needs
 
 returns-3 : tie.Need-returns-3
 returns-3 c =
+    let at-marked-with = c .before .before .before in
+    let at-marks-of = at-marked-with .before in
+    let at-start = at-marks-of .before .before .before .before .before .before .before in
     let first = c .before .before .first-word in
-    let marks = c .before .before .before in
-    let a = marks .before .before .before .before .before .before .before .before .args in
+    let a = at-start .args in
     let n = length-packed (a .value .now) in
-    Add.add-more (a .buffer .now) _ (a .words) _ _ _ _ _ _ (first .result) (marks .marked-with .result) (packed (a .value .now)) (omega arith) (omega arith) (omega arith)
+    Add.add-more (a .buffer .now) _ (a .words) _ _ _ _ _ _ (first .result) (at-marked-with .marked-with .result)
+    (packed (a .value .now)) (omega arith) (omega arith) (omega arith)
     (first .ensures)
-    (subst (λ (w : ℕ). MarkedWith w (marks .marked-with .result) (a .key)) (marks .before .marks-of .ensures) (marks .marked-with .ensures))
+    (subst (λ (w : ℕ). MarkedWith w (at-marked-with .marked-with .result) (a .key)) (at-marks-of .marks-of .ensures)
+    (at-marked-with .marked-with .ensures))
     (c .pack-into .ensures)
 
 pub add-entry-spec : {M : Type 1} → statement M

@@ -7,7 +7,6 @@ use native.Mathlib.Omega.{arith}
 use lib.ListN.{length}
 use lib.Seq.{slice}
 use Rattle.spec.specs.Log.{parse}
-use Rattle.session.specs.State.{batchRoom}
 use Rattle.theory_log.proofs.Walk.{room-padding, room-entry}
 use Rattle.batch.specs.Items.{anyItem}
 use Rattle.batch.proofs.Any.{anyIn, any-start, any-end, any-wrong, any-padding, any-entry}
@@ -41,80 +40,102 @@ enum-told c = search needs
 
 returns : tie.Need-returns Inv-loop μ-loop
 returns c =
-    let a = c .before .before .before .before .before .before .args in
+    let at-lesser = c .before .before .before .before .before in
+    let at-start = at-lesser .before in
+    let a = at-start .args in
     let l = c .before .before .before .loop in
     let q = sym (c .before .before .step-at .ensures) ∙ c .enum-told .given .1 in
-    any-end (a .buffer .now) (a .words) (l .at) (c .before .before .before .before .before .lesser .result) (l .any) (l .inv) q
+    any-end (a .buffer .now) (a .words) (l .at) (at-lesser .lesser .result) (l .any) (l .inv) q
 
 enum-told-2 : tie.Need-enum-told-2 Inv-loop μ-loop
 enum-told-2 c = search needs
 
 returns-2 : tie.Need-returns-2 Inv-loop μ-loop
 returns-2 c =
-    let a = c .before .before .before .before .before .before .args in
+    let at-lesser = c .before .before .before .before .before in
+    let at-start = at-lesser .before in
+    let a = at-start .args in
     let l = c .before .before .before .loop in
     let q = sym (c .before .before .step-at .ensures) ∙ c .enum-told2 .given .1 in
-    any-wrong (a .buffer .now) (a .words) (l .at) (c .before .before .before .before .before .lesser .result) (l .any) (l .inv) q
+    any-wrong (a .buffer .now) (a .words) (l .at) (at-lesser .lesser .result) (l .any) (l .inv) q
 
 enum-told-3 : tie.Need-enum-told-3 Inv-loop μ-loop
 enum-told-3 c = search needs
 
 add-at : tie.Need-add-at Inv-loop μ-loop
 add-at c =
-    let a = c .before .before .before .before .before .before .args in
+    let at-lesser = c .before .before .before .before .before in
+    let at-start = at-lesser .before in
+    let a = at-start .args in
     let l = c .before .before .before .loop in
     let q = sym (c .before .before .step-at .ensures) ∙ c .enum-told3 .given .1 in
-    let r = room-padding (a .buffer .now) (l .at) (c .before .before .before .before .before .lesser .result) q in
+    let r = room-padding (a .buffer .now) (l .at) (at-lesser .lesser .result) q in
     omega arith
 
 loop-less : tie.Need-loop-less Inv-loop μ-loop
 loop-less c =
-    let a = c .before .before .before .before .before .before .args in
+    let at-lesser = c .before .before .before .before .before in
+    let at-start = at-lesser .before in
+    let a = at-start .args in
     let l = c .before .before .before .loop in
     let q = sym (c .before .before .step-at .ensures) ∙ c .enum-told3 .given .1 in
-    let r = room-padding (a .buffer .now) (l .at) (c .before .before .before .before .before .lesser .result) q in
+    let r = room-padding (a .buffer .now) (l .at) (at-lesser .lesser .result) q in
     omega arith
 
 loop-again : tie.Need-loop-again Inv-loop μ-loop
 loop-again c =
-    let a = c .before .before .before .before .before .before .args in
+    let at-lesser = c .before .before .before .before .before in
+    let at-start = at-lesser .before in
+    let a = at-start .args in
     let l = c .before .before .before .loop in
     let q = sym (c .before .before .step-at .ensures) ∙ c .enum-told3 .given .1 in
-    any-padding (a .buffer .now) (a .words) (l .at) (c .before .before .before .before .before .lesser .result) (l .any) (l .inv) q
+    any-padding (a .buffer .now) (a .words) (l .at) (at-lesser .lesser .result) (l .any) (l .inv) q
 
 enum-known-s : tie.Need-enum-known-s Inv-loop μ-loop
 enum-known-s c = search needs
 
 add-at-2 : tie.Need-add-at-2 Inv-loop μ-loop
 add-at-2 c =
-    let a = c .before .before .before .before .before .before .before .args in
-    let l = c .before .before .before .before .loop in
+    let at-loop = c .before .before .before .before in
+    let at-lesser = at-loop .before .before in
+    let at-start = at-lesser .before in
+    let a = at-start .args in
+    let l = at-loop .loop in
     let q = sym (c .before .before .before .step-at .ensures) ∙ c .before .s .given .1 in
-    let r = room-entry (a .buffer .now) (l .at) (c .before .before .before .before .before .before .lesser .result) _ _ _ _ _ _ q in
+    let r = room-entry (a .buffer .now) (l .at) (at-lesser .lesser .result) _ _ _ _ _ _ q in
     omega arith
 
 add-at-3 : tie.Need-add-at-3 Inv-loop μ-loop
 add-at-3 c =
-    let a = c .before .before .before .before .before .before .before .args in
-    let l = c .before .before .before .before .loop in
+    let at-loop = c .before .before .before .before in
+    let at-lesser = at-loop .before .before in
+    let at-start = at-lesser .before in
+    let a = at-start .args in
+    let l = at-loop .loop in
     let q = sym (c .before .before .before .step-at .ensures) ∙ c .before .s .given .1 in
-    let r = room-entry (a .buffer .now) (l .at) (c .before .before .before .before .before .before .lesser .result) _ _ _ _ _ _ q in
+    let r = room-entry (a .buffer .now) (l .at) (at-lesser .lesser .result) _ _ _ _ _ _ q in
     omega arith
 
 loop-less-2 : tie.Need-loop-less-2 Inv-loop μ-loop
 loop-less-2 c =
-    let a = c .before .before .before .before .before .before .before .args in
-    let l = c .before .before .before .before .loop in
+    let at-loop = c .before .before .before .before in
+    let at-lesser = at-loop .before .before in
+    let at-start = at-lesser .before in
+    let a = at-start .args in
+    let l = at-loop .loop in
     let q = sym (c .before .before .before .step-at .ensures) ∙ c .before .s .given .1 in
-    let r = room-entry (a .buffer .now) (l .at) (c .before .before .before .before .before .before .lesser .result) _ _ _ _ _ _ q in
+    let r = room-entry (a .buffer .now) (l .at) (at-lesser .lesser .result) _ _ _ _ _ _ q in
     omega arith
 
 loop-again-2 : tie.Need-loop-again-2 Inv-loop μ-loop
 loop-again-2 c =
-    let a = c .before .before .before .before .before .before .before .args in
-    let l = c .before .before .before .before .loop in
+    let at-loop = c .before .before .before .before in
+    let at-lesser = at-loop .before .before in
+    let at-start = at-lesser .before in
+    let a = at-start .args in
+    let l = at-loop .loop in
     let q = sym (c .before .before .before .step-at .ensures) ∙ c .before .s .given .1 in
-    any-entry (a .buffer .now) (a .words) (l .at) (c .before .before .before .before .before .before .lesser .result) (l .any) (l .inv) _ _ _ _ _ _ q
+    any-entry (a .buffer .now) (a .words) (l .at) (at-lesser .lesser .result) (l .any) (l .inv) _ _ _ _ _ _ q
 
 pub any-item-spec : {M : Type 1} → statement M
 any-item-spec =

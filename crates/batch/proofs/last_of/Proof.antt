@@ -38,12 +38,16 @@ loop-less c = omega arith
 
 loop-again : tie.Need-loop-again Inv-loop μ-loop
 loop-again c =
-    let a = c .before .before .before .before .before .before .args in
-    let at = c .before .before .before .before .loop in
+    let at-loop = c .before .before .before .before in
+    let at-start = at-loop .before .before in
+    let a = at-start .args in
+    let at = at-loop .loop in
     let item = c .before .before .item-at in
     let last = c .before .later in
-    pass-next (a .buffer .now) (a .words) (latestOf (a .key)) (at .at) (foldE (pass (a .key)) (at .latest)) (item .result) (omega arith) (item .ensures .0) (at .inv)
-    (foldE (pass (a .key)) (last .result)) (later-pass (a .key) (at .latest) (last .result) (item .result) (last .ensures))
+    pass-next (a .buffer .now) (a .words) (latestOf (a .key)) (at .at) (foldE (pass (a .key)) (at .latest))
+    (item .result) (omega arith) (item .ensures .0) (at .inv)
+    (foldE (pass (a .key)) (last .result))
+    (later-pass (a .key) (at .latest) (last .result) (item .result) (last .ensures))
 
 returns : tie.Need-returns Inv-loop μ-loop
 returns c items s =

@@ -3,7 +3,7 @@
 use mathlib.Core.Path.{sym, _∙_}
 use Prim.Native.Nat.{min}
 use native.Mathlib.Omega.{arith}
-use Rattle.session.specs.State.{batchRoom}
+use Rattle.buffer.specs.Areas.{batchRoom}
 use Rattle.batch.proofs.Marks.{marks-all, unmarked-none}
 use borrow.Author.Needs.{needs}
 use Rattle.batch.proofs.last_staged.Statement.{statement}

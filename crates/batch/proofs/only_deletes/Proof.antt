@@ -45,18 +45,26 @@ loop-less c = omega arith
 
 loop-again : tie.Need-loop-again Inv-loop μ-loop
 loop-again c =
-    let a = c .before .before .before .before .before .before .before .args in
-    let at = c .before .before .before .before .before .loop in
+    let at-loop = c .before .before .before .before .before in
+    let at-start = at-loop .before .before in
+    let a = at-start .args in
+    let at = at-loop .loop in
     let item = c .before .item-at in
-    pass-next (a .buffer .now) (a .words) (all isDelete) (at .at) (all isDelete) (item .result) (omega arith) (item .ensures .0) (at .inv)
-    (all isDelete) (λ e tail o v k. rw (eq-eqb (e .op) 2 (sym o ∙ ap (λ (i : Item). i .op) (item .ensures .0) ∙ c .before .before .if1 .taken)))
+    pass-next (a .buffer .now) (a .words) (all isDelete) (at .at) (all isDelete) (item .result) (omega arith)
+    (item .ensures .0) (at .inv)
+    (all isDelete)
+    (λ e tail o v k. rw
+    (eq-eqb (e .op) 2 (sym o ∙ ap (λ (i : Item). i .op) (item .ensures .0) ∙ c .before .before .if1 .taken)))
 
 returns : tie.Need-returns Inv-loop μ-loop
 returns c items s =
-    let a = c .before .before .before .before .before .args in
+    let at-start = c .before .before .before .before .before in
+    let a = at-start .args in
     let at = c .before .before .before .loop in
     let b = a .buffer .now in
-    sym (pass-stop b (a .words) (all isDelete) (at .at) (all isDelete) (itemOf (getD b (at .at) 0) (getD b (at .at + 1) 0)) (omega arith) refl (at .inv)
+    sym
+    (pass-stop b (a .words) (all isDelete) (at .at) (all isDelete) (itemOf (getD b (at .at) 0) (getD b (at .at + 1) 0))
+    (omega arith) refl (at .inv)
     false (λ e tail o. rw (ne-eqb (e .op) 2 (λ q. c .if1 .left (o ∙ q)))) items s)
 
 returns-2 : tie.Need-returns-2 Inv-loop μ-loop

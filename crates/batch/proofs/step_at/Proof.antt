@@ -44,14 +44,17 @@ add-if2 c = search needs
 
 returns-2 : tie.Need-returns-2
 returns-2 c =
-    let a = c .before .before .before .before .before .before .before .before .before .args in
-    let n = c .before .before .before .before .before .before .before .before .buffer-length .ensures .1 in
+    let at-first-of = c .before .before .before .before .before in
+    let at-buffer-length = at-first-of .before .before .before in
+    let at-start = at-buffer-length .before in
+    let a = at-start .args in
+    let n = at-buffer-length .buffer-length .ensures .1 in
     let g = c .before .before .before .f .given in
     let op = g .0 .0 in
     let pl = g .0 .1 .0 in
     let v = g .0 .1 .1 .0 in
     let x = g .0 .1 .1 .1 .0 in
-    let e = sym (c .before .before .before .before .before .first-of .ensures) ∙ g .1 in
+    let e = sym (at-first-of .first-of .ensures) ∙ g .1 in
     let w = c .before .words-for .ensures .0 in
     sym (step-short op pl v x (a .at) (a .end) (a .buffer .now) (omega arith) (omega arith) e (omega arith))
 
@@ -69,44 +72,59 @@ element-copy-out-key c = search needs
 
 returns-3 : tie.Need-returns-3
 returns-3 c =
-    let a = c .before .before .before .before .before .before .args in
-    let n = c .before .before .before .before .before .buffer-length .ensures .1 in
+    let at-buffer-length = c .before .before .before .before .before in
+    let at-start = at-buffer-length .before in
+    let a = at-start .args in
+    let n = at-buffer-length .buffer-length .ensures .1 in
     let e = sym (c .before .before .first-of .ensures) ∙ c .enum-told .given .1 in
     sym (step-first (a .at) (a .end) (a .buffer .now) F.Padding (omega arith) (omega arith) e)
 
 returns-4 : tie.Need-returns-4
 returns-4 c =
-    let a = c .before .before .before .before .before .before .args in
-    let n = c .before .before .before .before .before .buffer-length .ensures .1 in
+    let at-buffer-length = c .before .before .before .before .before in
+    let at-start = at-buffer-length .before in
+    let a = at-start .args in
+    let n = at-buffer-length .buffer-length .ensures .1 in
     let e = sym (c .before .before .first-of .ensures) ∙ c .enum-told2 .given .1 in
     sym (step-first (a .at) (a .end) (a .buffer .now) F.Wrong (omega arith) (omega arith) e)
 
 returns-5 : tie.Need-returns-5
 returns-5 c =
-    let a = c .before .before .before .before .before .before .before .before .before .before .before .before .args in
-    let n = c .before .before .before .before .before .before .before .before .before .before .before .buffer-length .ensures .1 in
-    let g = c .before .before .before .before .before .before .f .given in
+    let at-words-for = c .before .before .before .before in
+    let at-f = at-words-for .before .before in
+    let at-first-of = at-f .before .before in
+    let at-buffer-length = at-first-of .before .before .before in
+    let at-start = at-buffer-length .before in
+    let a = at-start .args in
+    let n = at-buffer-length .buffer-length .ensures .1 in
+    let g = at-f .f .given in
     let op = g .0 .0 in
     let pl = g .0 .1 .0 in
     let v = g .0 .1 .1 .0 in
     let x = g .0 .1 .1 .1 .0 in
-    let e = sym (c .before .before .before .before .before .before .before .before .first-of .ensures) ∙ g .1 in
-    let w = c .before .before .before .before .words-for .ensures .0 in
-    let s = step-fill op pl v x (a .at) (a .end) (a .buffer .now) e (omega arith) (omega arith) (c .before .before .fill-right .result) (c .before .before .fill-right .ensures) in
+    let e = sym (at-first-of .first-of .ensures) ∙ g .1 in
+    let w = at-words-for .words-for .ensures .0 in
+    let s = step-fill op pl v x (a .at) (a .end) (a .buffer .now) e (omega arith) (omega arith)
+    (c .before .before .fill-right .result) (c .before .before .fill-right .ensures) in
     rw (s, c .before .if3 .taken, w)
 
 returns-6 : tie.Need-returns-6
 returns-6 c =
-    let a = c .before .before .before .before .before .before .before .before .before .before .before .args in
-    let n = c .before .before .before .before .before .before .before .before .before .before .buffer-length .ensures .1 in
-    let g = c .before .before .before .before .before .f .given in
+    let at-f = c .before .before .before .before .before in
+    let at-first-of = at-f .before .before in
+    let at-buffer-length = at-first-of .before .before .before in
+    let at-start = at-buffer-length .before in
+    let a = at-start .args in
+    let n = at-buffer-length .buffer-length .ensures .1 in
+    let g = at-f .f .given in
     let op = g .0 .0 in
     let pl = g .0 .1 .0 in
     let v = g .0 .1 .1 .0 in
     let x = g .0 .1 .1 .1 .0 in
-    let e = sym (c .before .before .before .before .before .before .before .first-of .ensures) ∙ g .1 in
+    let e = sym (at-first-of .first-of .ensures) ∙ g .1 in
     let w = c .before .before .before .words-for .ensures .0 in
-    let s = step-fill op pl v x (a .at) (a .end) (a .buffer .now) e (omega arith) (omega arith) (c .before .fill-right .result) (c .before .fill-right .ensures) in
+    let s = step-fill op pl v x (a .at) (a .end) (a .buffer .now) e (omega arith) (omega arith)
+    (c .before .fill-right .result) (c .before .fill-right .ensures) in
     rw (s, c .if3 .left)
 
 pub step-at-spec : {M : Type 1} → statement M

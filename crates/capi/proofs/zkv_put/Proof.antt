@@ -1,10 +1,10 @@
 -- `capi::zkv_put` meets its contract: a walk of its MIR, made by walk_calls.py. Its references are given for good to
 -- the functions that it calls, at their own lifetimes, shares and names. All that the proof knows of a function that it
--- calls (`answer_put`) is that it meets its contract.
+-- calls (`put`) is that it meets its contract.
 -- Assumes nothing.
 use Rattle.spec.specs.Machine.{Put}
 use Rattle.spec.specs.declared.Given.the-variants.{Absent}
-use Rattle.answers.specs.Answers.{Told}
+use Rattle.answers.specs.Answers.{Encodes}
 use Rattle.session.specs.Promise.{Does, memory}
 use mathlib.Core.Path.{_≡_, refl}
 use mathlib.Core.Bool.{Bool}
@@ -51,10 +51,10 @@ use Rattle.answers.proofs.Answer.Laws as T-Answer′
 use Rattle.session.specs.declared.Session.{Session}
 use Rattle.session.proofs.Session as T-Session
 use Rattle.session.proofs.Session.Laws as T-Session′
-use Rattle.put_answers.proofs.answer_put as answer-put′
-use Rattle.put_answers.proofs.answer_put.Symbol as answer-put′-def
-use Rattle.put_answers.proofs.answer_put.Symbol.{name as #answer-put′}
-use Rattle.put_answers.proofs.answer_put.Met as answer-put′-thm
+use Rattle.capi.proofs.put as put′
+use Rattle.capi.proofs.put.Symbol as put′-def
+use Rattle.capi.proofs.put.Symbol.{name as #put′}
+use Rattle.capi.proofs.put.Met as put′-thm
 use Rattle.capi.proofs.zkv_put.Key.{name as #self}
 use Rattle.capi.proofs.zkv_put as self
 use Rattle.capi.proofs.zkv_put.Statement as stated
@@ -63,12 +63,12 @@ use Rattle.capi.proofs.zkv_put.Code as code
 abbrev stayed : Stays (self.ended .signature .params) (self.ended .kept)
 stayed = (gave-ref (0 ∷ []) tt (plain (λ _. T-Session.the-row)), (stay-dropped (shrSliceOf {n = 4} (1 ∷ []) tt (plain (λ _. u8))) yes, (stay-dropped (shrSliceOf {n = 4} (2 ∷ []) tt (plain (λ _. u64))) yes, (stay-dropped (plain {n = 4} (λ _. u64)) yes, (stay-dropped (shrSliceOf {n = 4} (3 ∷ []) tt (plain (λ _. u8))) yes, tt)))))
 
--- the contract of `answer_put`, and what it ensures
-abbrev Of-answer-put′ : {M : Type 1} (𝓤 : URA M) (H : Heap 𝓤) (A : Atoms 𝓤) (mem : Memory → SProp 𝓤) (run : Routine → Fun 𝓤) → Contract 𝓤
-Of-answer-put′ 𝓤 H A mem run = tripleOf 𝓤 H A answer-put′.signature (answer-put′.spec 𝓤 H A mem run)
+-- the contract of `put`, and what it ensures
+abbrev Of-put′ : {M : Type 1} (𝓤 : URA M) (H : Heap 𝓤) (A : Atoms 𝓤) (mem : Memory → SProp 𝓤) (run : Routine → Fun 𝓤) → Contract 𝓤
+Of-put′ 𝓤 H A mem run = tripleOf 𝓤 H A put′.signature (put′.spec 𝓤 H A mem run)
 
-abbrev Said-answer-put′ : Answer → Session → Session → List ℕ → List ℕ → ℕ → List ℕ → Type 0
-Said-answer-put′ r x-s z-s x-image x-table key x-value = Told (Does (Put Absent key (x-value)) (memory (x-s) (x-image) (x-table)) (memory (z-s) (x-image) (x-table))) r
+abbrev Said-put′ : Answer → Session → Session → List ℕ → List ℕ → ℕ → List ℕ → Type 0
+Said-put′ r x-s z-s x-image x-table key x-value = Encodes (Does (Put Absent key (x-value)) (memory (x-s) (x-image) (x-table)) (memory (z-s) (x-image) (x-table))) r
 
 module _ {M : Type 1} (𝓤 : URA M) (H : Heap 𝓤) (A : Atoms 𝓤) (W : Given 𝓤 H A) (at-mem : Memory → SProp 𝓤) (run : Routine → Fun 𝓤) (κ-s κ-image κ-table κ-value : Lft) (bounds : AllOutlive 4 (self.signature .outlives) (κ-s, (κ-image, (κ-table, (κ-value, tt))))) (q-s q-image q-table q-value : Share) (b-s o-s : ℕ) (γ-s : GName) (x-s : Session) (b-image o-image : ℕ) (γ-image : GName) (x-image : List ℕ) (room-image : Room u8 (length x-image)) (b-table o-table : ℕ) (γ-table : GName) (x-table : List ℕ) (room-table : Room u64 (length x-table)) (x-key : ℕ) (fit-key : x-key < 2 ^ 64) (b-value o-value : ℕ) (γ-value : GName) (x-value : List ℕ) (room-value : Room u8 (length x-value)) where
   abbrev ref-s : RefT Session
@@ -95,14 +95,14 @@ module _ {M : Type 1} (𝓤 : URA M) (H : Heap 𝓤) (A : Atoms 𝓤) (W : Given
   abbrev Post : Val → SProp 𝓤
   Post = walkOf 𝓤 H A self.ended stayed (self.clauses 𝓤 H A at-mem run) .post (((κ-s, (κ-image, (κ-table, (κ-value, tt)))), (q-s, (q-image, (q-table, (q-value, tt)))), bounds, a, vals), tt)
 
-  -- what the triple of `answer_put` binds outside, and what it asks
-  abbrev to-1 : Of-answer-put′ 𝓤 H A at-mem run .Ghost
+  -- what the triple of `put` binds outside, and what it asks
+  abbrev to-1 : Of-put′ 𝓤 H A at-mem run .Ghost
   to-1 = (((κ-s, (κ-image, (κ-table, (κ-value, tt)))), (q-s, (q-image, (q-table, (q-value, tt)))), tt, (ref-s, (ref-image, (ref-table, (x-key, (ref-value, tt))))), (vptr b-s o-s ∷ [], (sliceVal (b-image, o-image) (length x-image) ∷ [], (sliceVal (b-table, o-table) (length x-table) ∷ [], (vint w64 x-key ∷ [], (sliceVal (b-value, o-value) (length x-value) ∷ [], tt)))))), tt)
 
-  goes-1 : ent 𝓤 (sep 𝓤 (sep 𝓤 (A .lft κ-s q-s) (sep 𝓤 (A .lft κ-image q-image) (sep 𝓤 (A .lft κ-table q-table) (sep 𝓤 (A .lft κ-value q-value) (sem 𝓤 H A ftrue))))) (sem 𝓤 H A (owns (MutRef (named 0) κ-s T-Session.the-row ∷ ShrSlice (named 1) κ-image u8 ∷ ShrSlice (named 2) κ-table u64 ∷ u64 ∷ ShrSlice (named 3) κ-value u8 ∷ []) (ref-s, (ref-image, (ref-table, (x-key, (ref-value, tt))))) (vptr b-s o-s ∷ [], (sliceVal (b-image, o-image) (length x-image) ∷ [], (sliceVal (b-table, o-table) (length x-table) ∷ [], (vint w64 x-key ∷ [], (sliceVal (b-value, o-value) (length x-value) ∷ [], tt)))))))) (Of-answer-put′ 𝓤 H A at-mem run .pre to-1)
+  goes-1 : ent 𝓤 (sep 𝓤 (sep 𝓤 (A .lft κ-s q-s) (sep 𝓤 (A .lft κ-image q-image) (sep 𝓤 (A .lft κ-table q-table) (sep 𝓤 (A .lft κ-value q-value) (sem 𝓤 H A ftrue))))) (sem 𝓤 H A (owns (MutRef (named 0) κ-s T-Session.the-row ∷ ShrSlice (named 1) κ-image u8 ∷ ShrSlice (named 2) κ-table u64 ∷ u64 ∷ ShrSlice (named 3) κ-value u8 ∷ []) (ref-s, (ref-image, (ref-table, (x-key, (ref-value, tt))))) (vptr b-s o-s ∷ [], (sliceVal (b-image, o-image) (length x-image) ∷ [], (sliceVal (b-table, o-table) (length x-table) ∷ [], (vint w64 x-key ∷ [], (sliceVal (b-value, o-value) (length x-value) ∷ [], tt)))))))) (Of-put′ 𝓤 H A at-mem run .pre to-1)
   goes-1 = qed W ((‵ (flft κ-s q-s) ⊛ ‵ (flft κ-image q-image) ⊛ ‵ (flft κ-table q-table) ⊛ ‵ (flft κ-value q-value) ⊛ ‵ ftrue) ∷ ‵ (owns (MutRef (named 0) κ-s T-Session.the-row ∷ ShrSlice (named 1) κ-image u8 ∷ ShrSlice (named 2) κ-table u64 ∷ u64 ∷ ShrSlice (named 3) κ-value u8 ∷ []) (ref-s, (ref-image, (ref-table, (x-key, (ref-value, tt))))) (vptr b-s o-s ∷ [], (sliceVal (b-image, o-image) (length x-image) ∷ [], (sliceVal (b-table, o-table) (length x-table) ∷ [], (vint w64 x-key ∷ [], (sliceVal (b-value, o-value) (length x-value) ∷ [], tt)))))) ∷ []) ∵ join ! $ frame ! $ done !
 
-  exits : (r : Answer) (w : Val) (z-s : Session) → Said-answer-put′ r x-s z-s x-image x-table x-key x-value
+  exits : (r : Answer) (w : Val) (z-s : Session) → Said-put′ r x-s z-s x-image x-table x-key x-value
       → ent 𝓤 (⋆ 𝓤 H A (‵ (flft κ-s q-s) ∷ ‵ (flft κ-image q-image) ∷ ‵ (flft κ-table q-table) ∷ ‵ (flft κ-value q-value) ∷ ‵ (fres γ-s (T-Session.the-row .coded .code z-s)) ∷ ‵ (T-Answer.the-row .own r (w ∷ [])) ∷ [])) (Post w)
   exits r w z-s e =
       qed W (‵ (flft κ-s q-s) ∷ ‵ (flft κ-image q-image) ∷ ‵ (flft κ-table q-table) ∷ ‵ (flft κ-value q-value) ∷ ‵ (fres γ-s (T-Session.the-row .coded .code z-s)) ∷ ‵ (T-Answer.the-row .own r (w ∷ [])) ∷ []) ∵
@@ -110,22 +110,22 @@ module _ {M : Type 1} (𝓤 : URA M) (H : Heap 𝓤) (A : Atoms 𝓤) (W : Given
       nothing ! $ move ! (4 ∷ 0 ∷ []) $ join ! $ move ! (3 ∷ 0 ∷ []) $ join ! $ move ! (2 ∷ 0 ∷ []) $ join ! $ move ! (1 ∷ 0 ∷ []) $ join ! $ frame ! $
       nothing ! $ nothing ! $ fjoin ! $ nothing ! $ fjoin ! $ nothing ! $ fjoin ! $ nothing ! $ fjoin ! $ move ! (1 ∷ 0 ∷ []) $ fjoin ! $ done !
 
-  module _ (C : Calls 𝓤 H) (Λ : Loops 𝓤 H) (fm : FmC 𝓤 H (W .laws) C) (known-answer-put′ : Triple 𝓤 (C #answer-put′) (Of-answer-put′ 𝓤 H A at-mem run)) where
+  module _ (C : Calls 𝓤 H) (Λ : Loops 𝓤 H) (fm : FmC 𝓤 H (W .laws) C) (known-put′ : Triple 𝓤 (C #put′) (Of-put′ 𝓤 H A at-mem run)) where
     walk : ent 𝓤 (onEntry 𝓤 H A self.signature (κ-s, (κ-image, (κ-table, (κ-value, tt)))) (q-s, (q-image, (q-table, (q-value, tt)))) a vals) (WpFn 𝓤 H C Λ code.function (vptr b-s o-s ∷ sliceVal (b-image, o-image) (length x-image) ∷ sliceVal (b-table, o-table) (length x-table) ∷ vint w64 x-key ∷ sliceVal (b-value, o-value) (length x-value) ∷ []) Post)
     walk =
         qed W ((‵ (flft κ-s q-s) ⊛ ‵ (flft κ-image q-image) ⊛ ‵ (flft κ-table q-table) ⊛ ‵ (flft κ-value q-value) ⊛ ‵ ftrue) ∷ ‵ (owns (MutRef (named 0) κ-s T-Session.the-row ∷ ShrSlice (named 1) κ-image u8 ∷ ShrSlice (named 2) κ-table u64 ∷ u64 ∷ ShrSlice (named 3) κ-value u8 ∷ []) a vals) ∷ []) ∵ enter ! C Λ code.function (vptr b-s o-s ∷ sliceVal (b-image, o-image) (length x-image) ∷ sliceVal (b-table, o-table) (length x-table) ∷ vint w64 x-key ∷ sliceVal (b-value, o-value) (length x-value) ∷ []) _ $
         alloc1 ! (λ l-0. alloc1 ! (λ l-1. alloc1 ! (λ l-2. alloc1 ! (λ l-3. alloc1 ! (λ l-4. alloc1 ! (λ l-5. alloc1 ! (λ l-6. alloc0 ! $ params1 ! $ pass1 ! (init ! 10 refl (tt, tt)) $ pass1 ! (init ! 8 refl (tt, (tt, (record { fits = room-image .0 }, tt)))) $ pass1 ! (init ! 6 refl (tt, (tt, (record { fits = room-table .0 }, tt)))) $ pass1 ! (init ! 4 refl (tt, record { fits = fit-key })) $ pass1 ! (init ! 2 refl (tt, (tt, (record { fits = room-value .0 }, tt)))) $ pass0 ! $
         -- what is owned and the tokens, one by one
         move ! (15 ∷ []) $ fsplit ! $ move ! (1 ∷ []) $ fsplit ! $ move ! (1 ∷ []) $ fsplit ! $ move ! (1 ∷ []) $ fsplit ! $ move ! (1 ∷ []) $ fsplit ! $ move ! (20 ∷ []) $ split ! $ move ! (1 ∷ []) $ split ! $ move ! (1 ∷ []) $ split ! $ move ! (1 ∷ []) $ split ! $
-        -- `answer_put`
+        -- `put`
         assigns ! (addr ! (from ! (hop ! (look ! 21 refl) (stop !)))) (from ! (stop !)) (init ! 11 refl (tt, tt)) $
         nothing ! $ move ! (6 ∷ 0 ∷ []) $ fjoin ! $ move ! (7 ∷ 0 ∷ []) $ fjoin ! $ move ! (7 ∷ 0 ∷ []) $ fjoin ! $ move ! (7 ∷ 0 ∷ []) $ fjoin ! $ move ! (7 ∷ 0 ∷ []) $ fjoin ! $ nothing ! $ move ! (2 ∷ 0 ∷ []) $ join ! $ move ! (3 ∷ 0 ∷ []) $ join ! $ move ! (3 ∷ 0 ∷ []) $ join ! $ move ! (3 ∷ 0 ∷ []) $ join ! $
-        use2 W (raw (Of-answer-put′ 𝓤 H A at-mem run .pre to-1)) goes-1 $
-        calls-at ! fm (Of-answer-put′ 𝓤 H A at-mem run) known-answer-put′ to-1 (and-then ! (load ! (from ! (stop !)) (look ! 3 refl)) (and-then ! (load ! (from ! (stop !)) (look ! 11 refl)) (and-then ! (load ! (from ! (stop !)) (look ! 9 refl)) (and-then ! (load ! (from ! (stop !)) (look ! 7 refl)) (and-then ! (load ! (from ! (stop !)) (look ! 5 refl)) (no-more !)))))) (λ w.
-        use1 W (later (some (λ (r : Answer). ((‵ (flft κ-s q-s) ⊛ ‵ (flft κ-image q-image) ⊛ ‵ (flft κ-table q-table) ⊛ ‵ (flft κ-value q-value) ⊛ ‵ ftrue) ⊛ ‵ (T-Answer.the-row .own r (w ∷ []))) ⊛ raw (ensured 𝓤 H A answer-put′.ended (answer-put′.clauses 𝓤 H A at-mem run) (κ-s, (κ-image, (κ-table, (κ-value, tt)))) (ref-s, (ref-image, (ref-table, (x-key, (ref-value, tt))))) tt r)))) (id⊢ 𝓤 _) $ await ! tt $ pick ! (λ r. split ! $
-        -- what `answer_put` ensures, at some last values
-        move ! (1 ∷ []) $ use1 W (some (λ (zs : (Session × (Unit {0} × (Unit {0} × (Unit {0} × (Unit {0} × Unit {0})))))). ‵ (lasts answer-put′.ended (κ-s, (κ-image, (κ-table, (κ-value, tt)))) (ref-s, (ref-image, (ref-table, (x-key, (ref-value, tt))))) zs) ⊛ raw (fact 𝓤 (Said-answer-put′ r x-s (zs .0) x-image x-table x-key x-value)))) (id⊢ 𝓤 _) $ pick ! (λ zs. split ! $
-        move ! (1 ∷ []) $ heard ! (Said-answer-put′ r x-s (zs .0) x-image x-table x-key x-value) (λ e. fsplit ! $ move ! (1 ∷ []) $ fsplit ! $ move ! (1 ∷ []) $ fsplit ! $ move ! (1 ∷ []) $ fsplit ! $ move ! (1 ∷ []) $ fsplit ! $
+        use2 W (raw (Of-put′ 𝓤 H A at-mem run .pre to-1)) goes-1 $
+        calls-at ! fm (Of-put′ 𝓤 H A at-mem run) known-put′ to-1 (and-then ! (load ! (from ! (stop !)) (look ! 3 refl)) (and-then ! (load ! (from ! (stop !)) (look ! 11 refl)) (and-then ! (load ! (from ! (stop !)) (look ! 9 refl)) (and-then ! (load ! (from ! (stop !)) (look ! 7 refl)) (and-then ! (load ! (from ! (stop !)) (look ! 5 refl)) (no-more !)))))) (λ w.
+        use1 W (later (some (λ (r : Answer). ((‵ (flft κ-s q-s) ⊛ ‵ (flft κ-image q-image) ⊛ ‵ (flft κ-table q-table) ⊛ ‵ (flft κ-value q-value) ⊛ ‵ ftrue) ⊛ ‵ (T-Answer.the-row .own r (w ∷ []))) ⊛ raw (ensured 𝓤 H A put′.ended (put′.clauses 𝓤 H A at-mem run) (κ-s, (κ-image, (κ-table, (κ-value, tt)))) (ref-s, (ref-image, (ref-table, (x-key, (ref-value, tt))))) tt r)))) (id⊢ 𝓤 _) $ await ! tt $ pick ! (λ r. split ! $
+        -- what `put` ensures, at some last values
+        move ! (1 ∷ []) $ use1 W (some (λ (zs : (Session × (Unit {0} × (Unit {0} × (Unit {0} × (Unit {0} × Unit {0})))))). ‵ (lasts put′.ended (κ-s, (κ-image, (κ-table, (κ-value, tt)))) (ref-s, (ref-image, (ref-table, (x-key, (ref-value, tt))))) zs) ⊛ raw (fact 𝓤 (Said-put′ r x-s (zs .0) x-image x-table x-key x-value)))) (id⊢ 𝓤 _) $ pick ! (λ zs. split ! $
+        move ! (1 ∷ []) $ heard ! (Said-put′ r x-s (zs .0) x-image x-table x-key x-value) (λ e. fsplit ! $ move ! (1 ∷ []) $ fsplit ! $ move ! (1 ∷ []) $ fsplit ! $ move ! (1 ∷ []) $ fsplit ! $ move ! (1 ∷ []) $ fsplit ! $
         move ! (6 ∷ []) $ split ! $ move ! (1 ∷ []) $ peeks ! T-Answer.the-row (Is T-Answer.the-row) (shows 𝓤 H A T-Answer.the-row) r (w ∷ []) (λ is. move ! (1 ∷ []) $ split ! $ move ! (1 ∷ []) $ split ! $ move ! (1 ∷ []) $ split ! $ move ! (1 ∷ []) $ split ! $ land ! (from ! (stop !)) (init ! 26 refl (LL.lawful T-Answer.the-type T-Answer′.the-laws 𝓤 H A W .typed r _ is .0)) $
         -- the result
         returns ! (look ! 26 refl) $ forget ! 14 refl $ forget ! 16 refl $ forget ! 18 refl $ forget ! 20 refl $ forget ! 22 refl $ forget ! 24 refl $ forget ! 26 refl $
@@ -133,17 +133,17 @@ module _ {M : Type 1} (𝓤 : URA M) (H : Heap 𝓤) (A : Atoms 𝓤) (W : Given
         keep ! (4 ∷ 3 ∷ 2 ∷ 0 ∷ 11 ∷ 5 ∷ []) $ by ! (exits r w (zs .0) e)))))))))))))
 
 module _ {M : Type 1} (𝓤 : URA M) (H : Heap 𝓤) (A : Atoms 𝓤) (W : Given 𝓤 H A) (mem : Memory → SProp 𝓤) (run : Routine → Fun 𝓤) where
-  walks : (C : Calls 𝓤 H) (Λ : Loops 𝓤 H) → FmC 𝓤 H (W .laws) C → Triple 𝓤 (C #answer-put′) (Of-answer-put′ 𝓤 H A mem run) → Walks 𝓤 H A self.ended stayed (WpFn 𝓤 H C Λ code.function) (self.clauses 𝓤 H A mem run)
-  walks C Λ fm known-answer-put′ = walked 𝓤 H A self.ended stayed (self.clauses 𝓤 H A mem run) (WpFn 𝓤 H C Λ code.function)
+  walks : (C : Calls 𝓤 H) (Λ : Loops 𝓤 H) → FmC 𝓤 H (W .laws) C → Triple 𝓤 (C #put′) (Of-put′ 𝓤 H A mem run) → Walks 𝓤 H A self.ended stayed (WpFn 𝓤 H C Λ code.function) (self.clauses 𝓤 H A mem run)
+  walks C Λ fm known-put′ = walked 𝓤 H A self.ended stayed (self.clauses 𝓤 H A mem run) (WpFn 𝓤 H C Λ code.function)
       (λ κs. (ptr-vals, (slice-vals, (slice-vals, (uint-vals w64, (slice-vals, tt)))))) (λ κs. (mut-tells (named 0) (κs .0) T-Session.the-row, (shr-slice-tells (named 1) (κs .1 .0) u8, (shr-slice-tells (named 2) (κs .1 .1 .0) u64, (uint-tells w64, (shr-slice-tells (named 3) (κs .1 .1 .1 .0) u8, tt))))))
       (λ κs qs bounds a g are. via 𝓤 _ (fst∗ 𝓤 _ (emp 𝓤))
-      (walk 𝓤 H A W mem run (κs .0) (κs .1 .0) (κs .1 .1 .0) (κs .1 .1 .1 .0) bounds (qs .0) (qs .1 .0) (qs .1 .1 .0) (qs .1 .1 .1 .0) (a .0 .ptr .0) (a .0 .ptr .1) (a .0 .name) (a .0 .now) (a .1 .0 .ptr .0) (a .1 .0 .ptr .1) (a .1 .0 .name) (a .1 .0 .now) (are .1 .0 .0 .1) (a .1 .1 .0 .ptr .0) (a .1 .1 .0 .ptr .1) (a .1 .1 .0 .name) (a .1 .1 .0 .now) (are .1 .1 .0 .0 .1) (a .1 .1 .1 .0) (are .1 .1 .1 .0 .1) (a .1 .1 .1 .1 .0 .ptr .0) (a .1 .1 .1 .1 .0 .ptr .1) (a .1 .1 .1 .1 .0 .name) (a .1 .1 .1 .1 .0 .now) (are .1 .1 .1 .1 .0 .0 .1) C Λ fm known-answer-put′))
+      (walk 𝓤 H A W mem run (κs .0) (κs .1 .0) (κs .1 .1 .0) (κs .1 .1 .1 .0) bounds (qs .0) (qs .1 .0) (qs .1 .1 .0) (qs .1 .1 .1 .0) (a .0 .ptr .0) (a .0 .ptr .1) (a .0 .name) (a .0 .now) (a .1 .0 .ptr .0) (a .1 .0 .ptr .1) (a .1 .0 .name) (a .1 .0 .now) (are .1 .0 .0 .1) (a .1 .1 .0 .ptr .0) (a .1 .1 .0 .ptr .1) (a .1 .1 .0 .name) (a .1 .1 .0 .now) (are .1 .1 .0 .0 .1) (a .1 .1 .1 .0) (are .1 .1 .1 .0 .1) (a .1 .1 .1 .1 .0 .ptr .0) (a .1 .1 .1 .1 .0 .ptr .1) (a .1 .1 .1 .1 .0 .name) (a .1 .1 .1 .1 .0 .now) (are .1 .1 .1 .1 .0 .0 .1) C Λ fm known-put′))
 
-meets : {M : Type 1} (𝓤 : URA M) (H : Heap 𝓤) (A : Atoms 𝓤) → Given 𝓤 H A → (mem : Memory → SProp 𝓤) (run : Routine → Fun 𝓤) (𝓣 : Tables 𝓤 H) → Triple 𝓤 (𝓣 .C #answer-put′) (Of-answer-put′ 𝓤 H A mem run)
+meets : {M : Type 1} (𝓤 : URA M) (H : Heap 𝓤) (A : Atoms 𝓤) → Given 𝓤 H A → (mem : Memory → SProp 𝓤) (run : Routine → Fun 𝓤) (𝓣 : Tables 𝓤 H) → Triple 𝓤 (𝓣 .C #put′) (Of-put′ 𝓤 H A mem run)
     → Meets 𝓤 H A self.signature (WpFn 𝓤 H (𝓣 .C) (𝓣 .Λ) code.function) (self.spec 𝓤 H A mem run)
-meets 𝓤 H A W mem run 𝓣 known-answer-put′ =
+meets 𝓤 H A W mem run 𝓣 known-put′ =
     walk-meets 𝓤 H A self.ended stayed W (goes-gave-ref 𝓤 H A W 4 0 tt (plain (λ _. T-Session.the-row)), (goes-dropped 𝓤 H A W 4 (shrSliceOf {n = 4} (1 ∷ []) tt (plain (λ _. u8))) yes (λ κs x f. refl), (goes-dropped 𝓤 H A W 4 (shrSliceOf {n = 4} (2 ∷ []) tt (plain (λ _. u64))) yes (λ κs x f. refl), (goes-dropped 𝓤 H A W 4 (plain {n = 4} (λ _. u64)) yes (λ κs x f. refl), (goes-dropped 𝓤 H A W 4 (shrSliceOf {n = 4} (3 ∷ []) tt (plain (λ _. u8))) yes (λ κs x f. refl), tt))))) (self.clauses 𝓤 H A mem run)
-    (WpFn 𝓤 H (𝓣 .C) (𝓣 .Λ) code.function) (WpFn-mono 𝓤 H (W .laws) 𝓣 code.function) (walks 𝓤 H A W mem run (𝓣 .C) (𝓣 .Λ) (fmOf 𝓤 H (W .laws) 𝓣) known-answer-put′)
+    (WpFn 𝓤 H (𝓣 .C) (𝓣 .Λ) code.function) (WpFn-mono 𝓤 H (W .laws) 𝓣 code.function) (walks 𝓤 H A W mem run (𝓣 .C) (𝓣 .Λ) (fmOf 𝓤 H (W .laws) 𝓣) known-put′)
 
 pub zkv-put-spec : {M : Type 1} → stated.statement M
 unfolding code.routine tablesOf
@@ -151,4 +151,4 @@ zkv-put-spec 𝓤 H 𝓜 𝓖 𝓡 =
     entered 𝓤 H (tripleOf 𝓤 H (𝓖 .A) self.signature (self.spec 𝓤 H (𝓖 .A) (𝓜 .mem) (𝓡 .run)))
     (tables 𝓤 H 𝓜 𝓡 code.env .C) (tables 𝓤 H 𝓜 𝓡 code.env .Λ) #self code.function (code.unfolded 𝓤 H 𝓜 𝓡)
     (meets 𝓤 H (𝓖 .A) (givenOf 𝓤 H 𝓜 𝓖) (𝓜 .mem) (𝓡 .run) (tablesOf 𝓤 H 𝓜 (tables 𝓤 H 𝓜 𝓡 code.env))
-    (cited 𝓤 H (Of-answer-put′ 𝓤 H (𝓖 .A) (𝓜 .mem) (𝓡 .run)) 𝓜 𝓡 code.env #answer-put′ answer-put′-def.routine code.calls-put-answers·answer-put (answer-put′-thm.met 𝓤 H 𝓜 𝓖 𝓡)))
+    (cited 𝓤 H (Of-put′ 𝓤 H (𝓖 .A) (𝓜 .mem) (𝓡 .run)) 𝓜 𝓡 code.env #put′ put′-def.routine code.calls-capi·put (put′-thm.met 𝓤 H 𝓜 𝓖 𝓡)))

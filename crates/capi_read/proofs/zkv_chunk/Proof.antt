@@ -2,7 +2,7 @@
 -- good to the functions that it calls, at their own lifetimes, shares and names. All that the proof knows of a function
 -- that it calls (`describe_chunk`) is that it meets its contract.
 -- Assumes nothing.
-use Rattle.chunk_stat.specs.Contract.{Described}
+use Rattle.inspect.specs.Contract.{Described}
 use mathlib.Core.Path.{_≡_, refl}
 use mathlib.Core.Bool.{Bool}
 use Prim.Native.Nat.{ℕ, _<_, _^_}
@@ -42,16 +42,16 @@ use denote.Triple.Call.{calls-at}
 use denote.Triple.Clauses.{ensured, lasts}
 use denote.Triple.Table.{entered, cited}
 use denote.Triple.Walked.{says, Stays, stay-dropped, gave-ref, gave-slice, walkOf, goes-dropped, goes-gave-ref, goes-gave-slice, Walks, ends-at, walked, walk-meets}
-use Rattle.chunk_stat.specs.declared.ChunkRow.{ChunkRow}
-use Rattle.chunk_stat.proofs.ChunkRow as T-ChunkRow
-use Rattle.chunk_stat.proofs.ChunkRow.Laws as T-ChunkRow′
+use Rattle.inspect.specs.declared.ChunkRow.{ChunkRow}
+use Rattle.inspect.proofs.ChunkRow as T-ChunkRow
+use Rattle.inspect.proofs.ChunkRow.Laws as T-ChunkRow′
 use Rattle.session.specs.declared.Session.{Session}
 use Rattle.session.proofs.Session as T-Session
 use Rattle.session.proofs.Session.Laws as T-Session′
-use Rattle.chunk_stat.proofs.describe_chunk as describe-chunk′
-use Rattle.chunk_stat.proofs.describe_chunk.Symbol as describe-chunk′-def
-use Rattle.chunk_stat.proofs.describe_chunk.Symbol.{name as #describe-chunk′}
-use Rattle.chunk_stat.proofs.describe_chunk.Met as describe-chunk′-thm
+use Rattle.inspect.proofs.describe_chunk as describe-chunk′
+use Rattle.inspect.proofs.describe_chunk.Symbol as describe-chunk′-def
+use Rattle.inspect.proofs.describe_chunk.Symbol.{name as #describe-chunk′}
+use Rattle.inspect.proofs.describe_chunk.Met as describe-chunk′-thm
 use Rattle.capi_read.proofs.zkv_chunk.Key.{name as #self}
 use Rattle.capi_read.proofs.zkv_chunk as self
 use Rattle.capi_read.proofs.zkv_chunk.Statement as stated
@@ -144,4 +144,4 @@ zkv-chunk-spec 𝓤 H 𝓜 𝓖 𝓡 =
     entered 𝓤 H (tripleOf 𝓤 H (𝓖 .A) self.signature (self.spec 𝓤 H (𝓖 .A) (𝓜 .mem) (𝓡 .run)))
     (tables 𝓤 H 𝓜 𝓡 code.env .C) (tables 𝓤 H 𝓜 𝓡 code.env .Λ) #self code.function (code.unfolded 𝓤 H 𝓜 𝓡)
     (meets 𝓤 H (𝓖 .A) (givenOf 𝓤 H 𝓜 𝓖) (𝓜 .mem) (𝓡 .run) (tablesOf 𝓤 H 𝓜 (tables 𝓤 H 𝓜 𝓡 code.env))
-    (cited 𝓤 H (Of-describe-chunk′ 𝓤 H (𝓖 .A) (𝓜 .mem) (𝓡 .run)) 𝓜 𝓡 code.env #describe-chunk′ describe-chunk′-def.routine code.calls-chunk-stat·describe-chunk (describe-chunk′-thm.met 𝓤 H 𝓜 𝓖 𝓡)))
+    (cited 𝓤 H (Of-describe-chunk′ 𝓤 H (𝓖 .A) (𝓜 .mem) (𝓡 .run)) 𝓜 𝓡 code.env #describe-chunk′ describe-chunk′-def.routine code.calls-inspect·describe-chunk (describe-chunk′-thm.met 𝓤 H 𝓜 𝓖 𝓡)))

@@ -2,7 +2,7 @@
 -- to the functions that it calls, at their own lifetimes, shares and names. All that the proof knows of a function that
 -- it calls (`keys`) is that it meets its contract.
 -- Assumes nothing.
-use Rattle.stat.specs.Counts.{Known}
+use Rattle.inspect.specs.KnownKeys.{Known}
 use mathlib.Core.Path.{_≡_, refl}
 use mathlib.Core.Bool.{Bool}
 use Prim.Native.Nat.{ℕ, _<_, _^_}
@@ -45,10 +45,10 @@ use denote.Triple.Walked.{says, Stays, stay-dropped, gave-ref, gave-slice, walkO
 use Rattle.session.specs.declared.Session.{Session}
 use Rattle.session.proofs.Session as T-Session
 use Rattle.session.proofs.Session.Laws as T-Session′
-use Rattle.stat.proofs.keys as keys′
-use Rattle.stat.proofs.keys.Symbol as keys′-def
-use Rattle.stat.proofs.keys.Symbol.{name as #keys′}
-use Rattle.stat.proofs.keys.Met as keys′-thm
+use Rattle.inspect.proofs.keys as keys′
+use Rattle.inspect.proofs.keys.Symbol as keys′-def
+use Rattle.inspect.proofs.keys.Symbol.{name as #keys′}
+use Rattle.inspect.proofs.keys.Met as keys′-thm
 use Rattle.capi_read.proofs.zkv_keys.Key.{name as #self}
 use Rattle.capi_read.proofs.zkv_keys as self
 use Rattle.capi_read.proofs.zkv_keys.Statement as stated
@@ -135,4 +135,4 @@ zkv-keys-spec 𝓤 H 𝓜 𝓖 𝓡 =
     entered 𝓤 H (tripleOf 𝓤 H (𝓖 .A) self.signature (self.spec 𝓤 H (𝓖 .A) (𝓜 .mem) (𝓡 .run)))
     (tables 𝓤 H 𝓜 𝓡 code.env .C) (tables 𝓤 H 𝓜 𝓡 code.env .Λ) #self code.function (code.unfolded 𝓤 H 𝓜 𝓡)
     (meets 𝓤 H (𝓖 .A) (givenOf 𝓤 H 𝓜 𝓖) (𝓜 .mem) (𝓡 .run) (tablesOf 𝓤 H 𝓜 (tables 𝓤 H 𝓜 𝓡 code.env))
-    (cited 𝓤 H (Of-keys′ 𝓤 H (𝓖 .A) (𝓜 .mem) (𝓡 .run)) 𝓜 𝓡 code.env #keys′ keys′-def.routine code.calls-stat·keys (keys′-thm.met 𝓤 H 𝓜 𝓖 𝓡)))
+    (cited 𝓤 H (Of-keys′ 𝓤 H (𝓖 .A) (𝓜 .mem) (𝓡 .run)) 𝓜 𝓡 code.env #keys′ keys′-def.routine code.calls-inspect·keys (keys′-thm.met 𝓤 H 𝓜 𝓖 𝓡)))

@@ -1,10 +1,10 @@
 -- `capi_read::zkv_list_key` meets its contract: a walk of its MIR, made by walk_calls.py. Its references are given for
 -- good to the functions that it calls, at their own lifetimes, shares and names. All that the proof knows of a function
--- that it calls (`list_key`, `spelt`) is that it meets its contract.
+-- that it calls (`list_key`, `encode_listed`) is that it meets its contract.
 -- Assumes nothing.
-use lib.ListN.{length}
-use Rattle.store_read.specs.List.{KeyListed}
 use Rattle.answers.specs.Answers.{ListedBy}
+use lib.ListN.{length}
+use Rattle.store.specs.List.{KeyListed}
 use mathlib.Core.Path.{_≡_, refl}
 use mathlib.Core.Bool.{Bool}
 use Prim.Native.Nat.{ℕ, _<_, _^_}
@@ -43,20 +43,20 @@ use denote.Triple.Call.{calls-at}
 use denote.Triple.Clauses.{ensured, lasts}
 use denote.Triple.Table.{entered, cited}
 use denote.Triple.Walked.{says, Stays, stay-dropped, gave-ref, gave-slice, walkOf, goes-dropped, goes-gave-ref, goes-gave-slice, Walks, ends-at, walked, walk-meets}
-use Rattle.listing.specs.declared.Listed.{Listed}
-use Rattle.listing.proofs.Listed as T-Listed
-use Rattle.listing.proofs.Listed.Laws as T-Listed′
+use Rattle.lookup.specs.declared.Listed.{Listed}
+use Rattle.lookup.proofs.Listed as T-Listed
+use Rattle.lookup.proofs.Listed.Laws as T-Listed′
 use Rattle.session.specs.declared.Session.{Session}
 use Rattle.session.proofs.Session as T-Session
 use Rattle.session.proofs.Session.Laws as T-Session′
-use Rattle.store_read.proofs.list_key as list-key′
-use Rattle.store_read.proofs.list_key.Symbol as list-key′-def
-use Rattle.store_read.proofs.list_key.Symbol.{name as #list-key′}
-use Rattle.store_read.proofs.list_key.Met as list-key′-thm
-use Rattle.answers.proofs.spelt as spelt′
-use Rattle.answers.proofs.spelt.Symbol as spelt′-def
-use Rattle.answers.proofs.spelt.Symbol.{name as #spelt′}
-use Rattle.answers.proofs.spelt.Met as spelt′-thm
+use Rattle.store.proofs.list_key as list-key′
+use Rattle.store.proofs.list_key.Symbol as list-key′-def
+use Rattle.store.proofs.list_key.Symbol.{name as #list-key′}
+use Rattle.store.proofs.list_key.Met as list-key′-thm
+use Rattle.answers.proofs.encode_listed as encode-listed′
+use Rattle.answers.proofs.encode_listed.Symbol as encode-listed′-def
+use Rattle.answers.proofs.encode_listed.Symbol.{name as #encode-listed′}
+use Rattle.answers.proofs.encode_listed.Met as encode-listed′-thm
 use Rattle.capi_read.proofs.zkv_list_key.Key.{name as #self}
 use Rattle.capi_read.proofs.zkv_list_key as self
 use Rattle.capi_read.proofs.zkv_list_key.Statement as stated
@@ -72,12 +72,12 @@ Of-list-key′ 𝓤 H A mem run = tripleOf 𝓤 H A list-key′.signature (list-
 abbrev Said-list-key′ : Listed → Session → List ℕ → List ℕ → ℕ → Type 0
 Said-list-key′ r x-s x-image x-table key = KeyListed (x-s) key (x-image) (x-table) r
 
--- the contract of `spelt`, and what it ensures
-abbrev Of-spelt′ : {M : Type 1} (𝓤 : URA M) (H : Heap 𝓤) (A : Atoms 𝓤) (mem : Memory → SProp 𝓤) (run : Routine → Fun 𝓤) → Contract 𝓤
-Of-spelt′ 𝓤 H A mem run = tripleOf 𝓤 H A spelt′.signature (spelt′.spec 𝓤 H A mem run)
+-- the contract of `encode_listed`, and what it ensures
+abbrev Of-encode-listed′ : {M : Type 1} (𝓤 : URA M) (H : Heap 𝓤) (A : Atoms 𝓤) (mem : Memory → SProp 𝓤) (run : Routine → Fun 𝓤) → Contract 𝓤
+Of-encode-listed′ 𝓤 H A mem run = tripleOf 𝓤 H A encode-listed′.signature (encode-listed′.spec 𝓤 H A mem run)
 
-abbrev Said-spelt′ : ℕ → Listed → ℕ → ℕ → ℕ → ℕ → ℕ → ℕ → Type 0
-Said-spelt′ r listed x-version z-version x-length z-length x-block z-block = ListedBy listed r (z-version) (z-length) (z-block)
+abbrev Said-encode-listed′ : ℕ → Listed → ℕ → ℕ → ℕ → ℕ → ℕ → ℕ → Type 0
+Said-encode-listed′ r listed x-version z-version x-length z-length x-block z-block = ListedBy listed r (z-version) (z-length) (z-block)
 
 module _ {M : Type 1} (𝓤 : URA M) (H : Heap 𝓤) (A : Atoms 𝓤) (W : Given 𝓤 H A) (at-mem : Memory → SProp 𝓤) (run : Routine → Fun 𝓤) (κ-s κ-image κ-table κ-version κ-length κ-block : Lft) (bounds : AllOutlive 6 (self.signature .outlives) (κ-s, (κ-image, (κ-table, (κ-version, (κ-length, (κ-block, tt))))))) (q-s q-image q-table q-version q-length q-block : Share) (b-s o-s : ℕ) (γ-s : GName) (x-s : Session) (b-image o-image : ℕ) (γ-image : GName) (x-image : List ℕ) (room-image : Room u8 (length x-image)) (b-table o-table : ℕ) (γ-table : GName) (x-table : List ℕ) (room-table : Room u64 (length x-table)) (x-key : ℕ) (fit-key : x-key < 2 ^ 64) (b-version o-version : ℕ) (γ-version : GName) (x-version : ℕ) (b-length o-length : ℕ) (γ-length : GName) (x-length : ℕ) (b-block o-block : ℕ) (γ-block : GName) (x-block : ℕ) where
   abbrev ref-s : RefT Session
@@ -117,14 +117,14 @@ module _ {M : Type 1} (𝓤 : URA M) (H : Heap 𝓤) (A : Atoms 𝓤) (W : Given
   goes-1 : ent 𝓤 (sep 𝓤 (sep 𝓤 (A .lft κ-s q-s) (sep 𝓤 (A .lft κ-image q-image) (sep 𝓤 (A .lft κ-table q-table) (sem 𝓤 H A ftrue)))) (sem 𝓤 H A (owns (ShrRef (named 0) κ-s T-Session.the-row ∷ ShrSlice (named 1) κ-image u8 ∷ ShrSlice (named 2) κ-table u64 ∷ u64 ∷ []) (ref-s, (ref-image, (ref-table, (x-key, tt)))) (vptr b-s o-s ∷ [], (sliceVal (b-image, o-image) (length x-image) ∷ [], (sliceVal (b-table, o-table) (length x-table) ∷ [], (vint w64 x-key ∷ [], tt))))))) (Of-list-key′ 𝓤 H A at-mem run .pre to-1)
   goes-1 = qed W ((‵ (flft κ-s q-s) ⊛ ‵ (flft κ-image q-image) ⊛ ‵ (flft κ-table q-table) ⊛ ‵ ftrue) ∷ ‵ (owns (ShrRef (named 0) κ-s T-Session.the-row ∷ ShrSlice (named 1) κ-image u8 ∷ ShrSlice (named 2) κ-table u64 ∷ u64 ∷ []) (ref-s, (ref-image, (ref-table, (x-key, tt)))) (vptr b-s o-s ∷ [], (sliceVal (b-image, o-image) (length x-image) ∷ [], (sliceVal (b-table, o-table) (length x-table) ∷ [], (vint w64 x-key ∷ [], tt))))) ∷ []) ∵ join ! $ frame ! $ done !
 
-  -- what the triple of `spelt` binds outside, and what it asks
-  abbrev to-2 : (r-listed : Listed) (w-listed : Val) → Of-spelt′ 𝓤 H A at-mem run .Ghost
+  -- what the triple of `encode_listed` binds outside, and what it asks
+  abbrev to-2 : (r-listed : Listed) (w-listed : Val) → Of-encode-listed′ 𝓤 H A at-mem run .Ghost
   to-2 r-listed w-listed = (((κ-version, (κ-length, (κ-block, tt))), (q-version, (q-length, (q-block, tt))), tt, (r-listed, (ref-version, (ref-length, (ref-block, tt)))), (w-listed ∷ [], (vptr b-version o-version ∷ [], (vptr b-length o-length ∷ [], (vptr b-block o-block ∷ [], tt))))), tt)
 
-  goes-2 : (r-listed : Listed) (w-listed : Val) → ent 𝓤 (sep 𝓤 (sep 𝓤 (A .lft κ-version q-version) (sep 𝓤 (A .lft κ-length q-length) (sep 𝓤 (A .lft κ-block q-block) (sem 𝓤 H A ftrue)))) (sem 𝓤 H A (owns (T-Listed.the-row ∷ MutRef (named 0) κ-version u64 ∷ MutRef (named 1) κ-length u64 ∷ MutRef (named 2) κ-block u64 ∷ []) (r-listed, (ref-version, (ref-length, (ref-block, tt)))) (w-listed ∷ [], (vptr b-version o-version ∷ [], (vptr b-length o-length ∷ [], (vptr b-block o-block ∷ [], tt))))))) (Of-spelt′ 𝓤 H A at-mem run .pre (to-2 r-listed w-listed))
+  goes-2 : (r-listed : Listed) (w-listed : Val) → ent 𝓤 (sep 𝓤 (sep 𝓤 (A .lft κ-version q-version) (sep 𝓤 (A .lft κ-length q-length) (sep 𝓤 (A .lft κ-block q-block) (sem 𝓤 H A ftrue)))) (sem 𝓤 H A (owns (T-Listed.the-row ∷ MutRef (named 0) κ-version u64 ∷ MutRef (named 1) κ-length u64 ∷ MutRef (named 2) κ-block u64 ∷ []) (r-listed, (ref-version, (ref-length, (ref-block, tt)))) (w-listed ∷ [], (vptr b-version o-version ∷ [], (vptr b-length o-length ∷ [], (vptr b-block o-block ∷ [], tt))))))) (Of-encode-listed′ 𝓤 H A at-mem run .pre (to-2 r-listed w-listed))
   goes-2 r-listed w-listed = qed W ((‵ (flft κ-version q-version) ⊛ ‵ (flft κ-length q-length) ⊛ ‵ (flft κ-block q-block) ⊛ ‵ ftrue) ∷ ‵ (owns (T-Listed.the-row ∷ MutRef (named 0) κ-version u64 ∷ MutRef (named 1) κ-length u64 ∷ MutRef (named 2) κ-block u64 ∷ []) (r-listed, (ref-version, (ref-length, (ref-block, tt)))) (w-listed ∷ [], (vptr b-version o-version ∷ [], (vptr b-length o-length ∷ [], (vptr b-block o-block ∷ [], tt))))) ∷ []) ∵ join ! $ frame ! $ done !
 
-  exits : (r-listed : Listed) (r : ℕ) (w : Val) (z-version : ℕ) (z-length : ℕ) (z-block : ℕ) → Said-list-key′ r-listed x-s x-image x-table x-key → Said-spelt′ r r-listed x-version z-version x-length z-length x-block z-block
+  exits : (r-listed : Listed) (r : ℕ) (w : Val) (z-version : ℕ) (z-length : ℕ) (z-block : ℕ) → Said-list-key′ r-listed x-s x-image x-table x-key → Said-encode-listed′ r r-listed x-version z-version x-length z-length x-block z-block
       → ent 𝓤 (⋆ 𝓤 H A (‵ (flft κ-s q-s) ∷ ‵ (flft κ-image q-image) ∷ ‵ (flft κ-table q-table) ∷ ‵ (flft κ-version q-version) ∷ ‵ (flft κ-length q-length) ∷ ‵ (flft κ-block q-block) ∷ ‵ (fres γ-version (u64 .coded .code z-version)) ∷ ‵ (fres γ-length (u64 .coded .code z-length)) ∷ ‵ (fres γ-block (u64 .coded .code z-block)) ∷ ‵ (u64 .own r (w ∷ [])) ∷ [])) (Post w)
   exits r-listed r w z-version z-length z-block e-listed e =
       qed W (‵ (flft κ-s q-s) ∷ ‵ (flft κ-image q-image) ∷ ‵ (flft κ-table q-table) ∷ ‵ (flft κ-version q-version) ∷ ‵ (flft κ-length q-length) ∷ ‵ (flft κ-block q-block) ∷ ‵ (fres γ-version (u64 .coded .code z-version)) ∷ ‵ (fres γ-length (u64 .coded .code z-length)) ∷ ‵ (fres γ-block (u64 .coded .code z-block)) ∷ ‵ (u64 .own r (w ∷ [])) ∷ []) ∵
@@ -132,7 +132,7 @@ module _ {M : Type 1} (𝓤 : URA M) (H : Heap 𝓤) (A : Atoms 𝓤) (W : Given
       nothing ! $ move ! (6 ∷ 0 ∷ []) $ join ! $ move ! (5 ∷ 0 ∷ []) $ join ! $ move ! (4 ∷ 0 ∷ []) $ join ! $ move ! (3 ∷ 0 ∷ []) $ join ! $ move ! (2 ∷ 0 ∷ []) $ join ! $ move ! (1 ∷ 0 ∷ []) $ join ! $ frame ! $
       nothing ! $ move ! (3 ∷ 0 ∷ []) $ fjoin ! $ move ! (2 ∷ 0 ∷ []) $ fjoin ! $ move ! (1 ∷ 0 ∷ []) $ fjoin ! $ nothing ! $ fjoin ! $ nothing ! $ fjoin ! $ nothing ! $ fjoin ! $ nothing ! $ fjoin ! $ done !
 
-  module _ (C : Calls 𝓤 H) (Λ : Loops 𝓤 H) (fm : FmC 𝓤 H (W .laws) C) (known-list-key′ : Triple 𝓤 (C #list-key′) (Of-list-key′ 𝓤 H A at-mem run)) (known-spelt′ : Triple 𝓤 (C #spelt′) (Of-spelt′ 𝓤 H A at-mem run)) where
+  module _ (C : Calls 𝓤 H) (Λ : Loops 𝓤 H) (fm : FmC 𝓤 H (W .laws) C) (known-list-key′ : Triple 𝓤 (C #list-key′) (Of-list-key′ 𝓤 H A at-mem run)) (known-encode-listed′ : Triple 𝓤 (C #encode-listed′) (Of-encode-listed′ 𝓤 H A at-mem run)) where
     walk : ent 𝓤 (onEntry 𝓤 H A self.signature (κ-s, (κ-image, (κ-table, (κ-version, (κ-length, (κ-block, tt)))))) (q-s, (q-image, (q-table, (q-version, (q-length, (q-block, tt)))))) a vals) (WpFn 𝓤 H C Λ code.function (vptr b-s o-s ∷ sliceVal (b-image, o-image) (length x-image) ∷ sliceVal (b-table, o-table) (length x-table) ∷ vint w64 x-key ∷ vptr b-version o-version ∷ vptr b-length o-length ∷ vptr b-block o-block ∷ []) Post)
     walk =
         qed W ((‵ (flft κ-s q-s) ⊛ ‵ (flft κ-image q-image) ⊛ ‵ (flft κ-table q-table) ⊛ ‵ (flft κ-version q-version) ⊛ ‵ (flft κ-length q-length) ⊛ ‵ (flft κ-block q-block) ⊛ ‵ ftrue) ∷ ‵ (owns (ShrRef (named 0) κ-s T-Session.the-row ∷ ShrSlice (named 1) κ-image u8 ∷ ShrSlice (named 2) κ-table u64 ∷ u64 ∷ MutRef (named 3) κ-version u64 ∷ MutRef (named 4) κ-length u64 ∷ MutRef (named 5) κ-block u64 ∷ []) a vals) ∷ []) ∵ enter ! C Λ code.function (vptr b-s o-s ∷ sliceVal (b-image, o-image) (length x-image) ∷ sliceVal (b-table, o-table) (length x-table) ∷ vint w64 x-key ∷ vptr b-version o-version ∷ vptr b-length o-length ∷ vptr b-block o-block ∷ []) _ $
@@ -148,17 +148,17 @@ module _ {M : Type 1} (𝓤 : URA M) (H : Heap 𝓤) (A : Atoms 𝓤) (W : Given
         move ! (1 ∷ []) $ use1 W (some (λ (zs-listed : (Unit {0} × (Unit {0} × (Unit {0} × (Unit {0} × Unit {0}))))). ‵ (lasts list-key′.ended (κ-s, (κ-image, (κ-table, tt))) (ref-s, (ref-image, (ref-table, (x-key, tt)))) zs-listed) ⊛ raw (fact 𝓤 (Said-list-key′ r-listed x-s x-image x-table x-key)))) (id⊢ 𝓤 _) $ pick ! (λ zs-listed. split ! $
         move ! (1 ∷ []) $ heard ! (Said-list-key′ r-listed x-s x-image x-table x-key) (λ e-listed. fsplit ! $ move ! (1 ∷ []) $ fsplit ! $ move ! (1 ∷ []) $ fsplit ! $ move ! (1 ∷ []) $ fsplit ! $
         move ! (5 ∷ []) $ split ! $ move ! (1 ∷ []) $ peeks ! T-Listed.the-row (Is T-Listed.the-row) (shows 𝓤 H A T-Listed.the-row) r-listed (w-listed ∷ []) (λ is-listed. move ! (1 ∷ []) $ split ! $ move ! (1 ∷ []) $ split ! $ move ! (1 ∷ []) $ split ! $ land ! (from ! (stop !)) (init ! 24 refl (EL.lawful T-Listed.the-type T-Listed′.the-laws 𝓤 H A W tt .typed r-listed _ is-listed .0)) $
-        -- `spelt`
+        -- `encode_listed`
         assigns ! (addr ! (from ! (hop ! (look ! 30 refl) (stop !)))) (from ! (stop !)) (init ! 22 refl (tt, tt)) $
         assigns ! (addr ! (from ! (hop ! (look ! 28 refl) (stop !)))) (from ! (stop !)) (init ! 20 refl (tt, tt)) $
         assigns ! (addr ! (from ! (hop ! (look ! 26 refl) (stop !)))) (from ! (stop !)) (init ! 18 refl (tt, tt)) $
         nothing ! $ move ! (15 ∷ 0 ∷ []) $ fjoin ! $ move ! (16 ∷ 0 ∷ []) $ fjoin ! $ move ! (16 ∷ 0 ∷ []) $ fjoin ! $ move ! (5 ∷ 0 ∷ []) $ fjoin ! $ nothing ! $ move ! (11 ∷ 0 ∷ []) $ join ! $ move ! (12 ∷ 0 ∷ []) $ join ! $ move ! (12 ∷ 0 ∷ []) $ join ! $
-        use2 W (raw (Of-spelt′ 𝓤 H A at-mem run .pre (to-2 r-listed w-listed))) (goes-2 r-listed w-listed) $
-        calls-at ! fm (Of-spelt′ 𝓤 H A at-mem run) known-spelt′ (to-2 r-listed w-listed) (and-then ! (load ! (from ! (stop !)) (look ! 18 refl)) (and-then ! (load ! (from ! (stop !)) (look ! 16 refl)) (and-then ! (load ! (from ! (stop !)) (look ! 14 refl)) (and-then ! (load ! (from ! (stop !)) (look ! 12 refl)) (no-more !))))) (λ w.
-        use1 W (later (some (λ (r : ℕ). ((‵ (flft κ-version q-version) ⊛ ‵ (flft κ-length q-length) ⊛ ‵ (flft κ-block q-block) ⊛ ‵ ftrue) ⊛ ‵ (u64 .own r (w ∷ []))) ⊛ raw (ensured 𝓤 H A spelt′.ended (spelt′.clauses 𝓤 H A at-mem run) (κ-version, (κ-length, (κ-block, tt))) (r-listed, (ref-version, (ref-length, (ref-block, tt)))) tt r)))) (id⊢ 𝓤 _) $ await ! tt $ pick ! (λ r. split ! $
-        -- what `spelt` ensures, at some last values
-        move ! (1 ∷ []) $ use1 W (some (λ (zs : (Unit {0} × (ℕ × (ℕ × (ℕ × Unit {0}))))). ‵ (lasts spelt′.ended (κ-version, (κ-length, (κ-block, tt))) (r-listed, (ref-version, (ref-length, (ref-block, tt)))) zs) ⊛ raw (fact 𝓤 (Said-spelt′ r r-listed x-version (zs .1 .0) x-length (zs .1 .1 .0) x-block (zs .1 .1 .1 .0))))) (id⊢ 𝓤 _) $ pick ! (λ zs. split ! $
-        move ! (1 ∷ []) $ heard ! (Said-spelt′ r r-listed x-version (zs .1 .0) x-length (zs .1 .1 .0) x-block (zs .1 .1 .1 .0)) (λ e. fsplit ! $ move ! (1 ∷ []) $ fsplit ! $ move ! (1 ∷ []) $ fsplit ! $ move ! (1 ∷ []) $ fsplit ! $
+        use2 W (raw (Of-encode-listed′ 𝓤 H A at-mem run .pre (to-2 r-listed w-listed))) (goes-2 r-listed w-listed) $
+        calls-at ! fm (Of-encode-listed′ 𝓤 H A at-mem run) known-encode-listed′ (to-2 r-listed w-listed) (and-then ! (load ! (from ! (stop !)) (look ! 18 refl)) (and-then ! (load ! (from ! (stop !)) (look ! 16 refl)) (and-then ! (load ! (from ! (stop !)) (look ! 14 refl)) (and-then ! (load ! (from ! (stop !)) (look ! 12 refl)) (no-more !))))) (λ w.
+        use1 W (later (some (λ (r : ℕ). ((‵ (flft κ-version q-version) ⊛ ‵ (flft κ-length q-length) ⊛ ‵ (flft κ-block q-block) ⊛ ‵ ftrue) ⊛ ‵ (u64 .own r (w ∷ []))) ⊛ raw (ensured 𝓤 H A encode-listed′.ended (encode-listed′.clauses 𝓤 H A at-mem run) (κ-version, (κ-length, (κ-block, tt))) (r-listed, (ref-version, (ref-length, (ref-block, tt)))) tt r)))) (id⊢ 𝓤 _) $ await ! tt $ pick ! (λ r. split ! $
+        -- what `encode_listed` ensures, at some last values
+        move ! (1 ∷ []) $ use1 W (some (λ (zs : (Unit {0} × (ℕ × (ℕ × (ℕ × Unit {0}))))). ‵ (lasts encode-listed′.ended (κ-version, (κ-length, (κ-block, tt))) (r-listed, (ref-version, (ref-length, (ref-block, tt)))) zs) ⊛ raw (fact 𝓤 (Said-encode-listed′ r r-listed x-version (zs .1 .0) x-length (zs .1 .1 .0) x-block (zs .1 .1 .1 .0))))) (id⊢ 𝓤 _) $ pick ! (λ zs. split ! $
+        move ! (1 ∷ []) $ heard ! (Said-encode-listed′ r r-listed x-version (zs .1 .0) x-length (zs .1 .1 .0) x-block (zs .1 .1 .1 .0)) (λ e. fsplit ! $ move ! (1 ∷ []) $ fsplit ! $ move ! (1 ∷ []) $ fsplit ! $ move ! (1 ∷ []) $ fsplit ! $
         move ! (5 ∷ []) $ split ! $ move ! (1 ∷ []) $ peeks ! u64 (Is u64) (shows 𝓤 H A u64) r (w ∷ []) (λ is. move ! (1 ∷ []) $ split ! $ move ! (1 ∷ []) $ split ! $ move ! (1 ∷ []) $ split ! $ land ! (from ! (stop !)) (init ! 43 refl (uint-lawful 𝓤 H A W w64 .typed r _ is .0)) $
         -- the result
         returns ! (look ! 43 refl) $ forget ! 21 refl $ forget ! 23 refl $ forget ! 25 refl $ forget ! 27 refl $ forget ! 29 refl $ forget ! 31 refl $ forget ! 33 refl $ forget ! 35 refl $ forget ! 37 refl $ forget ! 39 refl $ forget ! 41 refl $ forget ! 43 refl $
@@ -166,17 +166,17 @@ module _ {M : Type 1} (𝓤 : URA M) (H : Heap 𝓤) (A : Atoms 𝓤) (W : Given
         keep ! (13 ∷ 12 ∷ 10 ∷ 3 ∷ 2 ∷ 0 ∷ 8 ∷ 7 ∷ 5 ∷ 4 ∷ []) $ by ! (exits r-listed r w (zs .1 .0) (zs .1 .1 .0) (zs .1 .1 .1 .0) e-listed e)))))))))))))))))))))))
 
 module _ {M : Type 1} (𝓤 : URA M) (H : Heap 𝓤) (A : Atoms 𝓤) (W : Given 𝓤 H A) (mem : Memory → SProp 𝓤) (run : Routine → Fun 𝓤) where
-  walks : (C : Calls 𝓤 H) (Λ : Loops 𝓤 H) → FmC 𝓤 H (W .laws) C → Triple 𝓤 (C #list-key′) (Of-list-key′ 𝓤 H A mem run) → Triple 𝓤 (C #spelt′) (Of-spelt′ 𝓤 H A mem run) → Walks 𝓤 H A self.ended stayed (WpFn 𝓤 H C Λ code.function) (self.clauses 𝓤 H A mem run)
-  walks C Λ fm known-list-key′ known-spelt′ = walked 𝓤 H A self.ended stayed (self.clauses 𝓤 H A mem run) (WpFn 𝓤 H C Λ code.function)
+  walks : (C : Calls 𝓤 H) (Λ : Loops 𝓤 H) → FmC 𝓤 H (W .laws) C → Triple 𝓤 (C #list-key′) (Of-list-key′ 𝓤 H A mem run) → Triple 𝓤 (C #encode-listed′) (Of-encode-listed′ 𝓤 H A mem run) → Walks 𝓤 H A self.ended stayed (WpFn 𝓤 H C Λ code.function) (self.clauses 𝓤 H A mem run)
+  walks C Λ fm known-list-key′ known-encode-listed′ = walked 𝓤 H A self.ended stayed (self.clauses 𝓤 H A mem run) (WpFn 𝓤 H C Λ code.function)
       (λ κs. (ptr-vals, (slice-vals, (slice-vals, (uint-vals w64, (ptr-vals, (ptr-vals, (ptr-vals, tt)))))))) (λ κs. (shr-tells (named 0) (κs .0) T-Session.the-row, (shr-slice-tells (named 1) (κs .1 .0) u8, (shr-slice-tells (named 2) (κs .1 .1 .0) u64, (uint-tells w64, (mut-tells (named 3) (κs .1 .1 .1 .0) u64, (mut-tells (named 4) (κs .1 .1 .1 .1 .0) u64, (mut-tells (named 5) (κs .1 .1 .1 .1 .1 .0) u64, tt))))))))
       (λ κs qs bounds a g are. via 𝓤 _ (fst∗ 𝓤 _ (emp 𝓤))
-      (walk 𝓤 H A W mem run (κs .0) (κs .1 .0) (κs .1 .1 .0) (κs .1 .1 .1 .0) (κs .1 .1 .1 .1 .0) (κs .1 .1 .1 .1 .1 .0) bounds (qs .0) (qs .1 .0) (qs .1 .1 .0) (qs .1 .1 .1 .0) (qs .1 .1 .1 .1 .0) (qs .1 .1 .1 .1 .1 .0) (a .0 .ptr .0) (a .0 .ptr .1) (a .0 .name) (a .0 .now) (a .1 .0 .ptr .0) (a .1 .0 .ptr .1) (a .1 .0 .name) (a .1 .0 .now) (are .1 .0 .0 .1) (a .1 .1 .0 .ptr .0) (a .1 .1 .0 .ptr .1) (a .1 .1 .0 .name) (a .1 .1 .0 .now) (are .1 .1 .0 .0 .1) (a .1 .1 .1 .0) (are .1 .1 .1 .0 .1) (a .1 .1 .1 .1 .0 .ptr .0) (a .1 .1 .1 .1 .0 .ptr .1) (a .1 .1 .1 .1 .0 .name) (a .1 .1 .1 .1 .0 .now) (a .1 .1 .1 .1 .1 .0 .ptr .0) (a .1 .1 .1 .1 .1 .0 .ptr .1) (a .1 .1 .1 .1 .1 .0 .name) (a .1 .1 .1 .1 .1 .0 .now) (a .1 .1 .1 .1 .1 .1 .0 .ptr .0) (a .1 .1 .1 .1 .1 .1 .0 .ptr .1) (a .1 .1 .1 .1 .1 .1 .0 .name) (a .1 .1 .1 .1 .1 .1 .0 .now) C Λ fm known-list-key′ known-spelt′))
+      (walk 𝓤 H A W mem run (κs .0) (κs .1 .0) (κs .1 .1 .0) (κs .1 .1 .1 .0) (κs .1 .1 .1 .1 .0) (κs .1 .1 .1 .1 .1 .0) bounds (qs .0) (qs .1 .0) (qs .1 .1 .0) (qs .1 .1 .1 .0) (qs .1 .1 .1 .1 .0) (qs .1 .1 .1 .1 .1 .0) (a .0 .ptr .0) (a .0 .ptr .1) (a .0 .name) (a .0 .now) (a .1 .0 .ptr .0) (a .1 .0 .ptr .1) (a .1 .0 .name) (a .1 .0 .now) (are .1 .0 .0 .1) (a .1 .1 .0 .ptr .0) (a .1 .1 .0 .ptr .1) (a .1 .1 .0 .name) (a .1 .1 .0 .now) (are .1 .1 .0 .0 .1) (a .1 .1 .1 .0) (are .1 .1 .1 .0 .1) (a .1 .1 .1 .1 .0 .ptr .0) (a .1 .1 .1 .1 .0 .ptr .1) (a .1 .1 .1 .1 .0 .name) (a .1 .1 .1 .1 .0 .now) (a .1 .1 .1 .1 .1 .0 .ptr .0) (a .1 .1 .1 .1 .1 .0 .ptr .1) (a .1 .1 .1 .1 .1 .0 .name) (a .1 .1 .1 .1 .1 .0 .now) (a .1 .1 .1 .1 .1 .1 .0 .ptr .0) (a .1 .1 .1 .1 .1 .1 .0 .ptr .1) (a .1 .1 .1 .1 .1 .1 .0 .name) (a .1 .1 .1 .1 .1 .1 .0 .now) C Λ fm known-list-key′ known-encode-listed′))
 
-meets : {M : Type 1} (𝓤 : URA M) (H : Heap 𝓤) (A : Atoms 𝓤) → Given 𝓤 H A → (mem : Memory → SProp 𝓤) (run : Routine → Fun 𝓤) (𝓣 : Tables 𝓤 H) → Triple 𝓤 (𝓣 .C #list-key′) (Of-list-key′ 𝓤 H A mem run) → Triple 𝓤 (𝓣 .C #spelt′) (Of-spelt′ 𝓤 H A mem run)
+meets : {M : Type 1} (𝓤 : URA M) (H : Heap 𝓤) (A : Atoms 𝓤) → Given 𝓤 H A → (mem : Memory → SProp 𝓤) (run : Routine → Fun 𝓤) (𝓣 : Tables 𝓤 H) → Triple 𝓤 (𝓣 .C #list-key′) (Of-list-key′ 𝓤 H A mem run) → Triple 𝓤 (𝓣 .C #encode-listed′) (Of-encode-listed′ 𝓤 H A mem run)
     → Meets 𝓤 H A self.signature (WpFn 𝓤 H (𝓣 .C) (𝓣 .Λ) code.function) (self.spec 𝓤 H A mem run)
-meets 𝓤 H A W mem run 𝓣 known-list-key′ known-spelt′ =
+meets 𝓤 H A W mem run 𝓣 known-list-key′ known-encode-listed′ =
     walk-meets 𝓤 H A self.ended stayed W (goes-dropped 𝓤 H A W 6 (shrRefTo {n = 6} (0 ∷ []) tt (plain (λ _. T-Session.the-row))) yes (λ κs x f. refl), (goes-dropped 𝓤 H A W 6 (shrSliceOf {n = 6} (1 ∷ []) tt (plain (λ _. u8))) yes (λ κs x f. refl), (goes-dropped 𝓤 H A W 6 (shrSliceOf {n = 6} (2 ∷ []) tt (plain (λ _. u64))) yes (λ κs x f. refl), (goes-dropped 𝓤 H A W 6 (plain {n = 6} (λ _. u64)) yes (λ κs x f. refl), (goes-gave-ref 𝓤 H A W 6 3 tt (plain (λ _. u64)), (goes-gave-ref 𝓤 H A W 6 4 tt (plain (λ _. u64)), (goes-gave-ref 𝓤 H A W 6 5 tt (plain (λ _. u64)), tt))))))) (self.clauses 𝓤 H A mem run)
-    (WpFn 𝓤 H (𝓣 .C) (𝓣 .Λ) code.function) (WpFn-mono 𝓤 H (W .laws) 𝓣 code.function) (walks 𝓤 H A W mem run (𝓣 .C) (𝓣 .Λ) (fmOf 𝓤 H (W .laws) 𝓣) known-list-key′ known-spelt′)
+    (WpFn 𝓤 H (𝓣 .C) (𝓣 .Λ) code.function) (WpFn-mono 𝓤 H (W .laws) 𝓣 code.function) (walks 𝓤 H A W mem run (𝓣 .C) (𝓣 .Λ) (fmOf 𝓤 H (W .laws) 𝓣) known-list-key′ known-encode-listed′)
 
 pub zkv-list-key-spec : {M : Type 1} → stated.statement M
 unfolding code.routine tablesOf
@@ -184,5 +184,5 @@ zkv-list-key-spec 𝓤 H 𝓜 𝓖 𝓡 =
     entered 𝓤 H (tripleOf 𝓤 H (𝓖 .A) self.signature (self.spec 𝓤 H (𝓖 .A) (𝓜 .mem) (𝓡 .run)))
     (tables 𝓤 H 𝓜 𝓡 code.env .C) (tables 𝓤 H 𝓜 𝓡 code.env .Λ) #self code.function (code.unfolded 𝓤 H 𝓜 𝓡)
     (meets 𝓤 H (𝓖 .A) (givenOf 𝓤 H 𝓜 𝓖) (𝓜 .mem) (𝓡 .run) (tablesOf 𝓤 H 𝓜 (tables 𝓤 H 𝓜 𝓡 code.env))
-    (cited 𝓤 H (Of-list-key′ 𝓤 H (𝓖 .A) (𝓜 .mem) (𝓡 .run)) 𝓜 𝓡 code.env #list-key′ list-key′-def.routine code.calls-store-read·list-key (list-key′-thm.met 𝓤 H 𝓜 𝓖 𝓡))
-    (cited 𝓤 H (Of-spelt′ 𝓤 H (𝓖 .A) (𝓜 .mem) (𝓡 .run)) 𝓜 𝓡 code.env #spelt′ spelt′-def.routine code.calls-answers·spelt (spelt′-thm.met 𝓤 H 𝓜 𝓖 𝓡)))
+    (cited 𝓤 H (Of-list-key′ 𝓤 H (𝓖 .A) (𝓜 .mem) (𝓡 .run)) 𝓜 𝓡 code.env #list-key′ list-key′-def.routine code.calls-store·list-key (list-key′-thm.met 𝓤 H 𝓜 𝓖 𝓡))
+    (cited 𝓤 H (Of-encode-listed′ 𝓤 H (𝓖 .A) (𝓜 .mem) (𝓡 .run)) 𝓜 𝓡 code.env #encode-listed′ encode-listed′-def.routine code.calls-answers·encode-listed (encode-listed′-thm.met 𝓤 H 𝓜 𝓖 𝓡)))

@@ -12,7 +12,11 @@ sum-at-requires : tie.Need-sum-at-requires
 sum-at-requires c κs = search needs
 
 returns : tie.Need-returns
-returns c = better-none (wordsOf (c .before .before .before .before .before .before .before .args .image .now)) _ _ _ _ _ _ (c .before .before .before .before .sum-at .ensures) refl (λ z. omega arith) (c .if2 .taken)
+returns c =
+    let at-sum-at = c .before .before .before .before in
+    let at-start = at-sum-at .before .before .before in
+    better-none (wordsOf (at-start .args .image .now)) _ _ _ _ _ _ (at-sum-at .sum-at .ensures) refl (λ z. omega arith)
+    (c .if2 .taken)
 
 counted-at-requires : tie.Need-counted-at-requires
 counted-at-requires c κs = search needs
@@ -21,7 +25,11 @@ better-of-requires : tie.Need-better-of-requires
 better-of-requires c κs = search needs
 
 returns-2 : tie.Need-returns-2
-returns-2 c = better-counted (wordsOf (c .before .before .before .before .before .before .before .before .args .image .now)) _ _ _ _ _ _ (c .before .before .before .before .before .sum-at .ensures) refl _ _ (c .before .before .if3 .taken) (c .before .counted-at .ensures) (c .better-of .ensures)
+returns-2 c =
+    let at-sum-at = c .before .before .before .before .before in
+    let at-start = at-sum-at .before .before .before in
+    better-counted (wordsOf (at-start .args .image .now)) _ _ _ _ _ _ (at-sum-at .sum-at .ensures) refl _ _
+    (c .before .before .if3 .taken) (c .before .counted-at .ensures) (c .better-of .ensures)
 
 candidate-at-requires : tie.Need-candidate-at-requires
 candidate-at-requires c κs = search needs
@@ -30,7 +38,11 @@ better-of-requires-2 : tie.Need-better-of-requires-2
 better-of-requires-2 c κs = search needs
 
 returns-3 : tie.Need-returns-3
-returns-3 c = better-weighed (wordsOf (c .before .before .before .before .before .before .before .before .args .image .now)) _ _ _ _ _ _ (c .before .candidate-at .ensures) (c .better-of2 .ensures)
+returns-3 c =
+    let at-sum-at = c .before .before .before .before .before in
+    let at-start = at-sum-at .before .before .before in
+    better-weighed (wordsOf (at-start .args .image .now)) _ _ _ _ _ _ (c .before .candidate-at .ensures)
+    (c .better-of2 .ensures)
 
 pub better-at-spec : {M : Type 1} → statement M
 better-at-spec =

@@ -18,12 +18,12 @@ mul-end c = search needs
 add-end : tie.Need-add-end
 add-end c = search needs
 
-measure-requires : tie.Need-measure-requires
-measure-requires c κs = search needs
+kept-size-requires : tie.Need-kept-size-requires
+kept-size-requires c κs = search needs
 
 returns : tie.Need-returns
-returns c = weighed _ _ _ _ _ _ _ (c .before .lines-of .ensures .0) refl refl (c .measure .ensures)
+returns c = weighed _ _ _ _ _ _ _ (c .before .lines-of .ensures .0) refl refl (c .kept-size .ensures)
 
 pub candidate-at-spec : {M : Type 1} → statement M
 candidate-at-spec =
-    tie.close (tie.spec lines-of-requires mul-at mul-end add-end measure-requires returns)
+    tie.close (tie.spec lines-of-requires mul-at mul-end add-end kept-size-requires returns)

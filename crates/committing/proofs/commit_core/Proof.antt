@@ -19,12 +19,12 @@ returns c = B.plan-refused _ _ _ _ _ _ (c .before .before .before .plan-commit .
 
 returns-2 : tie.Need-returns-2
 returns-2 c =
-    rw (c .before .acting .ensures)
+    rw (c .before .in-phase .ensures)
     (B.plan-begun _ _ _ _ _ _ (c .before .before .before .before .before .plan-commit .ensures) _ _ _ _ _ _ (c .before .before .before .plan2 .given .1))
 
-acting-requires : tie.Need-acting-requires
-acting-requires c κs = search needs
+in-phase-requires : tie.Need-in-phase-requires
+in-phase-requires c κs = search needs
 
 pub commit-core-spec : {M : Type 1} → statement M
 commit-core-spec =
-    tie.close (tie.spec plan-commit-requires enum-known-plan enum-known-plan-2 acting-requires returns returns-2)
+    tie.close (tie.spec plan-commit-requires enum-known-plan enum-known-plan-2 in-phase-requires returns returns-2)

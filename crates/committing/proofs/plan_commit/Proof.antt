@@ -25,14 +25,21 @@ commit-count-requires c κs = search needs
 
 returns-2 : tie.Need-returns-2
 returns-2 c =
-    B.begins _ _ _ _ _ _ (c .before .before .before .before .before .before .before .before .gate .ensures) (c .before .before .before .before .before .before .enum-told .given .1) (c .before .before .before .before .if1 .left) _ (c .before .before .before .commit-place .ensures) (c .before .if2 .taken) _ (c .commit-count .ensures)
+    let at-if1 = c .before .before .before .before in
+    let at-enum-told = at-if1 .before .before in
+    let at-gate = at-enum-told .before .before in
+    B.begins _ _ _ _ _ _ (at-gate .gate .ensures) (at-enum-told .enum-told .given .1) (at-if1 .if1 .left) _
+    (c .before .before .before .commit-place .ensures) (c .before .if2 .taken) _ (c .commit-count .ensures)
 
 returns-3 : tie.Need-returns-3
 returns-3 c = B.gate-refuses _ _ _ _ _ _ (c .before .before .before .gate .ensures) _ (c .before .gated .given .1)
 
 returns-4 : tie.Need-returns-4
 returns-4 c =
-    B.no-space _ _ _ _ _ _ (c .before .before .before .before .before .before .before .gate .ensures) (c .before .before .before .before .before .enum-told .given .1) (c .before .before .before .if1 .left) _ (c .before .before .commit-place .ensures) (c .if2 .left)
+    let at-enum-told = c .before .before .before .before .before in
+    let at-gate = at-enum-told .before .before in
+    B.no-space _ _ _ _ _ _ (at-gate .gate .ensures) (at-enum-told .enum-told .given .1)
+    (c .before .before .before .if1 .left) _ (c .before .before .commit-place .ensures) (c .if2 .left)
 
 pub plan-commit-spec : {M : Type 1} → statement M
 plan-commit-spec =

@@ -17,9 +17,11 @@ agrees-requires c κs = search needs
 
 returns-2 : tie.Need-returns-2
 returns-2 c =
-    let a = c .before .before .before .before .before .args in
+    let at-start = c .before .before .before .before .before in
+    let a = at-start .args in
     let ws = wordsOf (a .image .now) in
-    agreed-compared ws (a .so) (a .e) (a .place) (c .before .before .if1 .left) (c .before .if2 .taken) (c .agrees .result) (c .agrees .ensures)
+    agreed-compared ws (a .so) (a .e) (a .place) (c .before .before .if1 .left) (c .before .if2 .taken)
+    (c .agrees .result) (c .agrees .ensures)
 
 returns-3 : tie.Need-returns-3
 returns-3 c =

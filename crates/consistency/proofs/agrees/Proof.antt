@@ -25,9 +25,12 @@ same-words-requires c κs = search needs
 
 returns : tie.Need-returns
 returns c =
-    let a = c .before .before .before .before .before .args in
+    let at-start = c .before .before .before .before .before in
+    let a = at-start .args in
     let w = c .before .before .before .words-for in
-    shows-agree (wordsOf (a .image .now)) (a .e) (a .place) (c .before .before .lesser .result) (c .before .lesser2 .result) (w .result) _ (c .same-words .result) (sym (length-wordsOf (a .image .now))) (c .before .before .lesser .ensures) (c .before .lesser2 .ensures) (w .ensures .0) (c .same-words .ensures)
+    shows-agree (wordsOf (a .image .now)) (a .e) (a .place) (c .before .before .lesser .result)
+    (c .before .lesser2 .result) (w .result) _ (c .same-words .result) (sym (length-wordsOf (a .image .now)))
+    (c .before .before .lesser .ensures) (c .before .lesser2 .ensures) (w .ensures .0) (c .same-words .ensures)
 
 pub agrees-spec : {M : Type 1} → statement M
 agrees-spec =

@@ -22,7 +22,15 @@ sweep-requires : tie.Need-sweep-requires
 sweep-requires c κs = search needs
 
 returns : tie.Need-returns
-returns c = class-marked _ _ _ _ _ _ _ _ _ _ _ (marks-fit (c .before .before .before .before .before .before .before .before .before .before .args .fits) (c .before .before .before .before .before .before .before .before .before .before .args .single) (c .before .before .before .before .before .before .before .takes-marks .result) (c .before .before .before .before .before .before .before .takes-marks .ensures) (c .before .before .before .before .before .before .if1 .taken)) _ (c .before .before .before .before .mark-twins .ensures) (c .sweep .ensures)
+returns c =
+    let at-mark-twins = c .before .before .before .before in
+    let at-if1 = at-mark-twins .before .before in
+    let at-takes-marks = at-if1 .before in
+    let at-start = at-takes-marks .before .before .before in
+    class-marked _ _ _ _ _ _ _ _ _ _ _
+    (marks-fit (at-start .args .fits) (at-start .args .single) (at-takes-marks .takes-marks .result)
+    (at-takes-marks .takes-marks .ensures) (at-if1 .if1 .taken)) _ (at-mark-twins .mark-twins .ensures)
+    (c .sweep .ensures)
 
 sub-sweep : tie.Need-sub-sweep
 sub-sweep c = search needs

@@ -34,7 +34,10 @@ is-enough-requires : tie.Need-is-enough-requires Inv-loop μ-loop
 is-enough-requires c κs = search needs
 
 slice-aggregate-check-class : tie.Need-slice-aggregate-check-class Inv-loop μ-loop
-slice-aggregate-check-class c = sym (c .before .before .before .before .collect .ensures .sized ∙ c .before .before .before .before .before .before .before .before .loop .inv .0)
+slice-aggregate-check-class c =
+    let at-collect = c .before .before .before .before in
+    let at-loop = at-collect .before .before .before .before in
+    sym (at-collect .collect .ensures .sized ∙ at-loop .loop .inv .0)
 
 check-class-requires : tie.Need-check-class-requires Inv-loop μ-loop
 check-class-requires c κs = search needs
@@ -44,34 +47,56 @@ next-width-requires c κs = search needs
 
 loop-less : tie.Need-loop-less Inv-loop μ-loop
 loop-less c =
-    let i = c .before .before .before .before .before .before .before .before .before .before .before .before .loop .inv in
-    let h = c .before .before .before .before .before .before .before .before .before .before .range-end .ensures in
+    let at-is-enough = c .before .before .before .before .before .before in
+    let at-range-end = at-is-enough .before .before .before .before in
+    let at-loop = at-range-end .before .before in
+    let i = at-loop .loop .inv in
+    let h = at-range-end .range-end .ensures in
     let w = c .next-width .ensures in
     omega arith
 
 loop-again : tie.Need-loop-again Inv-loop μ-loop
 loop-again c =
-    let i = c .before .before .before .before .before .before .before .before .before .before .before .before .loop .inv in
-    let h = c .before .before .before .before .before .before .before .before .before .before .range-end .ensures in
-    let w = c .next-width .ensures in
-    (c .before .before .before .before .before .before .before .before .collect .ensures .sized ∙ i .0, h .1, w .0, w .1, done-next _ _ _ _ _ _ (i .4) _ (omega arith) _ _ _ _ (c .before .before .before .before .before .before .before .before .collect .ensures) _ (c .before .before .check-class .result) (c .before .before .check-class .ensures) (c .before .if2 .taken))
+    let at-is-enough = c .before .before .before .before .before .before in
+    let at-collect = at-is-enough .before .before in
+    let at-range-end = at-collect .before .before in
+    let at-loop = at-range-end .before .before in
+    let i = at-loop .loop .inv in
+    let h = at-range-end .range-end .ensures in
+    let w = c .next-width .ensures in (
+      at-collect .collect .ensures .sized ∙ i .0,
+      h .1,
+      w .0,
+      w .1,
+      done-next _ _ _ _ _ _ (i .4) _ (omega arith) _ _ _ _
+          (at-collect .collect .ensures) _ (c .before .before .check-class .result) (c .before .before .check-class .ensures)
+          (c .before .if2 .taken),
+    )
 
 returns : tie.Need-returns Inv-loop μ-loop
 returns c =
-    let i = c .before .before .before .before .before .before .before .before .before .before .before .loop .inv in
-    let h = c .before .before .before .before .before .before .before .before .before .range-end .ensures in
-    done-wrong _ _ _ _ _ _ (i .4) _ (omega arith) _ _ _ _ (c .before .before .before .before .before .before .before .collect .ensures) _ (c .before .check-class .result) (c .before .check-class .ensures) (c .if2 .left)
+    let at-collect = c .before .before .before .before .before .before .before in
+    let at-range-end = at-collect .before .before in
+    let at-loop = at-range-end .before .before in
+    let i = at-loop .loop .inv in
+    let h = at-range-end .range-end .ensures in
+    done-wrong _ _ _ _ _ _ (i .4) _ (omega arith) _ _ _ _ (at-collect .collect .ensures) _
+    (c .before .check-class .result) (c .before .check-class .ensures) (c .if2 .left)
 
 loop-less-2 : tie.Need-loop-less-2 Inv-loop μ-loop
 loop-less-2 c =
-    let i = c .before .before .before .before .before .before .before .loop .inv in
-    let w = wide-enough (c .before .before .before .collect .result .fits) (c .before .before .before .before .before .before .before .loop .width) (sym (c .before .is-enough .ensures) ∙ c .if1 .left) in
+    let at-loop = c .before .before .before .before .before .before .before in
+    let i = at-loop .loop .inv in
+    let w = wide-enough (c .before .before .before .collect .result .fits) (at-loop .loop .width)
+    (sym (c .before .is-enough .ensures) ∙ c .if1 .left) in
     omega arith
 
 loop-again-2 : tie.Need-loop-again-2 Inv-loop μ-loop
 loop-again-2 c =
-    let i = c .before .before .before .before .before .before .before .loop .inv in
-    let w = wide-enough (c .before .before .before .collect .result .fits) (c .before .before .before .before .before .before .before .loop .width) (sym (c .before .is-enough .ensures) ∙ c .if1 .left) in
+    let at-loop = c .before .before .before .before .before .before .before in
+    let i = at-loop .loop .inv in
+    let w = wide-enough (c .before .before .before .collect .result .fits) (at-loop .loop .width)
+    (sym (c .before .is-enough .ensures) ∙ c .if1 .left) in
     (c .before .before .before .collect .ensures .sized ∙ i .0, i .1, omega arith, omega arith, i .4)
 
 returns-2 : tie.Need-returns-2 Inv-loop μ-loop

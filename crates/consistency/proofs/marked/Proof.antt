@@ -18,16 +18,25 @@ has-bit-requires c κs = search needs
 
 returns-2 : tie.Need-returns-2
 returns-2 c =
-    let a = c .before .before .before .before .before .before .before .args in
-    marked-seen (a .apart) (a .e) (a .place) (a .buffer .now) (omega arith) (sym (c .before .before .before .before .points .ensures) ∙ c .before .before .before .if2 .taken) (sym (c .before .has-bit .ensures) ∙ c .if3 .taken)
+    let at-points = c .before .before .before .before in
+    let at-start = at-points .before .before .before in
+    let a = at-start .args in
+    marked-seen (a .apart) (a .e) (a .place) (a .buffer .now) (omega arith)
+    (sym (at-points .points .ensures) ∙ c .before .before .before .if2 .taken)
+    (sym (c .before .has-bit .ensures) ∙ c .if3 .taken)
 
 set-bit-requires : tie.Need-set-bit-requires
 set-bit-requires c κs = search needs
 
 returns-3 : tie.Need-returns-3
 returns-3 c =
-    let a = c .before .before .before .before .before .before .before .before .before .args in
-    marked-new (a .apart) (a .e) (a .place) (a .buffer .now) (omega arith) (sym (c .before .before .before .before .before .before .points .ensures) ∙ c .before .before .before .before .before .if2 .taken) (sym (c .before .before .before .has-bit .ensures) ∙ c .before .before .if3 .left) _ (c .set-bit .ensures)
+    let at-if2 = c .before .before .before .before .before in
+    let at-points = at-if2 .before in
+    let at-start = at-points .before .before .before in
+    let a = at-start .args in
+    marked-new (a .apart) (a .e) (a .place) (a .buffer .now) (omega arith)
+    (sym (at-points .points .ensures) ∙ at-if2 .if2 .taken)
+    (sym (c .before .before .before .has-bit .ensures) ∙ c .before .before .if3 .left) _ (c .set-bit .ensures)
 
 returns-4 : tie.Need-returns-4
 returns-4 c = let a = c .before .before .before .before .args in marked-none (a .apart) (a .e) (a .place) (a .buffer .now) (sym (c .before .points .ensures) ∙ c .if2 .left)

@@ -37,11 +37,15 @@ load-requires-2 c κs = search needs
 
 returns : tie.Need-returns Inv-loop μ-loop
 returns c =
-    let a = c .before .before .before .before .before .before .args in
+    let at-loop = c .before .before .before .before in
+    let at-start = at-loop .before .before in
+    let a = at-start .args in
     let ws = wordsOf (a .image .now) in
-    let i = c .before .before .before .before .loop .i in
+    let i = at-loop .loop .i in
     let l : i < a .n = omega arith in
-    sym (c .before .before .before .before .loop .inv .1 ∙ same-not ws (a .a) (a .b) (a .n) i l (c .before .before .load .result) (c .before .load2 .result) (c .before .before .load .ensures) (c .before .load2 .ensures) (c .if1 .taken))
+    sym
+    (at-loop .loop .inv .1 ∙ same-not ws (a .a) (a .b) (a .n) i l (c .before .before .load .result)
+    (c .before .load2 .result) (c .before .before .load .ensures) (c .before .load2 .ensures) (c .if1 .taken))
 
 add-i : tie.Need-add-i Inv-loop μ-loop
 add-i c = search needs
@@ -51,11 +55,16 @@ loop-less c = search needs
 
 loop-again : tie.Need-loop-again Inv-loop μ-loop
 loop-again c =
-    let a = c .before .before .before .before .before .before .args in
+    let at-loop = c .before .before .before .before in
+    let at-start = at-loop .before .before in
+    let a = at-start .args in
     let ws = wordsOf (a .image .now) in
-    let i = c .before .before .before .before .loop .i in
-    let l : i < a .n = omega arith in
-    (omega arith, c .before .before .before .before .loop .inv .1 ∙ same-next ws (a .a) (a .b) (a .n) i l (c .before .before .load .result) (c .before .load2 .result) (c .before .before .load .ensures) (c .before .load2 .ensures) (c .if1 .left))
+    let i = at-loop .loop .i in
+    let l : i < a .n = omega arith in (
+      omega arith,
+      at-loop .loop .inv .1 ∙ same-next ws (a .a) (a .b) (a .n) i l (c .before .before .load .result)
+          (c .before .load2 .result) (c .before .before .load .ensures) (c .before .load2 .ensures) (c .if1 .left),
+    )
 
 returns-2 : tie.Need-returns-2 Inv-loop μ-loop
 returns-2 c =

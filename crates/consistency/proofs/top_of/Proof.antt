@@ -6,17 +6,19 @@ use borrow.Author.Needs.{needs}
 use Rattle.consistency.proofs.top_of.Statement.{statement}
 use Rattle.consistency.proofs.top_of.Tie as tie
 
-look-requires : tie.Need-look-requires
-look-requires c κs = search needs
+get-requires : tie.Need-get-requires
+get-requires c κs = search needs
 
 unpack-requires : tie.Need-unpack-requires
 unpack-requires c κs = search needs
 
 returns : tie.Need-returns
 returns c =
-    let a = c .before .before .before .before .before .args in
+    let at-start = c .before .before .before .before .before in
+    let a = at-start .args in
     let ws = wordsOf (a .image .now) in
-    shows-table (a .count) ws (a .table .now) (a .fits) (a .key) (c .before .before .if1 .taken) (c .before .look .result) (c .unpack .result) (c .before .look .ensures) (c .unpack .ensures)
+    shows-table (a .count) ws (a .table .now) (a .fits) (a .key) (c .before .before .if1 .taken)
+    (c .before .get .result) (c .unpack .result) (c .before .get .ensures) (c .unpack .ensures)
 
 best-of-requires : tie.Need-best-of-requires
 best-of-requires c κs = search needs
@@ -28,4 +30,4 @@ returns-2 c =
     shows-scan (a .count) ws (a .table .now) (a .fits) (a .key) (c .best-of .result) (c .best-of .ensures)
 
 pub top-of-spec : {M : Type 1} → statement M
-top-of-spec = tie.close (tie.spec look-requires unpack-requires returns best-of-requires returns-2)
+top-of-spec = tie.close (tie.spec get-requires unpack-requires returns best-of-requires returns-2)

@@ -16,8 +16,13 @@ top-of-requires c κs = search needs
 
 returns : tie.Need-returns
 returns c =
-    let a = c .before .before .before .before .before .before .before .before .args in
-    visited-below (a .count) (wordsOf (a .image .now)) (a .table .now) (a .fits) (a .low) (a .high) (a .e) (sym (c .before .before .before .before .before .is-within .ensures) ∙ c .before .before .before .before .if1 .taken) (c .before .before .before .top-of .result) (c .before .before .before .top-of .ensures) (a .s) (a .buffer .now) (omega arith)
+    let at-if1 = c .before .before .before .before in
+    let at-is-within = at-if1 .before in
+    let at-start = at-is-within .before .before .before in
+    let a = at-start .args in
+    visited-below (a .count) (wordsOf (a .image .now)) (a .table .now) (a .fits) (a .low) (a .high) (a .e)
+    (sym (at-is-within .is-within .ensures) ∙ at-if1 .if1 .taken) (c .before .before .before .top-of .result)
+    (c .before .before .before .top-of .ensures) (a .s) (a .buffer .now) (omega arith)
 
 block-fine-requires : tie.Need-block-fine-requires
 block-fine-requires c κs = search needs
@@ -30,14 +35,29 @@ marked-requires c κs = search needs
 
 returns-2 : tie.Need-returns-2
 returns-2 c =
-    let a = c .before .before .before .before .before .before .before .before .before .before .before .before .before .args in
-    visited-top (a .count) (wordsOf (a .image .now)) (a .table .now) (a .fits) (a .low) (a .high) (a .e) (sym (c .before .before .before .before .before .before .before .before .before .before .is-within .ensures) ∙ c .before .before .before .before .before .before .before .before .before .if1 .taken) (c .before .before .before .before .before .before .before .before .top-of .result) (c .before .before .before .before .before .before .before .before .top-of .ensures) (a .s) (a .buffer .now) (omega arith)
-    (sym (c .before .before .before .before .block-fine .ensures) ∙ c .before .before .before .if3 .taken) (c .before .before .agreed .result) (c .marked .result) _ (c .before .before .agreed .ensures) (c .marked .ensures)
+    let at-block-fine = c .before .before .before .before in
+    let at-top-of = at-block-fine .before .before .before .before in
+    let at-if1 = at-top-of .before in
+    let at-is-within = at-if1 .before in
+    let at-start = at-is-within .before .before .before in
+    let a = at-start .args in
+    visited-top (a .count) (wordsOf (a .image .now)) (a .table .now) (a .fits) (a .low) (a .high) (a .e)
+    (sym (at-is-within .is-within .ensures) ∙ at-if1 .if1 .taken) (at-top-of .top-of .result)
+    (at-top-of .top-of .ensures) (a .s) (a .buffer .now) (omega arith)
+    (sym (at-block-fine .block-fine .ensures) ∙ c .before .before .before .if3 .taken)
+    (c .before .before .agreed .result) (c .marked .result) _ (c .before .before .agreed .ensures) (c .marked .ensures)
 
 returns-3 : tie.Need-returns-3
 returns-3 c =
-    let a = c .before .before .before .before .before .before .before .before .before .before .args in
-    visited-wrong (a .count) (wordsOf (a .image .now)) (a .table .now) (a .fits) (a .low) (a .high) (a .e) (sym (c .before .before .before .before .before .before .before .is-within .ensures) ∙ c .before .before .before .before .before .before .if1 .taken) (c .before .before .before .before .before .top-of .result) (c .before .before .before .before .before .top-of .ensures) (a .s) (a .buffer .now) (omega arith) (sym (c .before .block-fine .ensures) ∙ c .if3 .left)
+    let at-top-of = c .before .before .before .before .before in
+    let at-if1 = at-top-of .before in
+    let at-is-within = at-if1 .before in
+    let at-start = at-is-within .before .before .before in
+    let a = at-start .args in
+    visited-wrong (a .count) (wordsOf (a .image .now)) (a .table .now) (a .fits) (a .low) (a .high) (a .e)
+    (sym (at-is-within .is-within .ensures) ∙ at-if1 .if1 .taken) (at-top-of .top-of .result)
+    (at-top-of .top-of .ensures) (a .s) (a .buffer .now) (omega arith)
+    (sym (c .before .block-fine .ensures) ∙ c .if3 .left)
 
 returns-4 : tie.Need-returns-4
 returns-4 c =

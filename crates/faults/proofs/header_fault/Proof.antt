@@ -53,7 +53,34 @@ first-failing-requires c κs = search needs
 
 returns : tie.Need-returns
 unfolding headerFault
-returns c = c .first-failing .ensures ∙ rw (c .before .before .before .before .before .before .before .before .before .before .before .before .before .is-map .ensures, c .before .before .before .before .before .before .before .before .before .before .before .is-count .ensures, c .before .before .before .before .before .before .before .before .before .first-right .ensures, c .before .before .before .before .before .before .before .second-right .ensures, c .before .before .before .before .before .is-zero .ensures, c .before .before .before .is-zero2 .ensures, c .before .is-zero3 .ensures, c .before .before .before .before .before .before .before .before .before .before .before .before .before .before .load .ensures, c .before .before .before .before .before .before .before .before .before .before .before .before .load2 .ensures, c .before .before .before .before .before .before .before .before .before .before .load3 .ensures, c .before .before .before .before .before .before .before .before .load4 .ensures, c .before .before .before .before .before .before .load5 .ensures, c .before .before .before .before .load6 .ensures, c .before .before .load7 .ensures)
+returns c =
+    let at-load6 = c .before .before .before .before in
+    let at-is-zero = at-load6 .before in
+    let at-load5 = at-is-zero .before in
+    let at-second-right = at-load5 .before in
+    let at-load4 = at-second-right .before in
+    let at-first-right = at-load4 .before in
+    let at-load3 = at-first-right .before in
+    let at-is-count = at-load3 .before in
+    let at-load2 = at-is-count .before in
+    let at-is-map = at-load2 .before in
+    let at-load = at-is-map .before in
+    c .first-failing .ensures ∙ rw (
+      at-is-map .is-map .ensures,
+      at-is-count .is-count .ensures,
+      at-first-right .first-right .ensures,
+      at-second-right .second-right .ensures,
+      at-is-zero .is-zero .ensures,
+      c .before .before .before .is-zero2 .ensures,
+      c .before .is-zero3 .ensures,
+      at-load .load .ensures,
+      at-load2 .load2 .ensures,
+      at-load3 .load3 .ensures,
+      at-load4 .load4 .ensures,
+      at-load5 .load5 .ensures,
+      at-load6 .load6 .ensures,
+      c .before .before .load7 .ensures,
+    )
 
 pub header-fault-spec : {M : Type 1} → statement M
 header-fault-spec =

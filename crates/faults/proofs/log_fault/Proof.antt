@@ -24,7 +24,10 @@ spot-fault-requires : tie.Need-spot-fault-requires
 spot-fault-requires c κs = search needs
 
 returns : tie.Need-returns
-returns c = stops-at (c .before .before .before .before .before .args .count) (wordsOf (c .before .before .before .before .before .args .image .now)) _ _ (sym (c .before .before .before .read-log .ensures) ∙ c .before .stop .given .1)
+returns c =
+    let at-start = c .before .before .before .before .before in
+    stops-at (at-start .args .count) (wordsOf (at-start .args .image .now)) _ _
+    (sym (c .before .before .before .read-log .ensures) ∙ c .before .stop .given .1)
 
 returns-2 : tie.Need-returns-2
 returns-2 c =

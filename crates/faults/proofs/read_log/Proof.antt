@@ -32,7 +32,13 @@ add-if1 : tie.Need-add-if1 Inv-loop μ-loop
 add-if1 c = omega arith
 
 returns : tie.Need-returns Inv-loop μ-loop
-returns c = sym (c .before .before .before .before .loop .inv .0 ∙ stops-not (c .before .before .before .before .before .before .args .count) (wordsOf (c .before .before .before .before .before .before .args .image .now)) (c .before .before .before .before .loop .before) (c .before .before .before .before .loop .chunk) (c .before .before .before .before .loop .at) (c .before .before .before .before .loop .end) (sym (c .before .before .before .next-entry .ensures) ∙ c .before .enum-told .given .1) (omega arith))
+returns c =
+    let at-loop = c .before .before .before .before in
+    let at-start = at-loop .before .before in
+    sym
+    (at-loop .loop .inv .0 ∙ stops-not (at-start .args .count) (wordsOf (at-start .args .image .now))
+    (at-loop .loop .before) (at-loop .loop .chunk) (at-loop .loop .at) (at-loop .loop .end)
+    (sym (c .before .before .before .next-entry .ensures) ∙ c .before .enum-told .given .1) (omega arith))
 
 add-chunk : tie.Need-add-chunk Inv-loop μ-loop
 add-chunk c = omega arith
@@ -53,25 +59,59 @@ loop-less : tie.Need-loop-less Inv-loop μ-loop
 loop-less c = omega arith
 
 loop-again : tie.Need-loop-again Inv-loop μ-loop
-loop-again c = (c .before .before .before .before .before .loop .inv .0 ∙ goes-chunk (c .before .before .before .before .before .before .before .args .count) (wordsOf (c .before .before .before .before .before .before .before .args .image .now)) (c .before .before .before .before .before .loop .before) (c .before .before .before .before .before .loop .chunk) (c .before .before .before .before .before .loop .at) (c .before .before .before .before .before .loop .end) _ (sym (c .before .before .before .before .next-entry .ensures) ∙ c .before .before .enum-told .given .1) (omega arith) (c .lines-of .ensures .0), omega arith, omega arith)
+loop-again c =
+    let at-next-entry = c .before .before .before .before in
+    let at-loop = at-next-entry .before in
+    let at-start = at-loop .before .before in (
+      at-loop .loop .inv .0 ∙ goes-chunk (at-start .args .count) (wordsOf (at-start .args .image .now))
+          (at-loop .loop .before) (at-loop .loop .chunk) (at-loop .loop .at) (at-loop .loop .end) _
+          (sym (at-next-entry .next-entry .ensures) ∙ c .before .before .enum-told .given .1) (omega arith)
+          (c .lines-of .ensures .0),
+      omega arith,
+      omega arith,
+    )
 
 enum-told-2 : tie.Need-enum-told-2 Inv-loop μ-loop
 enum-told-2 c = search needs
 
 returns-2 : tie.Need-returns-2 Inv-loop μ-loop
-returns-2 c = sym (c .before .before .before .loop .inv .0 ∙ stops-here (c .before .before .before .before .before .args .count) (wordsOf (c .before .before .before .before .before .args .image .now)) (c .before .before .before .loop .before) (c .before .before .before .loop .chunk) (c .before .before .before .loop .at) (c .before .before .before .loop .end) (sym (c .before .before .next-entry .ensures) ∙ c .enum-told2 .given .1))
+returns-2 c =
+    let at-loop = c .before .before .before in
+    let at-start = at-loop .before .before in
+    sym
+    (at-loop .loop .inv .0 ∙ stops-here (at-start .args .count) (wordsOf (at-start .args .image .now))
+    (at-loop .loop .before) (at-loop .loop .chunk) (at-loop .loop .at) (at-loop .loop .end)
+    (sym (c .before .before .next-entry .ensures) ∙ c .enum-told2 .given .1))
 
 enum-told-3 : tie.Need-enum-told-3 Inv-loop μ-loop
 enum-told-3 c = search needs
 
 add-at : tie.Need-add-at Inv-loop μ-loop
-add-at c = let r = room-padding (wordsOf (c .before .before .before .before .before .args .image .now)) (c .before .before .before .loop .at) (c .before .before .before .loop .end) (sym (c .before .before .next-entry .ensures) ∙ c .enum-told3 .given .1) in let n = length-wordsOf (c .before .before .before .before .before .args .image .now) in omega arith
+add-at c =
+    let at-start = c .before .before .before .before .before in
+    let r = room-padding (wordsOf (at-start .args .image .now)) (c .before .before .before .loop .at)
+    (c .before .before .before .loop .end) (sym (c .before .before .next-entry .ensures) ∙ c .enum-told3 .given .1) in
+    let n = length-wordsOf (at-start .args .image .now) in omega arith
 
 loop-less-2 : tie.Need-loop-less-2 Inv-loop μ-loop
-loop-less-2 c = let r = room-padding (wordsOf (c .before .before .before .before .before .args .image .now)) (c .before .before .before .loop .at) (c .before .before .before .loop .end) (sym (c .before .before .next-entry .ensures) ∙ c .enum-told3 .given .1) in omega arith
+loop-less-2 c =
+    let at-start = c .before .before .before .before .before in
+    let r = room-padding (wordsOf (at-start .args .image .now)) (c .before .before .before .loop .at)
+    (c .before .before .before .loop .end) (sym (c .before .before .next-entry .ensures) ∙ c .enum-told3 .given .1) in
+    omega arith
 
 loop-again-2 : tie.Need-loop-again-2 Inv-loop μ-loop
-loop-again-2 c = let r = room-padding (wordsOf (c .before .before .before .before .before .args .image .now)) (c .before .before .before .loop .at) (c .before .before .before .loop .end) (sym (c .before .before .next-entry .ensures) ∙ c .enum-told3 .given .1) in (c .before .before .before .loop .inv .0 ∙ goes-padding (c .before .before .before .before .before .args .count) (wordsOf (c .before .before .before .before .before .args .image .now)) (c .before .before .before .loop .before) (c .before .before .before .loop .chunk) (c .before .before .before .loop .at) (c .before .before .before .loop .end) (sym (c .before .before .next-entry .ensures) ∙ c .enum-told3 .given .1), omega arith, omega arith)
+loop-again-2 c =
+    let at-loop = c .before .before .before in
+    let at-start = at-loop .before .before in
+    let r = room-padding (wordsOf (at-start .args .image .now)) (at-loop .loop .at) (at-loop .loop .end)
+    (sym (c .before .before .next-entry .ensures) ∙ c .enum-told3 .given .1) in (
+      at-loop .loop .inv .0 ∙ goes-padding (at-start .args .count) (wordsOf (at-start .args .image .now))
+          (at-loop .loop .before) (at-loop .loop .chunk) (at-loop .loop .at) (at-loop .loop .end)
+          (sym (c .before .before .next-entry .ensures) ∙ c .enum-told3 .given .1),
+      omega arith,
+      omega arith,
+    )
 
 enum-known-s : tie.Need-enum-known-s Inv-loop μ-loop
 enum-known-s c = search needs
@@ -80,16 +120,46 @@ add-before : tie.Need-add-before Inv-loop μ-loop
 add-before c = omega arith
 
 add-at-2 : tie.Need-add-at-2 Inv-loop μ-loop
-add-at-2 c = let r = room-entry (wordsOf (c .before .before .before .before .before .before .args .image .now)) (c .before .before .before .before .loop .at) (c .before .before .before .before .loop .end) _ _ _ _ _ (c .before .s .given .0 .1 .1 .1 .1 .1 .0) (sym (c .before .before .before .next-entry .ensures) ∙ c .before .s .given .1) in let n = length-wordsOf (c .before .before .before .before .before .before .args .image .now) in omega arith
+add-at-2 c =
+    let at-loop = c .before .before .before .before in
+    let at-start = at-loop .before .before in
+    let r = room-entry (wordsOf (at-start .args .image .now)) (at-loop .loop .at) (at-loop .loop .end) _ _ _ _ _
+    (c .before .s .given .0 .1 .1 .1 .1 .1 .0)
+    (sym (c .before .before .before .next-entry .ensures) ∙ c .before .s .given .1) in
+    let n = length-wordsOf (at-start .args .image .now) in omega arith
 
 add-at-3 : tie.Need-add-at-3 Inv-loop μ-loop
-add-at-3 c = let r = room-entry (wordsOf (c .before .before .before .before .before .before .args .image .now)) (c .before .before .before .before .loop .at) (c .before .before .before .before .loop .end) _ _ _ _ _ (c .before .s .given .0 .1 .1 .1 .1 .1 .0) (sym (c .before .before .before .next-entry .ensures) ∙ c .before .s .given .1) in let n = length-wordsOf (c .before .before .before .before .before .before .args .image .now) in omega arith
+add-at-3 c =
+    let at-loop = c .before .before .before .before in
+    let at-start = at-loop .before .before in
+    let r = room-entry (wordsOf (at-start .args .image .now)) (at-loop .loop .at) (at-loop .loop .end) _ _ _ _ _
+    (c .before .s .given .0 .1 .1 .1 .1 .1 .0)
+    (sym (c .before .before .before .next-entry .ensures) ∙ c .before .s .given .1) in
+    let n = length-wordsOf (at-start .args .image .now) in omega arith
 
 loop-less-3 : tie.Need-loop-less-3 Inv-loop μ-loop
-loop-less-3 c = let r = room-entry (wordsOf (c .before .before .before .before .before .before .args .image .now)) (c .before .before .before .before .loop .at) (c .before .before .before .before .loop .end) _ _ _ _ _ (c .before .s .given .0 .1 .1 .1 .1 .1 .0) (sym (c .before .before .before .next-entry .ensures) ∙ c .before .s .given .1) in omega arith
+loop-less-3 c =
+    let at-loop = c .before .before .before .before in
+    let at-start = at-loop .before .before in
+    let r = room-entry (wordsOf (at-start .args .image .now)) (at-loop .loop .at) (at-loop .loop .end) _ _ _ _ _
+    (c .before .s .given .0 .1 .1 .1 .1 .1 .0)
+    (sym (c .before .before .before .next-entry .ensures) ∙ c .before .s .given .1) in
+    omega arith
 
 loop-again-3 : tie.Need-loop-again-3 Inv-loop μ-loop
-loop-again-3 c = let r = room-entry (wordsOf (c .before .before .before .before .before .before .args .image .now)) (c .before .before .before .before .loop .at) (c .before .before .before .before .loop .end) _ _ _ _ _ (c .before .s .given .0 .1 .1 .1 .1 .1 .0) (sym (c .before .before .before .next-entry .ensures) ∙ c .before .s .given .1) in (c .before .before .before .before .loop .inv .0 ∙ goes-entry (c .before .before .before .before .before .before .args .count) (wordsOf (c .before .before .before .before .before .before .args .image .now)) (c .before .before .before .before .loop .before) (c .before .before .before .before .loop .chunk) (c .before .before .before .before .loop .at) (c .before .before .before .before .loop .end) _ _ _ _ _ (c .before .s .given .0 .1 .1 .1 .1 .1 .0) (sym (c .before .before .before .next-entry .ensures) ∙ c .before .s .given .1), omega arith, omega arith)
+loop-again-3 c =
+    let at-loop = c .before .before .before .before in
+    let at-start = at-loop .before .before in
+    let r = room-entry (wordsOf (at-start .args .image .now)) (at-loop .loop .at) (at-loop .loop .end) _ _ _ _ _
+    (c .before .s .given .0 .1 .1 .1 .1 .1 .0)
+    (sym (c .before .before .before .next-entry .ensures) ∙ c .before .s .given .1) in (
+      at-loop .loop .inv .0 ∙ goes-entry (at-start .args .count) (wordsOf (at-start .args .image .now))
+          (at-loop .loop .before) (at-loop .loop .chunk) (at-loop .loop .at) (at-loop .loop .end) _ _ _ _ _
+          (c .before .s .given .0 .1 .1 .1 .1 .1 .0)
+          (sym (c .before .before .before .next-entry .ensures) ∙ c .before .s .given .1),
+      omega arith,
+      omega arith,
+    )
 
 pub read-log-spec : {M : Type 1} → statement M
 read-log-spec =

@@ -30,15 +30,23 @@ number-in-requires-2 c κs = search needs
 formatting-requires : tie.Need-formatting-requires
 formatting-requires c κs = search needs
 
-told-requires : tie.Need-told-requires
-told-requires c κs = search needs
+format-setup-requires : tie.Need-format-setup-requires
+format-setup-requires c κs = search needs
 
 returns-2 : tie.Need-returns-2
 returns-2 c =
-    format-begun _ _ _ _ _ _ _ _ _ _ _ _ _ (c .before .before .before .before .before .formatting-phase .ensures) (c .before .before .before .header-map .ensures) (c .before .before .number-in .ensures) (c .before .number-in2 .ensures)
-    (c .before .before .before .before .formatting .ensures) (c .told .ensures)
-    (sym (c .before .before .before .before .before .before .before .before .before .length-allowed .ensures) ∙ c .before .before .before .before .before .before .before .before .if1 .taken)
-    (sym (c .before .before .before .before .before .before .before .is-unfinished .ensures) ∙ c .before .before .before .before .before .before .if2 .left)
+    let at-formatting = c .before .before .before .before in
+    let at-formatting-phase = at-formatting .before in
+    let at-if2 = at-formatting-phase .before in
+    let at-is-unfinished = at-if2 .before in
+    let at-if1 = at-is-unfinished .before in
+    let at-length-allowed = at-if1 .before in
+    format-begun _ _ _ _ _ _ _ _ _ _ _ _ _ (at-formatting-phase .formatting-phase .ensures)
+    (c .before .before .before .header-map .ensures) (c .before .before .number-in .ensures)
+    (c .before .number-in2 .ensures)
+    (at-formatting .formatting .ensures) (c .format-setup .ensures)
+    (sym (at-length-allowed .length-allowed .ensures) ∙ at-if1 .if1 .taken)
+    (sym (at-is-unfinished .is-unfinished .ensures) ∙ at-if2 .if2 .left)
 
 returns-3 : tie.Need-returns-3
 returns-3 c = format-length _ _ _ _ _ _ _ (sym (c .before .length-allowed .ensures) ∙ c .if1 .left)
@@ -55,6 +63,6 @@ format-core-spec =
     header-map-requires
     number-in-requires
     number-in-requires-2
-    told-requires
+    format-setup-requires
     returns-2
     returns-3)

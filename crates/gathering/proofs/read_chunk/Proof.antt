@@ -48,9 +48,11 @@ add-copy c =
 
 shared-slice-read-copy : tie.Need-shared-slice-read-copy Inv-loop μ-loop
 shared-slice-read-copy c =
-    let e = c .before .before .before .before .before .lesser .ensures in
+    let at-if1 = c .before .before .before .before in
+    let at-lesser = at-if1 .before in
+    let e = at-lesser .lesser .ensures in
     let f = c .before .before .before .lesser2 .ensures in
-    let s = c .before .before .before .before .if1 .left in
+    let s = at-if1 .if1 .left in
     omega arith
 
 element-write-copy : tie.Need-element-write-copy Inv-loop μ-loop

@@ -4,6 +4,7 @@ use mathlib.Core.Path.{refl}
 use Prim.Native.Nat.{_-_, _≤_}
 use native.Mathlib.Omega.{arith}
 use native.Mathlib.Nat.{zero-add}
+use Rattle.buffer.specs.Areas.{secondStart, bufferWords}
 use Rattle.gathering.specs.Gathering.{Copied}
 use Rattle.gathering.proofs.Words.{copied-start, copied-next, copied-end}
 use borrow.Author.Needs.{needs}
@@ -11,7 +12,7 @@ use Rattle.gathering.proofs.store_kept.Statement.{statement}
 use Rattle.gathering.proofs.store_kept.Tie as tie
 
 abbrev Inv-loop : tie.InvT-loop
-Inv-loop buffer₀ kept n i₀ buffer i = (i ≤ n) × Copied kept buffer₀ buffer 0 512 i
+Inv-loop buffer₀ kept n i₀ buffer i = (i ≤ n) × Copied kept buffer₀ buffer 0 secondStart i
 
 abbrev μ-loop : tie.MeasureT-loop
 μ-loop buffer₀ kept n i₀ buffer i = n - i
@@ -47,7 +48,7 @@ loop-less : tie.Need-loop-less Inv-loop μ-loop
 loop-less c = omega arith
 
 loop-again : tie.Need-loop-again Inv-loop μ-loop
-loop-again c = (omega arith, copied-next 1664 _ _ _ _ _ _ _ _ (c .before .before .before .before .buffer-length .ensures .1) (omega arith) (c .before .before .loop .inv .1) (rw zero-add refl) refl)
+loop-again c = (omega arith, copied-next bufferWords _ _ _ _ _ _ _ _ (c .before .before .before .before .buffer-length .ensures .1) (omega arith) (c .before .before .loop .inv .1) (rw zero-add refl) refl)
 
 returns : tie.Need-returns Inv-loop μ-loop
 returns c = copied-end _ _ _ _ _ _ _ (omega arith) (c .before .loop .inv .1)

@@ -29,7 +29,12 @@ add-t17 : tie.Need-add-t17
 add-t17 c = let f = c .before .before .before .has-room .ensures .fits (c .before .before .if2 .taken) in let x = f .0 in let y = f .1 in let z = f .2 in omega arith
 
 returns : tie.Need-returns
-returns c = rw (c .before .before .before .before .if1 .taken) (take-kept _ _ _ _ _ (c .before .before .before .before .before .kept-length .ensures .1) _ _ refl refl (rw (c .before .before .if2 .taken) at (c .before .before .before .has-room .ensures)) _ (c .copy-words .ensures))
+returns c =
+    let at-if1 = c .before .before .before .before in
+    let at-kept-length = at-if1 .before in
+    rw (at-if1 .if1 .taken)
+    (take-kept _ _ _ _ _ (at-kept-length .kept-length .ensures .1) _ _ refl refl
+    (rw (c .before .before .if2 .taken) at (c .before .before .before .has-room .ensures)) _ (c .copy-words .ensures))
 
 returns-2 : tie.Need-returns-2
 returns-2 c = rw (c .before .before .if1 .taken) (take-full _ _ _ _ _ (c .before .before .before .kept-length .ensures .1) _ _ refl refl (rw (c .if2 .left) at (c .before .has-room .ensures)))

@@ -26,7 +26,9 @@ loop-holds : tie.Need-loop-holds Inv-loop μ-loop
 loop-holds c = collects-start _ _ _ _ _ (c .kept-length .ensures .1)
 
 take-puts-requires : tie.Need-take-puts-requires Inv-loop μ-loop
-take-puts-requires c κs = c .before .before .before .before .before .before .pre
+take-puts-requires c κs =
+    let at-start = c .before .before .before .before .before .before in
+    at-start .pre
 
 next-in-log-requires : tie.Need-next-in-log-requires Inv-loop μ-loop
 next-in-log-requires c κs = search needs
@@ -35,23 +37,35 @@ enum-told : tie.Need-enum-told Inv-loop μ-loop
 enum-told c = search needs
 
 returns : tie.Need-returns Inv-loop μ-loop
-returns c = collects-done _ _ _ _ _ _ _ (c .before .before .before .before .take-puts .ensures .keeps _ _ (c .before .before .before .before .before .before .loop .inv)) _ (c .before .before .next-in-log .ensures) (c .enum-told .given .1)
+returns c =
+    let at-take-puts = c .before .before .before .before in
+    let at-loop = at-take-puts .before .before in
+    collects-done _ _ _ _ _ _ _ (at-take-puts .take-puts .ensures .keeps _ _ (at-loop .loop .inv)) _
+    (c .before .before .next-in-log .ensures) (c .enum-told .given .1)
 
 enum-told-2 : tie.Need-enum-told-2 Inv-loop μ-loop
 enum-told-2 c = search needs
 
 returns-2 : tie.Need-returns-2 Inv-loop μ-loop
-returns-2 c = collects-wrong _ _ _ _ _ _ _ (c .before .before .before .before .take-puts .ensures .keeps _ _ (c .before .before .before .before .before .before .loop .inv)) _ (c .before .before .next-in-log .ensures) (c .enum-told2 .given .1)
+returns-2 c =
+    let at-take-puts = c .before .before .before .before in
+    let at-loop = at-take-puts .before .before in
+    collects-wrong _ _ _ _ _ _ _ (at-take-puts .take-puts .ensures .keeps _ _ (at-loop .loop .inv)) _
+    (c .before .before .next-in-log .ensures) (c .enum-told2 .given .1)
 
 enum-known-next : tie.Need-enum-known-next Inv-loop μ-loop
 enum-known-next c = search needs
 
 add-is-kept : tie.Need-add-is-kept Inv-loop μ-loop
 add-is-kept c =
-    let h = handed _ _ _ _ (c .before .before .before .before .next-in-log .ensures) _ _ _ _ _ _ _ _ (c .before .before .next .given .1) .stands .fits in
-    let l = length-wordsOf (c .before .before .before .before .before .before .before .before .before .before .before .before .before .args .copy .now) in
-    let b = c .before .before .before .before .before .before .before .before .before .before .before .before .before .good in
-    let p = c .before .before .before .before .before .before .before .before .before .before .before .before .before .pre in
+    let at-next-in-log = c .before .before .before .before in
+    let at-loop = at-next-in-log .before .before .before .before in
+    let at-start = at-loop .before .before .before .before .before in
+    let h = handed _ _ _ _ (at-next-in-log .next-in-log .ensures) _ _ _ _ _ _ _ _
+    (c .before .before .next .given .1) .stands .fits in
+    let l = length-wordsOf (at-start .args .copy .now) in
+    let b = at-start .good in
+    let p = at-start .pre in
     omega arith
 
 is-kept-requires : tie.Need-is-kept-requires Inv-loop μ-loop
@@ -62,18 +76,36 @@ take-requires c κs = search needs
 
 loop-less : tie.Need-loop-less Inv-loop μ-loop
 loop-less c =
-    let h = handed _ _ _ _ (c .before .before .before .before .before .before .before .next-in-log .ensures) _ _ _ _ _ _ _ _ (c .before .before .before .before .before .next .given .1) .falls in
-    let g = c .before .before .before .before .before .before .before .before .before .take-puts .ensures .nearer (c .before .before .before .before .before .before .before .before .before .before .before .loop .cursor .chunk) in
+    let at-next = c .before .before .before .before .before in
+    let at-next-in-log = at-next .before .before in
+    let at-take-puts = at-next-in-log .before .before in
+    let at-loop = at-take-puts .before .before in
+    let h = handed _ _ _ _ (at-next-in-log .next-in-log .ensures) _ _ _ _ _ _ _ _ (at-next .next .given .1) .falls in
+    let g = at-take-puts .take-puts .ensures .nearer (at-loop .loop .cursor .chunk) in
     omega arith
 
 loop-again : tie.Need-loop-again Inv-loop μ-loop
-loop-again c = collects-next _ _ _ _ _ _ _ (c .before .before .before .before .before .before .before .before .before .take-puts .ensures .keeps _ _ (c .before .before .before .before .before .before .before .before .before .before .before .loop .inv)) _ (c .before .before .before .before .before .before .before .next-in-log .ensures) _ _ _ _ _ _ _ _ (c .before .before .before .before .before .next .given .1) _ (inl (c .before .before .before .if1 .taken)) _ refl _ (c .before .before .is-kept .ensures) _ _ (c .take .ensures)
+loop-again c =
+    let at-next = c .before .before .before .before .before in
+    let at-next-in-log = at-next .before .before in
+    let at-take-puts = at-next-in-log .before .before in
+    let at-loop = at-take-puts .before .before in
+    collects-next _ _ _ _ _ _ _ (at-take-puts .take-puts .ensures .keeps _ _ (at-loop .loop .inv)) _
+    (at-next-in-log .next-in-log .ensures) _ _ _ _ _ _ _ _ (at-next .next .given .1) _
+    (inl (c .before .before .before .if1 .taken)) _ refl _ (c .before .before .is-kept .ensures) _ _ (c .take .ensures)
 
 take-rest-requires : tie.Need-take-rest-requires Inv-loop μ-loop
-take-rest-requires c κs = c .before .before .before .before .before .before .before .before .before .before .before .before .before .before .pre
+take-rest-requires c κs =
+    let at-take-puts = c .before .before .before .before .before .before .before in
+    let at-start = at-take-puts .before .before .before .before .before .before .before in
+    at-start .pre
 
 returns-3 : tie.Need-returns-3 Inv-loop μ-loop
-returns-3 c = c .take-rest .ensures .walks (c .before .before .before .before .before .before .before .before .take-puts .ensures .keeps _ _ (c .before .before .before .before .before .before .before .before .before .before .loop .inv))
+returns-3 c =
+    let at-next-in-log = c .before .before .before .before .before .before in
+    let at-take-puts = at-next-in-log .before .before in
+    let at-loop = at-take-puts .before .before in
+    c .take-rest .ensures .walks (at-take-puts .take-puts .ensures .keeps _ _ (at-loop .loop .inv))
 
 pub take-all-spec : {M : Type 1} → statement M
 take-all-spec =

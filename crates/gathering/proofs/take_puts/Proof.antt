@@ -7,7 +7,7 @@ use lib.ListN.{length}
 use Rattle.spec.specs.Words.{wordsOf}
 use Rattle.words.specs.Image.{length-wordsOf}
 use Rattle.theory_log.proofs.Walk.{room-entry}
-use Rattle.filling.proofs.Runs.{put-told}
+use Rattle.opening.proofs.Runs.{put-told}
 use Rattle.gathering.specs.Reading.{PutsTaken}
 use Rattle.gathering.proofs.Passes.{puts-start, puts-more}
 use borrow.Author.Needs.{needs}
@@ -37,11 +37,15 @@ enum-known-s c = search needs
 
 add-is-kept : tie.Need-add-is-kept Inv-loop μ-loop
 add-is-kept c =
-    let a = c .before .before .before .before .before .before .before .args in
-    let w = c .before .before .before .before .loop in
-    let r = room-entry (wordsOf (a .copy .now)) (w .place) (a .until) _ _ _ _ _ _ (put-told (wordsOf (a .copy .now)) (w .place) (a .until) _ (c .before .before .before .short-put .ensures) _ _ _ _ (c .before .s .given .1)) in
+    let at-loop = c .before .before .before .before in
+    let at-start = at-loop .before .before .before in
+    let a = at-start .args in
+    let w = at-loop .loop in
+    let r = room-entry (wordsOf (a .copy .now)) (w .place) (a .until) _ _ _ _ _ _
+    (put-told (wordsOf (a .copy .now)) (w .place) (a .until) _ (c .before .before .before .short-put .ensures) _ _ _ _
+    (c .before .s .given .1)) in
     let l = length-wordsOf (a .copy .now) in
-    let p = c .before .before .before .before .before .before .before .pre in
+    let p = at-start .pre in
     omega arith
 
 is-kept-requires : tie.Need-is-kept-requires Inv-loop μ-loop
@@ -52,34 +56,58 @@ take-requires c κs = search needs
 
 add-place : tie.Need-add-place Inv-loop μ-loop
 add-place c =
-    let a = c .before .before .before .before .before .before .before .before .before .before .args in
-    let w = c .before .before .before .before .before .before .before .loop in
-    let r = room-entry (wordsOf (a .copy .now)) (w .place) (a .until) _ _ _ _ _ _ (put-told (wordsOf (a .copy .now)) (w .place) (a .until) _ (c .before .before .before .before .before .before .short-put .ensures) _ _ _ _ (c .before .before .before .before .s .given .1)) in
+    let at-s = c .before .before .before .before in
+    let at-short-put = at-s .before .before in
+    let at-loop = at-short-put .before in
+    let at-start = at-loop .before .before .before in
+    let a = at-start .args in
+    let w = at-loop .loop in
+    let r = room-entry (wordsOf (a .copy .now)) (w .place) (a .until) _ _ _ _ _ _
+    (put-told (wordsOf (a .copy .now)) (w .place) (a .until) _ (at-short-put .short-put .ensures) _ _ _ _
+    (at-s .s .given .1)) in
     let l = length-wordsOf (a .copy .now) in
-    let b = c .before .before .before .before .before .before .before .before .before .before .good in
+    let b = at-start .good in
     omega arith
 
 add-place-2 : tie.Need-add-place-2 Inv-loop μ-loop
 add-place-2 c =
-    let a = c .before .before .before .before .before .before .before .before .before .before .args in
-    let w = c .before .before .before .before .before .before .before .loop in
-    let r = room-entry (wordsOf (a .copy .now)) (w .place) (a .until) _ _ _ _ _ _ (put-told (wordsOf (a .copy .now)) (w .place) (a .until) _ (c .before .before .before .before .before .before .short-put .ensures) _ _ _ _ (c .before .before .before .before .s .given .1)) in
+    let at-s = c .before .before .before .before in
+    let at-short-put = at-s .before .before in
+    let at-loop = at-short-put .before in
+    let at-start = at-loop .before .before .before in
+    let a = at-start .args in
+    let w = at-loop .loop in
+    let r = room-entry (wordsOf (a .copy .now)) (w .place) (a .until) _ _ _ _ _ _
+    (put-told (wordsOf (a .copy .now)) (w .place) (a .until) _ (at-short-put .short-put .ensures) _ _ _ _
+    (at-s .s .given .1)) in
     let l = length-wordsOf (a .copy .now) in
-    let b = c .before .before .before .before .before .before .before .before .before .before .good in
+    let b = at-start .good in
     omega arith
 
 loop-less : tie.Need-loop-less Inv-loop μ-loop
 loop-less c =
-    let a = c .before .before .before .before .before .before .before .before .before .before .args in
-    let w = c .before .before .before .before .before .before .before .loop in
-    let r = room-entry (wordsOf (a .copy .now)) (w .place) (a .until) _ _ _ _ _ _ (put-told (wordsOf (a .copy .now)) (w .place) (a .until) _ (c .before .before .before .before .before .before .short-put .ensures) _ _ _ _ (c .before .before .before .before .s .given .1)) in
+    let at-s = c .before .before .before .before in
+    let at-short-put = at-s .before .before in
+    let at-loop = at-short-put .before in
+    let at-start = at-loop .before .before .before in
+    let a = at-start .args in
+    let w = at-loop .loop in
+    let r = room-entry (wordsOf (a .copy .now)) (w .place) (a .until) _ _ _ _ _ _
+    (put-told (wordsOf (a .copy .now)) (w .place) (a .until) _ (at-short-put .short-put .ensures) _ _ _ _
+    (at-s .s .given .1)) in
     omega arith
 
 loop-again : tie.Need-loop-again Inv-loop μ-loop
 loop-again c =
-    let a = c .before .before .before .before .before .before .before .before .before .before .args in
-    let w = c .before .before .before .before .before .before .before .loop in
-    puts-more _ _ _ _ _ _ _ _ _ _ (w .inv) _ _ _ _ (put-told (wordsOf (a .copy .now)) (w .place) (a .until) _ (c .before .before .before .before .before .before .short-put .ensures) _ _ _ _ (c .before .before .before .before .s .given .1)) _ _ refl _ (c .before .before .is-kept .ensures) _ _ (c .take .ensures)
+    let at-s = c .before .before .before .before in
+    let at-short-put = at-s .before .before in
+    let at-loop = at-short-put .before in
+    let at-start = at-loop .before .before .before in
+    let a = at-start .args in
+    let w = at-loop .loop in
+    puts-more _ _ _ _ _ _ _ _ _ _ (w .inv) _ _ _ _
+    (put-told (wordsOf (a .copy .now)) (w .place) (a .until) _ (at-short-put .short-put .ensures) _ _ _ _
+    (at-s .s .given .1)) _ _ refl _ (c .before .before .is-kept .ensures) _ _ (c .take .ensures)
 
 pub take-puts-spec : {M : Type 1} → statement M
 take-puts-spec =

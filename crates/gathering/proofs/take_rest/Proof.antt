@@ -6,9 +6,9 @@ use Rattle.spec.specs.Words.{wordsOf}
 use Rattle.words.specs.Image.{length-wordsOf}
 use Rattle.log.specs.Cursor.{cursorAt, left}
 use Rattle.log.proofs.Walk.{handed}
-use Rattle.measuring.specs.Measuring.{Tells}
+use Rattle.gathering.specs.Measuring.{Tells}
 use Rattle.gathering.specs.Reading.{Collecting}
-use Rattle.measuring.proofs.Kept.{tells-start}
+use Rattle.gathering.proofs.Kept.{tells-start}
 use Rattle.gathering.proofs.Passes.{RestOn, rest-start, rest-done, rest-wrong, rest-next}
 use borrow.Author.Needs.{needs}
 use Rattle.gathering.proofs.take_rest.Statement.{statement}
@@ -43,20 +43,29 @@ enum-known-next : tie.Need-enum-known-next Inv-loop μ-loop
 enum-known-next c = search needs
 
 slice-aggregate-count-once : tie.Need-slice-aggregate-count-once Inv-loop μ-loop
-slice-aggregate-count-once c = sym (c .before .before .before .before .before .loop .inv .1 .0)
+slice-aggregate-count-once c =
+    let at-loop = c .before .before .before .before .before in
+    sym (at-loop .loop .inv .1 .0)
 
 count-once-requires : tie.Need-count-once-requires Inv-loop μ-loop
 count-once-requires c κs = search needs
 
 slice-aggregate-is-kept : tie.Need-slice-aggregate-is-kept Inv-loop μ-loop
-slice-aggregate-is-kept c = sym (c .before .before .count-once .ensures .tells (c .before .before .before .before .before .before .before .before .loop .inv .1) .0)
+slice-aggregate-is-kept c =
+    let at-next-in-log = c .before .before .before .before .before .before .before in
+    let at-loop = at-next-in-log .before in
+    sym (c .before .before .count-once .ensures .tells (at-loop .loop .inv .1) .0)
 
 add-is-kept : tie.Need-add-is-kept Inv-loop μ-loop
 add-is-kept c =
-    let h = handed _ _ _ _ (c .before .before .before .before .before .before .before .next-in-log .ensures) _ _ _ _ _ _ _ _ (c .before .before .before .before .before .next .given .1) .stands .fits in
-    let l = length-wordsOf (c .before .before .before .before .before .before .before .before .before .before .before .args .copy .now) in
-    let b = c .before .before .before .before .before .before .before .before .before .before .before .good in
-    let p = c .before .before .before .before .before .before .before .before .before .before .before .pre in
+    let at-next = c .before .before .before .before .before in
+    let at-next-in-log = at-next .before .before in
+    let at-start = at-next-in-log .before .before .before .before in
+    let h = handed _ _ _ _ (at-next-in-log .next-in-log .ensures) _ _ _ _ _ _ _ _
+    (at-next .next .given .1) .stands .fits in
+    let l = length-wordsOf (at-start .args .copy .now) in
+    let b = at-start .good in
+    let p = at-start .pre in
     omega arith
 
 is-kept-requires : tie.Need-is-kept-requires Inv-loop μ-loop
@@ -66,13 +75,25 @@ take-requires : tie.Need-take-requires Inv-loop μ-loop
 take-requires c κs = search needs
 
 loop-less : tie.Need-loop-less Inv-loop μ-loop
-loop-less c = handed _ _ _ _ (c .before .before .before .before .before .before .before .before .before .before .next-in-log .ensures) _ _ _ _ _ _ _ _ (c .before .before .before .before .before .before .before .before .next .given .1) .falls
+loop-less c =
+    let at-count-once = c .before .before .before .before .before in
+    let at-next = at-count-once .before .before .before in
+    let at-next-in-log = at-next .before .before in
+    handed _ _ _ _ (at-next-in-log .next-in-log .ensures) _ _ _ _ _ _ _ _ (at-next .next .given .1) .falls
 
 loop-again : tie.Need-loop-again Inv-loop μ-loop
 loop-again c =
-    let o = c .before .before .before .before .before .count-once .ensures in
-    let w = c .before .before .before .before .before .before .before .before .before .before .before .loop in
-    (rest-next _ _ _ _ _ _ _ _ _ _ (w .inv .0) _ (c .before .before .before .before .before .before .before .before .before .before .next-in-log .ensures) _ _ _ _ _ _ _ _ (c .before .before .before .before .before .before .before .before .next .given .1) _ (o .decides (w .inv .1)) _ refl _ (c .before .before .is-kept .ensures) _ _ (c .take .ensures), o .tells (w .inv .1))
+    let at-count-once = c .before .before .before .before .before in
+    let at-next = at-count-once .before .before .before in
+    let at-next-in-log = at-next .before .before in
+    let at-loop = at-next-in-log .before in
+    let o = at-count-once .count-once .ensures in
+    let w = at-loop .loop in (
+      rest-next _ _ _ _ _ _ _ _ _ _ (w .inv .0) _ (at-next-in-log .next-in-log .ensures) _ _ _ _ _ _ _ _
+          (at-next .next .given .1) _ (o .decides (w .inv .1)) _ refl _ (c .before .before .is-kept .ensures) _ _
+          (c .take .ensures),
+      o .tells (w .inv .1),
+    )
 
 pub take-rest-spec : {M : Type 1} → statement M
 take-rest-spec =

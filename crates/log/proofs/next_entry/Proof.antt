@@ -49,7 +49,10 @@ add-if2 c = search needs
 
 returns-2 : tie.Need-returns-2
 returns-2 c =
-    let a = c .before .before .before .before .before .before .before .before .before .before .args in
+    let at-first-of = c .before .before .before .before .before in
+    let at-load = at-first-of .before in
+    let at-start = at-load .before .before .before .before in
+    let a = at-start .args in
     let ws = wordsOf (a .img .now) in
     let n : length ws ≡ length (a .img .now) / 8 = length-wordsOf (a .img .now) in
     let g = c .before .before .before .f .given in
@@ -57,7 +60,7 @@ returns-2 c =
     let pl = g .0 .1 .0 in
     let v = g .0 .1 .1 .0 in
     let x = g .0 .1 .1 .1 .0 in
-    let e = ap firstOf (sym (c .before .before .before .before .before .before .load .ensures)) ∙ sym (c .before .before .before .before .before .first-of .ensures) ∙ g .1 in
+    let e = ap firstOf (sym (at-load .load .ensures)) ∙ sym (at-first-of .first-of .ensures) ∙ g .1 in
     let w = c .before .words-for .ensures .0 in
     sym (step-short op pl v x (a .at) (a .end) ws (omega arith) (omega arith) e (omega arith))
 
@@ -72,47 +75,66 @@ load-requires-2 c κs = search needs
 
 returns-3 : tie.Need-returns-3
 returns-3 c =
-    let a = c .before .before .before .before .before .before .before .args in
+    let at-start = c .before .before .before .before .before .before .before in
+    let a = at-start .args in
     let ws = wordsOf (a .img .now) in
     let n : length ws ≡ length (a .img .now) / 8 = length-wordsOf (a .img .now) in
-    sym (step-first (a .at) (a .end) ws F.Padding (omega arith) (omega arith) (ap firstOf (sym (c .before .before .before .load .ensures)) ∙ sym (c .before .before .first-of .ensures) ∙ c .enum-told .given .1))
+    sym
+    (step-first (a .at) (a .end) ws F.Padding (omega arith) (omega arith)
+    (ap firstOf (sym (c .before .before .before .load .ensures)) ∙ sym (c .before .before .first-of .ensures)
+    ∙ c .enum-told .given .1))
 
 returns-4 : tie.Need-returns-4
 returns-4 c =
-    let a = c .before .before .before .before .before .before .before .args in
+    let at-start = c .before .before .before .before .before .before .before in
+    let a = at-start .args in
     let ws = wordsOf (a .img .now) in
     let n : length ws ≡ length (a .img .now) / 8 = length-wordsOf (a .img .now) in
-    sym (step-first (a .at) (a .end) ws F.Wrong (omega arith) (omega arith) (ap firstOf (sym (c .before .before .before .load .ensures)) ∙ sym (c .before .before .first-of .ensures) ∙ c .enum-told2 .given .1))
+    sym
+    (step-first (a .at) (a .end) ws F.Wrong (omega arith) (omega arith)
+    (ap firstOf (sym (c .before .before .before .load .ensures)) ∙ sym (c .before .before .first-of .ensures)
+    ∙ c .enum-told2 .given .1))
 
 returns-5 : tie.Need-returns-5
 returns-5 c =
-    let a = c .before .before .before .before .before .before .before .before .before .before .before .before .before .args in
+    let at-words-for = c .before .before .before .before in
+    let at-f = at-words-for .before .before in
+    let at-first-of = at-f .before .before in
+    let at-load = at-first-of .before in
+    let at-start = at-load .before .before .before .before in
+    let a = at-start .args in
     let ws = wordsOf (a .img .now) in
     let n : length ws ≡ length (a .img .now) / 8 = length-wordsOf (a .img .now) in
-    let g = c .before .before .before .before .before .before .f .given in
+    let g = at-f .f .given in
     let op = g .0 .0 in
     let pl = g .0 .1 .0 in
     let v = g .0 .1 .1 .0 in
     let x = g .0 .1 .1 .1 .0 in
-    let e = ap firstOf (sym (c .before .before .before .before .before .before .before .before .before .load .ensures)) ∙ sym (c .before .before .before .before .before .before .before .before .first-of .ensures) ∙ g .1 in
-    let w = c .before .before .before .before .words-for .ensures .0 in
-    let s = step-fill op pl v x (a .at) (a .end) ws e (omega arith) (omega arith) (c .before .before .fill-right .result) (c .before .before .fill-right .ensures) in
+    let e = ap firstOf (sym (at-load .load .ensures)) ∙ sym (at-first-of .first-of .ensures) ∙ g .1 in
+    let w = at-words-for .words-for .ensures .0 in
+    let s = step-fill op pl v x (a .at) (a .end) ws e (omega arith) (omega arith)
+    (c .before .before .fill-right .result) (c .before .before .fill-right .ensures) in
     let k = c .load2 .ensures in
     rw (s, c .before .if3 .taken, k, w)
 
 returns-6 : tie.Need-returns-6
 returns-6 c =
-    let a = c .before .before .before .before .before .before .before .before .before .before .before .before .args in
+    let at-f = c .before .before .before .before .before in
+    let at-first-of = at-f .before .before in
+    let at-load = at-first-of .before in
+    let at-start = at-load .before .before .before .before in
+    let a = at-start .args in
     let ws = wordsOf (a .img .now) in
     let n : length ws ≡ length (a .img .now) / 8 = length-wordsOf (a .img .now) in
-    let g = c .before .before .before .before .before .f .given in
+    let g = at-f .f .given in
     let op = g .0 .0 in
     let pl = g .0 .1 .0 in
     let v = g .0 .1 .1 .0 in
     let x = g .0 .1 .1 .1 .0 in
-    let e = ap firstOf (sym (c .before .before .before .before .before .before .before .before .load .ensures)) ∙ sym (c .before .before .before .before .before .before .before .first-of .ensures) ∙ g .1 in
+    let e = ap firstOf (sym (at-load .load .ensures)) ∙ sym (at-first-of .first-of .ensures) ∙ g .1 in
     let w = c .before .before .before .words-for .ensures .0 in
-    let s = step-fill op pl v x (a .at) (a .end) ws e (omega arith) (omega arith) (c .before .fill-right .result) (c .before .fill-right .ensures) in
+    let s = step-fill op pl v x (a .at) (a .end) ws e (omega arith) (omega arith) (c .before .fill-right .result)
+    (c .before .fill-right .ensures) in
     rw (s, c .if3 .left)
 
 pub next-entry-spec : {M : Type 1} → statement M

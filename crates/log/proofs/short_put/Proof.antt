@@ -61,12 +61,17 @@ load-requires-2 c κs = search needs
 
 returns-5 : tie.Need-returns-5
 returns-5 c =
-    let a = c .before .before .before .before .before .before .before .before .before .before .before .args in
+    let at-load = c .before .before .before .before .before .before .before in
+    let at-start = at-load .before .before .before .before in
+    let a = at-start .args in
     let ws = wordsOf (a .img .now) in
     let n : length ws ≡ length (a .img .now) / 8 = length-wordsOf (a .img .now) in
-    let w = c .before .before .before .before .before .before .before .load .result in
-    let e : firstOf (getD ws (a .at) 0) ≡ F.Entry 1 0 (w / 16 % 1048576) (w / 16777216) = ap firstOf (sym (c .before .before .before .before .before .before .before .load .ensures)) ∙ first-put w (omega arith) (omega arith) (omega arith) in
-    let s = step-fill 1 0 (w / 16 % 1048576) (w / 16777216) (a .at) (a .end) ws e (omega arith) (omega arith) (c .before .before .fill-right .result) (c .before .before .fill-right .ensures) in
+    let w = at-load .load .result in
+    let e : firstOf (getD ws (a .at) 0)
+    ≡ F.Entry 1 0 (w / 16 % 1048576) (w / 16777216) = ap firstOf (sym (at-load .load .ensures))
+    ∙ first-put w (omega arith) (omega arith) (omega arith) in
+    let s = step-fill 1 0 (w / 16 % 1048576) (w / 16777216) (a .at) (a .end) ws e (omega arith) (omega arith)
+    (c .before .before .fill-right .result) (c .before .before .fill-right .ensures) in
     let k = c .load2 .ensures in
     rw (s, c .before .if6 .taken, k)
 

@@ -6,8 +6,8 @@ use Rattle.lookup.proofs.Looks.{looking-none, looking-part, looking-ext
 use Rattle.lookup.proofs.value_of.Statement.{statement}
 use Rattle.lookup.proofs.value_of.Tie as tie
 
-look-requires : tie.Need-look-requires
-look-requires c κs = search needs
+get-requires : tie.Need-get-requires
+get-requires c κs = search needs
 
 unpack-requires : tie.Need-unpack-requires
 unpack-requires c κs = search needs
@@ -19,17 +19,17 @@ log-part-requires : tie.Need-log-part-requires
 log-part-requires c κs = rw (c .before .unpack .ensures) (omega arith)
 
 returns : tie.Need-returns
-returns c = looking-extent _ _ _ _ (c .before .before .before .look .ensures) _ (c .before .before .unpack .ensures) _ (c .before .if1 .taken) (c .log-part .ensures)
+returns c = looking-extent _ _ _ _ (c .before .before .before .get .ensures) _ (c .before .before .unpack .ensures) _ (c .before .if1 .taken) (c .log-part .ensures)
 
 returns-2 : tie.Need-returns-2
-returns-2 c = looking-none _ _ _ _ (c .before .before .before .look .ensures) (c .if2 .taken)
+returns-2 c = looking-none _ _ _ _ (c .before .before .before .get .ensures) (c .if2 .taken)
 
 part-at-requires : tie.Need-part-at-requires
 part-at-requires c κs = rw (c .before .before .unpack .ensures) (omega arith)
 
 returns-3 : tie.Need-returns-3
-returns-3 c = looking-part _ _ _ _ (c .before .before .before .before .look .ensures) _ (c .before .before .before .unpack .ensures) _ (c .before .if2 .left) (c .part-at .ensures)
+returns-3 c = looking-part _ _ _ _ (c .before .before .before .before .get .ensures) _ (c .before .before .before .unpack .ensures) _ (c .before .if2 .left) (c .part-at .ensures)
 
 pub value-of-spec : {M : Type 1} → statement M
 value-of-spec =
-    tie.close (tie.spec look-requires unpack-requires add-log-part log-part-requires returns returns-2 part-at-requires returns-3)
+    tie.close (tie.spec get-requires unpack-requires add-log-part log-part-requires returns returns-2 part-at-requires returns-3)

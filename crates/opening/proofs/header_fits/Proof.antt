@@ -34,12 +34,17 @@ header-right-requires c κs = search needs
 
 returns : tie.Need-returns
 returns c =
+    let at-load5 = c .before .before .before .before in
+    let at-load4 = at-load5 .before in
+    let at-load3 = at-load4 .before in
+    let at-load2 = at-load3 .before in
+    let at-load = at-load2 .before in
     c .header-right .ensures ∙ rw (
-      c .before .before .before .before .before .before .before .before .load .ensures,
-      c .before .before .before .before .before .before .before .load2 .ensures,
-      c .before .before .before .before .before .before .load3 .ensures,
-      c .before .before .before .before .before .load4 .ensures,
-      c .before .before .before .before .load5 .ensures,
+      at-load .load .ensures,
+      at-load2 .load2 .ensures,
+      at-load3 .load3 .ensures,
+      at-load4 .load4 .ensures,
+      at-load5 .load5 .ensures,
       c .before .before .before .load6 .ensures,
       c .before .before .load7 .ensures,
       c .before .load8 .ensures,

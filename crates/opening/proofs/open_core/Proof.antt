@@ -5,8 +5,8 @@ use Rattle.opening.proofs.Opens.{opens-refused, opens-accepted}
 use Rattle.opening.proofs.open_core.Statement.{statement}
 use Rattle.opening.proofs.open_core.Tie as tie
 
-judge-requires : tie.Need-judge-requires
-judge-requires c κs = search needs
+check-image-requires : tie.Need-check-image-requires
+check-image-requires c κs = search needs
 
 enum-known-verdict : tie.Need-enum-known-verdict
 enum-known-verdict c = search needs
@@ -22,8 +22,11 @@ same-length c = search needs
 
 returns : tie.Need-returns
 returns c =
+    let at-verdict = c .before .before .before .before .before .before in
+    let at-check-image = at-verdict .before .before .before .before in
     rw (c .closed .ensures)
-    (opens-refused _ _ _ _ _ _ _ _ (c .before .before .before .before .before .before .before .before .before .before .judge .ensures) _ (c .before .before .before .before .before .before .verdict .given .1) _ (c .before .before .before .empty .ensures))
+    (opens-refused _ _ _ _ _ _ _ _ (at-check-image .check-image .ensures) _ (at-verdict .verdict .given .1) _
+    (c .before .before .before .empty .ensures))
 
 same-length-2 : tie.Need-same-length-2
 same-length-2 c = search needs
@@ -34,24 +37,26 @@ closed-requires c κs = search needs
 opened-requires : tie.Need-opened-requires
 opened-requires c κs = search needs
 
-lent-requires : tie.Need-lent-requires
-lent-requires c κs = search needs
+opened-setup-requires : tie.Need-opened-setup-requires
+opened-setup-requires c κs = search needs
 
 returns-2 : tie.Need-returns-2
 returns-2 c =
-    opens-accepted _ _ _ _ _ _ _ _ (c .before .before .before .before .before .before .before .judge .ensures) _ _ _ (c .before .before .before .verdict2 .given .1) (c .before .opened .ensures) (c .lent .ensures)
+    let at-check-image = c .before .before .before .before .before .before .before in
+    opens-accepted _ _ _ _ _ _ _ _ (at-check-image .check-image .ensures) _ _ _ (c .before .before .before .verdict2 .given .1)
+    (c .before .opened .ensures) (c .opened-setup .ensures)
 
 pub open-core-spec : {M : Type 1} → statement M
 open-core-spec =
     tie.close
     (tie.spec
-    judge-requires
+    check-image-requires
     enum-known-verdict
     empty-requires
     closed-requires
     enum-known-verdict-2
     opened-requires
-    lent-requires
+    opened-setup-requires
     same-length
     returns
     same-length-2

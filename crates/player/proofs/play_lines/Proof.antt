@@ -27,7 +27,10 @@ turn-requires : tie.Need-turn-requires Inv-loop μ-loop
 turn-requires c κs = search needs
 
 loop-less : tie.Need-loop-less Inv-loop μ-loop
-loop-less c = omega (arith, c .before .before .before .before .before .before .before .before .line-at .ensures (omega arith))
+loop-less c =
+    let at-turn = c .before .before .before .before in
+    let at-line-at = at-turn .before .before .before .before in
+    omega (arith, at-line-at .line-at .ensures (omega arith))
 
 loop-again : tie.Need-loop-again Inv-loop μ-loop
 loop-again c = search needs

@@ -6,7 +6,7 @@ use Prim.Native.Nat.{_+_, _-_}
 use native.Mathlib.Omega.{arith}
 use borrow.Author.Needs.{needs}
 use Rattle.session.specs.declared.Control.{Control}
-use Rattle.cleaning.specs.Record.{cleanCount}
+use Rattle.actions.specs.Record.{cleanCount}
 use Rattle.running.proofs.Runs.{StoredTo, none-stored, one-stored, run-ends, never-all}
 use Rattle.running.proofs.run_cleaning.Statement.{statement}
 use Rattle.running.proofs.run_cleaning.Tie as tie
@@ -42,22 +42,43 @@ loop-less : tie.Need-loop-less Inv-loop μ-loop
 loop-less c = search needs
 
 loop-again : tie.Need-loop-again Inv-loop μ-loop
-loop-again c = λ x e.
-    one-stored x _ _ _ _ _ (c .before .before .before .before .before .before .before .before .loop .inv x e) (omega arith) _ _ (c .before .before .before .before .before .before .clean-action .ensures) (c .before .before .before .before .perform .ensures) (sym (c .before .is-store .ensures) ∙ c .if1 .taken)
+loop-again c =
+    let at-perform = c .before .before .before .before in
+    let at-clean-action = at-perform .before .before in
+    let at-loop = at-clean-action .before .before in
+    λ x e.
+    one-stored x _ _ _ _ _ (at-loop .loop .inv x e) (omega arith) _ _ (at-clean-action .clean-action .ensures)
+    (at-perform .perform .ensures) (sym (c .before .is-store .ensures) ∙ c .if1 .taken)
 
 same-length : tie.Need-same-length Inv-loop μ-loop
 same-length c =
-    run-ends (c .before .before .before .before .before .before .before .before .before .before .before .before .args .control) _ _ _ _ _ (c .before .before .before .before .before .before .before .before .loop .inv _ refl) (omega arith) _ _ (c .before .before .before .before .before .before .clean-action .ensures) (c .before .before .before .before .perform .ensures) (sym (c .before .is-store .ensures) ∙ c .if1 .left) .sized
+    let at-perform = c .before .before .before .before in
+    let at-clean-action = at-perform .before .before in
+    let at-loop = at-clean-action .before .before in
+    let at-start = at-loop .before .before .before .before in
+    run-ends (at-start .args .control) _ _ _ _ _ (at-loop .loop .inv _ refl) (omega arith) _ _
+    (at-clean-action .clean-action .ensures) (at-perform .perform .ensures)
+    (sym (c .before .is-store .ensures) ∙ c .if1 .left) .sized
 
 returns : tie.Need-returns Inv-loop μ-loop
 returns c =
-    run-ends (c .before .before .before .before .before .before .before .before .before .before .before .before .args .control) _ _ _ _ _ (c .before .before .before .before .before .before .before .before .loop .inv _ refl) (omega arith) _ _ (c .before .before .before .before .before .before .clean-action .ensures) (c .before .before .before .before .perform .ensures) (sym (c .before .is-store .ensures) ∙ c .if1 .left)
+    let at-perform = c .before .before .before .before in
+    let at-clean-action = at-perform .before .before in
+    let at-loop = at-clean-action .before .before in
+    let at-start = at-loop .before .before .before .before in
+    run-ends (at-start .args .control) _ _ _ _ _ (at-loop .loop .inv _ refl) (omega arith) _ _
+    (at-clean-action .clean-action .ensures) (at-perform .perform .ensures)
+    (sym (c .before .is-store .ensures) ∙ c .if1 .left)
 
 same-length-2 : tie.Need-same-length-2 Inv-loop μ-loop
-same-length-2 c = c .before .loop .inv (c .before .before .before .before .before .args .control) refl .sized
+same-length-2 c =
+    let at-start = c .before .before .before .before .before in
+    c .before .loop .inv (at-start .args .control) refl .sized
 
 returns-2 : tie.Need-returns-2 Inv-loop μ-loop
-returns-2 c = never-all (c .before .before .before .before .before .args .control) _ _ _ _ _ _ (c .before .loop .inv _ refl) (omega arith)
+returns-2 c =
+    let at-start = c .before .before .before .before .before in
+    never-all (at-start .args .control) _ _ _ _ _ _ (c .before .loop .inv _ refl) (omega arith)
 
 pub run-cleaning-spec : {M : Type 1} → statement M
 run-cleaning-spec =

@@ -16,11 +16,14 @@ same-length c = search needs
 
 returns : tie.Need-returns
 returns c =
-    copies _ _ _ _ _ _ _ _ _ (c .before .before .before .before .before .before .before .store-kept .ensures) (rw (c .before .before .before .before .moved .ensures) at (c .before .before .run-cleaning .ensures))
+    let at-at-action = c .before .before .before .before in
+    let at-store-kept = at-at-action .before .before .before in
+    copies _ _ _ _ _ _ _ _ _ (at-store-kept .store-kept .ensures)
+    (rw (at-at-action .at-action .ensures) at (c .before .before .run-cleaning .ensures))
 
-moved-requires : tie.Need-moved-requires
-moved-requires c κs = search needs
+at-action-requires : tie.Need-at-action-requires
+at-action-requires c κs = search needs
 
 pub run-copying-spec : {M : Type 1} → statement M
 run-copying-spec =
-    tie.close (tie.spec store-kept-requires moved-requires run-cleaning-requires same-length returns)
+    tie.close (tie.spec store-kept-requires at-action-requires run-cleaning-requires same-length returns)

@@ -15,8 +15,11 @@ same-length c = search needs
 
 returns : tie.Need-returns
 returns c =
-    rw (c .moved .ensures)
-    (c .before .before .before .run-copying .ensures .runs _ (c .before .before .before .before .before .before .before .is-copying .ensures .0 (c .before .before .before .before .before .before .if1 .taken)))
+    let at-if1 = c .before .before .before .before .before .before in
+    let at-is-copying = at-if1 .before in
+    rw (c .at-action .ensures)
+    (c .before .before .before .run-copying .ensures .runs _
+    (at-is-copying .is-copying .ensures .0 (at-if1 .if1 .taken)))
 
 run-steps-requires : tie.Need-run-steps-requires
 run-steps-requires c κs = search needs
@@ -30,8 +33,8 @@ same-length-3 c = search needs
 returns-2 : tie.Need-returns-2
 returns-2 c = c .before .before .before .before .run-steps .ensures
 
-moved-requires : tie.Need-moved-requires
-moved-requires c κs = search needs
+at-action-requires : tie.Need-at-action-requires
+at-action-requires c κs = search needs
 
 pub run-core-spec : {M : Type 1} → statement M
 run-core-spec =
@@ -39,7 +42,7 @@ run-core-spec =
     (tie.spec
     is-copying-requires
     run-copying-requires
-    moved-requires
+    at-action-requires
     same-length
     returns
     run-steps-requires

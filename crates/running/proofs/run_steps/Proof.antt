@@ -27,19 +27,38 @@ is-store-requires : tie.Need-is-store-requires Inv-loop μ-loop
 is-store-requires c κs = search needs
 
 loop-less : tie.Need-loop-less Inv-loop μ-loop
-loop-less c = let q = fewer _ _ _ _ _ _ _ _ _ _ (c .before .before .before .before .before .before .before .before .before .before .before .loop .inv) (c .before .before .before .before .before .before .before .step-core .ensures) (sym (c .before .is-store .ensures) ∙ c .if1 .taken) in omega arith
+loop-less c =
+    let at-step-core = c .before .before .before .before .before .before .before in
+    let at-loop = at-step-core .before .before .before .before in
+    let q = fewer _ _ _ _ _ _ _ _ _ _ (at-loop .loop .inv) (at-step-core .step-core .ensures)
+    (sym (c .before .is-store .ensures) ∙ c .if1 .taken) in
+    omega arith
 
 loop-again : tie.Need-loop-again Inv-loop μ-loop
-loop-again c = one-made _ _ _ _ _ _ _ _ _ _ (c .before .before .before .before .before .before .before .before .before .before .before .loop .inv) (c .before .before .before .before .before .before .before .step-core .ensures) (sym (c .before .is-store .ensures) ∙ c .if1 .taken)
+loop-again c =
+    let at-step-core = c .before .before .before .before .before .before .before in
+    let at-loop = at-step-core .before .before .before .before in
+    one-made _ _ _ _ _ _ _ _ _ _ (at-loop .loop .inv) (at-step-core .step-core .ensures)
+    (sym (c .before .is-store .ensures) ∙ c .if1 .taken)
 
 same-length : tie.Need-same-length Inv-loop μ-loop
-same-length c = long _ _ _ _ _ _ _ _ _ _ (c .before .before .before .before .before .before .before .before .before .before .before .loop .inv) (c .before .before .before .before .before .before .before .step-core .ensures)
+same-length c =
+    let at-step-core = c .before .before .before .before .before .before .before in
+    let at-loop = at-step-core .before .before .before .before in
+    long _ _ _ _ _ _ _ _ _ _ (at-loop .loop .inv) (at-step-core .step-core .ensures)
 
 same-length-2 : tie.Need-same-length-2 Inv-loop μ-loop
-same-length-2 c = wide _ _ _ _ _ _ _ _ _ _ (c .before .before .before .before .before .before .before .before .before .before .before .loop .inv) (c .before .before .before .before .before .before .before .step-core .ensures)
+same-length-2 c =
+    let at-step-core = c .before .before .before .before .before .before .before in
+    let at-loop = at-step-core .before .before .before .before in
+    wide _ _ _ _ _ _ _ _ _ _ (at-loop .loop .inv) (at-step-core .step-core .ensures)
 
 returns : tie.Need-returns Inv-loop μ-loop
-returns c = made _ _ _ _ _ _ _ _ _ _ (c .before .before .before .before .before .before .before .before .before .before .before .loop .inv) (c .before .before .before .before .before .before .before .step-core .ensures) (sym (c .before .is-store .ensures) ∙ c .if1 .left)
+returns c =
+    let at-step-core = c .before .before .before .before .before .before .before in
+    let at-loop = at-step-core .before .before .before .before in
+    made _ _ _ _ _ _ _ _ _ _ (at-loop .loop .inv) (at-step-core .step-core .ensures)
+    (sym (c .before .is-store .ensures) ∙ c .if1 .left)
 
 pub run-steps-spec : {M : Type 1} → statement M
 run-steps-spec =

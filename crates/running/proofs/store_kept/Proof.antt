@@ -22,7 +22,14 @@ same-length : tie.Need-same-length
 same-length c = search needs
 
 returns-2 : tie.Need-returns-2
-returns-2 c = let a = c .before .before .before .before .before .before .before .before .before .args in kept-stored (a .control) (a .setup) (a .buffer .now) (a .image .now) (c .before .before .before .before .batch-start .result) (c .before .before .before .before .before .before .lesser .result) (c .before .before .before .before .batch-start .ensures) (c .before .before .before .before .before .before .lesser .ensures) (omega arith) _ (c .before .before .store-area .ensures)
+returns-2 c =
+    let at-batch-start = c .before .before .before .before in
+    let at-lesser = at-batch-start .before .before in
+    let at-start = at-lesser .before .before .before in
+    let a = at-start .args in
+    kept-stored (a .control) (a .setup) (a .buffer .now) (a .image .now) (at-batch-start .batch-start .result)
+    (at-lesser .lesser .result) (at-batch-start .batch-start .ensures) (at-lesser .lesser .ensures) (omega arith) _
+    (c .before .before .store-area .ensures)
 
 pub store-kept-spec : {M : Type 1} → statement M
 store-kept-spec =

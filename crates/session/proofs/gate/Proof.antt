@@ -24,9 +24,10 @@ closed-or-requires c κs = search needs
 
 returns-2 : tie.Need-returns-2
 returns-2 c =
+    let at-if1 = c .before .before .before .before .before in
     record {
       asked = λ b.
-          gate-unfinished _ _ b _ _ (c .before .before .before .before .before .if1 .taken) (c .before .before .before .if2 .taken)
+          gate-unfinished _ _ b _ _ (at-if1 .if1 .taken) (c .before .before .before .if2 .taken)
           (eqb-false _ 1 (sym (c .before .before .is-at-rest .ensures) ∙ c .before .if3 .left))
           ∙ ap some (sym (c .closed-or .ensures));
     }

@@ -23,9 +23,11 @@ is-read-requires c κs = search needs
 
 returns-2 : tie.Need-returns-2
 returns-2 c =
+    let at-if2 = c .before .before .before .before in
+    let at-if1 = at-if2 .before .before in
     record {
       asked = λ b.
-          read-open _ _ b _ _ (c .before .before .before .before .before .before .if1 .taken) (c .before .before .before .before .if2 .taken)
+          read-open _ _ b _ _ (at-if1 .if1 .taken) (at-if2 .if2 .taken)
           (sym (c .before .is-read .ensures) ∙ c .if4 .taken);
     }
 
@@ -34,9 +36,11 @@ closed-or-requires c κs = search needs
 
 returns-3 : tie.Need-returns-3
 returns-3 c =
+    let at-if2 = c .before .before .before .before .before in
+    let at-if1 = at-if2 .before .before in
     record {
       asked = λ b.
-          read-unfinished _ _ b _ _ (c .before .before .before .before .before .before .before .if1 .taken) (c .before .before .before .before .before .if2 .taken)
+          read-unfinished _ _ b _ _ (at-if1 .if1 .taken) (at-if2 .if2 .taken)
           (sym (c .before .before .is-read .ensures) ∙ c .before .if4 .left)
           ∙ ap some (sym (c .closed-or .ensures));
     }

@@ -20,8 +20,10 @@ any-item-requires c κs = search needs
 
 returns : tie.Need-returns
 returns c =
-    rw (c .emptied .ensures)
-    (abandon-done _ _ _ _ _ _ (c .before .before .before .before .before .gate .ensures) (c .before .before .before .enum-told .given .1) (sym (c .before .before .any-item .ensures) ∙ c .before .if1 .taken))
+    let stop-gate = c .before .before .before .before .before in
+    rw (c .ended-empty .ensures)
+    (abandon-done _ _ _ _ _ _ (stop-gate .gate .ensures) (c .before .before .before .enum-told .given .1)
+    (sym (c .before .before .any-item .ensures) ∙ c .before .if1 .taken))
 
 returns-2 : tie.Need-returns-2
 returns-2 c = at-gate _ _ _ _ _ _ (c .before .before .before .gate .ensures) _ tt _ (c .before .g .given .1)
@@ -30,9 +32,9 @@ returns-3 : tie.Need-returns-3
 returns-3 c =
     abandon-none _ _ _ _ _ _ (c .before .before .before .before .gate .ensures) (c .before .before .enum-told .given .1) (sym (c .before .any-item .ensures) ∙ c .if1 .left)
 
-emptied-requires : tie.Need-emptied-requires
-emptied-requires c κs = search needs
+ended-empty-requires : tie.Need-ended-empty-requires
+ended-empty-requires c κs = search needs
 
 pub abandon-core-spec : {M : Type 1} → statement M
 abandon-core-spec =
-    tie.close (tie.spec gate-requires enum-known-g enum-told any-item-requires emptied-requires returns returns-2 returns-3)
+    tie.close (tie.spec gate-requires enum-known-g enum-told any-item-requires ended-empty-requires returns returns-2 returns-3)

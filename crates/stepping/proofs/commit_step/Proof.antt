@@ -11,7 +11,7 @@ commit-count-requires c κs = search needs
 
 returns : tie.Need-returns
 returns c =
-    rw (c .emptied .ensures)
+    rw (c .ended .ensures .0, c .ended .ensures .1)
     (S.commit-ends _ _ _ _ _ (omega arith) (omega arith) (omega arith) (omega arith))
 
 commit-action-requires : tie.Need-commit-action-requires
@@ -28,8 +28,8 @@ same-length c = search needs
 
 returns-2 : tie.Need-returns-2
 returns-2 c =
-    rw (c .acting .ensures)
-    (S.commit-acts _ _ _ _ _ (omega arith) (omega arith) (omega arith) _ _ (c .before .before .before .before .before .before .commit-action .ensures) (c .before .before .before .before .perform .ensures) (omega arith))
+    rw (c .in-phase .ensures)
+    (S.commit-acts _ _ _ _ _ (omega arith) (omega arith) (omega arith) _ _ (c .before .before .before .before .before .commit-action .ensures) (c .before .before .before .perform .ensures) (omega arith))
 
 batch-start-requires : tie.Need-batch-start-requires
 batch-start-requires c κs = search needs
@@ -45,34 +45,35 @@ same-length-3 c = search needs
 
 returns-3 : tie.Need-returns-3
 returns-3 c =
-    rw (c .keyed .ensures)
-    (S.commit-joins _ _ _ _ _ (omega arith) (omega arith) (omega arith) _ _ (c .before .before .before .before .before .before .before .before .before .before .before .before .before .commit-action .ensures) (c .before .before .before .before .before .before .before .before .before .before .before .perform .ensures) _ _ _ _ (c .before .before .before .before .before .before .before .batch-start .ensures) (omega arith) (c .before .before .before .join .ensures))
+    let joined = c .before .before .before in
+    rw (c .fenced .ensures .0, c .fenced .ensures .1)
+    (S.commit-fences _ _ _ _ _ (omega arith) (omega arith) (omega arith) _ _ _ _ (joined .before .before .before .before .batch-start .ensures) (omega arith) (omega arith) (joined .join .ensures))
 
-emptied-requires : tie.Need-emptied-requires
-emptied-requires c κs = search needs
+ended-requires : tie.Need-ended-requires
+ended-requires c κs = search needs
 
-acting-requires : tie.Need-acting-requires
-acting-requires c κs = search needs
+in-phase-requires : tie.Need-in-phase-requires
+in-phase-requires c κs = search needs
 
-keyed-requires : tie.Need-keyed-requires
-keyed-requires c κs = search needs
+fenced-requires : tie.Need-fenced-requires
+fenced-requires c κs = search needs
 
 pub commit-step-spec : {M : Type 1} → statement M
 commit-step-spec =
     tie.close
     (tie.spec
     commit-count-requires
-    emptied-requires
+    ended-requires
     returns
+    add-next
     commit-action-requires
     perform-requires
-    add-next
-    acting-requires
+    in-phase-requires
     same-length
     returns-2
     batch-start-requires
     join-requires
-    keyed-requires
+    fenced-requires
     same-length-2
     same-length-3
     returns-3)

@@ -28,14 +28,14 @@ same-length c = search needs
 
 returns-2 : tie.Need-returns-2
 returns-2 c =
-    rw (c .moved .ensures)
+    rw (c .at-action .ensures)
     (S.format-acts _ _ _ _ _ (omega arith) (omega arith) (omega arith) (omega arith) _ _ (omega arith) (c .before .before .before .before .before .format-action .ensures) (c .before .before .before .perform .ensures))
 
 closed-requires : tie.Need-closed-requires
 closed-requires c κs = search needs
 
-moved-requires : tie.Need-moved-requires
-moved-requires c κs = search needs
+at-action-requires : tie.Need-at-action-requires
+at-action-requires c κs = search needs
 
 pub format-step-spec : {M : Type 1} → statement M
 format-step-spec =
@@ -47,6 +47,6 @@ format-step-spec =
     format-action-requires
     perform-requires
     add-next
-    moved-requires
+    at-action-requires
     same-length
     returns-2)

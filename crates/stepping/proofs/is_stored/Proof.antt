@@ -3,7 +3,7 @@
 use mathlib.Core.Path.{sym}
 use borrow.Author.Needs.{needs}
 use borrow.Author.Tests.{le-leb}
-use Rattle.block_acts.proofs.Filling.{none-left}
+use Rattle.actions.proofs.Filling.{none-left}
 use Rattle.stepping.proofs.is_stored.Statement.{statement}
 use Rattle.stepping.proofs.is_stored.Tie as tie
 

@@ -6,7 +6,7 @@ use borrow.Author.Tests.{leb-true, leb-false}
 use borrow.Author.Needs.{needs}
 use lib.ListN.{length}
 use Rattle.session.specs.State.{blockActions, behindAll}
-use Rattle.block_acts.proofs.Filling.{none-left}
+use Rattle.actions.proofs.Filling.{none-left}
 use Rattle.stepping.proofs.Shows as S
 use Rattle.stepping.proofs.stage_step.Statement.{statement}
 use Rattle.stepping.proofs.stage_step.Tie as tie
@@ -16,7 +16,7 @@ is-stored-requires c κs = search needs
 
 returns : tie.Need-returns
 returns c =
-    rw (c .at-rest .ensures)
+    rw (c .ended .ensures)
     (S.staging-ends _ _ _ _ _ (omega arith) (omega arith) (omega arith) (leb-true _ _ (sym (c .before .before .is-stored .ensures) ∙ c .before .if1 .taken)))
 
 block-action-requires : tie.Need-block-action-requires
@@ -27,8 +27,12 @@ perform-requires c κs = search needs
 
 add-next : tie.Need-add-next
 add-next c =
-    let a = c .before .before .before .before .before .before .before .before .before .args in
-    let l = leb-false (length (blockActions (a .setup) (a .buffer .now))) (a .control .next) (sym (c .before .before .before .before .before .before .is-stored .ensures) ∙ c .before .before .before .before .before .if1 .left) in
+    let at-if1 = c .before .before .before .before .before in
+    let at-is-stored = at-if1 .before in
+    let at-start = at-is-stored .before .before .before in
+    let a = at-start .args in
+    let l = leb-false (length (blockActions (a .setup) (a .buffer .now))) (a .control .next)
+    (sym (at-is-stored .is-stored .ensures) ∙ at-if1 .if1 .left) in
     let m = none-left (a .setup) (a .buffer .now) behindAll (omega arith) in
     omega arith
 
@@ -37,25 +41,30 @@ same-length c = search needs
 
 returns-2 : tie.Need-returns-2
 returns-2 c =
-    rw (c .acting .ensures)
-    (S.staging-acts _ _ _ _ _ (omega arith) (omega arith) (omega arith) _ _ (leb-false _ _ (sym (c .before .before .before .before .before .before .before .is-stored .ensures) ∙ c .before .before .before .before .before .before .if1 .left)) (c .before .before .before .before .before .block-action .ensures) (c .before .before .before .perform .ensures))
+    let at-block-action = c .before .before .before .before .before in
+    let at-if1 = at-block-action .before in
+    let at-is-stored = at-if1 .before in
+    rw (c .in-phase .ensures)
+    (S.staging-acts _ _ _ _ _ (omega arith) (omega arith) (omega arith) _ _
+    (leb-false _ _ (sym (at-is-stored .is-stored .ensures) ∙ at-if1 .if1 .left))
+    (at-block-action .block-action .ensures) (c .before .before .before .perform .ensures))
 
-at-rest-requires : tie.Need-at-rest-requires
-at-rest-requires c κs = search needs
+ended-requires : tie.Need-ended-requires
+ended-requires c κs = search needs
 
-acting-requires : tie.Need-acting-requires
-acting-requires c κs = search needs
+in-phase-requires : tie.Need-in-phase-requires
+in-phase-requires c κs = search needs
 
 pub stage-step-spec : {M : Type 1} → statement M
 stage-step-spec =
     tie.close
     (tie.spec
     is-stored-requires
-    at-rest-requires
+    ended-requires
     returns
     block-action-requires
     perform-requires
     add-next
-    acting-requires
+    in-phase-requires
     same-length
     returns-2)

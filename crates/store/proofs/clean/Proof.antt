@@ -5,7 +5,9 @@
 -- Assumes nothing.
 use Rattle.spec.specs.Machine.{Clean}
 use Rattle.session.specs.Promise.{Does, memoryOf}
-use mathlib.Core.Path.{_≡_, refl, ap}
+use mathlib.Core.Path.{_≡_}
+use Prim.Native.Nat.{_%_}
+use mathlib.Core.Path.{refl, ap}
 use mathlib.Core.Bool.{Bool}
 use Prim.Native.Nat.{ℕ, _+_, _<_, _^_}
 use mathlib.Core.List.{[], _∷_, List}
@@ -64,14 +66,14 @@ use Rattle.session.proofs.Control as Ctl
 use Rattle.session.proofs.Control.Laws as Ctl′
 use Rattle.session.proofs.Outcome as S
 use Rattle.session.proofs.Outcome.Laws as S′
-use Rattle.lent_record.proofs.Lent as Lent
+use Rattle.store.proofs.Lent as Lent
 use Rattle.session.specs.declared.Setup.{Setup}
 use Rattle.session.proofs.Setup as K-Setup
 use Rattle.session.proofs.Setup.Laws as K-Setup′
-use Rattle.cleaning_begin.proofs.clean_core as core
-use Rattle.cleaning_begin.proofs.clean_core.Symbol as core-def
-use Rattle.cleaning_begin.proofs.clean_core.Symbol.{name as #core}
-use Rattle.cleaning_begin.proofs.clean_core.Met as core-thm
+use Rattle.cleaning.proofs.clean_core as core
+use Rattle.cleaning.proofs.clean_core.Symbol as core-def
+use Rattle.cleaning.proofs.clean_core.Symbol.{name as #core}
+use Rattle.cleaning.proofs.clean_core.Met as core-thm
 use Rattle.store.proofs.clean.Key.{name as #step}
 use Rattle.store.proofs.clean as step
 use Rattle.store.proofs.clean.Statement as stated
@@ -208,4 +210,4 @@ clean-spec 𝓤 H 𝓜 𝓖 𝓡 =
     entered 𝓤 H (tripleOf 𝓤 H (𝓖 .A) step.signature (step.spec 𝓤 H (𝓖 .A) (𝓜 .mem) (𝓡 .run)))
     (tables 𝓤 H 𝓜 𝓡 code.env .C) (tables 𝓤 H 𝓜 𝓡 code.env .Λ) #step code.function (code.unfolded 𝓤 H 𝓜 𝓡)
     (step-meets 𝓤 H (𝓖 .A) (givenOf 𝓤 H 𝓜 𝓖) (𝓜 .mem) (𝓡 .run) (tablesOf 𝓤 H 𝓜 (tables 𝓤 H 𝓜 𝓡 code.env))
-    (cited 𝓤 H (Core 𝓤 H (𝓖 .A) (𝓜 .mem) (𝓡 .run)) 𝓜 𝓡 code.env #core core-def.routine code.calls-cleaning-begin·clean-core (core-thm.met 𝓤 H 𝓜 𝓖 𝓡)))
+    (cited 𝓤 H (Core 𝓤 H (𝓖 .A) (𝓜 .mem) (𝓡 .run)) 𝓜 𝓡 code.env #core core-def.routine code.calls-cleaning·clean-core (core-thm.met 𝓤 H 𝓜 𝓖 𝓡)))

@@ -1,0 +1,21 @@
+-- A large value held in the station record while it is staged.
+-- Assumes nothing.
+use mathlib.Core.Path.{_≡_}
+use mathlib.Core.List.{List, _∷_}
+use Prim.Native.Nat.{ℕ, _+_, _/_, _≤_, _<_}
+use lib.ListN.{length, getD}
+use Rattle.spec.specs.Words.{packed}
+use Rattle.buffer.specs.Areas.{secondStart, bitsStart, bufferWords}
+use Rattle.buffer.specs.Bits.{hasBit}
+use Rattle.session.specs.State.{bufferPart, mostBytes, heldWords}
+
+-- a value put into the second area, if it fits into a block
+pub record Kept (before after bytes : List ℕ) : Type 0 where
+  pub size : length before ≡ bufferWords
+  pub long : length after ≡ length before
+  pub below : (i : ℕ) → i < secondStart → getD after i 0 ≡ getD before i 0
+  pub above : (i : ℕ) → bitsStart ≤ i → getD after i 0 ≡ getD before i 0
+  pub bits : (u : ℕ) → hasBit after u ≡ hasBit before u
+  pub large : mostBytes < length bytes → after ≡ before
+  pub written : length bytes ≤ mostBytes → bufferPart after secondStart (1 + (length bytes + 7) / 8) ≡ length bytes ∷ packed bytes
+  pub held : length bytes ≤ mostBytes → heldWords after ≡ length bytes ∷ packed bytes

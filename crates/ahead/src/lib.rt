@@ -1,1 +1,0 @@
-// Memory while a large value is staged: definitions and laws, in specs/ and proofs/.

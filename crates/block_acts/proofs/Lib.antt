@@ -1,4 +1,0 @@
-pub mod Filling
-pub mod Holding
-pub mod Plan
-mod Worked

@@ -1,2 +1,0 @@
-pub mod KeyEntries
-pub mod Filling

@@ -1,4 +1,0 @@
-pub mod Run
-pub mod Stores
-pub mod Fast
-pub mod Late

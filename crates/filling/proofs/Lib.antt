@@ -1,4 +1,0 @@
-pub mod Pass
-pub mod Runs
-pub mod Sums
-pub mod Skips

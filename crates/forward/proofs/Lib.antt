@@ -1,0 +1,13 @@
+pub mod Shown
+pub mod Staged
+pub mod Steps
+pub mod Commits
+pub mod Plans
+pub mod Sole
+pub mod Weights
+pub mod Walks
+pub mod Freed
+pub mod Forward
+pub mod Actions
+pub mod Moving
+pub mod Cleaning

@@ -1,0 +1,4 @@
+pub mod Ahead
+pub mod Once
+pub mod Freed
+pub mod Cleaning

@@ -1,0 +1,17 @@
+-- `inspect::header::centre_by` meets its contract, test by test.
+-- Assumes nothing.
+use borrow.Author.Tests.{eq-eqb, ne-eqb}
+use Rattle.inspect.proofs.header.centre_by.Statement.{statement}
+use Rattle.inspect.proofs.header.centre_by.Tie as tie
+
+returns : tie.Need-returns
+returns c = rw (eq-eqb _ 5 (c .if1 .taken))
+
+returns-2 : tie.Need-returns-2
+returns-2 c = rw (ne-eqb _ 5 (c .before .if1 .left), eq-eqb _ 7 (c .if2 .taken))
+
+returns-3 : tie.Need-returns-3
+returns-3 c = rw (ne-eqb _ 5 (c .before .if1 .left), ne-eqb _ 7 (c .if2 .left))
+
+pub centre-by-spec : {M : Type 1} → statement M
+centre-by-spec = tie.close (tie.spec returns returns-2 returns-3)

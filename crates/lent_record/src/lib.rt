@@ -1,1 +1,0 @@
-// The station record lent where it lies: the crate is its proofs.

@@ -1,4 +1,0 @@
-pub mod Entries
-pub mod Slots
-pub mod Answers
-pub mod Alike

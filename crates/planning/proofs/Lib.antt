@@ -1,3 +1,0 @@
-pub mod Finding
-pub mod Shows
-pub mod Begun

@@ -1,0 +1,4 @@
+pub mod Pieces
+pub mod Examples
+pub mod Prints
+pub mod Pages

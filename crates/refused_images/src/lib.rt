@@ -1,1 +1,0 @@
-// Images that an opening refuses, one fault each, computed: the crate is its proofs/.

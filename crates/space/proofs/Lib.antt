@@ -1,3 +1,0 @@
-pub mod Space
-pub mod Answer
-pub mod Hint

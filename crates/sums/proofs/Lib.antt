@@ -1,5 +1,0 @@
-pub mod Laws
-pub mod Weights
-pub mod Renews
-pub mod Joins
-pub mod Turns

@@ -1,5 +1,0 @@
-pub mod Places
-pub mod Units
-pub mod Adding
-pub mod Sweeps
-pub mod Ends
