@@ -70,7 +70,7 @@ static void finish(zkv_report r)
 static void fresh(void)
 {
     memset(&record, 0, sizeof record);
-    finish(zkv_format(LENT, 0, 0, 0, 0));
+    finish(zkv_format(LENT, ZKV_POWER_SMALL, 0, 0, 0, 0));
     finish(zkv_open(LENT));
 }
 

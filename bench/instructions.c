@@ -155,7 +155,7 @@ int main(int count, char **words)
     const char *row = count == 2 ? words[1] : "";
     int operations = 0;
     memset(value, 7, sizeof value);
-    finish(zkv_format(LENT, 0, 0, 0, 0).kind);
+    finish(zkv_format(LENT, ZKV_POWER_SMALL, 0, 0, 0, 0).kind);
     finish(zkv_open(LENT).kind);
     by_steps = strcmp(row, "step16") == 0;
     if (strncmp(row, "put", 3) == 0) {

@@ -181,7 +181,7 @@ static void new_register(size_t full_chunks)
     memset(image, 0, BYTES);
     memset(floor_image, 0, BYTES);
     memset(&record, 0, sizeof record);
-    run(zkv_format(&record, image, BYTES, table, TABLE, 0, 0, 0, 0), (struct way){false, false});
+    run(zkv_format(&record, image, BYTES, table, TABLE, ZKV_POWER_SMALL, 0, 0, 0, 0), (struct way){false, false});
     if (zkv_open(&record, image, BYTES, table, TABLE).kind != ZKV_OPENED) {
         wrong("the formatted image was refused");
     }

@@ -63,7 +63,7 @@ static uint64_t run(struct ours *s, zkv_report r)
 static void new_register(struct ours *s)
 {
     memset(s, 0, sizeof *s);
-    run(s, zkv_format(LENT(s), 0, 0, 0, 0));
+    run(s, zkv_format(LENT(s), ZKV_POWER_SMALL, 0, 0, 0, 0));
     if (zkv_open(LENT(s)).kind != ZKV_OPENED) {
         wrong("the formatted image was refused");
     }

@@ -27,7 +27,7 @@ static void run(zkv_report begun)
 int main(int count, char **argument)
 {
     uint64_t labels = count > 1 ? strtoull(argument[1], NULL, 10) : 1, start, length;
-    run(zkv_format(LENT, 0, 0, 0, 0));
+    run(zkv_format(LENT, ZKV_POWER_SMALL, 0, 0, 0, 0));
     run(zkv_open(LENT));
     for (uint64_t key = 4711; key < 4711 + labels; key++) {
         run(zkv_put(LENT, key, (const uint8_t *)"A+ 450 ml", 9));

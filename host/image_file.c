@@ -368,9 +368,13 @@ static const char *lock(int descriptor, int kind, const char *name, zkv_file_wai
 
 /* ---- mapping */
 
+enum { PAGE = 4096 };
+
+/* Whether it is the length of an image with chunks of either size. */
 static bool length_allowed(int64_t bytes)
 {
-    return bytes % ZKV_CHUNK_BYTES == 0 && bytes >= ZKV_CHUNKS_MIN * ZKV_CHUNK_BYTES && bytes <= ZKV_CHUNKS_MAX * ZKV_CHUNK_BYTES;
+    int64_t chunk = bytes <= ZKV_CHUNKS_MAX * ZKV_CHUNK_BYTES ? ZKV_CHUNK_BYTES : ZKV_LARGE_CHUNK_BYTES;
+    return bytes % chunk == 0 && bytes >= ZKV_CHUNKS_MIN * chunk && bytes <= ZKV_CHUNKS_MAX * chunk;
 }
 
 /* With MAP_SYNC, so that a line written back is durable; else its pages are synced at each fence. */
@@ -416,18 +420,23 @@ void zkv_file_flush(void *file, const uint8_t *line)
 {
     zkv_file *f = file;
     write_back_line((enum write_back)f->how, line);
-    f->page[(size_t)(line - f->image) / ZKV_CHUNK_BYTES] = 1;
+    f->page[(size_t)(line - f->image) / PAGE] = 1;
 }
 
 int zkv_file_fence(void *file)
 {
     zkv_file *f = file;
     store_fence();
-    for (size_t p = 0; f->by_pages && p < f->bytes / ZKV_CHUNK_BYTES; p++) {
-        if (f->page[p] && msync(f->image + p * ZKV_CHUNK_BYTES, ZKV_CHUNK_BYTES, MS_SYNC) != 0) {
+    size_t pages = f->by_pages ? f->bytes / PAGE : 0, end;
+    for (size_t p = 0; p < pages; p = end + 1) {
+        end = p;
+        while (end < pages && f->page[end]) {           /* those beside each other by one call */
+            end++;
+        }
+        if (end > p && msync(f->image + p * PAGE, (end - p) * PAGE, MS_SYNC) != 0) {
             return -1;
         }
-        f->page[p] = 0;
+        memset(f->page + p, 0, end - p);
     }
     return 0;
 }
@@ -447,8 +456,8 @@ uint64_t *zkv_table_new(size_t bytes, size_t *words)
     }
     if (room > length) {
         /* A table of about a huge page begins where one may lie; what is before and behind it goes back. */
-        size_t before = (HUGE_PAGE - (uintptr_t)at % HUGE_PAGE) % HUGE_PAGE, page = ZKV_CHUNK_BYTES;
-        size_t kept = (length + page - 1) / page * page;
+        size_t before = (HUGE_PAGE - (uintptr_t)at % HUGE_PAGE) % HUGE_PAGE;
+        size_t kept = (length + PAGE - 1) / PAGE * PAGE;
         if (before > 0) {
             munmap(at, before);
         }

@@ -1,6 +1,8 @@
-/* What the library has beside the proved calls, in plain C over them: its version, the words of the refusals, a
- * begun call carried out to its end, a free chunk after an opening, and the write-back of lines on this processor. See
- * the end of zitskvoze.h. */
+/* What the library has beside the proved calls, in plain C over them: its version, the words of the refusals, the size of
+ * an image's chunks, a begun call carried out to its end, a free chunk after an opening, and the write-back of lines on
+ * this processor. See the end of zitskvoze.h. */
+#include <string.h>
+
 #include "device.h"
 
 extern inline const char *zkv_sentence(uint64_t number);
@@ -8,6 +10,35 @@ extern inline const char *zkv_sentence(uint64_t number);
 const char *zkv_version(void)
 {
     return ZKV_VERSION;
+}
+
+/* The header line: a map of the fields that follow, the chunks' count, station, centre and power where their bits stand,
+ * zeros, and a word that makes the sum of all eight 0. */
+uint64_t zkv_power(const uint8_t *image, size_t bytes)
+{
+    uint64_t word[8] = {0}, sum = 0, power = ZKV_POWER_SMALL;
+    size_t fields = 0;
+    if (bytes >= sizeof word) {
+        memcpy(word, image, sizeof word);
+    }
+    for (size_t i = 0; i < 4; i++) {
+        fields += word[0] >> i & 1;
+    }
+    if (word[0] >> 3 & 1) {
+        power = word[fields];
+    }
+    if (power != ZKV_POWER_SMALL && power != ZKV_POWER_LARGE) {
+        return 0;
+    }
+    for (size_t i = 0; i < 8; i++) {
+        sum += word[i];
+        if (i > fields && i < 7 && word[i] != 0) {
+            return 0;
+        }
+    }
+    bool right = word[0] % 2 == 1 && word[0] < 16 && sum == 0 && word[1] >= ZKV_CHUNKS_MIN && word[1] <= ZKV_CHUNKS_MAX &&
+                 word[1] << power == bytes;
+    return right ? power : 0;
 }
 
 zkv_report zkv_finish(zkv_record *record, uint8_t *image, size_t bytes, uint64_t *table, size_t words, zkv_report report,
@@ -51,7 +82,9 @@ zkv_report zkv_make_room(zkv_record *record, uint8_t *image, size_t bytes, uint6
     if (report.kind == ZKV_CHOSEN) {
         report = zkv_clean(record, image, bytes, table, words, (size_t)report.first);
     }
-    for (size_t chunk = 1; cannot_be_freed(report) && chunk < bytes / ZKV_CHUNK_BYTES; chunk++) {
+    uint64_t power = zkv_power(image, bytes);
+    size_t chunks = power != 0 ? bytes >> power : 0;
+    for (size_t chunk = 1; cannot_be_freed(report) && chunk < chunks; chunk++) {
         report = zkv_clean(record, image, bytes, table, words, chunk);
     }
     return zkv_finish(record, image, bytes, table, words, report, flush, fence, context);

@@ -17,7 +17,7 @@
 
 #include "zitskvoze.h"
 
-enum { IMAGE_MAX = 65536, TABLE_MAX = 8192, VALUE_ROOM = 65536, ARGUMENTS = 4, TWINS = 4, SOME = 16 };
+enum { IMAGE_MAX = 524288, TABLE_MAX = 8192, VALUE_ROOM = 65536, ARGUMENTS = 4, TWINS = 4, SOME = 16, LONG = 65536 };
 
 /* What is lent to every call, and a copy of it from before the call. */
 struct lent {
@@ -42,6 +42,7 @@ struct asked {
     enum call call;
     uint64_t first, second;        /* key, value's length; chunk; station, centre */
     bool given[2];                 /* station, centre */
+    uint64_t power;                /* of the chunks that a formatting makes */
     uint64_t version;              /* that a put or a delete is for */
 };
 
@@ -72,7 +73,7 @@ static zkv_report made(struct lent *l, struct asked a)
     zkv_report found = {0, 1, 1};
     switch (a.call) {
     case FORMAT:
-        return zkv_format(r, l->image, bytes, l->table, words, a.given[0], a.first, a.given[1], a.second);
+        return zkv_format(r, l->image, bytes, l->table, words, a.power, a.given[0], a.first, a.given[1], a.second);
     case OPEN:
         return zkv_open(r, l->image, bytes, l->table, words);
     case PUT:
@@ -135,14 +136,26 @@ static void open_twin(void)
     unlike = unlike || zkv_open(&t->record, t->image, bytes, t->table, words).kind != ZKV_OPENED;
 #ifdef WRONG
     /* the record's hint: no log chunk below chunk 3 has space for a line */
-    t->record.word[11] = 3;
-    t->record.word[12] = 1;
+    t->record.word[12] = 3;
+    t->record.word[13] = 1;
 #endif
 }
 
 static bool same(zkv_report r, zkv_report q)
 {
     return q.kind == r.kind && q.first == r.first && q.second == r.second;
+}
+
+/* Of an image with large chunks a step that stores or flushes is held to the one word that it may change, as it may be
+ * one of thousands; the whole image is compared at the next call or step that tells something else. */
+static bool one_of_many(struct asked a, zkv_report r)
+{
+    return bytes > LONG && a.call == STEP && ((r.kind == ZKV_STORE && r.first < bytes / 8) || r.kind == ZKV_FLUSH);
+}
+
+static bool same_word(const struct lent *l, const struct lent *t, zkv_report r)
+{
+    return r.kind != ZKV_STORE || memcmp(l->image + 8 * r.first, t->image + 8 * r.first, 8) == 0;
 }
 
 static bool same_images(const struct lent *l, const struct lent *t)
@@ -164,7 +177,8 @@ static bool shown_alike(const struct lent *l, const struct lent *t)
     static uint64_t keys[2][TABLE_MAX / 2];
     static struct lent ran[2];
     uint64_t count[2], number[2];
-    size_t chunk = compared / SOME % (bytes / ZKV_CHUNK_BYTES + 1);
+    size_t size = bytes < ZKV_CHUNKS_MIN * ZKV_LARGE_CHUNK_BYTES ? ZKV_CHUNK_BYTES : ZKV_LARGE_CHUNK_BYTES;
+    size_t chunk = compared / SOME % (bytes / size + 1);
     const struct lent *each[2] = {l, t};
     zkv_chunk_row row[2];
     zkv_report empty[2], end[2];
@@ -192,9 +206,9 @@ static void follow(struct asked a, zkv_report r)
         uint64_t version = looked;
         zkv_report q = made(&twin[i], a);
         compared++;
-        unlike = unlike || !same(r, q) || looked != version || !same_images(&now, &twin[i]) ||
-                 zkv_keys(&now.record) != zkv_keys(&twin[i].record) ||
-                 (compared % SOME == 0 && !shown_alike(&now, &twin[i]));
+        bool alike = one_of_many(a, r) ? same_word(&now, &twin[i], r) : same_images(&now, &twin[i]);
+        unlike = unlike || !same(r, q) || looked != version || !alike || zkv_keys(&now.record) != zkv_keys(&twin[i].record) ||
+                 (compared % (bytes > LONG ? SOME * SOME : SOME) == 0 && !shown_alike(&now, &twin[i]));
     }
     memcpy(tried.table, now.table, 8 * words);
     tried.record = now.record;
@@ -204,9 +218,27 @@ static void follow(struct asked a, zkv_report r)
     }
 }
 
+static struct asked asked;         /* the call made last, and what it answered */
+static zkv_report answered;
+
+/* The copy from before the last call is there already. */
 static void remember(void)
 {
-    copy(&before, &now);
+    if (!one_of_many(asked, answered)) {
+        copy(&before, &now);
+        return;
+    }
+    if (answered.kind == ZKV_STORE) {
+        memcpy(before.image + 8 * answered.first, now.image + 8 * answered.first, 8);
+    }
+    before.record = now.record;
+}
+
+/* What is lent was changed by no call: the twins end, and the next call needs a whole copy. */
+static void lent_anew(void)
+{
+    memset(running, 0, sizeof running);
+    asked.call = OPEN;
 }
 
 static bool image_same(void)
@@ -231,7 +263,7 @@ static bool closed(void)
             return false;
         }
     }
-    before = now;
+    copy(&before, &now);
     return zkv_step(&before.record, before.image, bytes, before.table, words).kind == ZKV_IDLE;
 }
 
@@ -315,6 +347,8 @@ static zkv_report ask(struct asked a)
     if (with_twins) {
         follow(a, r);
     }
+    asked = a;
+    answered = r;
     return r;
 }
 
@@ -468,8 +502,9 @@ static bool play(char *line)
         }
     }
 #define COMMAND(name, arguments) (strcmp(command, name) == 0 && given == (arguments))
-    if (COMMAND("format", 2)) {
-        answer(ask((struct asked){.call = FORMAT, .first = n[0], .second = n[1], .given = {!absent[0], !absent[1]}}));
+    if (COMMAND("format", 2) || COMMAND("format", 3)) {
+        uint64_t power = given == 3 ? n[2] : ZKV_POWER_SMALL;
+        answer(ask((struct asked){.call = FORMAT, .first = n[0], .second = n[1], .given = {!absent[0], !absent[1]}, .power = power}));
         return true;
     }
     if (dash) {
@@ -478,28 +513,28 @@ static bool play(char *line)
     if (COMMAND("image", 1) && n[0] <= IMAGE_MAX) {
         bytes = n[0];
         memset(now.image, 0, sizeof now.image);
-        memset(running, 0, sizeof running);
+        lent_anew();
         printf("image %zu\n", bytes);
     } else if (COMMAND("table", 1) && n[0] <= TABLE_MAX) {
         words = n[0];
         memset(now.table, 0, sizeof now.table);
-        memset(running, 0, sizeof running);
+        lent_anew();
         printf("table %zu\n", words);
     } else if (COMMAND("record", 0)) {
         memset(&now.record, 0, sizeof now.record);
         cleaning = false;
         unfinished = false;
-        memset(running, 0, sizeof running);
+        lent_anew();
         puts("record");
     } else if (COMMAND("poke", 2) && n[0] < bytes / 8) {
         memcpy(now.image + 8 * n[0], &n[1], 8);
         altered = true;
-        memset(running, 0, sizeof running);
+        lent_anew();
         puts("poke");
     } else if (COMMAND("tpoke", 2) && n[0] < words) {
         now.table[n[0]] = n[1];
         altered = true;
-        memset(running, 0, sizeof running);
+        lent_anew();
         puts("tpoke");
     } else if (COMMAND("open", 0)) {
         zkv_report r = ask((struct asked){.call = OPEN});

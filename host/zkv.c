@@ -16,7 +16,7 @@
 /* ---- options, by the commands that have them */
 
 enum { FORCE = 1, STATION = 2, CENTRE = 4, EMPTY = 8, NO_CLEAN = 16, PAUSE = 32, WAIT = 64, JSON = 128, AGAINST = 256, SVG = 512,
-       LINE = 1024, VERSION = 2048, IF_VERSION = 4096 };
+       LINE = 1024, VERSION = 2048, IF_VERSION = 4096, CHUNK_SIZE = 8192 };
 
 static const struct option {
     const char *name;
@@ -37,6 +37,7 @@ static const struct option {
     {"--line", LINE, NULL, 0},
     {"--version", VERSION, NULL, 0},
     {"--if-version", IF_VERSION, "a version: decimal, below 2^64", UINT64_MAX},
+    {"--chunk-size", CHUNK_SIZE, "the bytes of a chunk: 4096 or 65536", UINT64_MAX},
 };
 
 static const struct command {
@@ -46,8 +47,8 @@ static const struct command {
     int (*run)(const char *file, char **word, const struct options *o);
     const char *usage;
 } commands[] = {
-    {"format", 1, 0, FORCE | STATION | CENTRE | PAUSE | WAIT, command_format,
-     "FILE CHUNKS [--station N] [--centre N] [--force] [--pause MICROSECONDS] [--wait SECONDS]"},
+    {"format", 1, 0, CHUNK_SIZE | FORCE | STATION | CENTRE | PAUSE | WAIT, command_format,
+     "FILE CHUNKS [--chunk-size BYTES] [--station N] [--centre N] [--force] [--pause MICROSECONDS] [--wait SECONDS]"},
     {"put", 2, 0, IF_VERSION | EMPTY | NO_CLEAN | PAUSE | WAIT, command_put,
      "FILE KEY VALUEFILE|- [--if-version N] [--empty] [--no-clean] [--pause MICROSECONDS] [--wait SECONDS]"},
     {"get", 1, 0, VERSION | WAIT, command_get, "FILE KEY [--version] [--wait SECONDS]"},
@@ -65,7 +66,8 @@ static const struct command {
     {"dump", 0, 0, WAIT, command_dump, "FILE [--wait SECONDS]"},
     {"load", 1, 0, EMPTY | NO_CLEAN | PAUSE | WAIT, command_load,
      "FILE LIST|- [--empty] [--no-clean] [--pause MICROSECONDS] [--wait SECONDS]"},
-    {"copy", 1, 1, PAUSE | WAIT, command_copy, "FILE NEW [CHUNKS] [--pause MICROSECONDS] [--wait SECONDS]"},
+    {"copy", 1, 1, CHUNK_SIZE | PAUSE | WAIT, command_copy,
+     "FILE NEW [CHUNKS] [--chunk-size BYTES] [--pause MICROSECONDS] [--wait SECONDS]"},
 };
 
 enum { OPTIONS = sizeof options / sizeof *options, COMMANDS = sizeof commands / sizeof *commands, WORDS_MAX = 3 };
@@ -158,6 +160,9 @@ static void set_option(struct options *o, unsigned bit, uint64_t n, const char *
         o->if_version_given = true;
         o->if_version = n;
         break;
+    case CHUNK_SIZE:
+        o->chunk_bytes = n;
+        break;
     default:
         o->wait = (long)n;
     }
@@ -182,7 +187,7 @@ static bool fits(const struct option *p, const char *given, uint64_t *n)
     if (p->most == 0) {
         return strlen(given) == 64 && strspn(given, "0123456789abcdefABCDEF") == 64;
     }
-    return number_of(given, n) && *n <= p->most;
+    return number_of(given, n) && *n <= p->most && (p->bit != CHUNK_SIZE || *n == ZKV_CHUNK_BYTES || *n == ZKV_LARGE_CHUNK_BYTES);
 }
 
 /* The words and options behind the command's name. A question for help stands alone: among words it may be a file's

@@ -15,6 +15,7 @@ struct options {
     bool force, empty, no_clean, json, line, version;
     bool station_given, centre_given, if_version_given;
     uint64_t station, centre, if_version;
+    uint64_t chunk_bytes;       /* of a new register; 0: not said */
     long pause_us;              /* between steps */
     long wait;                  /* seconds for the lock; -1: as long as it takes */
     const char *against;        /* a digest; NULL: none is given */
@@ -68,6 +69,10 @@ __attribute__((format(printf, 3, 4))) int refused(const char *file, uint64_t num
 /* zkv_register.c: opening, and carrying a begun call out. A file that is only read is copied into memory and closed, so
  * that its lock is free again, unless the station says that it is to be held. */
 int lend(struct station *s, size_t bytes, const struct options *o);       /* a key table for an image of so many bytes */
+uint64_t open_lent(struct station *s);                                   /* opens what is lent: 0, or the refusal's number */
+size_t chunk_bytes(const struct station *s);                             /* of a register that is open */
+size_t value_max(const struct station *s);                               /* the same: how long a value may be */
+uint64_t power_of(size_t chunk_bytes);                                   /* as zkv_format is told it */
 int open_image(struct station *s, const char *name, enum zkv_file_use use, const struct options *o, uint64_t *number);
 int need_register(struct station *s, const char *name, enum zkv_file_use use, const struct options *o);
 /* Opens to be written, for commits. A commit is begun only while a free chunk stands, else a power cut in a cleaning

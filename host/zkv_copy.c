@@ -29,25 +29,25 @@ static int labels_of(struct station *s, struct labels *all)
     return all->label != NULL ? each_label(s, take_label, all) : trouble(s->file.name, "no memory for the labels");
 }
 
-/* The header's numbers are those of the register that is copied. */
-static zkv_report format_like(struct station *old, struct station *new)
+/* The header's numbers are those of the register that is copied; the chunks may be of another size. */
+static zkv_report format_like(struct station *old, struct station *new, size_t chunk)
 {
     uint64_t station = 0, centre = 0;
     uint64_t station_given = zkv_station(old->file.image, old->file.bytes, &station);
     uint64_t centre_given = zkv_centre(old->file.image, old->file.bytes, &centre);
-    return zkv_format(LENT(new), station_given, station, centre_given, centre);
+    return zkv_format(LENT(new), power_of(chunk), station_given, station, centre_given, centre);
 }
 
 static int open_new(struct station *new)
 {
-    zkv_report r = zkv_open(LENT(new));
-    return r.kind == ZKV_OPENED ? DONE : refused(new->file.name, r.first, "the new register: ");
+    uint64_t number = open_lent(new);
+    return number == 0 ? DONE : refused(new->file.name, number, "the new register: ");
 }
 
-static int fill(struct station *old, struct station *new, const struct labels *all)
+static int fill(struct station *old, struct station *new, size_t chunk, const struct labels *all)
 {
     struct put_so_far p;
-    zkv_report r = format_like(old, new);
+    zkv_report r = format_like(old, new, chunk);
     int status = carry_out(new, &r);
     if (status == DONE && r.kind == ZKV_REFUSED) {
         status = refused(new->file.name, r.first, "%zu bytes: ", new->file.bytes);
@@ -59,8 +59,7 @@ static int fill(struct station *old, struct station *new, const struct labels *a
         status = put_labels(new, all->label, all->count, true, &p, &r);
     }
     if (status == DONE && r.kind == ZKV_REFUSED) {
-        status = refused(new->file.name, r.first, "%zu chunks, after %zu of %zu labels: ", new->file.bytes / ZKV_CHUNK_BYTES, p.labels,
-                         all->count);
+        status = refused(new->file.name, r.first, "%zu chunks, after %zu of %zu labels: ", new->file.bytes / chunk, p.labels, all->count);
     }
     return status;
 }
@@ -87,9 +86,9 @@ static int compare(struct station *new, const struct labels *all)
 }
 
 /* The new file has its name only once it is the same; until then it is removed if anything fails. */
-static int copy_to(struct station *old, struct station *new, const struct labels *all)
+static int copy_to(struct station *old, struct station *new, size_t chunk, const struct labels *all)
 {
-    int status = fill(old, new, all);
+    int status = fill(old, new, chunk, all);
     if (status == DONE) {
         status = compare(new, all);
     }
@@ -131,8 +130,10 @@ int command_copy(const char *file, char **word, const struct options *o)
     if (status == DONE) {
         status = need_register(&old, file, ZKV_FILE_READ, o);
     }
-    size_t bytes = word[1] != NULL ? chunks * ZKV_CHUNK_BYTES : old.file.bytes;
+    size_t chunk = 0, bytes = 0;
     if (status == DONE) {
+        chunk = o->chunk_bytes != 0 ? o->chunk_bytes : chunk_bytes(&old);
+        bytes = (word[1] != NULL ? chunks : old.file.bytes / chunk_bytes(&old)) * chunk;
         status = lend(&new, bytes, o);
     }
     if (status == DONE) {
@@ -140,7 +141,7 @@ int command_copy(const char *file, char **word, const struct options *o)
     }
     if (status == DONE) {
         const char *text = zkv_file_new(&new.file, word[0], bytes);
-        status = text == NULL ? copy_to(&old, &new, &all) : trouble(word[0], "%s", text);
+        status = text == NULL ? copy_to(&old, &new, chunk, &all) : trouble(word[0], "%s", text);
         zkv_file_close(&new.file);
     }
     if (status == DONE) {

@@ -15,12 +15,14 @@ static const char *const roles[] = {"free", "log", "data", "wrong"};
 
 struct chunks {
     size_t count;               /* with chunk 0, of which there is no row */
+    size_t bytes;               /* of each */
     zkv_chunk_row row[ZKV_CHUNKS_MAX];
 };
 
 static int measure(struct station *s, struct chunks *all)
 {
-    all->count = s->file.bytes / ZKV_CHUNK_BYTES;
+    all->bytes = chunk_bytes(s);
+    all->count = s->file.bytes / all->bytes;
     for (size_t c = 1; c < all->count; c++) {
         all->row[c] = zkv_chunk(LENT(s), c);
         if (all->row[c].refused != 0) {
@@ -39,9 +41,10 @@ static size_t last_free(const struct chunks *all, size_t c)
     return c;
 }
 
-/* A line for each chunk; one for free chunks that stand beside each other. */
+/* How many chunks of which size there are, then a line for each; one for free chunks that stand beside each other. */
 static void print_table(const struct chunks *all)
 {
+    printf("%zu chunks of %zu bytes\n", all->count, all->bytes);
     puts("   chunk  role  lines  live  superseded  deletes  blocks  bytes  used");
     for (size_t c = 1; c < all->count; c++) {
         const zkv_chunk_row *r = &all->row[c];
@@ -62,7 +65,7 @@ static void print_table(const struct chunks *all)
 /* ---- the picture: a box for each chunk; of a log chunk as much of its height as is committed, shared by what its
  * entries are; of a data chunk a part for each block */
 
-enum { BOX = 44, GAP = 6, BOXES = 16, LINES = ZKV_CHUNK_BYTES / ZKV_LINE_BYTES, HEAD = 40, SIGN = 12 };
+enum { BOX = 44, GAP = 6, BOXES = 16, HEAD = 40, SIGN = 12 };
 
 enum { LIVE, SUPERSEDED, DELETES, BLOCKS_USED, BLOCKS_FREE, FREE, CHUNK_0, MEANINGS };
 
@@ -86,10 +89,10 @@ static void print_box(FILE *to, double x, double y, double height, int meaning)
     }
 }
 
-static void print_log_chunk(FILE *to, const zkv_chunk_row *r, double x, double y)
+static void print_log_chunk(FILE *to, const zkv_chunk_row *r, size_t bytes, double x, double y)
 {
     uint64_t entries = r->live + r->superseded + r->deletes;
-    double used = (double)BOX * (double)r->size / LINES, each = entries > 0 ? used / (double)entries : 0;
+    double used = (double)BOX * (double)(ZKV_LINE_BYTES * r->size) / (double)bytes, each = entries > 0 ? used / (double)entries : 0;
     double live = each * (double)r->live, gone = each * (double)r->deletes;
     print_box(to, x, y, live, LIVE);
     print_box(to, x, y + live, gone, DELETES);
@@ -103,9 +106,10 @@ static void print_data_chunk(FILE *to, const zkv_chunk_row *r, double x, double 
     print_box(to, x, y + used, BOX - used, BLOCKS_FREE);
 }
 
-/* The box of chunk c, whose row is r; chunk 0 has none. */
-static void print_chunk(FILE *to, const zkv_chunk_row *r, size_t c)
+/* The box of chunk c; chunk 0 has no row. */
+static void print_chunk(FILE *to, const struct chunks *all, size_t c)
 {
+    const zkv_chunk_row *r = &all->row[c];
     double x = GAP + (double)(c % BOXES) * (BOX + GAP), y = HEAD + (double)(c / BOXES) * (BOX + GAP);
     fprintf(to, "<g><title>chunk %zu: %s", c, c == 0 ? "header and directory" : roles[r->role & 3]);
     if (c > 0 && r->role == ZKV_LOG_CHUNK) {
@@ -117,7 +121,7 @@ static void print_chunk(FILE *to, const zkv_chunk_row *r, size_t c)
     fputs("</title>\n", to);
     print_box(to, x, y, BOX, c == 0 ? CHUNK_0 : FREE);
     if (c > 0 && r->role == ZKV_LOG_CHUNK) {
-        print_log_chunk(to, r, x, y);
+        print_log_chunk(to, r, all->bytes, x, y);
     } else if (c > 0 && r->role == ZKV_DATA_CHUNK) {
         print_data_chunk(to, r, x, y);
     }
@@ -142,7 +146,7 @@ static void print_picture(FILE *to, const struct chunks *all)
                 "<rect width=\"100%%\" height=\"100%%\" fill=\"#f4f4f4\"/>\n", GAP + BOXES * (BOX + GAP), HEAD + rows * (BOX + GAP));
     print_key(to);
     for (size_t c = 0; c < all->count; c++) {
-        print_chunk(to, &all->row[c], c);
+        print_chunk(to, all, c);
     }
     fputs("</svg>\n", to);
 }
@@ -207,10 +211,10 @@ static void print_value(FILE *to, const uint8_t *value, uint64_t length)
 static int print_entry(struct station *s, FILE *to, uint64_t key, const uint64_t *e)
 {
     const uint8_t *image = s->file.image;
-    uint64_t start, length, byte = 8 * e[ZKV_ENTRY_PLACE];
+    uint64_t start, length, byte = 8 * e[ZKV_ENTRY_PLACE], chunk = chunk_bytes(s);
     bool put = e[ZKV_ENTRY_OP] == 1, chosen = e[ZKV_ENTRY_CHOSEN] != 0;
     fprintf(to, "%" PRIu64 " %s chunk %" PRIu64 " line %" PRIu64 " %s", e[ZKV_ENTRY_VERSION], put ? "put" : "delete",
-            byte / ZKV_CHUNK_BYTES, byte % ZKV_CHUNK_BYTES / ZKV_LINE_BYTES, chosen ? "current" : "superseded");
+            byte / chunk, byte % chunk / ZKV_LINE_BYTES, chosen ? "current" : "superseded");
     if (put && e[ZKV_ENTRY_BLOCK] == 0) {
         print_value(to, image + byte + 16, e[ZKV_ENTRY_FIELD]);
     } else if (put && chosen) {

@@ -9,7 +9,7 @@
 
 #include "zkv.h"
 
-/* ---- reading a list: all of it is read and judged before the register is touched */
+/* ---- reading a list: all of it is read and judged before the register is changed */
 
 struct list {
     const char *name;
@@ -22,9 +22,9 @@ struct list {
 
 /* Above the longest list that can be loaded: every byte of an image in four characters, and ZKV_KEYS_MAX keys. A power
  * of two, and so a length that the room for the text takes. */
-enum { LIST_END = 1 << 24 };
+enum { LIST_END = 1 << 27 };
 
-_Static_assert(LIST_END > 4 * ZKV_CHUNKS_MAX * ZKV_CHUNK_BYTES + 22 * ZKV_KEYS_MAX, "a list that can be loaded is read");
+_Static_assert(LIST_END > 4 * ZKV_CHUNKS_MAX * ZKV_LARGE_CHUNK_BYTES + 22 * ZKV_KEYS_MAX, "a list that can be loaded is read");
 
 static int read_text(struct list *l, FILE *input)
 {
@@ -99,9 +99,6 @@ static int read_label(struct list *l, uint8_t *line, size_t bytes)
     if (wrong != NULL) {
         return trouble(l->name, "line %zu: key %" PRIu64 ": %s", number, label->key, wrong);
     }
-    if (label->length > ZKV_VALUE_MAX) {
-        return refused(l->name, ZKV_TOO_LONG, "line %zu: key %" PRIu64 ": %" PRIu64 " bytes: ", number, label->key, label->length);
-    }
     l->labels++;
     return DONE;
 }
@@ -154,6 +151,18 @@ static int no_key_twice(const struct list *l)
     }
     free(sorted);
     return status;
+}
+
+/* How long a value may be is known once the register is open. */
+static int none_too_long(const struct list *l, const struct station *s)
+{
+    for (size_t i = 0; i < l->labels; i++) {
+        const struct label *label = &l->label[i];
+        if (label->length > value_max(s)) {
+            return refused(l->name, ZKV_TOO_LONG, "line %zu: key %" PRIu64 ": %" PRIu64 " bytes: ", i + 1, label->key, label->length);
+        }
+    }
+    return DONE;
 }
 
 static int read_list(struct list *l, const char *from, bool empty_meant)
@@ -300,8 +309,10 @@ int command_load(const char *file, char **word, const struct options *o)
     zkv_report r;
     int status = read_list(&l, word[0], o->empty);
     if (status == DONE) {
-        status = need_room(&s, file, o, &done);
+        status = need_register(&s, file, ZKV_FILE_WRITE, o);
     }
+    status = status == DONE ? none_too_long(&l, &s) : status;
+    status = status == DONE ? make_room(&s, &done) : status;
     if (status == DONE) {
         status = put_labels(&s, l.label, l.labels, !o->no_clean, &p, &r);
         if (status == DONE && r.kind == ZKV_REFUSED) {

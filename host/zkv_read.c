@@ -12,7 +12,7 @@
 static int label_of(const char *file, const char *given_key, const struct options *o, struct label *l)
 {
     static struct station s = {.held = true};
-    static uint8_t value[ZKV_VALUE_MAX];
+    static uint8_t value[ZKV_LARGE_VALUE_MAX];
     uint64_t key;
     int status = key_of(file, given_key, &key);
     if (status != DONE) {
@@ -25,7 +25,7 @@ static int label_of(const char *file, const char *given_key, const struct option
     bool absent = status == ABSENT && o->version;
     if (absent) {
         status = version_of_key(&s, key, &l->version);
-    } else if (status == DONE && l->length > sizeof value) {
+    } else if (status == DONE && l->length > value_max(&s)) {
         status = trouble(file, "was changed by another program while it was read");
     } else if (status == DONE) {
         memcpy(value, l->value, l->length);
@@ -113,15 +113,15 @@ static bool same_digest(const char *given, const char *digest)
     return strlen(given) == strlen(digest) && strcasecmp(given, digest) == 0;
 }
 
-static uint64_t line_in_chunk(uint64_t word)
+static uint64_t line_in_chunk(const struct station *s, uint64_t word)
 {
-    return 8 * word % ZKV_CHUNK_BYTES / ZKV_LINE_BYTES;
+    return 8 * word % chunk_bytes(s) / ZKV_LINE_BYTES;
 }
 
 /* Where the fault is, and what can be read before it. Bytes count from 0, as in the file. */
-static void print_place(const zkv_place *p)
+static void print_place(const struct station *s, const zkv_place *p)
 {
-    uint64_t line = line_in_chunk(p->word);
+    uint64_t line = line_in_chunk(s, p->word);
     switch (p->refusal) {
     case ZKV_NOT_OPEN:
         printf("at the header: word %" PRIu64 ", byte %" PRIu64 "\n", p->word, 8 * p->word);
@@ -143,13 +143,13 @@ static void print_place(const zkv_place *p)
     }
 }
 
-static void print_place_json(const zkv_place *p)
+static void print_place_json(const struct station *s, const zkv_place *p)
 {
     if (p->refusal >= ZKV_DIRECTORY_WRONG) {
         printf(",\"chunk\":%" PRIu64, p->chunk);
     }
     if (p->refusal >= ZKV_ENTRY_WRONG) {
-        printf(",\"line\":%" PRIu64, line_in_chunk(p->word));
+        printf(",\"line\":%" PRIu64, line_in_chunk(s, p->word));
     }
     if (p->refusal >= ZKV_NOT_OPEN) {
         printf(",\"byte\":%" PRIu64, 8 * p->word);
@@ -178,12 +178,12 @@ static void print_refusal(const struct station *s, uint64_t number, bool json)
         if (number == ZKV_IMAGE_LENGTH) {
             printf(",\"bytes\":%jd", (intmax_t)s->file.length);
         }
-        print_place_json(&place);
+        print_place_json(s, &place);
         puts("}");
     } else if (number == ZKV_IMAGE_LENGTH) {
         printf("the file has %jd bytes\n", (intmax_t)s->file.length);
     } else {
-        print_place(&place);
+        print_place(s, &place);
     }
 }
 

@@ -22,6 +22,8 @@ int trouble(const char *file, const char *format, ...)
     return TROUBLE;
 }
 
+static size_t longest = ZKV_VALUE_MAX;  /* value of the register that was opened last */
+
 int refused(const char *file, uint64_t number, const char *about, ...)
 {
     va_list arguments;
@@ -30,7 +32,7 @@ int refused(const char *file, uint64_t number, const char *about, ...)
     vfprintf(stderr, about, arguments);
     fprintf(stderr, "refused %" PRIu64 ": %s", number, zkv_sentence(number));
     if (number == ZKV_TOO_LONG) {
-        fprintf(stderr, " (at most %d bytes)", ZKV_VALUE_MAX);
+        fprintf(stderr, " (at most %zu bytes)", longest);
     } else if (number == ZKV_TABLE_FULL) {
         fprintf(stderr, " (at most %d, and deleted keys count until they are cleaned away: delete what is not needed, then clean)",
                 ZKV_KEYS_MAX);
@@ -50,6 +52,28 @@ int lend(struct station *s, size_t bytes, const struct options *o)
     s->table = zkv_table_new(bytes, &s->words);
     s->pause_us = o->pause_us;
     return s->table != NULL ? DONE : trouble("key table", "no memory");
+}
+
+size_t chunk_bytes(const struct station *s)
+{
+    return zkv_power(s->file.image, s->file.bytes) == ZKV_POWER_LARGE ? ZKV_LARGE_CHUNK_BYTES : ZKV_CHUNK_BYTES;
+}
+
+size_t value_max(const struct station *s)
+{
+    return chunk_bytes(s) == ZKV_LARGE_CHUNK_BYTES ? ZKV_LARGE_VALUE_MAX : ZKV_VALUE_MAX;
+}
+
+uint64_t power_of(size_t chunk_bytes)
+{
+    return chunk_bytes == ZKV_LARGE_CHUNK_BYTES ? ZKV_POWER_LARGE : ZKV_POWER_SMALL;
+}
+
+uint64_t open_lent(struct station *s)
+{
+    zkv_report r = zkv_open(LENT(s));
+    longest = value_max(s);
+    return r.kind == ZKV_OPENED ? 0 : r.first;
 }
 
 /* From here on the station works on a copy in memory, and the file is closed: what reads our output may take as long as
@@ -95,8 +119,7 @@ int open_image(struct station *s, const char *name, enum zkv_file_use use, const
         status = lend(s, s->file.bytes, o);
     }
     if (status == DONE) {
-        zkv_report r = zkv_open(LENT(s));
-        *number = r.kind == ZKV_OPENED ? 0 : r.first;
+        *number = open_lent(s);
     }
     return status;
 }

@@ -37,7 +37,7 @@ static void end_trial(struct trial *t)
 /* How many labels of so many bytes, under keys that are absent, can be put one by one before a cleaning is needed. */
 static int try_puts(struct trial *t, size_t length, uint64_t *puts)
 {
-    static const uint8_t value[ZKV_VALUE_MAX];
+    static const uint8_t value[ZKV_LARGE_VALUE_MAX];
     uint64_t start, bytes;
     memcpy(t->s.file.image, t->of->file.image, t->of->file.bytes);
     zkv_report r = zkv_open(LENT(&t->s));
@@ -65,14 +65,19 @@ struct stat_row {
     bool absent, quoted;        /* not told; a text in JSON, as keys are */
 };
 
-enum { CHUNKS, LABELS, DELETED, KNOWN, FREE, USED, LEFT, OF_16, OF_64, OF_256, OF_1000, OF_4088, STATION_NUMBER, CENTRE_NUMBER, ROWS };
+enum {
+    CHUNKS, CHUNK_SIZE, LABELS, DELETED, KNOWN, FREE, USED, LEFT, OF_16, OF_64, OF_256, OF_1000, OF_4088, OF_65528, STATION_NUMBER,
+    CENTRE_NUMBER, ROWS
+};
 
 static int measure(struct station *s, struct stat_row *row)
 {
     static struct trial t;
     const uint8_t *image = s->file.image;
     size_t bytes = s->file.bytes;
-    row[CHUNKS].number = bytes / ZKV_CHUNK_BYTES;
+    row[CHUNK_SIZE].number = chunk_bytes(s);
+    row[CHUNKS].number = bytes / chunk_bytes(s);
+    row[OF_65528].absent = value_max(s) < ZKV_LARGE_VALUE_MAX;
     row[LABELS].number = labels_in(s);
     row[KNOWN].number = zkv_keys(&s->record);
     row[DELETED].number = row[KNOWN].number - row[LABELS].number;
@@ -87,6 +92,9 @@ static int measure(struct station *s, struct stat_row *row)
     status = status == DONE ? try_puts(&t, 256, &row[OF_256].number) : status;
     status = status == DONE ? try_puts(&t, 1000, &row[OF_1000].number) : status;
     status = status == DONE ? try_puts(&t, ZKV_VALUE_MAX, &row[OF_4088].number) : status;
+    if (!row[OF_65528].absent) {
+        status = status == DONE ? try_puts(&t, ZKV_LARGE_VALUE_MAX, &row[OF_65528].number) : status;
+    }
     end_trial(&t);
     return status;
 }
@@ -119,6 +127,7 @@ int command_stat(const char *file, char **word, const struct options *o)
     static struct station s;
     struct stat_row row[ROWS] = {
         [CHUNKS] = {"chunks", "chunks", 0, false, false},
+        [CHUNK_SIZE] = {"bytes of a chunk", "chunk_bytes", 0, false, false},
         [LABELS] = {"labels", "labels", 0, false, false},
         [DELETED] = {"deleted keys", "deleted_keys", 0, false, false},
         [KNOWN] = {"known keys", "known_keys", 0, false, false},
@@ -130,6 +139,7 @@ int command_stat(const char *file, char **word, const struct options *o)
         [OF_256] = {"labels of 256 bytes left", "labels_of_256_left", 0, false, false},
         [OF_1000] = {"labels of 1000 bytes left", "labels_of_1000_left", 0, false, false},
         [OF_4088] = {"labels of 4088 bytes left", "labels_of_4088_left", 0, false, false},
+        [OF_65528] = {"labels of 65528 bytes left", "labels_of_65528_left", 0, false, false},
         [STATION_NUMBER] = {"station", "station", 0, false, true},
         [CENTRE_NUMBER] = {"centre", "centre", 0, false, true},
     };

@@ -29,16 +29,17 @@ static int is_taken(struct station *old, uint64_t number)
 }
 
 /* The register is made in a new file, which takes the name at the end: until then the name's file is as it was. */
-static int make_register(const char *file, size_t bytes, const struct options *o, const zkv_file *old)
+static int make_register(const char *file, size_t chunks, const struct options *o, const zkv_file *old)
 {
     struct station s = {0};
+    size_t chunk = o->chunk_bytes != 0 ? o->chunk_bytes : ZKV_CHUNK_BYTES, bytes = chunks * chunk;
     int status = lend(&s, bytes, o);
     if (status != DONE) {
         return status;
     }
     const char *text = zkv_file_new(&s.file, file, bytes);
     if (text == NULL) {
-        zkv_report r = zkv_format(LENT(&s), o->station_given, o->station, o->centre_given, o->centre);
+        zkv_report r = zkv_format(LENT(&s), power_of(chunk), o->station_given, o->station, o->centre_given, o->centre);
         status = carry_out(&s, &r);
         if (status == DONE && r.kind == ZKV_REFUSED) {
             status = refused(file, r.first, "%zu bytes: ", bytes);
@@ -64,9 +65,8 @@ int command_format(const char *file, char **word, const struct options *o)
     if (chunks < ZKV_CHUNKS_MIN || chunks > ZKV_CHUNKS_MAX) {
         return refused(file, ZKV_IMAGE_LENGTH, "%" PRIu64 " chunks: ", chunks);
     }
-    size_t bytes = chunks * ZKV_CHUNK_BYTES;
     if (stat(file, &about) != 0) {
-        return errno == ENOENT ? make_register(file, bytes, o, NULL) : trouble(file, "%s", strerror(errno));
+        return errno == ENOENT ? make_register(file, chunks, o, NULL) : trouble(file, "%s", strerror(errno));
     }
     struct station old = {0};
     uint64_t number = 0;
@@ -74,7 +74,7 @@ int command_format(const char *file, char **word, const struct options *o)
     if (status == DONE && old.file.length > 0 && !o->force) {
         status = is_taken(&old, number);
     }
-    return status == DONE ? make_register(file, bytes, o, &old.file) : status;
+    return status == DONE ? make_register(file, chunks, o, &old.file) : status;
 }
 
 /* ---- clean */

@@ -1,19 +1,20 @@
 /* The calls of the label register for hosts in C (C99 on) and C++ (C++11 on): a proved key-value store in one module of
  * persistent memory.
  *
- * The library keeps, under each 64-bit key, the exact bytes of a value (0 to 4,088 of them), and survives a power cut
- * at any moment. It has no heap, no thread, no file and no state of its own: the host lends it everything, and carries
- * out on the device what each step reports. This file is the manual of the calls. The rules that they are proved
- * against are R1.. in docs/RULES.md; what module, processor and host are taken to do is F1.. in
- * crates/spec/specs/Medium.antt.
+ * The library keeps, under each 64-bit key, the exact bytes of a value (0 to 4,088 of them, or to 65,528 in a register
+ * with large chunks), and survives a power cut at any moment. It has no heap, no thread, no file and no state of its own: the
+ * host lends it everything, and carries out on the device what each step reports. This file is the manual of the calls.
+ * The rules that they are proved against are R1.. in docs/RULES.md; what module, processor and host are taken to do is
+ * F1.. in crates/spec/specs/Medium.antt.
  *
  * WHAT THE HOST LENDS
  *
- * - image: the persistent memory; header, directory and log. It is the register. 4 to 504 times 4,096 bytes, aligned to
- *   64.
+ * - image: the persistent memory; header, directory and log. It is the register. 4 to 504 chunks, each of 4,096 bytes
+ *   (small) or each of 65,536 (large), aligned to 64. A formatting is told which, by the power of two: 12 or 16. The
+ *   header holds it, so that an opening is told nothing, and zkv_power tells it of an image.
  * - table: the key table, volatile words that each opening fills anew. Any number of words, aligned to 8.
- * - record: the station record (zkv_record, 13,480 bytes, aligned to 8): what is open, staged and unfinished. Volatile.
- * - value: the bytes of a put, 0 to 4,088. Any alignment. It is lent to that call alone.
+ * - record: the station record (zkv_record, 90,288 bytes, aligned to 8): what is open, staged and unfinished. Volatile.
+ * - value: the bytes of a put, 0 to 4,088, or to 65,528 with large chunks. Any alignment. It is lent to that call alone.
  *
  * The host allocates and frees all of them; the library keeps no pointer after a call returns. The staged values lie in
  * the record's buffer, so `value` may be reused as soon as zkv_put has returned. Fields of the record are nobody's
@@ -150,8 +151,9 @@
  *   against the register, and keep a digest of the image elsewhere.
  * - A table too small for the image's keys makes a refused opening slow: up to some 70 times an accepted one, whatever
  *   the table's length. Lend one of ZKV_TABLE_WORDS_MAX words where memory allows.
- * - An opening takes some 64 KB of stack, and so does a cleaning's last step where a key's entries stand twice;
- *   zkv_fault takes some 115 KB.
+ * - Stack, with chunks of either size: an opening takes some 550 KB, and so does a cleaning's last step where a key's
+ *   entries stand twice; the begin of a cleaning (zkv_clean) some 270 KB, zkv_choose some 230 KB, zkv_fault some 1.6 MB.
+ *   The other calls take a few KB.
  * - The log only grows until it is cleaned: superseded and deleted values take space until then, and known keys include
  *   deleted ones that still have an entry. Clean when time allows, or when 13 comes; it may take several cleanings
  *   until a commit finds space. Commits leave a free chunk to clean into (they take one only where three are free, two
@@ -179,11 +181,15 @@ extern "C" {
 #define ZKV_VERSION "1.0"
 
 enum {
-    ZKV_CHUNK_BYTES = 4096,
-    ZKV_CHUNKS_MIN = 4,
+    ZKV_POWER_SMALL = 12,     /* the powers of two that chunks may have, as zkv_format is told */
+    ZKV_POWER_LARGE = 16,
+    ZKV_CHUNK_BYTES = 4096,   /* of a small chunk */
+    ZKV_LARGE_CHUNK_BYTES = 65536,
+    ZKV_CHUNKS_MIN = 4,       /* of either size */
     ZKV_CHUNKS_MAX = 504,
     ZKV_LINE_BYTES = 64,
-    ZKV_VALUE_MAX = 4088,
+    ZKV_VALUE_MAX = 4088,     /* in a register with small chunks */
+    ZKV_LARGE_VALUE_MAX = 65528,
     ZKV_LOG_VALUE_MAX = 256,  /* a longer value goes to a block */
     ZKV_BATCH_ITEMS = 16,
     ZKV_KEYS_MAX = 65536,
@@ -232,9 +238,9 @@ inline const char *zkv_sentence(uint64_t number)
 {
     switch (number) {
     case ZKV_IMAGE_LENGTH:
-        return "the image's length is not 4 to 504 times 4,096 bytes, or a lent length is unlike that at the opening";
+        return "the image's length is not 4 to 504 chunks of 4,096 or 65,536 bytes, or a lent length is unlike that at the opening";
     case ZKV_NOT_OPEN:
-        return "the header is wrong, its count is unlike the image's length, or no register is open";
+        return "the header is wrong, its chunks are unlike the image's length, or no register is open";
     case ZKV_DIRECTORY_WRONG:
         return "a directory word is wrong";
     case ZKV_ENTRY_WRONG:
@@ -272,7 +278,7 @@ inline const char *zkv_sentence(uint64_t number)
 
 /* The station record: plain memory of this size, read and written by the calls alone. */
 typedef struct zkv_record {
-    uint64_t word[1685];
+    uint64_t word[11286];
 } zkv_record;
 
 /* What a call answers: a kind, and two numbers that are 0 where the kind has none. */
@@ -324,21 +330,24 @@ typedef struct zkv_place {
     uint64_t refusal, chunk, word, before;
 } zkv_place;
 
-/* Begins a formatting: the image is to hold an empty register. A number is absent where its `given` is 0. The record
- * may be closed or open; the end of the formatting leaves it closed, with nothing staged. The table is not touched.
- * ZKV_BEGUN 582, or refused: 1, 8. */
+/* Begins a formatting: the image is to hold an empty register with chunks of 2^power bytes, ZKV_POWER_SMALL or
+ * ZKV_POWER_LARGE. A number is absent where its `given` is 0. The record may be closed or open; the end of the formatting
+ * leaves it closed, with nothing staged. The table is not touched. ZKV_BEGUN 582, or refused: 1 (another power, or a
+ * length that is not 4 to 504 such chunks), 8. */
 zkv_report zkv_format(zkv_record *record, const uint8_t *image, size_t bytes, const uint64_t *table, size_t words,
-                      uint64_t station_given, uint64_t station, uint64_t centre_given, uint64_t centre);
+                      uint64_t power, uint64_t station_given, uint64_t station, uint64_t centre_given, uint64_t centre);
 
-/* Opens the register of the image, whatever record and table hold, and fills the table. It forgets staged items and an
- * unfinished call. ZKV_OPENED, or refused: 1 to 7; the table is then all zero and the record closed. */
+/* Opens the register of the image, whatever record and table hold, and fills the table; how large its chunks are is in
+ * the header. It forgets staged items and an unfinished call. ZKV_OPENED, or refused: 1 to 7; the table is then all zero
+ * and the record closed. */
 zkv_report zkv_open(zkv_record *record, const uint8_t *image, size_t bytes, uint64_t *table, size_t words);
 
-/* Begins staging a put of `length` bytes, which are copied into the record. Look-up does not see it before the last
- * fence of its commit. ZKV_BEGUN with 0 actions for a value of at most ZKV_LOG_VALUE_MAX bytes, else with those that
- * write its block; or refused: 2, 1, 8, 9, 12, 10, 7, 13. A block that was staged and then abandoned, or superseded, is
- * used again. A put that gets 13 (no block is to be had) leaves staged what was staged before it: commit that, or
- * forget it by zkv_abandon where all or none of the batch is to last; then clean, and stage again what is missing. */
+/* Begins staging a put of `length` bytes, which are copied into the record; 9 where they are more than a chunk's less 8.
+ * Look-up does not see it before the last fence of its commit. ZKV_BEGUN with 0 actions for a value of at most
+ * ZKV_LOG_VALUE_MAX bytes, else with those that write its block; or refused: 2, 1, 8, 9, 12, 10, 7, 13. A block that was
+ * staged and then abandoned, or superseded, is used again. A put that gets 13 (no block is to be had) leaves staged what
+ * was staged before it: commit that, or forget it by zkv_abandon where all or none of the batch is to last; then clean,
+ * and stage again what is missing. */
 zkv_report zkv_put(zkv_record *record, const uint8_t *image, size_t bytes, const uint64_t *table, size_t words,
                    uint64_t key, const uint8_t *value, size_t length);
 
@@ -383,7 +392,7 @@ zkv_report zkv_step(zkv_record *record, uint8_t *image, size_t bytes, uint64_t *
 
 /* Steps of the begun call until one is to be told: those that store a word, as many as come next, and one step more.
  * It answers the last step's report, which is as zkv_step's and never ZKV_STORE; each step before it stored a word,
- * already in the image. At most 513 steps; idle and refused as zkv_step. */
+ * already in the image. At most 513 steps, with large chunks 8,193; idle and refused as zkv_step. */
 zkv_report zkv_run(zkv_record *record, uint8_t *image, size_t bytes, uint64_t *table, size_t words);
 
 /* Looks a key up: 0, with the part of the image that holds its value (*length bytes from byte *start on; no copy, and
@@ -459,6 +468,10 @@ zkv_place zkv_fault(const uint8_t *image, size_t bytes);
 /* The version of the library that is linked: the ZKV_VERSION of its header. A host that was built with another header
  * may lend a record of another size. */
 const char *zkv_version(void);
+
+/* The power of two of a chunk's bytes in an image, open or not, as an opening takes it from the header: 12 or 16; or 0
+ * where an opening gets 1 or 2. So a chunk has 1 << zkv_power(image, bytes) bytes, and a value at most 8 fewer. */
+uint64_t zkv_power(const uint8_t *image, size_t bytes);
 
 /* Carries a begun call out to its end, by zkv_run, and answers the last report: ZKV_END or a refusal. `report` is what
  * the begin answered, or a step (ZKV_BEGUN, ZKV_STORE, ZKV_FLUSH, ZKV_FENCE); one of any other kind asks for nothing

@@ -28,6 +28,9 @@
 extern "C" {
 #endif
 
+/* The pages of 4,096 bytes of the longest image. */
+enum { ZKV_FILE_PAGES = ZKV_CHUNKS_MAX * (ZKV_LARGE_CHUNK_BYTES / 4096) };
+
 enum zkv_file_use {
     ZKV_FILE_READ,          /* a shared lock; the image is mapped to be read */
     ZKV_FILE_WRITE,         /* an exclusive lock; space is reserved for all of the file; mapped to be written */
@@ -43,7 +46,7 @@ typedef struct zkv_file {
     enum zkv_file_use use;
     int descriptor;         /* -1: not open */
     int how, by_pages;      /* the write-back; whether a fence syncs pages */
-    uint8_t page[ZKV_CHUNKS_MAX];           /* 1: a line of it was flushed since the fence before */
+    uint8_t page[ZKV_FILE_PAGES];           /* 1: a line of it was flushed since the fence before */
     uint64_t device, inode;
     uint32_t owner, group, mode;
     char made[4096];        /* of a new file: the name that it was made under */

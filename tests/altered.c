@@ -123,7 +123,7 @@ static struct state states[BEGUN_CALLS];
 static void begin_calls(void)
 {
     static const uint8_t value[ZKV_VALUE_MAX];
-    keep(&states[FORMAT], zkv_format(LENT, 1, 7, 0, 0));
+    keep(&states[FORMAT], zkv_format(LENT, ZKV_POWER_SMALL, 1, 7, 0, 0));
     right(finish(states[FORMAT].begun).kind == ZKV_END && zkv_open(LENT).kind == ZKV_OPENED);
     for (uint64_t key = 0; key < 40; key++) {
         put(key % 20, 40 + key);
@@ -196,13 +196,13 @@ static uint64_t other_word(uint64_t w, uint64_t way)
 
 int main(int count, char **argument)
 {
-    enum { WAYS = 6 };
+    enum { WAYS = 6, ALL = 22 + 512 + 512 };     /* the record's numbers, the batch, and what small chunks have of the second area */
     uint64_t by_chance = count > 1 ? strtoull(argument[1], NULL, 10) : 20000;
     set_up();
     begin_calls();
     for (int c = 0; c < BEGUN_CALLS; c++) {
         what = names[c];
-        for (size_t w = 0; w < RECORD_WORDS; w++) {
+        for (size_t w = 0; w < RECORD_WORDS; w += w < ALL ? 1 : 7) {
             for (uint64_t way = 0; way < WAYS; way++) {
                 record = states[c].record;
                 record.word[w] = other_word(record.word[w], way);

@@ -72,7 +72,7 @@ int main(int count, char **argument)
         fputs("usage: cut_clean FILE [stuck]\n", stderr);
         return 1;
     }
-    steps("format", zkv_format(LENT, 0, 0, 0, 0), 0);
+    steps("format", zkv_format(LENT, ZKV_POWER_SMALL, 0, 0, 0, 0), 0);
     opening();
     puts_of(1, 64);
     steps("delete", zkv_delete(LENT, 1), 0);

@@ -146,7 +146,7 @@ def main():
     args = args.parse_args()
     seed, count = args.seed, args.count
     sheets = [cases.example_sheet(), cases.order_sheet(), cases.number_sheet(seed), cases.log_sheet(seed, count // 2), cases.medium_sheet(seed, count // 2), cases.book_sheet(seed, count)]
-    sheets += cases.reprint_sheets(seed)
+    sheets += cases.reprint_sheets(seed) + cases.large_sheets(seed, 2)
     sheets += [cases.image_sheet(seed, i) for i in range(count)]
     sheet_of = {f: s for s in sheets for f in s.facts if re.search(args.only, f.name)}
     if not sheet_of:

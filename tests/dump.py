@@ -196,8 +196,8 @@ def full(rng):
 
 def room(rng):
     """The room that stat tells is what can be put, one by one, without cleaning."""
-    for length in (16, 64, 256, 1000, 4088):
-        zkv('format', 'left.img', 4 if length <= 256 else 9)
+    for length in (16, 64, 256, 1000, 4088, 65528):
+        zkv('format', 'left.img', 4 if length <= 256 else 9, '--chunk-size', 4096 if length <= 4088 else 65536)
         zkv('load', 'left.img', '-', given=encoded([(key, rng.randbytes(60)) for key in range(rng.randrange(1, 20))], rng))
         told = json.loads(zkv('stat', 'left.img', '--json'))
         labels = [(1000 + i, rng.randbytes(length)) for i in range(told[f'labels_of_{length}_left'])]

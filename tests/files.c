@@ -81,7 +81,7 @@ static void format(zkv_file *f)
 {
     static _Thread_local zkv_record record;
     static _Thread_local uint64_t table[WORDS];
-    zkv_report r = zkv_format(&record, f->image, f->bytes, table, WORDS, 0, 0, 0, 0);
+    zkv_report r = zkv_format(&record, f->image, f->bytes, table, WORDS, ZKV_POWER_SMALL, 0, 0, 0, 0);
     r = zkv_finish(&record, f->image, f->bytes, table, WORDS, r, zkv_file_flush, zkv_file_fence, f);
     HOLD(r.kind == ZKV_END);
 }

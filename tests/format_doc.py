@@ -51,21 +51,27 @@ def numbers(cell):
 
 
 T = tables(page)
-geometry = model.GEOMETRY[12]
+geometry, large = model.GEOMETRY[12], model.GEOMETRY[16]
+rules = model.Model({11})
 
 # Sizes.
-words = {'word': 1, 'line': model.LINE_WORDS, 'unit': geometry.words // geometry.units, 'chunk': geometry.words}
+words = {'word': 1, 'line': model.LINE_WORDS, 'unit': geometry.words // geometry.units, 'chunk': geometry.words, 'large chunk': large.words}
 hold('sizes', [r[0] for r in T['Sizes'][0]], list(words))
-for name, in_bytes, in_words, in_chunk in T['Sizes'][0]:
+for name, in_bytes, in_words, in_chunk, in_large in T['Sizes'][0]:
     w = words[name]
-    hold(f'size of a {name}', [number(in_bytes), number(in_words), number(in_chunk)], [8 * w, w, geometry.words // w])
-hold('lines of a chunk', geometry.lines, geometry.words // words['line'])
+    hold(f'size of a {name}', [number(in_bytes), number(in_words)], [8 * w, w])
+    if name != 'large chunk':
+        hold(f'{name}s in a chunk', number(in_chunk), geometry.words // w)
+    if name != 'chunk':
+        hold(f'{name}s in a large chunk', number(in_large), large.words // w)
+hold('lines of a chunk', [geometry.lines, large.lines], [geometry.words // words['line'], large.words // words['line']])
+hold('units of a chunk', large.units, large.words // words['unit'])
 
 # The header, as a formatting writes it.
-for column, (chunks, station, centre) in ((2, (4, None, None)), (3, (16, 7, 9))):
+for column, (chunks, station, centre, power) in ((2, (4, None, None, 12)), (3, (16, 7, 9, 12)), (4, (8, None, 9, 16))):
     said = [number(r[column]) for r in T['Header line'][0]]
-    image, s = model.Image([0] * (512 * chunks)), model.Station()
-    s.format(image, station, centre)
+    image, s = model.Image([0] * (model.GEOMETRY[power].words * chunks)), model.Station(rules)
+    s.format(image, station, centre, power)
     model.run(s, image)
     hold(f'header of {chunks} chunks', said, list(image[:8]))
 hold('header words', [number(r[0]) for r in T['Header line'][0]], list(range(8)))
@@ -78,7 +84,7 @@ for name, low, middle, high, example, word in T['Directory'][0]:
     hold(f'bits 2 to 7 of {name}', number(middle), 0)
     hold(f'word of {name}', model.BASE.role(number(word), geometry), (role, argument))
     if role == 1:
-        hold('committed lines', numbers(high), [1, geometry.lines])
+        hold('committed lines', numbers(high), [1])
     if role:
         hold(f'example of {name}', numbers(example), [argument])
 

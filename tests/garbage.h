@@ -26,19 +26,21 @@ enum {
     PAGE = 4096,
     IMAGE_MAX = (ZKV_CHUNKS_MAX + 1) * ZKV_CHUNK_BYTES,
     TABLE_MAX = 8192,
-    VALUE_MAX = 8192,
+    VALUE_MAX = ZKV_LARGE_VALUE_MAX + 8,
     VERSION_MAX = 1048575,
     KEYS_ROOM = 40,
-    CHUNK_WORDS = 512,
-    BUFFER = 21,              /* word of the record at which its buffer starts */
+    POWER = 8,                /* word of the record that has the power of the chunks */
+    BUFFER = 22,              /* at which its buffer starts */
+    BUFFER_WORDS = 11264,
+    BATCH_WORDS = 512,        /* the first area of the buffer */
+    SECOND_WORDS = 8192,      /* the one behind it */
+    BITS_WORDS = 2048,        /* behind that: the bits, the filter and what is to spare */
+    LARGE_IN = 20,            /* one of so many images has large chunks, which take long */
     REFORMAT = 5,             /* the record's first word in a formatting that was begun on an open register */
-    BLOCK_ACTIONS_MAX = 2 + 512 + 64,
-    CLEAN_ACTIONS_MAX = 9 * 64 + 7,
-    STEPS_MAX = CLEAN_ACTIONS_MAX + 1,
-    SECONDS = 300             /* far more than a run takes */
+    SECONDS = 600             /* far more than a run takes */
 };
 
-_Static_assert(sizeof(zkv_record) == 8 * (BUFFER + 1664), "the record's parts are as the cases below fill them");
+_Static_assert(sizeof(zkv_record) == 8 * (BUFFER + BUFFER_WORDS), "the record's parts are as the cases below fill them");
 
 /* ---- what is tried, for the messages */
 static const char *kind_of_case = "", *call = "";
@@ -167,6 +169,36 @@ static uint64_t *the_table(void)
 static size_t table_words(void)
 {
     return table.bytes / 8;
+}
+
+/* Of the image that is lent: the power of its chunks, which a wild record may say otherwise. */
+static uint64_t power = ZKV_POWER_SMALL;
+
+static size_t chunk_bytes(void)
+{
+    return (size_t)1 << power;
+}
+
+static size_t chunks_in_image(void)
+{
+    return image.bytes / chunk_bytes();
+}
+
+/* The lines of a chunk, as the record says: any power but that of large chunks reads as small. */
+static uint64_t lines_by_record(void)
+{
+    return the_record()->word[POWER] == ZKV_POWER_LARGE ? 1024 : 64;
+}
+
+/* At most: a large value's staging takes a chunk, and stores and flushes each line of it; a cleaning copies each line. */
+static uint64_t staging_actions(void)
+{
+    return 2 + 9 * lines_by_record();
+}
+
+static uint64_t cleaning_actions(void)
+{
+    return 9 * lines_by_record() + 7;
 }
 
 /* A word of the image, 0 past its end. */
@@ -379,8 +411,9 @@ static void format_call(void)
 {
     call = "zkv_format";
     remember();
+    uint64_t told = !one_in(6) ? power : one_in(2) ? below(20) : draw();
     begun(FORMAT,
-          zkv_format(the_record(), image.at, image.bytes, the_table(), table_words(), below(2), draw(), below(2), draw()), 582,
+          zkv_format(the_record(), image.at, image.bytes, the_table(), table_words(), told, below(2), draw(), below(2), draw()), 582,
           N(1) | N(8));
 }
 
@@ -424,7 +457,7 @@ static uint64_t some_version(void)
 
 static void put_call(void)
 {
-    static const size_t lengths[] = {0, 1, 7, 8, 9, 255, 256, 257, 4088, 4089, VALUE_MAX};
+    static const size_t lengths[] = {0, 1, 7, 8, 9, 255, 256, 257, 4088, 4089, 16377, 65528, 65529, VALUE_MAX};
     bool named = one_in(3);
     call = named ? "zkv_put_at" : "zkv_put";
     place(&value, one_in(2) ? lengths[below(sizeof lengths / sizeof *lengths)] : below(300));
@@ -433,10 +466,10 @@ static void put_call(void)
     if (named) {
         begun(PUT_AT,
               zkv_put_at(the_record(), image.at, image.bytes, the_table(), table_words(), some_key(), value.at, value.bytes, some_version()),
-              BLOCK_ACTIONS_MAX, N(1) | N(2) | N(7) | N(8) | N(9) | N(10) | N(12) | N(13) | N(17));
+              staging_actions(), N(1) | N(2) | N(7) | N(8) | N(9) | N(10) | N(12) | N(13) | N(17));
     } else {
         begun(PUT,
-              zkv_put(the_record(), image.at, image.bytes, the_table(), table_words(), some_key(), value.at, value.bytes), BLOCK_ACTIONS_MAX,
+              zkv_put(the_record(), image.at, image.bytes, the_table(), table_words(), some_key(), value.at, value.bytes), staging_actions(),
               N(1) | N(2) | N(7) | N(8) | N(9) | N(10) | N(12) | N(13));
     }
     around(&value);
@@ -503,14 +536,14 @@ static uint64_t choose_call(void)
 static uint64_t some_chunk(void)
 {
     static const uint64_t numbers[] = {0, 503, 504, 505, 511, 512, 1ull << 32, 1ull << 52, 1ull << 63, UINT64_MAX};
-    return !one_in(5) ? below(image.bytes / ZKV_CHUNK_BYTES + 2) : one_in(4) ? draw() : numbers[below(sizeof numbers / sizeof *numbers)];
+    return !one_in(5) ? below(chunks_in_image() + 2) : one_in(4) ? draw() : numbers[below(sizeof numbers / sizeof *numbers)];
 }
 
 static void clean_call(uint64_t chunk)
 {
     call = "zkv_clean";
     remember();
-    begun(CLEAN, zkv_clean(the_record(), image.at, image.bytes, the_table(), table_words(), chunk), CLEAN_ACTIONS_MAX,
+    begun(CLEAN, zkv_clean(the_record(), image.at, image.bytes, the_table(), table_words(), chunk), cleaning_actions(),
           N(1) | N(2) | N(8) | N(13) | N(15) | N(16));
 }
 
@@ -623,7 +656,7 @@ static void count_calls(void)
     remember();
     (void)zkv_keys(the_record());
     uint64_t free_chunks = zkv_free_chunks(image.at, image.bytes), lines = zkv_lines_used(image.at, image.bytes);
-    if (free_chunks > ZKV_CHUNKS_MAX || lines > 64 * (uint64_t)ZKV_CHUNKS_MAX) {
+    if (free_chunks > ZKV_CHUNKS_MAX || lines > image.bytes / ZKV_LINE_BYTES) {
         fault("counted %" PRIu64 " free chunks, %" PRIu64 " lines", free_chunks, lines);
     }
     image_kept();
@@ -685,7 +718,8 @@ static void inside_calls(void)
     record_kept();
     if (row.refused != 0) {
         refused(row.refused, N(1) | N(2) | N(8) | N(16));
-    } else if (row.role > ZKV_WRONG_CHUNK || row.size > 64 || row.blocks > 8 || chunk == 0 || chunk >= image.bytes / ZKV_CHUNK_BYTES) {
+    } else if (row.role > ZKV_WRONG_CHUNK || row.size > lines_by_record() || row.blocks > lines_by_record() / 8 || chunk == 0 ||
+               chunk >= image.bytes / ZKV_CHUNK_BYTES) {
         fault("a row of chunk %zu: role %" PRIu64 ", size %" PRIu64 ", blocks %" PRIu64, chunk, row.role, row.size, row.blocks);
     }
     if (empty.kind == ZKV_REFUSED) {
@@ -707,7 +741,8 @@ static void inside_calls(void)
 /* A call that the record may be in the middle of comes to its end. */
 static void finish(void)
 {
-    for (uint64_t steps = 0; steps < STEPS_MAX;) {
+    uint64_t most = cleaning_actions() + 1;
+    for (uint64_t steps = 0; steps < most;) {
         looks_between();
         zkv_report r = go_on(&steps);
         if (r.kind != ZKV_STORE && r.kind != ZKV_FLUSH && r.kind != ZKV_FENCE) {
@@ -715,7 +750,7 @@ static void finish(void)
         }
         alter();
     }
-    fault("%d steps and no end", STEPS_MAX);
+    fault("%" PRIu64 " steps and no end", most);
 }
 
 /* Every call, in any order, an opening rarely: it makes the record right. */
@@ -797,7 +832,7 @@ static void entries(uint64_t *w, size_t words, uint64_t units)
         if (at + 2 + follow > words && (tidy || !one_in(4))) {
             return;
         }
-        w[at] = first_word(op, block, version, op == 2 ? 0 : block ? 16 + below(units) : size);
+        w[at] = first_word(op, block, version, op == 2 ? 0 : block ? chunk_bytes() / 256 + below(units) : size);
         w[at + 1] = tidy ? below(12) : some_key();
         for (size_t i = 0; i < follow && at + 2 + i < words; i++) {
             w[at + 2 + i] = size % 8 != 0 && i == follow - 1 ? 7 : draw();
@@ -812,33 +847,36 @@ static void entries(uint64_t *w, size_t words, uint64_t units)
 /* An image with a right header, directory words that are mostly right, and logs and blocks that may be. */
 static void near_image(void)
 {
-    static const uint64_t sizes[] = {2, 3, 4, 5, 8, 16};
-    size_t chunks = image.bytes / ZKV_CHUNK_BYTES;
-    uint64_t log[CHUNK_WORDS];
+    static const uint64_t small[] = {2, 3, 4, 5, 8, 16}, large[] = {2, 3, 8, 21, 64, 256};
+    static uint64_t log[ZKV_LARGE_CHUNK_BYTES / 8];
+    size_t chunks = chunks_in_image(), chunk_words = chunk_bytes() / 8, lines_most = chunk_bytes() / ZKV_LINE_BYTES;
     tidy = one_in(2);
     last_version = 0;
     memset(image.at, 0, image.bytes);
-    uint64_t map = 1 | below(4) << 1, sum = map + chunks;
+    uint64_t map = 1 | below(4) << 1 | (uint64_t)(power != ZKV_POWER_SMALL || one_in(8)) << 3, sum = map + chunks;
     set_word(0, map);
     set_word(1, chunks);
-    for (size_t i = 2; i < 2 + (size_t)(map >> 1 & 1) + (map >> 2 & 1); i++) {
-        uint64_t x = draw();
-        set_word(i, x);
-        sum += x;
+    for (size_t i = 2, bit = 1; bit < 4; bit++) {
+        uint64_t x = bit == 3 ? power : draw();
+        if (map >> bit & 1) {
+            set_word(i++, x);
+            sum += x;
+        }
     }
     set_word(7, -sum);
     for (size_t c = 1; c < chunks; c++) {
-        uint64_t role = below(5), s = sizes[below(6)], lines = one_in(3) ? 64 : 1 + below(20);
+        uint64_t role = below(5), s = power == ZKV_POWER_LARGE ? large[below(6)] : small[below(6)];
+        uint64_t lines = one_in(3) ? lines_most : 1 + below(20);
         if (role == 0) {
             set_word(8 + c, 2 | s << 8);
-            for (uint64_t u = 0; u + s <= 16; u += s) {
-                set_word(CHUNK_WORDS * c + 32 * u, 257 + below(256 * s - 264));
+            for (uint64_t u = 0; u + s <= chunk_bytes() / 256; u += s) {
+                set_word(chunk_words * c + 32 * u, 257 + below(256 * s - 264));
             }
         } else if (role <= 2) {
             set_word(8 + c, 1 | lines << 8);
-            entries(log, 8 * lines, 16 * chunks);
+            entries(log, 8 * lines, chunk_bytes() / 256 * chunks);
             for (size_t i = 0; i < 8 * lines; i++) {
-                set_word(CHUNK_WORDS * c + i, log[i]);
+                set_word(chunk_words * c + i, log[i]);
             }
         }
     }
@@ -851,48 +889,50 @@ static void near_image(void)
 /* A record with numbers in range, of this image and table, in any phase. */
 static void near_record(void)
 {
-    uint64_t *w = the_record()->word, chunks = image.bytes / ZKV_CHUNK_BYTES;
+    uint64_t *w = the_record()->word, chunks = chunks_in_image(), units = chunk_bytes() / 256 * chunks;
+    uint64_t lines = chunk_bytes() / ZKV_LINE_BYTES;
     w[0] = below(8);
-    w[1] = one_in(2) ? 0 : below(600);
+    w[1] = one_in(2) ? 0 : below(9 * lines + 24);
     w[2] = below(18);
     w[3] = one_in(3) ? below(514) : below(60);
     w[4] = below(table_words() / 4 + 2);
     w[5] = below(3);
     w[6] = image.bytes;
     w[7] = table_words();
-    w[8] = one_in(8) ? 503 + below(2) : below(chunks + 2);
-    w[9] = one_in(4) ? draw() : get_word(8 + w[8]);
-    w[10] = below(66);
-    w[11] = one_in(4) ? draw() : below(chunks + 2);
-    w[12] = one_in(4) ? draw() : below(66);
-    w[13] = below(8);
-    w[14] = draw();
+    w[POWER] = !one_in(20) ? power : one_in(2) ? ZKV_POWER_SMALL + ZKV_POWER_LARGE - power : draw();
+    w[9] = one_in(8) ? 503 + below(2) : below(chunks + 2);
+    w[10] = one_in(4) ? draw() : get_word(8 + w[9]);
+    w[11] = below(lines + 2);
+    w[12] = one_in(4) ? draw() : below(chunks + 2);
+    w[13] = one_in(4) ? draw() : below(lines + 2);
+    w[14] = below(8);
     w[15] = draw();
-    w[16] = one_in(8) ? 503 + below(2) : below(chunks + 2);             /* what a cleaning is in the middle of */
-    w[17] = one_in(4) ? draw() : get_word(8 + w[16]);
-    w[18] = below(66);
-    w[19] = one_in(3) ? below(514) : below(60);
-    w[20] = below(260);
-    if (one_in(3)) {
-        wild(w + BUFFER, 8 * 1664);
-    } else {
-        entries(w + BUFFER, 512, 16 * chunks);
-        entries(w + BUFFER + 512, 512, 16 * chunks);
-        memset(w + BUFFER + 1024, 0, 8 * 128);
+    w[16] = draw();
+    w[17] = one_in(8) ? 503 + below(2) : below(chunks + 2);             /* what a cleaning is in the middle of */
+    w[18] = one_in(4) ? draw() : get_word(8 + w[17]);
+    w[19] = below(lines + 2);
+    w[20] = one_in(3) ? below(8 * lines + 2) : below(60);
+    w[21] = below(4 * lines + 4);
+    if (!one_in(3)) {                                                   /* else wild, as it was lent */
+        entries(w + BUFFER, BATCH_WORDS, units);
+        entries(w + BUFFER + BATCH_WORDS, 8 * lines, units);
+        memset(w + BUFFER + BATCH_WORDS + SECOND_WORDS, 0, 8 * BITS_WORDS);
     }
     for (uint64_t n = one_in(2) ? 0 : below(3); n > 0; n--) {
         w[below(BUFFER)] = one_in(2) ? draw() : UINT64_MAX - below(3);
     }
 }
 
-/* A table whose words look like keys and what the table holds of them: an extent, a place, a version, a number of
- * entries, several tops. */
+/* A table whose words look like keys and what the table holds of them: an extent (not with large chunks), a place, a
+ * version, a number of entries, several tops. */
 static void near_table(void)
 {
     for (size_t i = 0; i < table_words(); i++) {
         uint64_t packed = draw();
         if (!one_in(3)) {
-            packed = (one_in(2) ? below(256) : 0) | (below(image.bytes / 8 + 4) & 0x3FFFF) << 8 | (1 + below(3)) << 26 | (1 + below(3)) << 46;
+            uint64_t place = below(image.bytes / 8 + 4), version = 1 + below(3), count = 1 + below(3);
+            packed = power == ZKV_POWER_LARGE ? (place & 0x3FFFFF) | version << 22 | count << 42
+                                              : (one_in(2) ? below(256) : 0) | (place & 0x3FFFF) << 8 | version << 26 | count << 46;
             packed |= one_in(8) ? (uint64_t)1 << 63 : 0;
         }
         the_table()[i] = one_in(2) ? 0 : i % 2 == 0 ? some_key() : packed;
@@ -902,9 +942,10 @@ static void near_table(void)
 /* ---- the cases */
 static void lend(void)
 {
-    static const size_t lengths[] = {0, 1, 7, 8, 64, 4095, 4096, 12288, 16383, 16384, 16385, 16392, 20480};
+    static const size_t lengths[] = {0, 1, 7, 8, 64, 4095, 4096, 12288, 16383, 16384, 16385, 16392, 20480, 65536, 196608, 262144};
     static const size_t tables[] = {0, 1, 2, 3, 4, 5, 8, 40, 48, 64, 65};
-    size_t bytes = ZKV_CHUNK_BYTES * (4 + below(5));
+    power = one_in(LARGE_IN) ? ZKV_POWER_LARGE : ZKV_POWER_SMALL;
+    size_t bytes = chunk_bytes() * (4 + below(power == ZKV_POWER_LARGE ? 2 : 5));
     if (one_in(10)) {
         bytes = lengths[below(sizeof lengths / sizeof *lengths)];
     }
@@ -933,6 +974,7 @@ static void wild_record(void)
     if (one_in(2)) {
         the_record()->word[6] = image.bytes;
         the_record()->word[7] = table_words();
+        the_record()->word[POWER] = one_in(8) ? draw() : power;
     }
     all_calls(false);
 }
@@ -988,10 +1030,10 @@ static void altered(void)
 {
     uint64_t steps = 0;
     call = "zkv_format";
-    place(&image, ZKV_CHUNK_BYTES * (4 + below(5)));
+    place(&image, chunk_bytes() * (4 + below(power == ZKV_POWER_LARGE ? 2 : 5)));
     memset(image.at, 0, image.bytes);
     nothing_open();
-    zkv_format(the_record(), image.at, image.bytes, the_table(), table_words(), 0, 0, 0, 0);
+    zkv_format(the_record(), image.at, image.bytes, the_table(), table_words(), power, 0, 0, 0, 0);
     while (go_on(&steps).kind != ZKV_END) {
     }
     open_call();
@@ -999,7 +1041,7 @@ static void altered(void)
     for (uint64_t n = below(4); n > 0; n--) {
         uint64_t what = below(3);
         if (what == 0) {
-            the_record()->word[BUFFER + below(512)] = draw();
+            the_record()->word[BUFFER + below(one_in(2) ? BATCH_WORDS : BUFFER_WORDS)] = draw();
         } else if (what == 1) {
             the_record()->word[below(6)] = one_in(2) ? below(600) : draw();
         } else {

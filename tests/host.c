@@ -43,7 +43,7 @@ static int ends(zkv_report begun)
 static void make(const char *name)
 {
     HOLD(zkv_file_new(&file, name, CHUNKS * ZKV_CHUNK_BYTES) == NULL);
-    HOLD(ends(zkv_format(LENT, 1, 7, 0, 0)));
+    HOLD(ends(zkv_format(LENT, ZKV_POWER_SMALL, 1, 7, 0, 0)));
     HOLD(zkv_file_take_name(&file, NULL) == NULL);
     zkv_file_close(&file);
 }
@@ -180,10 +180,10 @@ static void clean(void)
 /* Tables for images of several lengths: four words for each of the shortest entries, up to the most that are used. */
 static void tables(void)
 {
-    size_t bytes[3] = {0, CHUNKS * ZKV_CHUNK_BYTES, ZKV_CHUNKS_MAX * ZKV_CHUNK_BYTES};
-    size_t expected[3] = {0, CHUNKS * 1024, ZKV_TABLE_WORDS_MAX};
+    size_t bytes[4] = {0, CHUNKS * ZKV_CHUNK_BYTES, ZKV_CHUNKS_MAX * ZKV_CHUNK_BYTES, ZKV_CHUNKS_MAX * ZKV_LARGE_CHUNK_BYTES};
+    size_t expected[4] = {0, CHUNKS * 1024, ZKV_TABLE_WORDS_MAX, ZKV_TABLE_WORDS_MAX};
     size_t words, i, j;
-    for (i = 0; i < 3; i++) {
+    for (i = 0; i < 4; i++) {
         uint64_t *made = zkv_table_new(bytes[i], &words);
         HOLD(made != NULL && words == expected[i]);
         for (j = 0; j < words; j++) {
@@ -195,8 +195,53 @@ static void tables(void)
     zkv_table_free(NULL, 0);
 }
 
+/* A register with large chunks in a file beside the other: its size is told by the header, and its values are longer. */
+static void large_chunks(const char *name, zkv_file_wait at_once)
+{
+    static uint8_t value[ZKV_LARGE_VALUE_MAX + 1];
+    uint64_t start, length, header[8];
+    size_t i, w;
+    for (i = 0; i < sizeof value; i++) {
+        value[i] = (uint8_t)(i * 7 + i / 256);
+    }
+    remove(name);
+    HOLD(zkv_file_new(&file, name, 5 * ZKV_LARGE_CHUNK_BYTES) == NULL);
+    HOLD(zkv_power(file.image, file.bytes) == 0);
+    HOLD(zkv_format(LENT, 13, 0, 0, 0, 0).first == ZKV_IMAGE_LENGTH && zkv_format(LENT, 0, 0, 0, 0, 0).first == ZKV_IMAGE_LENGTH);
+    HOLD(ends(zkv_format(LENT, ZKV_POWER_SMALL, 0, 0, 0, 0)) && zkv_power(file.image, file.bytes) == ZKV_POWER_SMALL);
+    HOLD(ends(zkv_format(LENT, ZKV_POWER_LARGE, 0, 0, 1, 8)) && zkv_power(file.image, file.bytes) == ZKV_POWER_LARGE);
+    HOLD(zkv_file_take_name(&file, NULL) == NULL);
+    zkv_file_close(&file);
+    HOLD(zkv_file_open(&file, name, ZKV_FILE_WRITE, at_once) == NULL && file.bytes == 5 * ZKV_LARGE_CHUNK_BYTES);
+    HOLD(zkv_open(LENT).kind == ZKV_OPENED && zkv_free_chunks(file.image, file.bytes) == 4);
+    HOLD(zkv_put(LENT, 1, value, ZKV_LARGE_VALUE_MAX + 1).first == ZKV_TOO_LONG);
+    HOLD(ends(zkv_put(LENT, 1, value, 60000)) && ends(zkv_put(LENT, 2, value + 1, 5)) && ends(zkv_commit(LENT)));
+    HOLD(zkv_look_up(LENT, 1, &start, &length) == 0 && length == 60000 && memcmp(file.image + start, value, 60000) == 0);
+    HOLD(zkv_look_up(LENT, 2, &start, &length) == 0 && length == 5 && memcmp(file.image + start, value + 1, 5) == 0);
+    HOLD(zkv_lines_used(file.image, file.bytes) == 1 && zkv_free_chunks(file.image, file.bytes) == 2);
+    HOLD(zkv_entry(file.image, file.bytes, 1, 0).field % 256 == 0 && zkv_entry(file.image, file.bytes, 2, 0).found == 1);
+    HOLD(zkv_centre(file.image, file.bytes, &start) == 1 && start == 8 && zkv_station(file.image, file.bytes, &start) == 0);
+    HOLD(zkv_fault(file.image, file.bytes).refusal == 0);
+    /* Where a word of the header is another, zkv_power answers 0 and an opening is refused. */
+    memcpy(header, file.image, sizeof header);
+    for (w = 0; w < 8; w++) {
+        for (i = 0; i < 64; i++) {
+            uint64_t other = header[w] ^ (uint64_t)1 << i;
+            memcpy(file.image + 8 * w, &other, 8);
+            HOLD(zkv_power(file.image, file.bytes) == 0 && zkv_fault(file.image, file.bytes).refusal == ZKV_NOT_OPEN);
+        }
+        memcpy(file.image + 8 * w, &header[w], 8);
+    }
+    HOLD(zkv_power(file.image, file.bytes) == ZKV_POWER_LARGE && zkv_power(file.image, file.bytes - ZKV_LARGE_CHUNK_BYTES) == 0);
+    HOLD(zkv_power(file.image, 63) == 0 && zkv_power(file.image, 0) == 0);
+    HOLD(zkv_open(LENT).kind == ZKV_OPENED && zkv_make_room(LENT, zkv_file_flush, fence, &file).kind == ZKV_IDLE);
+    HOLD(zkv_file_confirm(&file) == NULL);
+    zkv_file_close(&file);
+}
+
 int main(int count, char **argument)
 {
+    char beside[4200];
     zkv_file_wait at_once = {0, NULL};
     HOLD(count == 2 && zkv_file_guard("host"));
     HOLD(strcmp(zkv_version(), ZKV_VERSION) == 0 && strcmp(zkv_sentence(ZKV_KEY_ABSENT), "the key is absent") == 0);
@@ -214,5 +259,7 @@ int main(int count, char **argument)
     versions_after_clean();
     HOLD(zkv_file_confirm(&file) == NULL);
     zkv_file_close(&file);
+    snprintf(beside, sizeof beside, "%s.large", argument[1]);
+    large_chunks(beside, at_once);
     return 0;
 }

@@ -18,7 +18,7 @@ public:
     {
         Register r;
         done(zkv_file_new(&r.file, name.c_str(), chunks * ZKV_CHUNK_BYTES));
-        r.run(zkv_format(&r.record, r.file.image, r.file.bytes, r.table.data(), r.table.size(), 0, 0, 0, 0));
+        r.run(zkv_format(&r.record, r.file.image, r.file.bytes, r.table.data(), r.table.size(), ZKV_POWER_SMALL, 0, 0, 0, 0));
         done(zkv_file_take_name(&r.file, nullptr));
     }
 

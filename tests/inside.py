@@ -43,7 +43,9 @@ def words_in(name):
 
 def make(rng, name):
     """A register with labels short and long, superseded and deleted, and some of it cleaned."""
-    zkv('format', name, rng.randrange(6, 20), *(('--station', rng.randrange(1 << 64)) if rng.random() < 0.5 else ()))
+    large = rng.random() < 0.4
+    zkv('format', name, rng.randrange(6, 9 if large else 20), '--chunk-size', 65536 if large else 4096,
+        *(('--station', rng.randrange(1 << 64)) if rng.random() < 0.5 else ()))
     for _ in range(rng.randrange(20, 70)):
         key = rng.randrange(8)
         if rng.random() < 0.2:
@@ -51,7 +53,7 @@ def make(rng, name):
         elif rng.random() < 0.1:
             zkv('clean', name, *(() if rng.random() < 0.5 else (rng.randrange(1, 6),)))
         else:
-            length = rng.choice((1, rng.randrange(1, 60), 256, 257, rng.randrange(257, 1500), 4088))
+            length = rng.choice((1, rng.randrange(1, 60), 256, 257, rng.randrange(257, 1500), 4088, *([5113, 60000, 65528] if large else [])))
             zkv('put', name, key, '-', given=rng.randbytes(length))
 
 
@@ -69,7 +71,10 @@ def compare_info(v, name):
             if role == 2 else (0,) * 6
         wanted.append([str(c), ROLES[role], *map(str, row), str(used)] if role else [str(c), 'free'])
     found = []
-    for line in zkv('info', name).stdout.decode().split('\n')[1:-1]:
+    told, _, *lines = zkv('info', name).stdout.decode().split('\n')[:-1]
+    if told != f'{v.count} chunks of {8 * v.geo.words} bytes':
+        fail(f'{name}: info begins with {told}')
+    for line in lines:
         number, *rest = line.split()
         first, *last = map(int, number.split('..'))             # free chunks beside each other share a line
         if found and found[-1][1:] == rest == ['free'] or last and (rest != ['free'] or last[0] <= first):
@@ -162,11 +167,15 @@ def compare_at_once(name, number):
         fail(f'check --json of a refused image writes {first!r} first, and in all {text!r}')
 
 
-def header_place(words, count):
+def header_place(words, nbytes):
     fields = bin(words[0]).count('1')
-    if words[0] not in (1, 3, 5, 7):
+    said = fields if words[0] in (9, 11, 13, 15) else 0                    # the word that says the power of the chunks
+    power = words[said] if said else 12
+    if not RULES.length_allowed(nbytes, power) or power not in RULES.powers:
+        return said
+    if words[0] % 2 == 0 or words[0] > 15:
         return 0
-    if words[1] != count:
+    if words[1] != nbytes >> power:
         return 1
     return next((i for i in range(1 + fields, 7) if words[i]), 7)
 
@@ -181,10 +190,10 @@ def entry_right(words, at, end):
     return size if block or not any(bytes_of(words, at + 2, (size - 2) * 8)[tail:]) else 0
 
 
-def log_place(words, count):
+def log_place(words, count, geo):
     before = 0
     for c in range(1, count):
-        at, end = 512 * c, 512 * c + 8 * (words[8 + c] >> 8 if words[8 + c] & 255 == 1 else 0)
+        at, end = geo.words * c, geo.words * c + 8 * (words[8 + c] >> 8 if words[8 + c] & 255 == 1 else 0)
         while at < end:
             size = 1 if words[at] == 0 else entry_right(words, at, end)
             if size == 0:
@@ -219,34 +228,33 @@ class Parsed(View):
 
     def first(self, test):
         e = next(e for e in self.top_list if test(e))
-        return 512 * e.chunk + e.offset
+        return self.geo.words * e.chunk + e.offset
 
 
 def place_of(number, words, nbytes):
     """What check is to say, beside the number."""
-    count = nbytes // 4096
     if number == 2:
-        return {'byte': 8 * header_place(words, count)}
+        return {'byte': 8 * header_place(words, nbytes)}
+    geo, count = RULES.header(words, nbytes)
     if number == 3:
-        geo = RULES.header(words, nbytes)[0]
         c = next(c for c in range(504) if (RULES.role(words[8 + c], geo) is None if 1 <= c < count else words[8 + c]))
         return {'chunk': c, 'byte': 8 * (8 + c)}
     more = {}
     if number == 4:
-        at, more['entries_before'] = log_place(words, count)
+        at, more['entries_before'] = log_place(words, count, geo)
     else:
         p = Parsed(words, nbytes)
         at = p.first(p.wrong_block if number == 5 else p.at_odds)
-    return {'chunk': at // 512, 'line': at % 512 // 8, 'byte': 8 * at, **more}
+    return {'chunk': at // geo.words, 'line': at % geo.words // 8, 'byte': 8 * at, **more}
 
 
 def alter(rng, v, words):
     """One word or two: of header, directory, log or blocks; or an entry's key, version or pointer made another's."""
     e, f = rng.choice(v.entries), rng.choice(v.entries)
-    at, other = 512 * e.chunk + e.offset, 512 * f.chunk + f.offset
+    at, other = v.geo.words * e.chunk + e.offset, v.geo.words * f.chunk + f.offset
     kind = rng.randrange(8)
     if kind == 0:
-        words[rng.randrange(8)] ^= 1 << rng.randrange(64)
+        words[rng.randrange(8)] ^= 1 << rng.randrange(64 if rng.random() < 0.7 else 5)
     elif kind == 1:
         words[8 + rng.randrange(504 if rng.random() < 0.3 else v.count)] ^= 1 << rng.randrange(16)
     elif kind == 2:

@@ -10,7 +10,7 @@ sys.dont_write_bytecode = True
 sys.path[:0] = [os.path.join(os.path.dirname(os.path.abspath(__file__)), 'model')]
 import register_model                                                           # noqa: E402
 
-CARDS = {1, 3, 4, 5, 6, 8, 9, 14}
+CARDS = {1, 3, 4, 5, 6, 8, 9, 11, 14}
 
 REFUSALS = range(1, 18)  # the numbers that a call may refuse with
 

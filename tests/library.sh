@@ -1,7 +1,8 @@
 #!/usr/bin/env bash
 # What the library has beside the proved calls (host/library.c, host/image_file.c), as hosts use it that have threads,
 # signal handlers, several files, power cuts and altered memory: tests/files.c, tests/room.c, tests/altered.c and zkv.
-# And look-ups while a call is unfinished, by a second thread too: tests/reprint.c.
+# And look-ups while a call is unfinished, by a second thread too: tests/reprint.c; and the stack that calls take:
+# tests/stack.c.
 #
 # tests/library.sh      needs host/build/libzitskvoze.a and zkv (make -C host), and gcc with its sanitizers
 set -euo pipefail
@@ -86,4 +87,8 @@ for test in room altered; do
     play "$test" "$work/$test"
     cat "$work/out"
 done
+# The stack that the header states.
+build -o "$work/stack" tests/stack.c "$library"
+play stack "$work/stack"
+cat "$work/out"
 echo "library: locks, waits, page faults, signals and names are as zitskvoze_file.h says, with threads too; look-ups in unfinished calls as zitskvoze.h says"

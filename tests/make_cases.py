@@ -1,8 +1,8 @@
 """Makes crates/player/stdin, images that are opened, with keys to look up (tests/make_images.py), and worked cases of
 the rules (those that are one proved table are in crate `examples`), and crates/player/stdout, what the model says of
-them.
+them; and crates/sizes/stdout, the table of block sizes.
 
-python3 tests/make_cases.py            writes both files
+python3 tests/make_cases.py            writes the files
 python3 tests/make_cases.py --check    compares them with the files kept; exit status 1 on a difference
 
 The calls stand below as the rules tell the cases, those of the counter level first, choosing and cleaning behind them in a part of
@@ -13,7 +13,7 @@ asked.
 import sys
 
 import make_images
-from scripts import Model, keep
+from scripts import Model, keep, keep_texts
 from register_model import first_word
 
 
@@ -41,9 +41,9 @@ class Script:
         ran, last = self.say('run').split('\n')
         assert ran.split(' ')[:2] == ['ran', str(steps)] and last == 'end', (ran, last, steps)
 
-    def format(self, station='-', centre='-'):
+    def format(self, station='-', centre='-', power=None):
         """582 actions, a + 1 steps."""
-        self.say(f'format {station} {centre}', 'begun 582')
+        self.say(f'format {station} {centre}' + ('' if power is None else f' {power}'), 'begun 582')
         self.run(583)
 
     def open(self):
@@ -902,9 +902,51 @@ def centre_refusals(s):
     s.say('sum')
 
 
+def large_chunks(s):
+    s.note('Chunks of 65,536 bytes. The powers that a formatting takes, and the lengths that each allows')
+    for nbytes, power in ((262144, 11), (262144, 13), (262144, 15), (262144, 17), (262144, 0), (262144, 2 ** 64 - 1), (16384, 16), (196608, 16),
+                          (262080, 16)):
+        s.lend(nbytes)
+        s.refused(f'format - - {power}', 1)
+    s.note('Five large chunks: the header has the power as its last field, by bit 3 of its map')
+    s.lend(327680, 4096)
+    s.format(7, 9, 16)
+    for w in range(8):
+        s.say(f'word {w}')
+    s.open()
+    s.note('9 behind 65,528 bytes; 257 bytes take 2 units, 5,113 bytes 21 for 20, 65,528 a whole chunk')
+    s.refused('put 1 65529 0', 9)
+    s.stage('put 9 3 1')
+    s.commit(1)
+    s.block('put 1 257 1', 257, True)
+    s.block('put 2 504 2', 504, False)
+    s.commit(1)
+    s.refused('put 3 5113 3', 13)
+    s.say('look 1')
+    s.say('look 2')
+    s.stage('delete 1')
+    s.stage('delete 2')
+    s.commit(1)
+    s.clean(2, 0, 0)
+    s.block('put 4 5112 4', 5112, True)
+    s.block('put 5 5368 5', 5368, False)
+    s.commit(1)
+    s.directory(1 | 4 << 8, 2 | 21 << 8, 0, 0)
+    for k in (4, 5):
+        s.say(f'look {k}')
+    s.note('A closing. A header that says another power, or 12, for such an image')
+    s.say('record')
+    s.open()
+    s.say('look 5')
+    s.say('sum')
+    for power in (12, 15, 17):
+        s.pokes({4: power, 7: -(15 + 5 + 7 + 9 + power) % 2 ** 64})
+        s.say('open', 'refused 2')
+
+
 COUNTER = (four_chunks, steps, numbered_header, abandoned, full_batch, refusals, two_windows, reprints)
 CENTRE = (four_chunks_cleaned, deletes_kept, chosen, data_chunks, interrupted, reprints_cleaning, version_cleaned, centre_refusals)
-ARCHIVE = (blocks, reprints_large)
+ARCHIVE = (blocks, reprints_large, large_chunks)
 
 
 def script(parts):
@@ -915,5 +957,12 @@ def script(parts):
     return s.lines
 
 
+def size_table():
+    """What crates/sizes prints: the block size that holds 0 to 256 units of a large chunk, by the rules' two divisions."""
+    return ''.join(f'{256 // (256 // u) if u >= 2 else 0}\n' for u in range(257))
+
+
 if __name__ == '__main__':
-    sys.exit(keep('player', make_images.script() + script(COUNTER + CENTRE + ARCHIVE), '--check' in sys.argv))
+    check = '--check' in sys.argv
+    kept = keep_texts('sizes', {'stdout': size_table()}, check)
+    sys.exit(keep('player', make_images.script() + script(COUNTER + CENTRE + ARCHIVE), check) or kept)

@@ -241,7 +241,7 @@ int main(void)
     for (size_t i = 0; i < sizeof value; i++) {
         value[i] = (uint8_t)(37 * i + 11);
     }
-    finish(zkv_format(&record, image, BYTES, table, WORDS, 1, 0x0123456789ABCDEFu, 1, 77), false);
+    finish(zkv_format(&record, image, BYTES, table, WORDS, ZKV_POWER_SMALL, 1, 0x0123456789ABCDEFu, 1, 77), false);
     if (zkv_open(&record, image, BYTES, table, WORDS).kind != ZKV_OPENED) {
         puts("one_move: the formatted image does not open");
         return 1;

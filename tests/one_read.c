@@ -136,7 +136,7 @@ static uint64_t cleaned(uint64_t chunk, uint64_t kind, const char *what)
 static void fresh(void)
 {
     memset(&record, 0, sizeof record);
-    run(zkv_format(LENT, 0, 0, 0, 0));
+    run(zkv_format(LENT, ZKV_POWER_SMALL, 0, 0, 0, 0));
     if (zkv_open(LENT).kind != ZKV_OPENED) {
         exit(2);
     }

@@ -100,6 +100,7 @@ static void read_all(uint64_t number, uint64_t looks)
     }
     /* the image alone, open or not */
     HOLD(MADE(zkv_free_chunks, image, BYTES) <= CHUNKS && MADE(zkv_lines_used, image, BYTES) <= 64 * CHUNKS);
+    HOLD(MADE(zkv_power, image, BYTES) <= ZKV_POWER_SMALL);
     HOLD(MADE(zkv_station, image, BYTES, &named) <= 1 && MADE(zkv_centre, image, BYTES, &named) <= 1);
     HOLD(MADE(zkv_entry, image, BYTES, 1, 0).found <= 1 && MADE(zkv_fault, image, BYTES).refusal <= ZKV_TOPS_DISAGREE);
     for (size_t room = 0; room <= 2 * ZKV_ENTRY_WORDS; room++) {
@@ -140,7 +141,7 @@ int main(void)
     HOLD(signal(SIGSEGV, faulted) != SIG_ERR && signal(SIGBUS, faulted) != SIG_ERR);
     read_all(ZKV_NOT_OPEN, ZKV_NOT_OPEN);
     lend(1, 0, 0);
-    done(MADE(zkv_format, LENT, 1, 7, 1, 8), ZKV_NOT_OPEN, ZKV_NOT_OPEN, 0);
+    done(MADE(zkv_format, LENT, ZKV_POWER_SMALL, 1, 7, 1, 8), ZKV_NOT_OPEN, ZKV_NOT_OPEN, 0);
     read_all(ZKV_NOT_OPEN, ZKV_NOT_OPEN);
     lend(1, 0, 1);
     HOLD(MADE(zkv_open, LENT).kind == ZKV_OPENED);
@@ -165,7 +166,7 @@ int main(void)
     size_t chosen = MADE(zkv_choose, LENT).first;
     BEGUN(zkv_clean, LENT, chosen);
     lend(1, 0, 0);
-    done(MADE(zkv_format, LENT, 0, 0, 0, 0), ZKV_UNFINISHED, ZKV_UNFINISHED, 0);
+    done(MADE(zkv_format, LENT, ZKV_POWER_SMALL, 0, 0, 0, 0), ZKV_UNFINISHED, ZKV_UNFINISHED, 0);
     read_all(ZKV_NOT_OPEN, ZKV_NOT_OPEN);
     printf("read_only: no call writes to what it is lent as const\n");
     return 0;

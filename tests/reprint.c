@@ -533,7 +533,7 @@ static void play_turn(bool by_steps)
 static void set_up(void)
 {
     memset(&now, 0, sizeof now);
-    zkv_report r = zkv_format(LENT, 0, 0, 0, 0);
+    zkv_report r = zkv_format(LENT, ZKV_POWER_SMALL, 0, 0, 0, 0);
     HOLD(r.kind == ZKV_BEGUN && r.first == ZKV_FORMAT_ACTIONS);
     while (r.kind != ZKV_END) {
         r = zkv_run(LENT);
@@ -601,7 +601,7 @@ static void others_are_refused(void)
     HOLD(refused(zkv_put(LENT, 1, value, 1), ZKV_UNFINISHED) && refused(zkv_put_at(LENT, 1, value, 1, 0), ZKV_UNFINISHED));
     HOLD(refused(zkv_delete(LENT, 0), ZKV_UNFINISHED) && refused(zkv_delete_at(LENT, 0, 1), ZKV_UNFINISHED));
     HOLD(refused(zkv_commit(LENT), ZKV_UNFINISHED) && refused(zkv_abandon(LENT), ZKV_UNFINISHED));
-    HOLD(refused(zkv_format(LENT, 0, 0, 0, 0), ZKV_UNFINISHED));
+    HOLD(refused(zkv_format(LENT, ZKV_POWER_SMALL, 0, 0, 0, 0), ZKV_UNFINISHED));
     HOLD(memcmp(&same, &now, sizeof now) == 0);
 }
 
@@ -775,7 +775,7 @@ static void test_worked(void)
 /* To its end, with look-ups that get `number` in it, and `other` where they are lent other lengths. */
 static void format_with_looks(uint64_t number, uint64_t other)
 {
-    zkv_report r = zkv_format(LENT, 1, 7, 1, 8);
+    zkv_report r = zkv_format(LENT, ZKV_POWER_SMALL, 1, 7, 1, 8);
     HOLD(r.kind == ZKV_BEGUN && r.first == ZKV_FORMAT_ACTIONS);
     unfinished = "a formatting";
     for (reports = 0; r.kind != ZKV_END; reports++) {

@@ -8,8 +8,8 @@
  *   - only steps change the image, each by the one word that it reports; a run does what the steps do that it stands
  *     for;
  *   - a begun call of a actions ends with its step number a + 1, though image and table are altered between the steps;
- *     one that a garbage record is in the middle of ends after at most 584. Steps and runs take turns by chance, with
- *     look-ups and lists between them, which get 8 in a formatting alone;
+ *     one that a garbage record is in the middle of ends after at most 584, with large chunks 9,224. Steps and runs take
+ *     turns by chance, with look-ups and lists between them, which get 8 in a formatting alone;
  *   - choosing, look-ups and lists change nothing, whatever they answer.
  *
  * robust [CASES]       CASES of each kind (1,000), from fixed seeds; a message and exit status 1 at the first fault. */

@@ -132,7 +132,7 @@ static void cut_cleaning(size_t chunks)
     memset(&now, 0, sizeof now);
     now.bytes = chunks * ZKV_CHUNK_BYTES;
     now.first_log = chunks - 3;
-    HOLD(finish(zkv_format(LENT, 0, 0, 0, 0)).kind == ZKV_END);
+    HOLD(finish(zkv_format(LENT, ZKV_POWER_SMALL, 0, 0, 0, 0)).kind == ZKV_END);
     open_again();
     if (chunks == CHUNKS_MOST) {
         HOLD(finish(zkv_put(LENT, 0, large, sizeof large)).kind == ZKV_END && zkv_abandon(LENT).kind == ZKV_ABANDONED);

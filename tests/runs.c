@@ -87,7 +87,7 @@ static void unlike_lengths(void)
 static void by_calls(void)
 {
     altering = false;
-    place(&image, ZKV_CHUNK_BYTES * (one_in(50) ? ZKV_CHUNKS_MAX : 4 + below(9)));
+    place(&image, chunk_bytes() * (power == ZKV_POWER_LARGE ? 4 + below(2) : one_in(50) ? ZKV_CHUNKS_MAX : 4 + below(9)));
     place(&table, 8 * below(one_in(4) ? 40 : 600));
     nothing_open();
     format_call();
@@ -161,7 +161,7 @@ int main(int count, char **argument)
            beside.runs, beside.report, beside.image, beside.table, beside.record);
     return beside.report + beside.image + beside.table + beside.record > 0;
 #endif
-    if ((!both || beside.longest != 8 * 64 + 1 || cleanings < 100) && each >= 1000) {
+    if ((!both || beside.longest != 8 * 1024 + 1 || cleanings < 100) && each >= 1000) {
         fputs("runs: a call was never accepted or never refused, few cleanings copied, or the longest run did not come: too little was tried\n",
               stderr);
         return 1;

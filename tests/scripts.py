@@ -91,8 +91,12 @@ def answers(lines):
 
 def keep(crate, lines, check):
     """Writes the script and what the model says of it as the crate's stdin and stdout; or compares with those kept. The exit status."""
+    return keep_texts(crate, {'stdin': ''.join(x + '\n' for x in lines), 'stdout': answers(lines)}, check)
+
+
+def keep_texts(crate, texts, check):
+    """The same of the crate's files by their names."""
     folder = os.path.join(os.path.dirname(TESTS), 'crates', crate)
-    texts = {'stdin': ''.join(x + '\n' for x in lines), 'stdout': answers(lines)}
     status = 0
     for name, text in texts.items():
         path = os.path.join(folder, name)

@@ -2,7 +2,7 @@
 # The program zkv in bad company: closed descriptors, files exchanged or cut under it, full disks, locks held by others,
 # readers that do not read, signals, FIFOs, links, limits, empty and endless input, wrong lists and usage, a disk that
 # breaks; what its exit statuses and messages say; scans, lists, sheets, digests, loads and copies; what chunks and keys
-# hold, and where a fault is; puts and deletes for a version in hand.
+# hold, and where a fault is; puts and deletes for a version in hand; registers with large chunks.
 #
 # tests/zkv.sh [PROGRAM]        host/build/zkv; says every check that does not hold, and ends with 1 if there is one;
 #                               needs host/build/cut_clean (make -C host)
@@ -429,7 +429,7 @@ at the directory word of chunk 0: byte 64'
 ends 3 format x.img 3
 says 'zkv: x.img: 3 chunks: refused 1'
 ends 3 check letter
-prints "refused 1: the image's length is not 4 to 504 times 4,096 bytes, or a lent length is unlike that at the opening
+prints "refused 1: the image's length is not 4 to 504 chunks of 4,096 or 65,536 bytes, or a lent length is unlike that at the opening
 the file has 8 bytes"
 ends 3 get letter 1
 says 'zkv: letter: 8 bytes: refused 1'
@@ -557,10 +557,12 @@ prints '{"keys":3,"labels":[
 ]}'
 ends 0 delete l.img 5
 ends 0 stat l.img --json
-prints '{"chunks":16,"labels":2,"deleted_keys":1,"known_keys":3,"free_chunks":14,"lines_used":4,"lines_left":828,"labels_of_16_left":828,'\
-'"labels_of_64_left":414,"labels_of_256_left":156,"labels_of_1000_left":48,"labels_of_4088_left":12,"station":"7","centre":null}'
+prints '{"chunks":16,"chunk_bytes":4096,"labels":2,"deleted_keys":1,"known_keys":3,"free_chunks":14,"lines_used":4,"lines_left":828,"labels_of_16_left":828,'\
+'"labels_of_64_left":414,"labels_of_256_left":156,"labels_of_1000_left":48,"labels_of_4088_left":12,"labels_of_65528_left":null,"station":"7",'\
+'"centre":null}'
 ends 0 stat l.img
 prints 'chunks 16
+bytes of a chunk 4096
 labels 2
 deleted keys 1
 known keys 3
@@ -590,7 +592,7 @@ prints $'accepted\nPUT ASIDE: the digest is '"$sum, and not as given"
 ends 4 check l.img --against "$other" --json
 prints '{"accepted":true,"digest":"'"$sum"'","same":false}'
 ends 3 check letter --json
-prints '{"accepted":false,"refusal":1,"sentence":"the image'\''s length is not 4 to 504 times 4,096 bytes, or a lent length is unlike that at the opening","bytes":8}'
+prints '{"accepted":false,"refusal":1,"sentence":"the image'\''s length is not 4 to 504 chunks of 4,096 or 65,536 bytes, or a lent length is unlike that at the opening","bytes":8}'
 ends 3 check letter --against "$sum"
 ends 2 check l.img --against "${sum}0"
 says 'zkv: check: --against needs a digest: 64 hexadecimal digits'
@@ -658,7 +660,7 @@ says 'zkv: nofile: No such file'
 ends 2 load l.img disk
 says 'zkv: disk: cannot be read'
 ends 2 load l.img /dev/zero
-says 'zkv: /dev/zero: has 16777216 bytes or more: no register can hold the labels of so long a list'
+says 'zkv: /dev/zero: has 134217728 bytes or more: no register can hold the labels of so long a list'
 untouched l.img before
 : > list
 ends 0 load l.img list --empty
@@ -872,7 +874,8 @@ head -c 1000 /dev/zero | tr '\0' a > large
 head -c 999 large | "$zkv" put i.img 3 -
 cp i.img before
 ends 0 info i.img --svg p.svg
-prints '   chunk  role  lines  live  superseded  deletes  blocks  bytes  used
+prints '6 chunks of 4096 bytes
+   chunk  role  lines  live  superseded  deletes  blocks  bytes  used
        1  log       7     2           4        1       0      0     0
        2  data      0     0           0        0       4   1024     1
     3..5  free'
@@ -1206,6 +1209,128 @@ for option in '' --no-clean; do
     ends 0 put cut.img 7 value --if-version 2 $option
     image=cut.img has 0 7 1 value
 done
+
+# 13. Chunks of 65,536 bytes.
+fresh
+rm -f big.img small.img copied.img
+for size in 0 4095 4097 8192 32768 65535 65537 131072 -1 x '' 64k 18446744073709551616; do
+    for command in 'format big.img 4' 'copy l.img big.img'; do
+        ends 2 $command --chunk-size "$size"
+        says "zkv: ${command%% *}: --chunk-size needs the bytes of a chunk: 4096 or 65536"
+        hold "nothing is made of a size that is none" [ ! -e big.img ]
+    done
+done
+ends 2 format big.img 4 --chunk-size
+ends 2 put l.img 5 value --chunk-size 65536
+says 'zkv: put: it has no such option: --chunk-size'
+for chunks in 0 3 505; do
+    ends 3 format big.img "$chunks" --chunk-size 65536
+    says "zkv: big.img: $chunks chunks: refused 1: the image's length is not 4 to 504 chunks of 4,096 or 65,536 bytes"
+done
+ends 0 format small.img 5 --chunk-size 4096
+hold "small chunks are 4,096 bytes" [ "$(stat -c %s small.img)" -eq 20480 ]
+ends 0 format big.img 8 --chunk-size 65536 --station 7 --centre 9
+hold "large chunks are 65,536 bytes" [ "$(stat -c %s big.img)" -eq 524288 ]
+head -c 60000 /dev/urandom > page
+head -c 65528 /dev/urandom > longest
+head -c 65529 /dev/urandom > longer
+for label in page longest binary value nothing; do
+    ends 0 put big.img 5 "$label" --empty
+    ends 0 get big.img 5
+    hold "the bytes of $label come back from a large chunk" cmp -s out "$label"
+    ends 0 scan big.img 5 "$label" --empty
+done
+ends 3 put big.img 6 longer
+says 'zkv: big.img: key 6: 65529 bytes: refused 9: the value is too long (at most 65528 bytes)'
+ends 3 put l.img 6 page
+says 'zkv: l.img: key 6: 60000 bytes: refused 9: the value is too long (at most 4088 bytes)'
+ends 0 put big.img 7 page
+ends 0 put big.img 4711 value
+ends 0 scan big.img 7 page
+prints 'match: key 7, 60000 bytes'
+ends 4 scan big.img 7 longest
+ends 0 list big.img
+prints 'keys 3
+5 5 0 L
+7 1 60000 B
+4711 1 9 L A+ 450 ml'
+ends 0 stat big.img
+hold "stat tells chunks and their size: $(head -n 2 out)" [ "$(head -n 2 out)" = $'chunks 8\nbytes of a chunk 65536' ]
+hold "stat tells the longest labels that fit, and the header's numbers: $(tail -n 3 out)" \
+    [ "$(tail -n 3 out)" = $'labels of 65528 bytes left 3\nstation 7\ncentre 9' ]
+ends 0 info big.img --svg big.svg
+hold "info tells the chunks' size: $(head -n 1 out)" [ "$(head -n 1 out)" = '8 chunks of 65536 bytes' ]
+hold "a large chunk has one block of 65,536 bytes: $(cat out)" grep -q ' data .* 1  65536     1$' out
+hold "the picture has a box for each large chunk" [ "$(grep -c '<title>chunk' big.svg)" -eq 8 ]
+ends 0 history big.img 5
+hold "the entries of key 5 stand in the lines of chunk 2: $(cut -c 1-40 out)" [ "$(sed -n '3p' out)" = \
+    '2 put chunk 2 line 1 superseded in a block that may hold another value now' ]
+ends 0 check big.img
+prints accepted
+ends 0 digest big.img
+digest=$(cat out)
+ends 0 dump big.img
+cp out list
+ends 0 copy big.img copied.img
+prints 'labels 3'
+hold "a copy has chunks of the same size" [ "$(stat -c %s copied.img)" -eq 524288 ]
+ends 0 check copied.img --against "$digest"
+ends 0 stat copied.img
+hold "a copy has the header's numbers: $(tail -n 2 out)" [ "$(tail -n 2 out)" = $'station 7\ncentre 9' ]
+rm -f copied.img
+ends 0 copy big.img copied.img 5
+hold "a copy of 5 chunks has large ones" [ "$(stat -c %s copied.img)" -eq 327680 ]
+rm -f copied.img
+ends 3 copy big.img copied.img 504 --chunk-size 4096
+says 'refused 9: the value is too long (at most 4088 bytes)'
+hold "no copy is left" [ ! -e copied.img ]
+ends 0 digest l.img
+small=$(cat out)
+ends 0 copy l.img copied.img 4 --chunk-size 65536
+hold "a copy may have larger chunks" [ "$(stat -c %s copied.img)" -eq 262144 ]
+ends 0 check copied.img --against "$small"
+cp l.img before
+ends 3 load l.img list
+says 'zkv: list: line 2: key 7: 60000 bytes: refused 9: the value is too long (at most 4088 bytes)'
+untouched l.img before
+rm -f copied.img
+ends 0 format copied.img 504 --chunk-size 65536
+hold "504 large chunks are 33 MB" [ "$(stat -c %s copied.img)" -eq 33030144 ]
+ends 0 load copied.img list
+prints $'labels 3\nbatches 1'
+ends 0 check copied.img --against "$digest"
+# Labels of a page each, put again and again: chunks are cleaned where there is no space.
+for i in $(seq 12); do
+    head -c $((50000 + i)) /dev/urandom > page
+    ends 0 put big.img $((i % 2)) page
+    ends 0 get big.img $((i % 2))
+    hold "page $i comes back" cmp -s out page
+done
+ends 0 clean big.img
+hold "chunks are free again: $(cat out)" grep -qx 'free chunks [1-9]' out
+ends 0 check big.img
+ends 0 get big.img 4711
+hold "a label stays through the cleanings" cmp -s out value
+# A fault in a large chunk.
+cp big.img before
+printf '\002' | dd of=big.img bs=1 conv=notrunc status=none
+ends 3 check big.img
+hold "a fault in the header: $(sed -n 2p out)" [ "$(sed -n 2p out)" = 'at the header: word 0, byte 0' ]
+cp before big.img
+printf '\015' | dd of=big.img bs=1 seek=32 conv=notrunc status=none     # the power: 13
+ends 3 check big.img
+hold "a power of 13 is refused: $(head -n 1 out)" grep -q '^refused 2' out
+cp before big.img
+truncate -s 458752 big.img
+ends 3 check big.img
+hold "seven of eight large chunks are refused: $(head -n 1 out)" grep -q '^refused 2' out
+truncate -s 458760 big.img
+ends 3 check big.img
+hold "a length of neither size is refused: $(head -n 1 out)" grep -q '^refused 1' out
+ends 2 format big.img 4 --chunk-size 65536
+ends 0 format big.img 4 --chunk-size 65536 --force
+ends 0 format big.img 4 --force
+hold "a register may get small chunks again" [ "$(stat -c %s big.img)" -eq 16384 ]
 
 if [ "$failures" -gt 0 ]; then
     echo "zkv: $failures of $checks checks do not hold" >&2

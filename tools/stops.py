@@ -38,7 +38,7 @@ JOBS = dict(os.environ, RT_JOBS=os.environ.get('RT_JOBS', '1'), RT_CUT='0')
 START = {'κs', 'args', 'good', 'fits', 'pre'}
 PREFIXES = ('at-', 'stop-')
 # Files that may have long chains: why.
-EXCEPTIONS = {'crates/log/proofs/next_in_log/Proof.antt': 'to be written anew for chunks of 65,536 bytes'}
+EXCEPTIONS = {}
 
 TOKEN = re.compile(r'--[^\n]*|[(){}\[\],;]|[^\s(){}\[\],;]+')
 OPEN, CLOSE = set('([{'), set(')]}')

@@ -297,7 +297,8 @@ gl={}
 for x_ in ghosts(FN)+ghosts(CORE):
     mm=re.match(r'(.*)\.\{(.*)\}$',x_)
     k_,ns=(mm[1],[z.strip() for z in mm[2].split(',')]) if mm else (x_,None)
-    if ns is None: gl.setdefault(x_,None)
+    if ns is None:   # a module under another name: only if a contract says it
+        if any(re.search(rf"\b{re.escape(x_.split(' as ')[-1])}\.",z) for z in f['ens']+g['ens']): gl.setdefault(x_,None)
     else:
         seen={z for v in gl.values() if v for z in v}
         gl.setdefault(k_,[]); gl[k_]+=[z for z in ns if z not in seen]

@@ -33,7 +33,7 @@ static void start(const char *folder)
     how = best_write_back();
     need(zkv_file_new(&file, path_in(folder, "peers.zkv"), ZKV_CHUNKS_MAX * ZKV_CHUNK_BYTES) == NULL, "no file for the register");
     table = zkv_table_new(file.bytes, &words);
-    need(table != NULL && finish(zkv_format(LENT, 0, 0, 0, 0)).kind == ZKV_END, "the register is not formatted");
+    need(table != NULL && finish(zkv_format(LENT, ZKV_POWER_SMALL, 0, 0, 0, 0)).kind == ZKV_END, "the register is not formatted");
     need(zkv_open(LENT).kind == ZKV_OPENED, "the register does not open");
 }
 

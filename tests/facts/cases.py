@@ -2,14 +2,13 @@
 import random
 
 from landed import RULES, Station, View
-from register_model import Book, Image, Item, MAX_VERSION, Medium, Refused, SIZES, WORD, block_size, capacity, first_word, format_actions, header_words, words_of
+from register_model import GEOMETRY, Book, Image, Item, MAX_VERSION, Medium, Refused, SIZES, WORD, block_size, capacity, first_word, format_actions, header_words, words_of
 
 from facts.codes import (Fact, actions_code, actions_text, call_text, entries_code, given_text, held_code, items_text, listed, named_in, of_entry, of_item, olds_of, opening_code,
-                         poked_text, refused, report_code, report_text, sum_of, task_code, words_text)
+                         poked_text, power_in, refused, report_code, report_text, sum_of, task_code, words_text)
 from facts.images import (CHUNKS, LARGE, LENGTHS, accepted, crowded, cut_short, foreign, fresh, has_block_twins, has_live, has_twins, large_length, old_versions, ours,
                           pattern, pick_keys, put_words, some_damages, spare_sizes)
 
-LIMITS = (256, 4088)
 UNKNOWN = 12345                 # a key of no image
 
 
@@ -34,10 +33,11 @@ class Sheet:
 
 class Machine:
     """Calls on the model's station, with the lengths lent; `commands` is the history so far, each with its antt text, its code and its name."""
-    def __init__(self, words, table, limit, station=None):
-        self.words, self.memory, self.table, self.limit = words, list(words), table, limit
+    def __init__(self, words, table, station=None):
+        self.words, self.memory, self.table = words, list(words), table
         self.nbytes, self.st = len(words) * 8, station or Station()
         self.start, self.commands = (self.nbytes, table), []
+        self.power = RULES.header(words, self.nbytes)[0].power if station and station.open_length is not None else None
 
     def image(self):
         n = self.nbytes // 8
@@ -64,9 +64,10 @@ class Machine:
         st = self.st
         try:
             if c[0] == 'format':
-                return 'begun', st.format(image, c[1], c[2])
+                return 'begun', st.format(image, c[1], c[2], power_in(c))
             if c[0] == 'open':
                 st.open(image, self.table)
+                self.power = RULES.header(image, self.nbytes)[0].power
                 return 'opened',
             if c[0] == 'put':
                 return 'begun', st.stage(image, c[1], pattern(c[2], c[3]), named_in(c))
@@ -94,8 +95,8 @@ class Machine:
             kind, acts, (nbytes, table, _) = st.pending.kind, st.pending.actions, st.pending.lengths
             if kind == 'format':
                 return [3, nbytes, table, int(st.open_length is not None)] + actions_code(acts)
-            return [2, st.open_length, st.table_words] + task_code(st.pending, self.memory) + items + actions_code(acts)
-        return [0] if st.open_length is None else [1, st.open_length, st.table_words] + items
+            return [2, self.power, st.open_length, st.table_words] + task_code(st.pending, self.memory) + items + actions_code(acts)
+        return [0] if st.open_length is None else [1, self.power, st.open_length, st.table_words] + items
 
     def state_text(self):
         st = self.st
@@ -105,12 +106,12 @@ class Machine:
                 return f'(Formatting {"true" if st.open_length is not None else "false"} {nbytes} {table} {actions_text(acts)})'
             olds = listed(olds_of(st.pending, self.memory))
             task = {'stage': 'Staging', 'commit': f'(Committing {olds})', 'clean': f'(Cleaning {result} {olds})'}[kind]
-            return f'(Busy {st.open_length} {st.table_words} {items_text(st.staged)} {task} {actions_text(acts)})'
-        return 'Closed' if st.open_length is None else f'(Rest {st.open_length} {st.table_words} {items_text(st.staged)})'
+            return f'(Busy {self.power} {st.open_length} {st.table_words} {items_text(st.staged)} {task} {actions_text(acts)})'
+        return 'Closed' if st.open_length is None else f'(Rest {self.power} {st.open_length} {st.table_words} {items_text(st.staged)})'
 
     def call(self, c):
         """Does a call; its code."""
-        image, CHUNKS.limit = self.image(), self.limit
+        image = self.image()
         self.st.lent_table = self.table
         barred = self.barred(c, image)
         self.last = r = self.report(c, image)
@@ -169,7 +170,7 @@ class Machine:
         def first(n):
             text = listed(t for t, _, _ in self.commands[:n])
             parts = [(human, code) for _, code, human in self.commands[:n]]
-            return f'play {self.limit} {text} Closed words {self.start[0]} {self.start[1]}', parts
+            return f'play {text} Closed words {self.start[0]} {self.start[1]}', parts
         sheet.add_parts(what, *first(len(self.commands)), shorter=first)
 
 
@@ -178,7 +179,7 @@ class Machine:
 def any_call(rng, keys, count):
     k = rng.choice(keys)
     return rng.choice([('put', k, 1, 3), ('delete', k), ('put', k, 1, 3, 1), ('delete', k, 1), ('commit',), ('abandon',), ('look', k), ('choose',),
-                       ('clean', rng.randrange(count + 1)), ('format', None, 4), ('step',)])
+                       ('clean', rng.randrange(count + 1)), ('format', None, 4, rng.choice([12, 12, 16, 13])), ('step',)])
 
 
 def some_version(rng, m, k):
@@ -208,7 +209,7 @@ def some_calls(rng, m, keys, count, turns, large):
         x, k = rng.random(), rng.choice(keys)
         if x < .45:
             v = some_version(rng, m, k)
-            c = 'put', k, rng.randrange(256), rng.choice([large_length(rng), 4089]) if large and rng.random() < .6 else rng.choice(LENGTHS + [257])
+            c = 'put', k, rng.randrange(256), rng.choice([large_length(rng, m.power), GEOMETRY[m.power].limit + 1]) if large and rng.random() < .6 else rng.choice(LENGTHS + [257])
             m.do(*c, *[] if v is None else [v])
         elif x < .6:
             v = some_version(rng, m, k)
@@ -229,9 +230,9 @@ def other_lengths(rng, m, keys, count):
     b, t = m.nbytes, m.table
     if rng.random() < .5:
         m.do('put', rng.choice(keys), 5, 9)
-    m.lend(*rng.choice([(b, t + 1), (b, 0), (b + 4096, t), (b - 1, t), (12288, t), (0, t), (505 * 4096, t)]))
+    m.lend(*rng.choice([(b, t + 1), (b, 0), (b + 4096, t), (b - 1, t), (12288, t), (0, t), (505 * 4096, t), (196608, t), (262144, t)]))
     for _ in range(2):
-        m.do(*rng.choice([any_call(rng, keys, count), ('step',), ('format', 1, None)]))
+        m.do(*rng.choice([any_call(rng, keys, count), ('step',), ('format', 1, None), ('format', 1, None, 16)]))
     if m.st.pending and m.st.pending.kind == 'format':
         m.steps(3)
     m.lend(b, t)
@@ -242,7 +243,7 @@ def other_lengths(rng, m, keys, count):
 
 def kind_fresh(rng, index):
     count, keys = rng.choice([4, 5]), pick_keys(rng, 3)
-    m = Machine(fresh(rng, count), 16, rng.choice(LIMITS))
+    m = Machine(fresh(rng, count), 16)
     m.do(*any_call(rng, keys, count))
     m.finish()
     m.do('open')
@@ -260,7 +261,7 @@ def kind_fresh(rng, index):
 
 def kind_calls(rng, index):
     count, keys = rng.choice([4, 4, 5, 6]), pick_keys(rng, 4)
-    m = Machine(ours(rng, count, keys, 25), 64, rng.choice(LIMITS))
+    m = Machine(ours(rng, count, keys, 25), 64)
     m.do('open')
     some_calls(rng, m, keys, count, 7, False)
     m.total()
@@ -271,7 +272,7 @@ def kind_blocks(rng, index):
     count, keys = rng.choice([5, 6]), pick_keys(rng, 4)
     ws = accepted(lambda: ours(rng, count, keys, 25, large=True), lambda v: has_live(v) and spare_sizes(v))
     size = rng.choice(spare_sizes(View(ws, len(ws) * 8, 64)))
-    m = Machine(ws, 64, 4088)
+    m = Machine(ws, 64)
     m.do('open')
     for n in [n for n in LARGE if block_size(n) == size][:2] + [rng.choice(LARGE[:4])]:
         m.do('put', rng.choice(keys), 9, n)
@@ -285,7 +286,7 @@ def kind_blocks(rng, index):
 
 def kind_cut(rng, index):
     count, keys = rng.choice([4, 5]), pick_keys(rng, 4)
-    m = Machine(cut_short(rng, count, keys, large=rng.random() < .5), 64, 4088)
+    m = Machine(cut_short(rng, count, keys, large=rng.random() < .5), 64)
     m.do('open')
     some_calls(rng, m, keys, count, 5, True)
     m.total()
@@ -294,7 +295,7 @@ def kind_cut(rng, index):
 
 def kind_twins(rng, index):
     count, keys = rng.choice([4, 5, 6]), pick_keys(rng, 3)
-    m = Machine(accepted(lambda: foreign(rng, count, keys, False), has_twins), 48, 4088)
+    m = Machine(accepted(lambda: foreign(rng, count, keys, False), has_twins), 48)
     m.do('open')
     if m.do('choose')[0] == 'chosen':
         m.do('clean', m.last[1])
@@ -307,7 +308,7 @@ def kind_twins(rng, index):
 
 def kind_block_twins(rng, index):
     count, keys = rng.choice([4, 5, 6]), pick_keys(rng, 3)
-    m = Machine(accepted(lambda: foreign(rng, count, keys, True), rng.choice([has_live, has_block_twins])), 48, 4088)
+    m = Machine(accepted(lambda: foreign(rng, count, keys, True), rng.choice([has_live, has_block_twins])), 48)
     m.do('open')
     m.do('put', rng.choice(keys), 3, large_length(rng))
     begun(rng, m, keys, count)
@@ -324,7 +325,7 @@ def kind_block_twins(rng, index):
 def kind_foreign(rng, index):
     """As it comes: most often refused."""
     count, keys = rng.choice([4, 5, 6]), pick_keys(rng, 3)
-    m = Machine(foreign(rng, count, keys, rng.random() < .6, twins=.2), rng.choice([3, 8, 16]), 4088)
+    m = Machine(foreign(rng, count, keys, rng.random() < .6, twins=.2), rng.choice([3, 8, 16]))
     m.do('open')
     m.do(*any_call(rng, keys, count))
     m.do('step')
@@ -336,7 +337,7 @@ def kind_foreign(rng, index):
 
 def kind_versions(rng, index):
     keys = pick_keys(rng, 4)
-    m = Machine(old_versions(rng, keys), 64, 4088)
+    m = Machine(old_versions(rng, keys), 64)
     m.do('open')
     m.do('put', keys[0], 1, 4)
     m.do('delete', keys[0])
@@ -350,7 +351,7 @@ def kind_versions(rng, index):
 def kind_batch(rng, index):
     """Batches of 15 and 16 small items, or of 14 and 15 large ones, come with this image (`batch_facts`)."""
     keys = pick_keys(rng, 5)
-    m = Machine(ours(rng, 4, keys, 8), 64, 4088)
+    m = Machine(ours(rng, 4, keys, 8), 64)
     m.do('open')
     some_calls(rng, m, keys, 4, 4, False)
     return keys, m
@@ -360,7 +361,7 @@ def kind_small_table(rng, index):
     keys = pick_keys(rng, 5)
     ws = ours(rng, 4, keys[:3], 10)
     known = len(View(ws, len(ws) * 8, 400).by_key)
-    m = Machine(ws, 4 * known + rng.choice([4, 7] if index // len(KINDS) % 2 == 0 else [0, 3]), 4088)
+    m = Machine(ws, 4 * known + rng.choice([4, 7] if index // len(KINDS) % 2 == 0 else [0, 3]))
     m.do('open')
     m.done('put', keys[3], 1, rng.choice([3, 300]))
     m.done('put', keys[4], 1, rng.choice([3, 300]))
@@ -375,7 +376,7 @@ def kind_small_table(rng, index):
 def kind_crowded(rng, index):
     """Few free chunks: none of the places exists, or just one does. Commits come with this image (`place_facts`)."""
     count, keys, free = rng.choice([4, 5, 6]), pick_keys(rng, 4), [2, 3, 1, 0][index // len(KINDS) % 4]
-    m = Machine(crowded(rng, count, keys, free, rng.choice([0, 1, 2, 5]) if free % 3 == 0 else 0), 64, 4088)
+    m = Machine(crowded(rng, count, keys, free, rng.choice([0, 1, 2, 5]) if free % 3 == 0 else 0), 64)
     m.do('open')
     m.done('put', rng.choice(keys), 1, large_length(rng))
     m.done('put', rng.choice(keys), 1, rng.choice([0, 30, 256]))
@@ -393,7 +394,7 @@ def kind_many_chunks(rng, index):
     """The chunks that are taken have directory words past the directory's first line."""
     keys = pick_keys(rng, 4)
     ws = header_words(11) + crowded(rng, 8, keys, 0, 0)[8:] + [0] * (3 * 512)
-    m = Machine(ws, 64, 4088)
+    m = Machine(ws, 64)
     m.do('open')
     m.done('put', keys[0], 1, rng.choice([257, 300]))
     m.done('put', keys[1], 1, 12)
@@ -405,7 +406,7 @@ def kind_many_chunks(rng, index):
 
 def kind_formatting(rng, index):
     keys = pick_keys(rng, 3)
-    m = Machine(ours(rng, 4, keys, 10), 32, 4088)
+    m = Machine(ours(rng, 4, keys, 10), 32)
     if index // len(KINDS) % 3 != 2:
         m.do('open')
         if rng.random() < .5:
@@ -428,7 +429,7 @@ def kind_formatting(rng, index):
 
 def kind_lengths(rng, index):
     count, keys = rng.choice([4, 5]), pick_keys(rng, 3)
-    m = Machine(ours(rng, count, keys, 12), 40, rng.choice(LIMITS))
+    m = Machine(ours(rng, count, keys, 12), 40)
     m.do('open')
     other_lengths(rng, m, keys, count)
     m.do('open')
@@ -449,7 +450,7 @@ def image_sheet(seed, index):
     keys, m = make(rng, index)
     ws, table = m.words, m.start[1]
     sheet = Sheet(f'image{index:03}', f'An image, {kind}', ws)
-    sheet.add('opening', f'openingCode (opening 12 {len(ws) * 8} words {table})', opening_code(ws, len(ws) * 8, table))
+    sheet.add('opening', f'openingCode (opening {len(ws) * 8} words {table})', opening_code(ws, len(ws) * 8, table))
     try:
         v = View(ws, len(ws) * 8, 10 ** 6)
     except Refused:
@@ -478,19 +479,19 @@ def image_sheet(seed, index):
 def meaning_facts(rng, sheet, v, keys, table):
     """What an accepted image means: its keys, its places, what each cleaning does."""
     ws, n = v.words, v.count
-    b, known, entries = len(ws) * 8, len(v.by_key), f'(entriesIn 12 {n} words)'
+    b, known, entries = len(ws) * 8, len(v.by_key), f'(entriesIn {v.geo.power} {n} words)'
     tables = [rng.choice([4 * known + 3, 4 * known]), max(0, 4 * known - 1)]
-    sheet.add_parts('tables', f'each (λ t. openingCode (opening 12 {b} words t)) {listed(tables)}', [(f'table of {t} words', opening_code(ws, b, t)) for t in tables])
+    sheet.add_parts('tables', f'each (λ t. openingCode (opening {b} words t)) {listed(tables)}', [(f'table of {t} words', opening_code(ws, b, t)) for t in tables])
     asked, parts = list(keys) + [UNKNOWN], []
     for k in asked:
         e, value = v.chosen(k) if k in v.tops else None, v.look_up(k)
-        at = e.chunk * 512 + e.offset if e else 0
+        at = e.chunk * v.geo.words + e.offset if e else 0
         start = (e.tail * 32 + 1) * 8 if e and e.block else (at + 2) * 8
         code = [e.version if e else 0, len(v.tops.get(k, [])), int(e is not None), at] + held_code(value)
         parts.append((f'key {k}', code + report_code(('refused', 11) if value is None else ('part', start, len(value), e.version))))
     sheet.add_parts('keys', f'keyCodes {listed(asked)} words {entries}', parts)
     some = rng.sample(asked, 2)
-    sheet.add_parts('contents', f'each (λ k. heldCode (contents 12 {n} words k)) {listed(some)}', [(f'key {k}', held_code(v.look_up(k))) for k in some])
+    sheet.add_parts('contents', f'each (λ k. heldCode (contents {v.geo.power} {n} words k)) {listed(some)}', [(f'key {k}', held_code(v.look_up(k))) for k in some])
     st = Station()
     st.open(ws, 10 ** 6)
     try:
@@ -498,7 +499,7 @@ def meaning_facts(rng, sheet, v, keys, table):
     except Refused:
         best = [0, 0]
     live = [e.tail for e in v.entries if e.op == 1 and e.block and e in v.tops[e.key]]
-    sheet.add('whole', f'wholeCode {n} words {entries}', [known, sum(v.by_key), sum_of(live), sum_of(v.free_chunks())] + best)
+    sheet.add('whole', f'wholeCode {v.geo.power} {n} words {entries}', [known, sum(v.by_key), sum_of(live), sum_of(v.free_chunks())] + best)
     parts = []
     for c in range(n + 1):
         st.pending = None
@@ -508,18 +509,18 @@ def meaning_facts(rng, sheet, v, keys, table):
         except Refused as r:
             refused(r.number, 'clean')
             parts.append((f'chunk {c}', [0, r.number]))
-    sheet.add_parts('cleanings', f'cleanCodes {n} words {entries} {listed(range(n + 1))}', parts)
+    sheet.add_parts('cleanings', f'cleanCodes {v.geo.power} {n} words {entries} {listed(range(n + 1))}', parts)
 
 
 def length_fact(rng, sheet, ws, table):
     b = len(ws) * 8
-    lengths = [rng.choice([b - 1, b + 8, 12288, 0, 505 * 4096]), rng.choice([b + 4096, 504 * 4096])]
-    sheet.add_parts('lengths', f'each (λ b. openingCode (opening 12 b words {table})) {listed(lengths)}', [(f'{c} bytes', opening_code(ws, c, table)) for c in lengths])
+    lengths = [rng.choice([b - 1, b + 8, 12288, 0, 505 * 4096]), rng.choice([b + 4096, 504 * 4096, 196608, 262144, 512 * 4096])]
+    sheet.add_parts('lengths', f'each (λ b. openingCode (opening b words {table})) {listed(lengths)}', [(f'{c} bytes', opening_code(ws, c, table)) for c in lengths])
 
 
 def shown_fact(rng, sheet, v, keys):
     k = rng.choice(keys + list(v.tops))
-    sheet.add('shows', f'shownCode (shows (lookUp words (entriesIn 12 {v.count} words) {k}) (bytesOf words))', held_code(v.look_up(k)))
+    sheet.add('shows', f'shownCode (shows (lookUp words (entriesIn {v.geo.power} {v.count} words) {k}) (bytesOf words))', held_code(v.look_up(k)))
 
 
 def damage_facts(rng, sheet, ws):
@@ -528,12 +529,12 @@ def damage_facts(rng, sheet, ws):
         new = list(ws)
         for w, x in pokes:
             new[w] = x
-        sheet.add(f'damage-{name}', f'openingCode (opening 12 {b} {poked_text(pokes)} {table})', opening_code(new, b, table))
+        sheet.add(f'damage-{name}', f'openingCode (opening {b} {poked_text(pokes)} {table})', opening_code(new, b, table))
 
 
 def staged_on(rng, ws, table, keys, n, value=None):
     """A station on the image with n items staged, none in a block; puts of a value, or of small ones with deletes between."""
-    st, CHUNKS.limit = Station(), 4088
+    st = Station()
     st.open(ws, table)
     st.lent_table = table
     for _ in range(6 * n):
@@ -549,14 +550,14 @@ def staged_on(rng, ws, table, keys, n, value=None):
 def call_fact(sheet, what, m, c):
     """A call on a state that is written out, on the image with the words that were stored since."""
     words = poked_text([(w, x) for w, x in enumerate(m.memory) if x != m.words[w]])
-    text = f'call {m.limit} {call_text(c)} {m.state_text()} {words} {m.nbytes} {m.table}'
+    text = f'call {call_text(c)} {m.state_text()} {words} {m.nbytes} {m.table}'
     sheet.add(what, text, m.call(c))
 
 
 def call_facts(rng, sheet, ws, keys, table, n):
     """On states at rest with items, unfinished after some steps, formatting or closed; lent the right lengths or
     others."""
-    b, count = len(ws) * 8, len(ws) // 512
+    b, count = len(ws) * 8, ws[1]
     for j in range(n):
         st, x, memory = staged_on(rng, ws, table, keys, rng.choice([0, 1, 2, 3])), rng.random(), list(ws)
         if x < .15:
@@ -573,15 +574,15 @@ def call_facts(rng, sheet, ws, keys, table, n):
             if rng.random() < .5:
                 st = Station()
                 st.lent_table = table
-            st.format(ws, None, 3)
+            st.format(ws, None, 3, RULES.header(ws, b)[0].power)
             del st.pending.actions[:rng.choice([582, 581, 579, 575])]
         k = rng.choice(keys + [UNKNOWN])
         length, named = rng.choice([0, 3, 256, 257]), rng.choice([0, 1, 2, 3])
         c = rng.choice([('put', k, 1, length), ('put', k, 1, length, named), ('delete', k), ('delete', k, named), ('commit',), ('abandon',), ('look', k), ('choose',),
-                        ('clean', rng.randrange(count + 2)), ('format', 9, None), ('step',), ('step',)])
+                        ('clean', rng.randrange(count + 2)), ('format', 9, None, rng.choice([12, 16])), ('step',), ('step',)])
         if st.pending and rng.random() < .4:
             c = 'look', rng.choice([i.key for i in st.staged] + [k])
-        m = Machine(ws, table, rng.choice(LIMITS), st)
+        m = Machine(ws, table, st)
         m.memory = memory
         if c[0] != 'format':
             m.nbytes, m.table = rng.choice([(b, table)] * 5 + [(b, table + 4), (b - 4096, table), (b - 8, table)])
@@ -611,7 +612,7 @@ def batch_facts(rng, sheet, ws, keys, table, small):
             copy = Station()
             copy.open(ws, table)
             copy.staged = list(st.staged)
-            call_fact(sheet, f'batch-{n}-{"-".join(str(x) for x in c)}', Machine(ws, table, 4088, copy), c)
+            call_fact(sheet, f'batch-{n}-{"-".join(str(x) for x in c)}', Machine(ws, table, copy), c)
 
 
 def place_facts(rng, sheet, v, keys, table):
@@ -622,7 +623,7 @@ def place_facts(rng, sheet, v, keys, table):
         st = Station()
         st.open(v.words, table)
         st.staged = items
-        call_fact(sheet, f'places-{name}', Machine(v.words, table, 4088, st), c)
+        call_fact(sheet, f'places-{name}', Machine(v.words, table, st), c)
 
 
 def newest_first(values, i):
@@ -638,7 +639,7 @@ def cut_fact(rng, sheet, ws, keys, table):
         try:
             if rng.random() < .3:
                 st.staged = []
-                st.clean(ws, rng.randrange(1, len(ws) // 512))
+                st.clean(ws, rng.randrange(1, ws[1]))
             else:
                 st.commit(ws)
         except Refused:
@@ -668,19 +669,19 @@ def example_sheet():
     """The numbers that come with the rules, written here as they were given: worked by hand, and the examples of refusals."""
     empty = header_words(4) + [0] * 2040
     s = Sheet('examples', 'Examples of the rules', empty)
-    s.add('header', 'headerWords 16 G.Absent G.Absent', [1, 16, 0, 0, 0, 0, 0, 18446744073709551599])
+    s.add('header', 'headerWords 12 16 G.Absent G.Absent', [1, 16, 0, 0, 0, 0, 0, 18446744073709551599])
     s.add('directory', '(logWord 0 2 ∷ dataWord 0 3 ∷ [])', [513, 770])
     entries = ['entry 1 0 1 5 7 []', 'entry 1 0 1 0 7 []', 'entry 2 0 2 0 7 []', 'entry 1 1 1 48 7 []']
     s.add('entries', f'map headOf {listed(entries)}', [83886097, 17, 34, 805306389])
     s.add('sizes', 'map (blockSize 12) (257 ∷ 504 ∷ 505 ∷ 4088 ∷ [])', [2, 2, 3, 16])
 
     def opens(n, length, *pokes):
-        s.add(f'refusal-{n}', f'openingCode (opening 12 {length} {poked_text(pokes)} 64)', [0, n])
+        s.add(f'refusal-{n}', f'openingCode (opening {length} {poked_text(pokes)} 64)', [0, n])
         refused(n, 'open')
 
     def calls(name, answer, c, items=(), pokes=(), table=64, busy=''):
-        state = f'({"Busy" if busy else "Rest"} 16384 {table} {items_text(items)}{busy})'
-        s.add(name, f'take 2 (call 4088 {call_text(c)} {state} {poked_text(pokes)} 16384 {table})', answer)
+        state = f'({"Busy" if busy else "Rest"} 12 16384 {table} {items_text(items)}{busy})'
+        s.add(name, f'take 2 (call {call_text(c)} {state} {poked_text(pokes)} 16384 {table})', answer)
         if answer[0] == 0:
             refused(answer[1], c[0])
 
@@ -712,7 +713,7 @@ def example_sheet():
     calls('named-0-deleted', [0, 17], put + (0,), pokes=[log, (512, first_word(2, 0, 1, 0)), (513, 7)])
     calls('4080-bytes-delete', [1, 0], ('delete', 7), full)
     calls('4080-bytes-put', [0, 10], ('put', 7, 1, 256), full)
-    m = Machine(empty, 64, 4088)
+    m = Machine(empty, 64)
     m.do('open')
     m.done('put', 7, 104, 5)
     m.done('put', 9, 0, 0)
@@ -746,7 +747,7 @@ def order_sheet():
             st = Station()
             st.open(ws, 16)
             st.staged = list(items)
-            call_fact(s, f'{name}-{"-".join(str(x) for x in c)}', Machine(ws, 16, 256 if c[0] == 'delete' else 4088, st), c)
+            call_fact(s, f'{name}-{"-".join(str(x) for x in c)}', Machine(ws, 16, st), c)
     return s
 
 
@@ -769,7 +770,7 @@ def reprint_sheets(seed):
     nine, sheets = 1 | 9 << 8, []                       # a log chunk of nine lines
 
     def begun_on(name, kind, ws, *calls):
-        m = Machine(ws, 64, 4088)
+        m = Machine(ws, 64)
         m.do('open')
         for c in calls[:-1]:
             m.done(*c)
@@ -830,12 +831,58 @@ def reprint_sheets(seed):
     return [sheet for sheet, _ in sheets]
 
 
-def header_right(words, count):
+def header_said(words, nbytes):
     try:
-        RULES.header(words, count * 4096)
-        return 1
+        geometry, count = RULES.header(words, nbytes)
+        return [1, geometry.power, count]
     except Refused:
-        return 0
+        return [0]
+
+
+def large_sheets(seed, n):
+    """Chunks of 65,536 bytes: a history from an empty register to a cleaning, in parts, with the longest value and one
+    more byte; openings of other lengths; and n images that calls made."""
+    rng = random.Random(f'{seed}/large')
+    sheets = [Sheet('large-start', 'Five large chunks', header_words(5, 7, None, 16) + [0] * (5 * 8192 - 8))]
+    m = Machine(sheets[0].words, 64)
+    m.do('open')
+    m.do('format', None, 5, 13)
+    m.done('put', 7, 104, 5)
+    m.do('put', 9, 1, 65529)
+    m.done('commit')
+    m.do('look', 7)
+    m.history(sheets[0])
+    for j, b in enumerate((327680, 262144, 196608, 16384, 327680 + 4096)):
+        sheets[0].add(f'opening-{j}', f'openingCode (opening {b} words 64)', opening_code(sheets[0].words, b, 64))
+
+    def goes_on(name, *calls):
+        new = Machine(m.memory, 64)
+        new.do('open')
+        for c in calls:
+            (new.do if c[-1] == 'begun' else new.done)(*[x for x in c if x != 'begun'])
+        sheets.append(Sheet(f'large-{name}', 'Five large chunks, with values', new.words))
+        new.history(sheets[-1])
+        return new
+
+    m = goes_on('block', ('put', 9, rng.randrange(256), 257), ('commit',), ('look', 9), ('clean', 2))
+    m = goes_on('beside', ('put', 11, rng.randrange(256), 300), ('delete', 7), ('commit',), ('look', 11), ('look', 7))
+    goes_on('longer', ('put', 9, rng.randrange(256), 5000, 'begun'))
+    goes_on('longest', ('put', 9, rng.randrange(256), 65528, 'begun'))
+    goes_on('clean', ('choose',), ('clean', 1), ('look', 9), ('choose',), ('format', None, None, 16, 'begun'))
+    for j in range(n):
+        rng = random.Random(f'{seed}/large/{j}')
+        count, keys = rng.choice([4, 5]), pick_keys(rng, 4)
+        ws = ours(rng, count, keys, 12, large=True, power=16)
+        v = View(ws, len(ws) * 8, 10 ** 6)
+        sheets.append(Sheet(f'large-image{j}', 'An image of large chunks', ws))
+        sheets[-1].add('opening', f'openingCode (opening {len(ws) * 8} words 64)', opening_code(ws, len(ws) * 8, 64))
+        meaning_facts(rng, sheets[-1], v, keys, 64)
+        call_facts(rng, sheets[-1], ws, keys, 64, 3)
+        m = Machine(ws, 64)
+        m.do('open')
+        some_calls(rng, m, keys, count, 4, False)
+        m.history(sheets[-1])
+    return sheets
 
 
 def number_sheet(seed):
@@ -849,25 +896,36 @@ def number_sheet(seed):
     xs = [0, 1, 3, 4, 7, 8, 15, 16, 262143, 262144, 262147, 2 ** 40] + [rng.randrange(300000) for _ in range(5)]
     s.add('capacity', f'map capacity {listed(xs)}', [capacity(x) for x in xs])
     xs = [0, 1, 4095, 4096, 12288, 16383, 16384, 16385, 16392, 20480, 504 * 4096, 504 * 4096 + 1, 505 * 4096, 2 ** 40] + [4096 * rng.randrange(600) for _ in range(5)]
-    s.add('lengths', f'map (λ b. bit (lengthAllowed 12 b)) {listed(xs)}', [int(RULES.length_allowed(x)) for x in xs])
+    s.add('lengths', f'map (λ b. bit (lengthAllowed 12 b)) {listed(xs)}', [int(RULES.length_allowed(x, 12)) for x in xs])
+    xs += [65536 * rng.randrange(600) for _ in range(5)] + [65536 * n for n in (3, 4, 504, 505)]
+    s.add('large-lengths', f'map (λ b. bit (lengthAllowed 16 b)) {listed(xs)}', [int(RULES.length_allowed(x, 16)) for x in xs])
+    s.add('any-lengths', f'map (λ b. bit (anyAllowed b)) {listed(xs)}', [int(RULES.length_allowed(x)) for x in xs])
+    powers = [rng.choice([11, 12, 12, 13, 16, 16, 17]) for _ in xs]
+    s.add('told-powers', listed(f'bit (sizeAllowed {p} {x})' for p, x in zip(powers, xs)), [int(p in RULES.powers and RULES.length_allowed(x, p)) for p, x in zip(powers, xs)])
     xs = [0, 1, 2, 3, 257, 256, 513, 514, 770, 1 | 64 << 8, 1 | 65 << 8, 2 | 16 << 8, 2 | 17 << 8, WORD - 1, 1 << 63]
     xs += [rng.choice([0, 1, 2, 3, 5, 6, 130, rng.randrange(256)]) | rng.choice([*range(10), 16, 63, 64, 65, rng.randrange(100)]) << 8 for _ in range(40)]
     s.add_parts('roles', f'each (λ w. roleCode (roleOf 12 w)) {listed(xs)}', [(f'word {x}', RULES.role(x, CHUNKS) or (3, 0)) for x in xs])
     text, parts = [], []
     for _ in range(30):
-        n = rng.choice([4, 16, 504])
-        h = header_words(n, rng.choice([None, rng.getrandbits(64)]), rng.choice([None, 0, 9]))
+        n, p = rng.choice([4, 16, 504]), rng.choice([12, 16])
+        h = header_words(n, rng.choice([None, rng.getrandbits(64)]), rng.choice([None, 0, 9]), p)
         for _ in range(rng.choice([0, 1, 1, 2])):
-            h[rng.randrange(8)] = rng.choice([0, 1, 2, 3, 5, 7, 8, n, rng.getrandbits(64)])
+            h[rng.randrange(8)] = rng.choice([0, 1, 2, 3, 5, 7, 8, 9, 11, 12, 13, 15, 16, 17, n, rng.getrandbits(64)])
         if rng.random() < .8:
             h[7] = -sum(h[:7]) % WORD
-        text.append(f'bit (headerRight {n} {listed(h)})')
-        parts.append((f'{n} chunks, {h}', [header_right(h, n)]))
-    s.add_parts('headers', listed(text), parts)
+        b = n << rng.choice([p, p, p, 28 - p])
+        text.append(f'headerCode {b} {listed(h)}')
+        parts.append((f'{n} chunks, {b} bytes, {h}', header_said(h, b)))
+    s.add_parts('headers', ' ++ '.join(f'({x})' for x in text), parts)
+    s.add('large-sizes', 'map (sizeFor 16) (upFrom 2 255)', GEOMETRY[16].table[2:])
+    s.add('large-is-size', 'map (λ s. bit (isSize 16 s)) (upFrom 0 300)', [int(x in GEOMETRY[16].sizes) for x in range(300)])
+    s.add('large-limit', '(blockLimit 16 ∷ [])', [GEOMETRY[16].limit])
+    xs = [1, 257, 1 | 64 << 8, 1 | 65 << 8, 1 | 1024 << 8, 1 | 1025 << 8] + [2 | n << 8 for n in (0, 1, 2, 16, 20, 21, 51, 52, 255, 256, 257)]
+    s.add_parts('large-roles', f'each (λ w. roleCode (roleOf 16 w)) {listed(xs)}', [(f'word {x}', RULES.role(x, GEOMETRY[16]) or (3, 0)) for x in xs])
     for j in range(4):
-        n, a, b = rng.choice([4, 5, 16, 504]), rng.choice([None, 0, rng.getrandbits(64)]), rng.choice([None, 0, rng.getrandbits(64)])
-        s.add(f'header-{j}', f'headerWords {n} {given_text(a)} {given_text(b)}', header_words(n, a, b))
-        s.add(f'format-{j}', f'actionsCode (formatOf {n} {given_text(a)} {given_text(b)})', actions_code(format_actions(header_words(n, a, b))))
+        p, n, a, b = rng.choice([12, 16]), rng.choice([4, 5, 16, 504]), rng.choice([None, 0, rng.getrandbits(64)]), rng.choice([None, 0, rng.getrandbits(64)])
+        s.add(f'header-{j}', f'headerWords {p} {n} {given_text(a)} {given_text(b)}', header_words(n, a, b, p))
+        s.add(f'format-{j}', f'actionsCode (formatOf {p} {n} {given_text(a)} {given_text(b)})', actions_code(format_actions(header_words(n, a, b, p))))
         value = bytes(rng.randrange(256) for _ in range(rng.choice([0, 1, 7, 8, 9, 15, 31])))
         s.add(f'packed-{j}', f'packed {listed(value)}', words_of(value))
         s.add(f'bytes-{j}', f'valueBytes {len(value)} (packed {listed(value)})', value)

@@ -10,8 +10,9 @@ use mathlib.Core.List.{List, [], _∷_, _++_, map}
 use Prim.Native.Nat.{ℕ, zero, suc, _+_, _*_, _/_, _%_}
 use lib.Dec.{eqb}
 use lib.ListN.{length, getD, take, replicate}
-use Rattle.spec.specs.Basics.{both, isIn}
-use Rattle.spec.specs.Header.{sum}
+use Rattle.spec.specs.Basics.{pick, both, isIn}
+use Rattle.spec.specs.Places.{chunksIn, sizeAllowed}
+use Rattle.spec.specs.Header.{headerRight, headerPower, sum}
 use Rattle.spec.specs.Words.{bytesOf}
 use Rattle.spec.specs.Medium.{Action, Store, Flush, Fence, Cell, Medium, values, cellAt, run, latest, cut, settledAt}
 use Rattle.spec.specs.Directory.{freeChunks}
@@ -127,8 +128,8 @@ taskCode (Cleaning n olds) = (3 + n) ∷ oldsSum olds ∷ []
 
 abbrev pub stateCode : State → List ℕ
 stateCode Closed = 0 ∷ []
-stateCode (Rest b t items) = 1 ∷ b ∷ t ∷ entriesCode items
-stateCode (Busy b t items task rest) = 2 ∷ b ∷ t ∷ (taskCode task ++ (entriesCode items ++ actionsCode rest))
+stateCode (Rest p b t items) = 1 ∷ p ∷ b ∷ t ∷ entriesCode items
+stateCode (Busy p b t items task rest) = 2 ∷ p ∷ b ∷ t ∷ (taskCode task ++ (entriesCode items ++ actionsCode rest))
 stateCode (Formatting o b t rest) = 3 ∷ b ∷ t ∷ bit o ∷ actionsCode rest
 
 abbrev pub planCode : Plan → List ℕ
@@ -148,13 +149,20 @@ abbrev pub keyCodes : List ℕ → List ℕ → List Entry → List ℕ
 keyCodes keys ws es =
     each (λ k. highest k es ∷ length (tops k es) ∷ (placeCode (chosen k es) ++ (heldCode (contentsBy (meaning ws) es k) ++ reportCode (lookUp ws es k)))) keys
 
--- of an image of n chunks: the keys, the live blocks, the free chunks, the chunk to clean
-abbrev pub wholeCode : ℕ → List ℕ → List Entry → List ℕ
-wholeCode n ws es =
-    length (keysOf es) ∷ sum (keysOf es) ∷ sumOf 0 (liveBlocks es) ∷ sumOf 0 (freeChunks 12 n ws) ∷ chunkCode (chosenChunk 12 n ws es)
+-- of an image of n chunks of 2^p bytes: the keys, the live blocks, the free chunks, the chunk to clean
+abbrev pub wholeCode : ℕ → ℕ → List ℕ → List Entry → List ℕ
+wholeCode p n ws es =
+    length (keysOf es) ∷ sum (keysOf es) ∷ sumOf 0 (liveBlocks es) ∷ sumOf 0 (freeChunks p n ws) ∷ chunkCode (chosenChunk p n ws es)
 
-abbrev pub cleanCodes : ℕ → List ℕ → List Entry → List ℕ → List ℕ
-cleanCodes n ws es cs = each (λ c. planCode (planClean 12 n ws es [] c)) cs
+abbrev pub cleanCodes : ℕ → ℕ → List ℕ → List Entry → List ℕ → List ℕ
+cleanCodes p n ws es cs = each (λ c. planCode (planClean p n ws es [] c)) cs
+
+-- a header: whether it is right for so many bytes, the power and the count that it says
+abbrev pub headerBy : ℕ → ℕ → List ℕ → List ℕ
+headerBy p bytes ws = pick (both (sizeAllowed p bytes) (headerRight (chunksIn p bytes) ws)) (1 ∷ p ∷ chunksIn p bytes ∷ []) (0 ∷ [])
+
+abbrev pub headerCode : ℕ → List ℕ → List ℕ
+headerCode bytes ws = headerBy (headerPower ws) bytes ws
 
 -- a call: its report, whether a refusal is one of the call's, what bars it, the state that it leaves, the steps left then
 abbrev pub refusalCode : Call → Report → ℕ
@@ -178,8 +186,8 @@ abbrev pub callCode : Call → State → ℕ → ℕ → Report → State → Li
 callCode k σ bytes table r σ′ =
     reportCode r ++ (refusalCode k r ∷ (barredCode (barred k σ bytes table) ++ (stateCode σ′ ++ (stepsLeft σ′ ∷ []))))
 
-abbrev pub call : ℕ → Call → State → List ℕ → ℕ → ℕ → List ℕ
-call limit k σ ws bytes table = callCode k σ bytes table (answer 12 limit k σ ws bytes table) (next 12 limit k σ ws bytes table)
+abbrev pub call : Call → State → List ℕ → ℕ → ℕ → List ℕ
+call k σ ws bytes table = callCode k σ bytes table (answer k σ ws bytes table) (next k σ ws bytes table)
 
 -- A history: calls, runs of steps, other lengths lent, and the sum of the image's words.
 pub data Command : Type 0 where
@@ -196,22 +204,22 @@ lentBy false n ws = take n (ws ++ replicate n 0)
 abbrev pub lent : ℕ → List ℕ → List ℕ
 lent bytes ws = lentBy (eqb (bytes / 8) (length ws)) (bytes / 8) ws
 
-abbrev pub steps : ℕ → ℕ → Report → ℕ → State → List ℕ → ℕ → ℕ → (State → List ℕ → List ℕ) → List ℕ
-steps limit zero r s σ ws b t rest = s ∷ (reportCode r ++ (stateCode σ ++ rest σ ws))
-steps limit (suc n) r s σ ws b t rest =
-    let r′ : Report = answer 12 limit Step σ ws b t in
-    steps limit n r′ (sumOf s (reportCode r′)) (next 12 limit Step σ ws b t) (wordsAfter r′ ws) b t rest
+abbrev pub steps : ℕ → Report → ℕ → State → List ℕ → ℕ → ℕ → (State → List ℕ → List ℕ) → List ℕ
+steps zero r s σ ws b t rest = s ∷ (reportCode r ++ (stateCode σ ++ rest σ ws))
+steps (suc n) r s σ ws b t rest =
+    let r′ : Report = answer Step σ ws b t in
+    steps n r′ (sumOf s (reportCode r′)) (next Step σ ws b t) (wordsAfter r′ ws) b t rest
 
 abbrev pub did : Call → State → ℕ → ℕ → Report → State → (Report → State → List ℕ) → List ℕ
 did k σ b t r σ′ rest = callCode k σ b t r σ′ ++ rest r σ′
 
-abbrev pub play : ℕ → List Command → State → List ℕ → ℕ → ℕ → List ℕ
-play limit [] σ ws b t = []
-play limit (Do k ∷ cs) σ ws b t =
-    did k σ b t (answer 12 limit k σ (lent b ws) b t) (next 12 limit k σ (lent b ws) b t) (λ r σ′. play limit cs σ′ (wordsAfter r ws) b t)
-play limit (Steps n ∷ cs) σ ws b t = steps limit n R.Idle 0 σ ws b t (λ σ′ ws′. play limit cs σ′ ws′ b t)
-play limit (Lend b′ t′ ∷ cs) σ ws b t = play limit cs σ ws b′ t′
-play limit (Total ∷ cs) σ ws b t = sumOf 0 ws ∷ play limit cs σ ws b t
+abbrev pub play : List Command → State → List ℕ → ℕ → ℕ → List ℕ
+play [] σ ws b t = []
+play (Do k ∷ cs) σ ws b t =
+    did k σ b t (answer k σ (lent b ws) b t) (next k σ (lent b ws) b t) (λ r σ′. play cs σ′ (wordsAfter r ws) b t)
+play (Steps n ∷ cs) σ ws b t = steps n R.Idle 0 σ ws b t (λ σ′ ws′. play cs σ′ ws′ b t)
+play (Lend b′ t′ ∷ cs) σ ws b t = play cs σ ws b′ t′
+play (Total ∷ cs) σ ws b t = sumOf 0 ws ∷ play cs σ ws b t
 
 -- The medium: every word's possible values; the same by reports; what is read and what a cut leaves.
 abbrev pub mediumCode : Medium → List ℕ
@@ -231,7 +239,7 @@ mediaCode ws acts picks =
 
 -- an image cut after some actions: the values of some words, what is read, the image that the cut leaves, its opening
 abbrev pub openedCode : List ℕ → ℕ → ℕ → List ℕ
-openedCode ws bytes table = sumOf 0 ws ∷ openingCode (opening 12 bytes ws table)
+openedCode ws bytes table = sumOf 0 ws ∷ openingCode (opening bytes ws table)
 
 abbrev pub cutCode : List ℕ → List ℕ → ℕ → ℕ → Medium → List ℕ
 cutCode at picks bytes table m =
@@ -258,7 +266,6 @@ SPEC_NAMES = {
     'Basics': ['upFrom'],
     'Words': ['packed', 'bytesOf', 'valueBytes'],
     'Medium': ['Action', 'Store', 'Flush', 'Fence', 'run', 'settledAt'],
-    'Header': ['headerRight'],
     'Directory': ['logWord', 'dataWord'],
     'Log': ['Entry', 'entriesOf', 'headOf'],
     'Contents': ['Held', 'Absent', 'Value', 'entriesIn'],
@@ -274,7 +281,7 @@ use mathlib.Core.List.{List, [], _∷_, _++_, map}
 use Prim.Native.Nat.{ℕ, zero, suc, _+_, _*_, _/_, _%_}
 use lib.Dec.{T, eqb}
 use lib.ListN.{length, getD, set, take}
-use Rattle.codes.specs.Codes.{same, sumOf, each, bit, zeros, pattern, actionsCode, parsedCode, roleCode, openingCode, heldCode, shownCode, keyCodes, wholeCode}
+use Rattle.codes.specs.Codes.{same, sumOf, each, bit, zeros, pattern, actionsCode, parsedCode, roleCode, openingCode, heldCode, shownCode, keyCodes, wholeCode, headerCode}
 use Rattle.codes.specs.Codes.{cleanCodes, call, Command, Do, Steps, Lend, Total, play, mediaCode, cutCode, item, bookCode}
 use Rattle.spec.specs.declared.Given.the-variants as G
 use Rattle.spec.specs.declared.Refusal.the-variants as N
@@ -322,7 +329,7 @@ def entries_code(entries):
 
 
 def of_entry(view, e):
-    return e.op, e.block, e.version, e.tail, e.key, view.entry_words(e)[2:], e.chunk * 512 + e.offset
+    return e.op, e.block, e.version, e.tail, e.key, view.entry_words(e)[2:], e.chunk * view.geo.words + e.offset
 
 
 def of_item(i):
@@ -413,9 +420,14 @@ def named_in(c):
     return c[own] if len(c) > own else None
 
 
+def power_in(c):
+    """The power that a formatting (station, centre) is told, behind these; 12 where none stands."""
+    return c[3] if len(c) > 3 else 12
+
+
 def call_text(c):
     if c[0] == 'format':
-        return f'(Format {given_text(c[1])} {given_text(c[2])})'
+        return f'(Format {power_in(c)} {given_text(c[1])} {given_text(c[2])})'
     if c[0] == 'put':
         return f'(Put {given_text(named_in(c))} {c[1]} (pattern {c[2]} {c[3]}))'
     if c[0] == 'delete':

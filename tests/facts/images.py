@@ -2,7 +2,7 @@
 from landed import Station, View
 from register_model import GEOMETRY, MAX_VERSION, Medium, Refused, SIZES, UNITS, WORD, first_word, header_words, words_of
 
-CHUNKS = GEOMETRY[12]           # chunks of 4,096 bytes; its limit is the level's largest value
+CHUNKS = GEOMETRY[12]           # chunks of 4,096 bytes
 LENGTHS = [0, 1, 7, 8, 9, 16, 30, 100, 255, 256]
 LARGE = [257, 300, 503, 504, 505, 760, 761, 1016, 1017, 1272, 1273, 2040, 2041, 4087, 4088]
 
@@ -11,7 +11,10 @@ def pattern(f, n):
     return bytes((f + i) % 256 for i in range(n))
 
 
-def large_length(rng):
+def large_length(rng, power=12):
+    """Of a value in a block; in large chunks most are short too, so that stores stay few."""
+    if power == 16:
+        return rng.choice([257, 257, 300, 505, 761, 1017, 4089, 5113])
     return rng.choice(LARGE if rng.random() < .3 else LARGE[:6])
 
 
@@ -19,11 +22,12 @@ def pick_keys(rng, n):
     return rng.sample([0, WORD - 1, 1, 7, 17, 34, 257] + [rng.getrandbits(64) for _ in range(4)], n)
 
 
-def fresh(rng, count, filled=True):
+def fresh(rng, count, filled=True, power=12):
     """As formatting leaves it, with anything outside of chunk 0."""
-    ws = header_words(count, rng.choice([None, 7, WORD - 1]), rng.choice([None, 0, 3])) + [0] * (count * 512 - 8)
+    chunk = GEOMETRY[power].words
+    ws = header_words(count, rng.choice([None, 7, WORD - 1]), rng.choice([None, 0, 3]), power) + [0] * (count * chunk - 8)
     for _ in range(12 if filled else 0):
-        ws[512 + rng.randrange(len(ws) - 512)] = rng.choice([17, 34, 3, rng.getrandbits(64)])
+        ws[chunk + rng.randrange(len(ws) - chunk)] = rng.choice([17, 34, 3, rng.getrandbits(64)])
     return ws
 
 
@@ -32,9 +36,9 @@ def run_out(st, image):
         st.step(image)
 
 
-def ours(rng, count, keys, turns, large=False):
+def ours(rng, count, keys, turns, large=False, power=12):
     """An image that random calls made; large values have one of two lengths."""
-    image, st, CHUNKS.limit, lengths = fresh(rng, count), Station(), 4088, [large_length(rng), large_length(rng)]
+    image, st, lengths = fresh(rng, count, power=power), Station(), [large_length(rng, power), large_length(rng, power)]
     st.open(image, 400)
     for turn in range(turns + 1):
         x, k = rng.random() if turn < turns else .8, rng.choice(keys)
@@ -204,6 +208,9 @@ def header_damage(rng, ws, n):
         'map-all': mended(ws, [(0, 7)]), 'map-centre': mended(ws, [(0, 5)]),
         'unused-word': mended(ws, [(rng.randrange(1 + fields, 7), rng.choice([1, WORD - 1]))]), 'word-6': mended(ws, [(6, 1)]),
         'sum': [(7, (ws[7] + rng.choice([1, 2 ** 32, WORD - 1])) % WORD)], 'count-more': mended(ws, [(1, n + 1)]),
+        'power-12': mended(ws, [(0, bits | 8), (1 + fields, 12)]), 'power-13': mended(ws, [(0, bits | 8), (1 + fields, 13)]),
+        'power-16': mended(ws, [(0, bits | 8), (1 + fields, 16)]), 'power-behind': mended(ws, [(0, bits | 8), (1 + fields, 12), (2 + fields, 12)]),
+        'power-before': mended(ws, [(0, bits | 8), (fields, 12)]), 'map-bit-4': mended(ws, [(0, bits | 16)]),
         'count-less': mended(ws, [(1, n - 1)]), 'field': mended(ws, [(2, 77)]), 'field-sum': [(2, (ws[2] + 1) % WORD)],
     }
 

@@ -10,7 +10,7 @@ use lib.Dec.{eqb}
 use lib.ListN.{length, drop, length-append}
 use borrow.Author.Tests.{eq-eqb, ne-eqb}
 use Rattle.spec.specs.Basics.{pick}
-use Rattle.spec.specs.Places.{basePower, directoryWord, lineOf}
+use Rattle.spec.specs.Places.{directoryWord, lineOf}
 use Rattle.spec.specs.Medium.{Action, Store, Flush, Fence}
 use Rattle.spec.specs.Directory.{freedWord}
 use Rattle.spec.specs.Actions.{linesFor, freeOf}
@@ -18,57 +18,64 @@ use Rattle.spec.specs.Reports.{asReport}
 use Rattle.session.specs.declared.Setup.{Setup}
 use Rattle.spec.specs.declared.Report.{Report}
 use Rattle.spec.specs.declared.Report.the-variants as R
-use Rattle.buffer.specs.Areas.{batchRoom}
-use Rattle.session.specs.State.{bufferPart, chunkIn, linesIn, sourceIn, keptWords, appendActions, copyActions, cleanActions}
+use Rattle.buffer.specs.Areas.{secondStart, secondRoom}
+use Rattle.session.specs.State.{powerIn, bufferPart, chunkIn, linesIn, sourceIn, keptWords, appendActions, copyActions, cleanActions}
 use Rattle.session.proofs.Part.{length-part}
 use Rattle.theory_crash.proofs.Append.{append-count}
-use Rattle.actions.specs.Nth.{nth, nthReport, commitCount}
+use Rattle.actions.specs.Nth.{nth, nthReport}
 use Rattle.actions.proofs.Nth.{drop-nth, drop-past, nth-front, nth-back}
 use Rattle.session.specs.declared.Source.{Source}
 use Rattle.actions.specs.Record.{copyCount, cleanCount}
 
 -- THE KEPT WORDS
-pub kept-length : (words : ℕ) (b : List ℕ) → length (keptWords words b) ≡ min words batchRoom
+pub kept-length : (words : ℕ) (b : List ℕ) → length (keptWords words b) ≡ min words secondRoom
 unfolding keptWords
-kept-length words b = length-part b 512 (min words batchRoom)
+kept-length words b = length-part b secondStart (min words secondRoom)
 
 -- THE COUNTS
 pub count-none : (words : ℕ) → words ≡ 0 → copyCount words ≡ 0
-count-none words e = rw (eq-eqb (min words 512) 0 (omega arith))
+count-none words e = rw (eq-eqb (min words secondRoom) 0 (omega arith))
 
-pub count-some : (words : ℕ) → (words ≡ 0 → ⊥) → copyCount words ≡ commitCount words
-count-some words ne = rw (ne-eqb (min words 512) 0 (λ e. ne (omega arith)))
+pub count-some : (words : ℕ) → (words ≡ 0 → ⊥) → copyCount words ≡ 9 * linesFor (min words secondRoom) + 4
+count-some words ne = rw (ne-eqb (min words secondRoom) 0 (λ e. ne (omega arith)))
+
+pub count-few : (words : ℕ) → copyCount words ≤ 9220
+count-few words = go (eqb (min words secondRoom) 0)
+  where
+    go : (t : Bool) → pick t 0 (9 * linesFor (min words secondRoom) + 4) ≤ 9220
+    go true = omega arith
+    go false = omega arith
 
 -- what the code shows
 pub shows-none : (words : ℕ) → words ≡ 0 → 0 ≡ copyCount words
 shows-none words e = sym (count-none words e)
 
-pub shows-some : (words r : ℕ) → (words ≡ 0 → ⊥) → r ≡ commitCount words → r ≡ copyCount words
+pub shows-some : (words r : ℕ) → (words ≡ 0 → ⊥) → r ≡ 9 * linesFor (min words secondRoom) + 4 → r ≡ copyCount words
 shows-some words r ne e = e ∙ sym (count-some words ne)
 
 module _ (k : Setup) (words : ℕ) (b : List ℕ) where
-  size : length (keptWords words b) ≡ min words batchRoom
+  size : length (keptWords words b) ≡ min words secondRoom
   size = kept-length words b
 
-  pub length-appended : length (appendActions k (keptWords words b)) ≡ commitCount words
-  length-appended = append-count basePower (chunkIn k) (k .old) (linesIn k) (keptWords words b) ∙ rw size
+  pub length-appended : length (appendActions k (keptWords words b)) ≡ 9 * linesFor (min words secondRoom) + 4
+  length-appended = append-count (powerIn k) (chunkIn k) (k .old) (linesIn k) (keptWords words b) ∙ rw size
 
   pub length-copied : length (copyActions k words b) ≡ copyCount words
   unfolding copyActions
-  length-copied = go (eqb (min words batchRoom) 0)
+  length-copied = go (eqb (min words secondRoom) 0)
     where
-      go : (t : Bool) → length (pick t [] (appendActions k (keptWords words b))) ≡ pick t 0 (9 * linesFor (min words batchRoom) + 4)
+      go : (t : Bool) → length (pick t [] (appendActions k (keptWords words b))) ≡ pick t 0 (9 * linesFor (min words secondRoom) + 4)
       go true = refl
       go false = length-appended
 
   -- where something is kept, the copying is the appending
   pub copied-some : (words ≡ 0 → ⊥) → copyActions k words b ≡ appendActions k (keptWords words b)
   unfolding copyActions
-  copied-some ne = rw (ne-eqb (min words 512) 0 (λ e. ne (omega arith)))
+  copied-some ne = rw (ne-eqb (min words secondRoom) 0 (λ e. ne (omega arith)))
 
   pub copied-none : words ≡ 0 → copyActions k words b ≡ []
   unfolding copyActions
-  copied-none e = rw (eq-eqb (min words 512) 0 (omega arith))
+  copied-none e = rw (eq-eqb (min words secondRoom) 0 (omega arith))
 
 -- THE FREEING
 module _ (c old at : ℕ) where
@@ -110,7 +117,7 @@ module _ (k : Setup) (f : Source) (b : List ℕ) where
   clean-flush at e = in-free at 1 (omega arith)
 
   -- what the code shows
-  pub shows-copy : (r : Report) (at copies : ℕ) → copies ≡ copyCount (f .words) → at < copies → r ≡ nthReport (appendActions k (bufferPart b batchRoom (min (f .words) batchRoom))) at → r ≡ nthReport (cleanActions k f b) at
+  pub shows-copy : (r : Report) (at copies : ℕ) → copies ≡ copyCount (f .words) → at < copies → r ≡ nthReport (appendActions k (bufferPart b secondStart (min (f .words) secondRoom))) at → r ≡ nthReport (cleanActions k f b) at
   unfolding cleanActions keptWords
   shows-copy r at copies e h q = go (ℕ-discrete (f .words) 0)
     where

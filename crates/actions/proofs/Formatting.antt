@@ -5,17 +5,19 @@ use mathlib.Core.List.{List, [], _∷_, _++_, append-assoc}
 use Prim.Native.Nat.{ℕ, zero, suc, _+_, _-_, _/_, _%_, _<_, _≤_}
 use native.Mathlib.Omega.{arith}
 use lib.ListN.{length, getD, drop, List·getD-eq-default}
-use Rattle.spec.specs.Places.{basePower, chunkBytes, maxChunks, chunksIn}
+use Rattle.spec.specs.Places.{maxChunks, chunksIn}
 use Rattle.spec.specs.Medium.{Action, Store, Flush, Fence}
 use Rattle.spec.specs.Header.{headerMap, headerTail, headerWords}
 use Rattle.spec.specs.Actions.{writes, flushes, firstWordOf, fillOf, blankOf, formatOf}
 use Rattle.spec.specs.Reports.{asReport}
 use Rattle.spec.specs.declared.Given.{Given}
+use Rattle.spec.specs.declared.Size.{Size}
+use Rattle.places.specs.Sizes.{powerOf}
 use Rattle.session.specs.declared.Setup.{Setup}
 use Rattle.spec.specs.declared.Report.{Report}
 use Rattle.spec.specs.declared.Report.the-variants as R
 use Rattle.codec.specs.Headers.{header-words}
-use Rattle.session.specs.State.{givenBy, formatActions}
+use Rattle.session.specs.State.{sizeIn, powerIn, givenBy, formatActions}
 use Rattle.theory_crash.proofs.Cells.{length-writes, length-flushes}
 use Rattle.theory_crash.proofs.Format.{blank-length, format-count}
 use Rattle.actions.specs.Nth.{nth, nthReport, formatCount, registerWord}
@@ -81,7 +83,7 @@ fence-from v (suc (suc (suc i))) h = refl
 -- A FORMATTING
 module _ (k : Setup) where
   abbrev chunks : ℕ
-  chunks = chunksIn basePower (k .image)
+  chunks = chunksIn (powerIn k) (k .image)
 
   abbrev station : Given
   station = givenBy (k .fields / 2 % 2) (k .station)
@@ -90,21 +92,21 @@ module _ (k : Setup) where
   centre = givenBy (k .fields / 4 % 2) (k .centre)
 
   abbrev words : List ℕ
-  words = blankOf (headerTail chunks station centre)
+  words = blankOf (headerTail (powerIn k) chunks station centre)
 
   sized : length words ≡ 511
-  sized = blank-length chunks station centre
+  sized = blank-length (powerIn k) chunks station centre
 
-  is-fill : formatActions k ≡ firstWordOf 0 ++ (fillOf words 64 ++ firstWordOf (headerMap station centre))
+  is-fill : formatActions k ≡ firstWordOf 0 ++ (fillOf words 64 ++ firstWordOf (headerMap (powerIn k) station centre))
   unfolding formatActions formatOf
   is-fill = refl
 
-  by-fill : (at : ℕ) (a : Action) → nth (firstWordOf 0 ++ (fillOf words 64 ++ firstWordOf (headerMap station centre))) at ≡ a
+  by-fill : (at : ℕ) (a : Action) → nth (firstWordOf 0 ++ (fillOf words 64 ++ firstWordOf (headerMap (powerIn k) station centre))) at ≡ a
       → nth (formatActions k) at ≡ a
   by-fill at a e = ap (λ (l : List Action). nth l at) is-fill ∙ e
 
   -- the register's words
-  word-first : registerWord k 0 ≡ headerMap station centre
+  word-first : registerWord k 0 ≡ headerMap (powerIn k) station centre
   unfolding registerWord headerWords
   word-first = refl
 
@@ -112,24 +114,24 @@ module _ (k : Setup) where
   unfolding registerWord headerWords blankOf
   word-later w i e =
       let q : w ≡ suc i = omega arith in
-      rw q (sym (zeros-behind (headerTail chunks station centre) maxChunks i))
+      rw q (sym (zeros-behind (headerTail (powerIn k) chunks station centre) maxChunks i))
 
   -- past the header
   pub word-behind : (i : ℕ) → 8 ≤ i → 0 ≡ registerWord k i
   unfolding registerWord
   word-behind i h =
-      let l : length (headerWords chunks station centre) ≡ 8 = ap length (header-words chunks station centre) in
-      sym (List·getD-eq-default (headerWords chunks station centre) 0 (rw l h))
+      let l : length (headerWords (powerIn k) chunks station centre) ≡ 8 = ap length (header-words (powerIn k) chunks station centre) in
+      sym (List·getD-eq-default (headerWords (powerIn k) chunks station centre) 0 (rw l h))
 
   -- a header that the codec makes of what the setup says
-  pub word-shown : (i r n : ℕ) (s t : Given) → n ≡ k .image / 4096 → s ≡ givenBy (k .fields / 2 % 2) (k .station) → t ≡ givenBy (k .fields / 4 % 2) (k .centre)
-      → r ≡ getD (headerWords n s t) i 0 → r ≡ registerWord k i
-  unfolding registerWord chunksIn chunkBytes
-  word-shown i r n s t a b d e = e ∙ rw (a, b, d)
+  pub word-shown : (size : Size) (i r n : ℕ) (s t : Given) → size ≡ sizeIn k → n ≡ chunksIn (powerOf size) (k .image) → s ≡ givenBy (k .fields / 2 % 2) (k .station) → t ≡ givenBy (k .fields / 4 % 2) (k .centre)
+      → r ≡ getD (headerWords (powerOf size) n s t) i 0 → r ≡ registerWord k i
+  unfolding registerWord
+  word-shown size i r n s t z a b d e = e ∙ rw (a, b, d, z)
 
   pub length-format : length (formatActions k) ≡ formatCount
   unfolding formatActions
-  length-format = format-count chunks station centre
+  length-format = format-count (powerIn k) chunks station centre
 
   pub format-done : (at : ℕ) → formatCount ≤ at → drop at (formatActions k) ≡ []
   format-done at h = drop-past (formatActions k) at (rw length-format h)
@@ -139,22 +141,22 @@ module _ (k : Setup) where
 
   -- EACH ACTION
   pub format-front : (at : ℕ) → at < 3 → nth (formatActions k) at ≡ nth (firstWordOf 0) at
-  format-front at h = by-fill at (nth (firstWordOf 0) at) (fill-front words 511 64 (headerMap station centre) sized at h)
+  format-front at h = by-fill at (nth (firstWordOf 0) at) (fill-front words 511 64 (headerMap (powerIn k) station centre) sized at h)
 
   pub format-store : (at w : ℕ) → 3 ≤ at → at < 514 → at ≡ w + 2 → nth (formatActions k) at ≡ Store w (registerWord k w)
   format-store at w h q e =
-      by-fill at (Store w (registerWord k w)) (fill-store words 511 64 (headerMap station centre) sized at (at - 3) w (omega arith) (omega arith) (omega arith)
+      by-fill at (Store w (registerWord k w)) (fill-store words 511 64 (headerMap (powerIn k) station centre) sized at (at - 3) w (omega arith) (omega arith) (omega arith)
       ∙ ap (Store w) (sym (word-later w (at - 3) (omega arith))))
 
   pub format-flush : (at l : ℕ) → at ≡ 514 + l → at < 578 → nth (formatActions k) at ≡ Flush l
-  format-flush at l e h = by-fill at (Flush l) (fill-flush words 511 64 (headerMap station centre) sized at l (omega arith) (omega arith))
+  format-flush at l e h = by-fill at (Flush l) (fill-flush words 511 64 (headerMap (powerIn k) station centre) sized at l (omega arith) (omega arith))
 
   pub format-fence : (at : ℕ) → at ≡ 578 → nth (formatActions k) at ≡ Fence
-  format-fence at e = by-fill at Fence (fill-fence words 511 64 (headerMap station centre) sized at e)
+  format-fence at e = by-fill at Fence (fill-fence words 511 64 (headerMap (powerIn k) station centre) sized at e)
 
   pub format-back : (at i : ℕ) → at ≡ 579 + i → nth (formatActions k) at ≡ nth (firstWordOf (registerWord k 0)) i
   format-back at i e =
-      by-fill at (nth (firstWordOf (registerWord k 0)) i) (fill-back words 511 64 (headerMap station centre) sized at i e
+      by-fill at (nth (firstWordOf (registerWord k 0)) i) (fill-back words 511 64 (headerMap (powerIn k) station centre) sized at i e
       ∙ ap (λ (v : ℕ). nth (firstWordOf v) i) (sym word-first))
 
   pub format-last : (at : ℕ) → at + 1 ≡ formatCount → nth (formatActions k) at ≡ Fence

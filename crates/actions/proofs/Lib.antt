@@ -1,4 +1,5 @@
 pub mod Nth
+pub mod Bounds
 pub mod Appends
 pub mod Appending
 pub mod Committing

@@ -25,7 +25,7 @@ use Rattle.session.specs.declared.Session.{Session}
 use Rattle.spec.specs.declared.Refusal.the-variants as N
 use Rattle.spec.specs.declared.Report.{Report}
 use Rattle.spec.specs.declared.Report.the-variants as R
-use Rattle.session.specs.State.{commitOlds, cleanOlds, batchItems, commitActions, formatActions, cleanActions, blockActions, stateBy, stateAt, stateOf, limit}
+use Rattle.session.specs.State.{powerIn, commitOlds, cleanOlds, batchItems, commitActions, formatActions, cleanActions, blockActions, stateBy, stateAt, stateOf}
 use Rattle.session.specs.Fits.{Fits}
 use Rattle.actions.proofs.Nth.{report-by}
 use Rattle.session.specs.Promise.{Does, memory}
@@ -47,8 +47,8 @@ pub record Begun (i t n : ℕ) (E : State) (F : List Action → State) : Type 0 
   pub left : (l : List Action) → stepsLeft (F l) ≡ suc (length l)
   pub over : stepsLeft E ≡ 0
 
-pub busy : (i t : ℕ) (items : List Entry) (task : Task) → Begun i t (countOf task) (Rest i t (itemsThen task items)) (Busy i t items task)
-busy i t items task = record { answers = λ l x y. refl; bars = λ l x y. refl; moves = λ a l. refl; ends = refl; left = λ l. refl; over = refl }
+pub busy : (p i t : ℕ) (items : List Entry) (task : Task) → Begun i t (countOf task) (Rest p i t (itemsThen task items)) (Busy p i t items task)
+busy p i t items task = record { answers = λ l x y. refl; bars = λ l x y. refl; moves = λ a l. refl; ends = refl; left = λ l. refl; over = refl }
 
 pub formatting : (o : Bool) (i t : ℕ) → Begun i t 0 Closed (Formatting o i t)
 formatting o i t = record { answers = λ l x y. refl; bars = λ l x y. refl; moves = λ a l. refl; ends = refl; left = λ l. refl; over = refl }
@@ -64,11 +64,11 @@ pub record InCall (k : Setup) (σ : State) : Type 0 where
   pub here : σ ≡ states todo
 
 module _ (c : Control) (k : Setup) (b : List ℕ) where
-  pub at-2 : c .phase ≡ 2 → stateAt c k b ≡ Busy (k .image) (k .table) (batchItems c b) Staging (drop (c .next) (blockActions k b))
+  pub at-2 : c .phase ≡ 2 → stateAt c k b ≡ Busy (powerIn k) (k .image) (k .table) (batchItems c b) Staging (drop (c .next) (blockActions k b))
   unfolding stateAt
   at-2 e = rw e
 
-  pub at-3 : c .phase ≡ 3 → stateAt c k b ≡ Busy (k .image) (k .table) (batchItems c b) (Committing (commitOlds k)) (drop (c .next) (commitActions c k b))
+  pub at-3 : c .phase ≡ 3 → stateAt c k b ≡ Busy (powerIn k) (k .image) (k .table) (batchItems c b) (Committing (commitOlds k)) (drop (c .next) (commitActions c k b))
   unfolding stateAt
   at-3 e = rw e
 
@@ -80,19 +80,19 @@ module _ (c : Control) (k : Setup) (b : List ℕ) where
   unfolding stateAt
   at-5 e = rw e
 
-  pub at-6 : c .phase ≡ 6 → stateAt c k b ≡ Busy (k .image) (k .table) [] (Cleaning (k .source .entries) (cleanOlds k (k .source))) (drop (c .next) (cleanActions k (k .source) b))
+  pub at-6 : c .phase ≡ 6 → stateAt c k b ≡ Busy (powerIn k) (k .image) (k .table) [] (Cleaning (k .source .entries) (cleanOlds k (k .source))) (drop (c .next) (cleanActions k (k .source) b))
   unfolding stateAt
   at-6 e = rw e
 
   closed : Idling Closed
   closed = record { answers = λ x y. refl; bars = λ x y. refl; stays = refl }
 
-  resting : (i t : ℕ) (items : List Entry) → Idling (Rest i t items)
-  resting i t items = record { answers = λ x y. refl; bars = λ x y. refl; stays = refl }
+  resting : (p i t : ℕ) (items : List Entry) → Idling (Rest p i t items)
+  resting p i t items = record { answers = λ x y. refl; bars = λ x y. refl; stays = refl }
 
   -- the phases that stand for no call
   idle-by : (phase : ℕ) → (2 ≤ phase → phase ≤ 6 → ⊥) → Dec (phase ≡ 1) → Idling (stateBy phase c k b)
-  idle-by phase h (yes e) = rw e (resting (k .image) (k .table) (batchItems c b))
+  idle-by phase h (yes e) = rw e (resting (powerIn k) (k .image) (k .table) (batchItems c b))
   idle-by phase h (no ne) =
       rw (ne-eqb phase 1 ne, ne-eqb phase 2 (other 2 refl refl), ne-eqb phase 3 (other 3 refl refl), ne-eqb phase 4 (other 4 refl refl), ne-eqb phase 5 (other 5 refl refl), ne-eqb phase 6 (other 6 refl refl)) closed
     where
@@ -109,11 +109,11 @@ module _ (c : Control) (k : Setup) (b : List ℕ) where
   call-by : (phase : ℕ) → 2 ≤ phase → phase ≤ 6 → InCall k (stateBy phase c k b)
   call-by zero l h = absurd (omega arith)
   call-by (suc zero) l h = absurd (omega arith)
-  call-by (suc (suc zero)) l h = going _ _ _ (busy (k .image) (k .table) (batchItems c b) Staging) (drop (c .next) (blockActions k b))
-  call-by (suc (suc (suc zero))) l h = going _ _ _ (busy (k .image) (k .table) (batchItems c b) (Committing (commitOlds k))) (drop (c .next) (commitActions c k b))
+  call-by (suc (suc zero)) l h = going _ _ _ (busy (powerIn k) (k .image) (k .table) (batchItems c b) Staging) (drop (c .next) (blockActions k b))
+  call-by (suc (suc (suc zero))) l h = going _ _ _ (busy (powerIn k) (k .image) (k .table) (batchItems c b) (Committing (commitOlds k))) (drop (c .next) (commitActions c k b))
   call-by (suc (suc (suc (suc zero)))) l h = going _ _ _ (formatting false (k .image) (k .table)) (drop (c .next) (formatActions k))
   call-by (suc (suc (suc (suc (suc zero))))) l h = going _ _ _ (formatting true (k .image) (k .table)) (drop (c .next) (formatActions k))
-  call-by (suc (suc (suc (suc (suc (suc zero)))))) l h = going _ _ _ (busy (k .image) (k .table) [] (Cleaning (k .source .entries) (cleanOlds k (k .source)))) (drop (c .next) (cleanActions k (k .source) b))
+  call-by (suc (suc (suc (suc (suc (suc zero)))))) l h = going _ _ _ (busy (powerIn k) (k .image) (k .table) [] (Cleaning (k .source .entries) (cleanOlds k (k .source)))) (drop (c .next) (cleanActions k (k .source) b))
   call-by (suc (suc (suc (suc (suc (suc (suc n))))))) l h = absurd (omega arith)
 
   pub in-call : 2 ≤ c .phase → c .phase ≤ 6 → InCall k (stateAt c k b)
@@ -124,10 +124,10 @@ module _ (c : Control) (k : Setup) (b : List ℕ) where
 never : {A : Type 0} (r : Report) → none ≡ some r → A
 never r h = absurd (let z : _≡_ {A = ℕ} 0 1 = cc in omega arith)
 
-pub table-kept : (σ : State) (table : List ℕ) → TableKept Proper stateOf Fits 12 limit σ table table
+pub table-kept : (σ : State) (table : List ℕ) → TableKept Proper stateOf Fits σ table table
 table-kept Closed table = refl
-table-kept (Rest b t items) table = refl
-table-kept (Busy b t items task rest) table = tt
+table-kept (Rest p b t items) table = refl
+table-kept (Busy p b t items task rest) table = tt
 table-kept (Formatting o b t rest) table = refl
 
 module _ (s : Session) (bytes table : List ℕ) where
@@ -166,7 +166,7 @@ module _ (s s′ : Session) (bytes bytes′ table table′ : List ℕ) (i t n : 
   reports : (l : List Action) → stepAnswer (F l) (length bytes) (length table) ≡ nextReport n l
   reports l = q .answers l (length bytes) (length table) ∙ rw same
 
-  becomes : (l : List Action) → isRefused (nextReport n l) ≡ false → next 12 limit Step (F l) (wordsOf bytes) (length bytes) (length table) ≡ stepped (F l)
+  becomes : (l : List Action) → isRefused (nextReport n l) ≡ false → next Step (F l) (wordsOf bytes) (length bytes) (length table) ≡ stepped (F l)
   unfolding next
   becomes l h = rw (reports l, h)
 
@@ -179,24 +179,24 @@ module _ (s s′ : Session) (bytes bytes′ table table′ : List ℕ) (i t n : 
   accepted Fence = refl
 
   pub step-acts : (a : Action) (l : List Action) → stateOf s ≡ F (a ∷ l) → stateOf s′ ≡ F l → Changed (asReport a) bytes bytes′
-      → length table′ ≡ length table → TableKept Proper stateOf Fits 12 limit (stateOf s) table table′
+      → length table′ ≡ length table → TableKept Proper stateOf Fits (stateOf s) table table′
       → (Fits s (wordsOf bytes) table → Fits s′ (wordsOf bytes′) table′) → Does Step (memory s bytes table) (memory s′ bytes′ table′) (asReport a)
   step-acts a l e e′ changed sized kept fits = record {
     exact = λ f. record { answered = answered; became = became; fits = fits f };
     first = passed (a ∷ l) e (asReport a);
     image = changed;
     sized = sized;
-    outcome = report-by (Outcome Proper stateOf Fits 12 limit Step s s′ table table′) (λ w v. counted) (λ x. counted) counted a;
+    outcome = report-by (Outcome Proper stateOf Fits Step s s′ table table′) (λ w v. counted) (λ x. counted) counted a;
     anyway = (answered, became);
   }
     where
       answered : asReport a ≡ stepAnswer (stateOf s) (length bytes) (length table)
       answered = sym (rw e (reports (a ∷ l)))
 
-      became : stateOf s′ ≡ next 12 limit Step (stateOf s) (wordsOf bytes) (length bytes) (length table)
+      became : stateOf s′ ≡ next Step (stateOf s) (wordsOf bytes) (length bytes) (length table)
       became = e′ ∙ sym (rw e (becomes (a ∷ l) (accepted a) ∙ q .moves a l))
 
-      counted : Counted Proper stateOf Fits 12 limit s s′ table table′
+      counted : Counted Proper stateOf Fits s s′ table table′
       counted = (rw (e, e′) (q .left (a ∷ l) ∙ ap suc (sym (q .left l))), kept)
 
   pub step-ends : stateOf s ≡ F [] → stateOf s′ ≡ E → (Fits s (wordsOf bytes) table → Fits s′ (wordsOf bytes) table)

@@ -9,15 +9,17 @@ use Rattle.spec.specs.Basics.{pick}
 use Rattle.spec.specs.Places.{directoryWord}
 use Rattle.spec.specs.Directory.{linesOf}
 use Rattle.spec.specs.Actions.{linesFor}
+use Rattle.spec.specs.declared.Size.{Size}
+use Rattle.places.specs.Sizes.{powerOf}
 use Rattle.session.specs.declared.Control.{Control}
 use Rattle.session.specs.declared.Setup.{Setup}
-use Rattle.buffer.specs.Areas.{batchRoom}
+use Rattle.buffer.specs.Areas.{secondRoom}
 use Rattle.session.specs.declared.Source.{Source}
 use Rattle.session.specs.Numbers.{inPhase, appendSetup}
 
 -- how many they are
 abbrev pub copyCount : ℕ → ℕ
-copyCount words = pick (eqb (min words batchRoom) 0) 0 (9 * linesFor (min words batchRoom) + 4)
+copyCount words = pick (eqb (min words secondRoom) 0) 0 (9 * linesFor (min words secondRoom) + 4)
 
 abbrev pub cleanCount : ℕ → ℕ
 cleanCount words = copyCount words + 3
@@ -31,5 +33,5 @@ abbrev pub copyingTo : Setup → (chunk old lines first least : ℕ) → Source 
 copyingTo k chunk old lines first least f =
     appendSetup k chunk old lines first least f
 
-abbrev pub sourceOf : List ℕ → (chunk words entries : ℕ) → Source
-sourceOf ws chunk words entries = record { chunk = chunk; old = getD ws (directoryWord chunk) 0; lines = linesOf 12 ws chunk; words = words; entries = entries }
+abbrev pub sourceOf : Size → List ℕ → (chunk words entries : ℕ) → Source
+sourceOf size ws chunk words entries = record { chunk = chunk; old = getD ws (directoryWord chunk) 0; lines = linesOf (powerOf size) ws chunk; words = words; entries = entries }

@@ -1,35 +1,47 @@
 // Words written behind the committed lines of a log chunk, action by action, made from the record without reading the
 // image: a commit's batch, and what a cleaning keeps.
 ghost use mathlib.Core.Path.{_≡_};
-ghost use Prim.Native.Nat.{_+_, _*_, _≤_, min};
+ghost use Prim.Native.Nat.{_+_, _*_, _^_, _<_, _≤_, min};
 ghost use lib.ListN.{getD};
 ghost use Rattle.spec.specs.Actions.{linesFor, padded};
-ghost use Rattle.buffer.specs.Areas.{batchRoom};
-ghost use Rattle.session.specs.State.{bufferPart, chunkIn, linesIn, appendActions, commitActions};
+ghost use Rattle.spec.specs.Places.{base};
+ghost use Rattle.buffer.specs.Areas.{batchRoom, secondRoom};
+ghost use Rattle.session.specs.State.{powerIn, bufferPart, chunkIn, linesIn, appendActions, commitActions};
 ghost use Rattle.actions.specs.Nth.{nthReport, commitCount};
 ghost use Rattle.actions.specs.Record.{copyCount};
 use buffer::BATCH;
 use buffer::BATCH_WORDS;
 use buffer::Buffer;
+use buffer::SECOND_WORDS;
+use places::first_line;
+use places::first_word;
+use places::size_by;
 use session::Control;
 use session::Setup;
 use spec::Report;
+use words::lesser;
 
 // WORDS BEHIND THE COMMITTED LINES of a chunk
-// How many lines so many words of the buffer take: more than there is room for are read as that many.
+// How many lines so many staged words take, and so many kept by a cleaning: more than there is room for are read as
+// that many.
 pub fn batch_lines(words: usize) -> usize
     ensures { λ r. ⌜ r ≡ linesFor (min words batchRoom) ⌝ }
 {
-    (words::lesser(words, BATCH_WORDS) + 7) / 8
+    (lesser(words, BATCH_WORDS) + 7) / 8
+}
+
+pub fn kept_lines(words: usize) -> usize
+    ensures { λ r. ⌜ r ≡ linesFor (min words secondRoom) ⌝ }
+{
+    (lesser(words, SECOND_WORDS) + 7) / 8
 }
 
 // Word i of so many words of the buffer from word `from` on, padded to whole lines: 0 behind them.
 fn append_word(buffer: &Buffer, from: usize, words: usize, i: usize) -> u64
-    requires { ⌜ from ≤ batchRoom ⌝ }
-    ensures { λ r. ⌜ r ≡ getD (padded (bufferPart (now (buffer .entry)) from (min words batchRoom))) i 0 ⌝ }
+    requires { ⌜ (from ≤ batchRoom) × (words ≤ secondRoom) ⌝ }
+    ensures { λ r. ⌜ r ≡ getD (padded (bufferPart (now (buffer .entry)) from words)) i 0 ⌝ }
 {
-    let count = words::lesser(words, BATCH_WORDS);
-    if i < count {
+    if i < words {
         return buffer[from + i];
     }
     0
@@ -38,23 +50,24 @@ fn append_word(buffer: &Buffer, from: usize, words: usize, i: usize) -> u64
 // The action number `at` of those that put so many words of the buffer, from word `from` on, behind the committed lines
 // of the record's chunk: the words, their lines, a fence; the directory word, its line, a fence.
 pub fn append_action(setup: Setup, buffer: &Buffer, from: usize, words: usize, at: usize) -> Report
-    requires { ⌜ from ≤ batchRoom ⌝ }
-    ensures { λ r. ⌜ r ≡ nthReport (appendActions setup (bufferPart (now (buffer .entry)) from (min words batchRoom))) at ⌝ }
+    requires { ⌜ (from ≤ batchRoom) × (words ≤ secondRoom) ⌝ }
+    ensures { λ r. ⌜ r ≡ nthReport (appendActions setup (bufferPart (now (buffer .entry)) from words)) at ⌝ }
 {
-    let lines = batch_lines(words);
+    let size = size_by(setup.power);
+    let lines = (words + 7) / 8;
     let chunk = setup.chunk % 512;
-    let committed = setup.lines % 128;
+    let committed = setup.lines % 2048;
     let stores = 8 * lines;
     let fence = 9 * lines;
     let seal = fence + 1;
     let flush = fence + 2;
     if at < stores {
-        let word = 512 * chunk + 8 * committed + at;
+        let word = first_word(size, chunk) + 8 * committed + at;
         let value = append_word(buffer, from, words, at);
         return Report::Store { word, value };
     }
     if at < fence {
-        let line = 64 * chunk + committed + (at - stores);
+        let line = first_line(size, chunk) + committed + (at - stores);
         return Report::Flush(line);
     }
     if at == fence {
@@ -91,24 +104,26 @@ pub fn commit_stores(words: usize) -> usize
 
 // The word of the image where the batch begins.
 pub fn batch_start(setup: Setup) -> usize
-    ensures { λ r. ⌜ r ≡ 512 * chunkIn setup + 8 * linesIn setup ⌝ }
+    ensures { λ r. ⌜ (r ≡ base (powerIn setup) (chunkIn setup) + 8 * linesIn setup) × (r < 2 ^ 32) ⌝ }
 {
-    512 * (setup.chunk % 512) + 8 * (setup.lines % 128)
+    let size = size_by(setup.power);
+    first_word(size, setup.chunk % 512) + 8 * (setup.lines % 2048)
 }
 
 // The action number `at` of a commit.
 pub fn commit_action(control: Control, setup: Setup, buffer: &Buffer, at: usize) -> Report
     ensures { λ r. ⌜ r ≡ nthReport (commitActions control setup (now (buffer .entry))) at ⌝ }
 {
-    append_action(setup, buffer, BATCH, control.words, at)
+    let words = lesser(control.words, BATCH_WORDS);
+    append_action(setup, buffer, BATCH, words, at)
 }
 
-// How many actions copy so many words: none where there are none.
+// How many actions copy so many kept words: none where there are none.
 pub fn copy_count(words: usize) -> usize
     ensures { λ r. ⌜ r ≡ copyCount words ⌝ }
 {
     if words == 0 {
         return 0;
     }
-    commit_count(words)
+    9 * kept_lines(words) + 4
 }

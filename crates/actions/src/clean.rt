@@ -6,18 +6,17 @@ ghost use Rattle.session.specs.State.{sourceIn, cleanActions};
 ghost use Rattle.actions.specs.Record.{cleanCount};
 use buffer::Buffer;
 use buffer::SECOND;
+use buffer::SECOND_WORDS;
 use session::Setup;
 use session::Source;
 use spec::Report;
+use words::lesser;
 
 // How many actions a cleaning has that keeps so many words.
 pub fn clean_count(words: usize) -> usize
     ensures { λ r. ⌜ r ≡ cleanCount words ⌝ }
 {
-    if words == 0 {
-        return 3;
-    }
-    crate::append::commit_count(words) + 3
+    crate::append::copy_count(words) + 3
 }
 
 // The action number `at` of the freeing: the directory word, its line, a fence.
@@ -45,7 +44,8 @@ pub fn clean_action(setup: Setup, source: Source, buffer: &Buffer, at: usize) ->
     let words = source.words;
     let copies = crate::append::copy_count(words);
     if at < copies {
-        return crate::append::append_action(setup, buffer, SECOND, words, at);
+        let kept = lesser(words, SECOND_WORDS);
+        return crate::append::append_action(setup, buffer, SECOND, kept, at);
     }
     free_action(source, at - copies)
 }

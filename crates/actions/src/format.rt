@@ -31,11 +31,12 @@ fn register_word(setup: Setup, i: usize) -> u64
     ensures { λ r. ⌜ r ≡ registerWord setup i ⌝ }
 {
     if i < 8 {
-        let count = (setup.image / 4096) as u64;
+        let size = places::size_by(setup.power);
+        let count = places::chunks_in(size, setup.image) as u64;
         let fields = setup.fields;
         let station = given(fields / 2 % 2, setup.station);
         let centre = given(fields / 4 % 2, setup.centre);
-        return codec::header_word(count, station, centre, i);
+        return codec::header_word(size, count, station, centre, i);
     }
     0
 }

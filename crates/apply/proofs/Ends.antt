@@ -3,9 +3,12 @@
 use mathlib.Core.Path.{_≡_, refl, sym, _∙_, ap}
 use mathlib.Core.Bool.{Bool, true}
 use mathlib.Core.List.{List, _++_}
-use Prim.Native.Nat.{ℕ, _/_}
+use Prim.Native.Nat.{ℕ}
 use native.Mathlib.Omega.{arith}
 use lib.ListN.{length}
+use Rattle.spec.specs.declared.Size.{Size}
+use Rattle.places.specs.Sizes.{powerOf}
+use Rattle.spec.specs.Places.{wordChunk}
 use Rattle.spec.specs.Log.{Entry}
 use Rattle.spec.specs.Basics.{isIn}
 use Rattle.spec.specs.Contents.{isKept, liveBlocks}
@@ -27,15 +30,15 @@ use Rattle.apply.proofs.Steps.{leaving-single, leaving-end}
 
 -- ## Built anew
 
-module _ (n : ℕ) (ws table table′ buffer buffer′ : List ℕ) (r : CheckedImage) (j : JudgingLog n ws table table′ buffer buffer′ r) where
-  pub built-not : (why : Refusal) → r ≡ J.Refused why → (keys : ℕ) → Rebuilt n ws buffer buffer′ table table′ keys
+module _ (size : Size) (n : ℕ) (ws table table′ buffer buffer′ : List ℕ) (r : CheckedImage) (j : JudgingLog size n ws table table′ buffer buffer′ r) where
+  pub built-not : (why : Refusal) → r ≡ J.Refused why → (keys : ℕ) → Rebuilt size n ws buffer buffer′ table table′ keys
   built-not why e keys = record {
     sized = j .sized;
     kept = j .kept;
     builds = λ most long es a. let w = (rw e at (j .judged most long)) .0 in absurd (let z : _≡_ {A = ℕ} 0 1 = cc in omega arith);
   }
 
-  pub built : (keys : ℕ) → r ≡ J.Accepted keys → Rebuilt n ws buffer buffer′ table table′ keys
+  pub built : (keys : ℕ) → r ≡ J.Accepted keys → Rebuilt size n ws buffer buffer′ table table′ keys
   built keys e = record {
     sized = j .sized;
     kept = j .kept;
@@ -48,9 +51,9 @@ module _ (n : ℕ) (ws table table′ buffer buffer′ : List ℕ) (r : CheckedI
 
 -- ## At the last fence
 
-module _ (n : ℕ) (ws buffer buffer′ table table′ : List ℕ) (keys at end from until words keys′ : ℕ) where
+module _ (size : Size) (n : ℕ) (ws buffer buffer′ table table′ : List ℕ) (keys at end from until words keys′ : ℕ) where
   -- some key has several top entries: built anew, whatever the pass has left of the table
-  pub emptied-anew : (middle : List ℕ) (w : Removed) → AllLeft ws table middle keys at end from until w → Rebuilt n ws buffer buffer′ middle table′ keys′ → Emptying n ws buffer buffer′ table table′ keys at end from until words keys′
+  pub emptied-anew : (middle : List ℕ) (w : Removed) → AllLeft size ws table middle keys at end from until w → Rebuilt size n ws buffer buffer′ middle table′ keys′ → Emptying size n ws buffer buffer′ table table′ keys at end from until words keys′
   emptied-anew middle w l b = record {
     sized = b .sized ∙ l .sized;
     kept = b .kept;
@@ -58,21 +61,21 @@ module _ (n : ℕ) (ws buffer buffer′ table table′ : List ℕ) (keys at end 
   }
 
   -- none has
-  pub emptied : TurnedOver buffer buffer′ (at / 512) from words → (w : Removed) → AllLeft ws table table′ keys at end from until w → w .single ≡ true → keys′ ≡ w .keys → Emptying n ws buffer buffer′ table table′ keys at end from until words keys′
+  pub emptied : TurnedOver size buffer buffer′ (wordChunk (powerOf size) at) from words → (w : Removed) → AllLeft size ws table table′ keys at end from until w → w .single ≡ true → keys′ ≡ w .keys → Emptying size n ws buffer buffer′ table table′ keys at end from until words keys′
   emptied turned w l single is = record {
     sized = l .sized;
     kept = turned .kept .long;
     leaves = go;
   }
     where
-      go : (xs mid ys as′ bs : List Entry) → Emptied n ws buffer table keys at end from until words xs mid ys as′ bs → Holds buffer′ table′ keys′ (after xs mid ys as′ bs from)
-      go xs mid ys as′ bs e = ready (before xs mid ys) (after xs mid ys as′ bs from) (isKept (before xs mid ys) (xs ++ ys)) (leaving-start xs mid ys as′ bs from (e .cleaned) ws until table keys (e .holds .indexed) (e .copied)) (live-same xs mid ys as′ bs from (e .cleaned)) (λ s. turned .turns (before xs mid ys) (after xs mid ys as′ bs from) (turning xs mid ys as′ bs from (e .cleaned) s (at / 512) words (e .moves)) (e .holds .sums))
+      go : (xs mid ys as′ bs : List Entry) → Emptied size n ws buffer table keys at end from until words xs mid ys as′ bs → Holds size buffer′ table′ keys′ (after xs mid ys as′ bs from)
+      go xs mid ys as′ bs e = ready (before xs mid ys) (after xs mid ys as′ bs from) (isKept (before xs mid ys) (xs ++ ys)) (leaving-start size xs mid ys as′ bs from (e .cleaned) ws until table keys (e .holds .indexed) (e .copied)) (live-same size xs mid ys as′ bs from (e .cleaned)) (λ s. turned .turns (before xs mid ys) (after xs mid ys as′ bs from) (turning size xs mid ys as′ bs from (e .cleaned) s (wordChunk (powerOf size) at) words (e .moves)) (e .holds .sums))
         where
-          ready : (es out : List Entry) (test : Entry → Bool) → Leaving ws until es mid out test table keys mid from → (Singles mid es → (u : ℕ) → isIn u (liveBlocks (before xs mid ys)) ≡ isIn u (liveBlocks out)) → (Singles mid es → Summed buffer′ out) → Holds buffer′ table′ keys′ out
+          ready : (es out : List Entry) (test : Entry → Bool) → Leaving size ws until es mid out test table keys mid from → (Singles mid es → (u : ℕ) → isIn u (liveBlocks (before xs mid ys)) ≡ isIn u (liveBlocks out)) → (Singles mid es → Summed size buffer′ out) → Holds size buffer′ table′ keys′ out
           ready es out test begun live summed =
               let over = l .leaves single es mid out test (e .here) begun in
               record {
-                indexed = rw is (leaving-end ws until es mid out test table′ (w .keys) (w .to) over);
-                blocks = λ u. alone-bits buffer buffer′ (turned .kept) u ∙ e .holds .blocks u ∙ live (leaving-single ws until es mid out test table′ (w .keys) (w .to) over) u;
-                sums = summed (leaving-single ws until es mid out test table′ (w .keys) (w .to) over);
+                indexed = rw is (leaving-end size ws until es mid out test table′ (w .keys) (w .to) over);
+                blocks = λ u. alone-bits size buffer buffer′ (turned .kept) u ∙ e .holds .blocks u ∙ live (leaving-single size ws until es mid out test table′ (w .keys) (w .to) over) u;
+                sums = summed (leaving-single size ws until es mid out test table′ (w .keys) (w .to) over);
               }

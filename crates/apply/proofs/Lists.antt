@@ -11,6 +11,7 @@ use native.Mathlib.Decide.{ℕ-discrete}
 use lib.Dec.{eqb}
 use lib.ListN.{length}
 use borrow.Author.Tests.{eq-eqb}
+use Rattle.spec.specs.declared.Size.{Size}
 use Rattle.spec.specs.Basics.{both, either, isIn}
 use Rattle.spec.specs.Log.{Entry, moved}
 use Rattle.spec.specs.Blocks.{pointed}
@@ -22,9 +23,9 @@ use Rattle.theory_log.proofs.Keys.{mem-known, known-mem}
 use Rattle.theory_log.proofs.Clean.{mem-placed, placed-mem, is-at}
 use Rattle.theory_log.proofs.Tops.{chosen-top, top-chosen}
 use Rattle.theory_log.proofs.Places.{Rising, rising-from, rising-apart}
-use Rattle.index.specs.declared.Info.{Info}
+use Rattle.packing.specs.declared.Info.{Info}
 use Rattle.index.specs.Index.{get}
-use Rattle.index.specs.Packed.{unpackOf, pack-fits}
+use Rattle.packing.specs.Packed.{unpackOf, pack-fits}
 use Rattle.volatile.specs.Known.{entryCount, several, infoOf, Indexed}
 use Rattle.volatile.proofs.Info.{said, info-chosen, info-none, info-says, info-nonzero}
 use Rattle.volatile.proofs.Live.{mem-between, mem-around, Holder, live-holder, holder-live}
@@ -33,7 +34,7 @@ use Rattle.forward.specs.Once.{OneEach}
 use Rattle.apply.specs.Leaving.{Singles, Single, NoneKept, owed, Told, Awaits, Leaving}
 use Rattle.forward.proofs.Sole.{single-sole, sole-chosen, sole-single, once-filter, once-placed, once-same, count-append, count-no, count-one, count-placed, info-without}
 
-module _ (xs mid ys as′ bs : List Entry) (at : ℕ) (t : Cleaned xs mid ys as′ bs at) where
+module _ (size : Size) (xs mid ys as′ bs : List Entry) (at : ℕ) (t : Cleaned size xs mid ys as′ bs at) where
   abbrev es : List Entry
   es = before xs mid ys
 
@@ -164,8 +165,8 @@ module _ (xs mid ys as′ bs : List Entry) (at : ℕ) (t : Cleaned xs mid ys as�
 
   -- and no entry in the chunk: it stays as it is
   module _ (k : ℕ) (none-here : (e : Entry) → Mem e mid → e .key ≡ k → ⊥) where
-    info-same : infoOf k out ≡ infoOf k es
-    info-same = info-without k as′ copies bs no-copy ∙ ap (infoOf k) (t .rest) ∙ sym (info-without k xs mid ys none-here)
+    info-same : infoOf size k out ≡ infoOf size k es
+    info-same = info-without size k as′ copies bs no-copy ∙ ap (infoOf size k) (t .rest) ∙ sym (info-without size k xs mid ys none-here)
       where
         no-copy : (c : Entry) → Mem c copies → c .key ≡ k → ⊥
         no-copy c m q = let o = origin c m in none-here (o .entry) (kept-is (o .entry) (o .member) .0) (sym (origin-key c o) ∙ q)
@@ -233,47 +234,47 @@ module _ (xs mid ys as′ bs : List Entry) (at : ℕ) (t : Cleaned xs mid ys as�
   -- ## The beginning: what the table holds of the entries before is what is owed, but for the keys that have a copy
 
   -- a key of which nothing is kept
-  pub told-unkept : (k : ℕ) → Single es mid k → NoneKept test mid k → Told k (infoOf k es) mid out
+  pub told-unkept : (k : ℕ) → Single es mid k → NoneKept test mid k → Told size k (infoOf size k es) mid out
   unfolding infoOf
   told-unkept k single none-kept = go (chosen k es) refl
     where
       n : Uncopied k
       n c m q = let o = origin c m in let r = mem-filter test (o .entry) mid (o .member) in none-kept (o .entry) (r .0) (r .1) (sym (origin-key c o) ∙ q)
 
-      go : (o : Option Entry) → chosen k es ≡ o → Told k (infoOf k es) mid out
+      go : (o : Option Entry) → chosen k es ≡ o → Told size k (infoOf size k es) mid out
       go none h =
           let z : chosen k out ≡ none = chosen-none k out (λ g m q. none-of k es g h (others-in g (uncopied-out k n g m q)) q) in
-          inl (info-none k es h ∙ sym (rw z))
+          inl (info-none size k es h ∙ sym (rw z))
       go (some f) h = two single
         where
-          three : several k es ≡ 0 → Mem f mid ⊎ Mem f others → Told k (infoOf k es) mid out
+          three : several k es ≡ 0 → Mem f mid ⊎ Mem f others → Told size k (infoOf size k es) mid out
           three s (inr b) =
-              inl (info-chosen k es f h ∙ sym (rw (elsewhere-chosen k f h s b, elsewhere-single k f h s b, count-uncopied k n, s)))
+              inl (info-chosen size k es f h ∙ sym (rw (elsewhere-chosen k f h s b, elsewhere-single k f h s b, count-uncopied k n, s)))
           three s (inl a) = four (either (eqb (f .op) 1) (known (f .key) others)) refl
             where
               q : f .key ≡ k
               q = chosen-is k es f h .of-key
 
-              four : (b : Bool) → either (eqb (f .op) 1) (known (f .key) others) ≡ b → Told k (infoOf k es) mid out
+              four : (b : Bool) → either (eqb (f .op) 1) (known (f .key) others) ≡ b → Told size k (infoOf size k es) mid out
               four true e = absurd (unkept k n f (is-kept f a (ap (λ (j : ℕ). chosen j es) q ∙ h) e) q)
               four false e = inr (record {
                 entry = f;
                 member = a;
                 of-key = q;
-                place = ap (λ (i : Info). i .place) (info-says k es (t .small) f h);
-                narrow = rw (info-chosen k es f h) (pack-fits (said k es f));
+                place = ap (λ (i : Info). i .place) (info-says size k es (t .small) f h);
+                narrow = rw (info-chosen size k es f h) (pack-fits size (said size k es f));
                 delete = λ o. not-both (eqb (f .op) 1) (eq-eqb (f .op) 1 o) (either-no (eqb (f .op) 1) (known (f .key) others) e .0);
                 nowhere = gone k f h s e;
               })
 
-          two : Single es mid k → Told k (infoOf k es) mid out
+          two : Single es mid k → Told size k (infoOf size k es) mid out
           two (inl s) = three s (before-cases f (chosen-is k es f h .in-list))
           two (inr none-here) =
               let z : entryCount k mid + entryCount k out ≡ entryCount k out = omega (arith, count-no k mid none-here) in
               inl (sym (info-same k none-here) ∙ sym (rw z))
 
   -- a kept entry
-  pub awaits-kept : (f : Entry) → Mem f mid → test f ≡ true → several (f .key) es ≡ 0 → Awaits (infoOf (f .key) es) mid out f
+  pub awaits-kept : (f : Entry) → Mem f mid → test f ≡ true → several (f .key) es ≡ 0 → Awaits size (infoOf size (f .key) es) mid out f
   awaits-kept f i h s =
       let m : Mem f kept = filter-mem test f mid i h in
       let c : chosen (f .key) es ≡ some f = kept-is f m .1 in
@@ -281,9 +282,9 @@ module _ (xs mid ys as′ bs : List Entry) (at : ℕ) (t : Cleaned xs mid ys as�
       let one : entryCount (f .key) kept ≡ 1 = sym (count-placed (f .key) at kept) ∙ count-one (f .key) copies once (moved (p .0) f) (p .1) refl in
       record {
         entries = entryCount (f .key) es;
-        says = info-says (f .key) es (t .small) f c ∙ rw s;
-        known = info-nonzero (f .key) es (t .small) f c;
-        narrow = rw (info-chosen (f .key) es f c) (pack-fits (said (f .key) es f));
+        says = info-says size (f .key) es (t .small) f c ∙ rw s;
+        known = info-nonzero size (f .key) es (t .small) f c;
+        narrow = rw (info-chosen size (f .key) es f c) (pack-fits size (said size (f .key) es f));
         more = let b = count-both (f .key) in omega arith;
       }
 
@@ -292,7 +293,7 @@ module _ (xs mid ys as′ bs : List Entry) (at : ℕ) (t : Cleaned xs mid ys as�
   copy-sole-top c m s = let o = origin c m in (copy-chosen (c .key) (o .entry) (o .is-chosen) s c m refl, copy-single (c .key) (o .entry) (o .is-chosen) s c m refl)
 
   -- THE BEGINNING
-  pub leaving-start : (ws : List ℕ) (until : ℕ) (table : List ℕ) (keys : ℕ) → Indexed table keys es → Stand ws at until copies → Leaving ws until es mid out test table keys mid at
+  pub leaving-start : (ws : List ℕ) (until : ℕ) (table : List ℕ) (keys : ℕ) → Indexed size table keys es → Stand ws at until copies → Leaving size ws until es mid out test table keys mid at
   leaving-start ws until table keys i s = record {
     probed = i .probed;
     stored = i .stored;
@@ -313,10 +314,10 @@ module _ (xs mid ys as′ bs : List Entry) (at : ℕ) (t : Cleaned xs mid ys as�
     few = t .few;
   }
     where
-      twins : (e : Entry) → Mem e mid → (o : Option Entry) → chosen (e .key) es ≡ o → (several (e .key) es ≡ 0) ⊎ (unpackOf (get table (e .key)) .several ≡ 0 → ⊥)
+      twins : (e : Entry) → Mem e mid → (o : Option Entry) → chosen (e .key) es ≡ o → (several (e .key) es ≡ 0) ⊎ (unpackOf size (get table (e .key)) .several ≡ 0 → ⊥)
       twins e m none h = absurd (none-of (e .key) es e h (mid-in e m) refl)
       twins e m (some g) h =
-          let says : unpackOf (get table (e .key)) .several ≡ several (e .key) es = ap (λ (w : ℕ). unpackOf w .several) (i .info (e .key)) ∙ ap (λ (j : Info). j .several) (info-says (e .key) es (t .small) g h) in
+          let says : unpackOf size (get table (e .key)) .several ≡ several (e .key) es = ap (λ (w : ℕ). unpackOf size w .several) (i .info (e .key)) ∙ ap (λ (j : Info). j .several) (info-says size (e .key) es (t .small) g h) in
           by-cases (ℕ-discrete (several (e .key) es) 0) (λ z. inl z) (λ n. inr (λ z. n (sym says ∙ z)))
 
   module _ (singles : Singles mid es) where

@@ -5,13 +5,15 @@ use mathlib.Core.Logic.{by-cases, _⊎_, inl, inr}
 use mathlib.Core.Bool.{Bool, true, false}
 use mathlib.Core.Option.{Option, none, some}
 use mathlib.Core.List.{List, [], _∷_, _++_}
-use Prim.Native.Nat.{ℕ, suc, _+_, _-_, _*_, _/_, _%_, _≤_, _<_}
+use Prim.Native.Nat.{ℕ, suc, _+_, _-_, _≤_, _<_}
 use native.Mathlib.Omega.{arith}
 use native.Mathlib.Decide.{ℕ-discrete}
 use lib.Dec.{eqb}
 use lib.ListN.{length, take, drop, length-take, length-drop}
 use lib.Seq.{slice}
 use borrow.Author.Tests.{eqb-true, eq-eqb}
+use Rattle.spec.specs.declared.Size.{Size}
+use Rattle.spec.specs.declared.Size.the-variants as Z
 use Rattle.spec.specs.Basics.{both, filter}
 use Rattle.spec.specs.Medium.{Mem as Among}
 use Rattle.spec.specs.declared.LogStep.{LogStep}
@@ -25,11 +27,11 @@ use Rattle.theory_log.proofs.Keys.{keyList, keys-known, mem-known, known-mem}
 use Rattle.theory_log.proofs.Parse.{cons-inv}
 use Rattle.theory_log.proofs.Places.{rising-in, rising-apart, parse-sound}
 use Rattle.theory_log.proofs.Walk.{slice-more, parse-end, parse-wrong, parse-padding, parse-next, entryAt}
-use Rattle.index.specs.declared.Info.{Info}
+use Rattle.packing.specs.declared.Info.{Info}
 use Rattle.index.specs.Index.{get, used, insert, Probed, Removed}
 use Rattle.index.proofs.Laws.{room-stored, insert-same, insert-other, insert-probed, insert-old, insert-length}
 use Rattle.index.proofs.Keys.{In, Apart, keys-used}
-use Rattle.index.specs.Packed.{Narrow, packOf, unpackOf, pack-fits, unpack-narrow, unpack-pack, pack-nonzero}
+use Rattle.packing.specs.Packed.{widthsOf, Narrow, packOf, unpackOf, place-few, pack-fits, unpack-narrow, unpack-pack, pack-nonzero}
 use Rattle.volatile.specs.Known.{entryCount, several, extentOf, infoFor, infoOf, Small, Bounded, Indexed}
 use Rattle.volatile.proofs.Info.{count-most, several-most, zero-unknown, unknown-zero}
 use Rattle.session.specs.Cleaned.{Stand}
@@ -38,27 +40,37 @@ use Rattle.forward.proofs.Sole.{count-own, count-other, count-known}
 
 -- ## What is owed to one key
 
-module _ (k : ℕ) (left out : List Entry) where
-  owed-none : chosen k out ≡ none → owed k left out ≡ 0
+-- the word 0 says nothing
+pub zero-says : (size : Size) → (unpackOf size 0 .place ≡ 0) × (unpackOf size 0 .several ≡ 0)
+zero-says Z.Small = (refl, refl)
+zero-says Z.Large = (refl, refl)
+
+-- the most that a word can say of a place
+place-most : (size : Size) → widthsOf size .place ≤ 0x40_0000
+place-most Z.Small = omega arith
+place-most Z.Large = omega arith
+
+module _ (size : Size) (k : ℕ) (left out : List Entry) where
+  owed-none : chosen k out ≡ none → owed size k left out ≡ 0
   owed-none h = rw h
 
   abbrev saying : Entry → Info
-  saying g = record { extent = extentOf (g .placement) (g .field); place = g .at; version = g .version; entries = entryCount k left + entryCount k out; several = several k out }
+  saying g = record { extent = extentOf size (g .placement) (g .field); place = g .at; version = g .version; entries = entryCount k left + entryCount k out; several = several k out }
 
-  owed-some : (g : Entry) → chosen k out ≡ some g → owed k left out ≡ packOf (saying g)
+  owed-some : (g : Entry) → chosen k out ≡ some g → owed size k left out ≡ packOf size (saying g)
   owed-some g h = rw h
 
-  module _ (b : Bounded out) (few : length left + length out < 0x2_0000) (g : Entry) (h : chosen k out ≡ some g) where
-    small : Small g
+  module _ (b : Bounded size out) (few : length left + length out < widthsOf size .entries) (g : Entry) (h : chosen k out ≡ some g) where
+    small : Small size g
     small = b .each g (chosen-is k out g h .in-list)
 
-    owed-says : unpackOf (owed k left out) ≡ saying g
+    owed-says : unpackOf size (owed size k left out) ≡ saying g
     owed-says =
         let s = small in
         let x = count-most k left in
         let y = count-most k out in
-        ap unpackOf (owed-some g h)
-        ∙ unpack-pack (saying g) (record { extent-fits = s .extent-high; place-fits = s .place-high; version-fits = s .version-high; entries-fits = omega arith; several-fits = several-most k out })
+        ap (unpackOf size) (owed-some g h)
+        ∙ unpack-pack size (saying g) (record { extent-fits = s .extent-high; place-fits = s .place-high; version-fits = s .version-high; entries-fits = omega arith; several-fits = several-most k out })
 
 -- ## An entry leaves
 
@@ -91,9 +103,9 @@ skip-copy ws to until e es h = go (stepOf (slice to until ws)) refl
         let a = parse-next (slice to until ws) to op pl v x k n q in
         let c = cons-inv (entryAt op pl v x k n (slice to until ws) to) (parse (drop (2 + n) (slice to until ws)) 0 (to + (2 + n))) (placed to (e ∷ es)) (sym (a .1) ∙ h) in
         let value : e .value ≡ take n (drop 2 (slice to until ws)) = ap firstValue (c .2) in
-        let size : n ≡ length (e .value) = sym (value-long n (slice to until ws) (a .0)) ∙ sym (ap length value) in
+        let long : n ≡ length (e .value) = sym (value-long n (slice to until ws) (a .0)) ∙ sym (ap length value) in
         let others : placed (to + (2 + length (e .value))) es ≡ c .0 = ap behindFirst (c .2) in
-        rw (← size) (ap (λ (l : List ℕ). parse l 0 (to + (2 + n))) (sym (slice-more to (2 + n) until ws)) ∙ c .1 ∙ ap Entries (sym others) ∙ rw size)
+        rw (← long) (ap (λ (l : List ℕ). parse l 0 (to + (2 + n))) (sym (slice-more to (2 + n) until ws)) ∙ c .1 ∙ ap Entries (sym others) ∙ rw long)
       where
         firstValue : List Entry → List ℕ
         firstValue [] = []
@@ -103,12 +115,12 @@ skip-copy ws to until e es h = go (stepOf (slice to until ws)) refl
         behindFirst [] = []
         behindFirst (f ∷ fs) = fs
 
-module _ (ws : List ℕ) (until : ℕ) (es mid out : List Entry) (test : Entry → Bool) (table : List ℕ) (keys : ℕ) (e : Entry) (left : List Entry) (to : ℕ)
-    (l : Leaving ws until es mid out test table keys (e ∷ left) to) (plain : unpackOf (get table (e .key)) .several ≡ 0) where
+module _ (size : Size) (ws : List ℕ) (until : ℕ) (es mid out : List Entry) (test : Entry → Bool) (table : List ℕ) (keys : ℕ) (e : Entry) (left : List Entry) (to : ℕ)
+    (l : Leaving size ws until es mid out test table keys (e ∷ left) to) (plain : unpackOf size (get table (e .key)) .several ≡ 0) where
   abbrev word : ℕ
   word = get table (e .key)
 
-  few-left : length left + length out < 0x2_0000
+  few-left : length left + length out < widthsOf size .entries
   few-left = let f = l .few in omega arith
 
   -- its key has one top entry
@@ -122,11 +134,11 @@ module _ (ws : List ℕ) (until : ℕ) (es mid out : List Entry) (test : Entry �
   behind f m q = let a = rising-in (suc (e .at)) (l .high) left f (l .rising .1) m .0 in omega arith
 
   -- the word of a kept entry speaks of it
-  speaks-of : (f : Entry) → Mem f (e ∷ left) → test f ≡ true → f .key ≡ e .key → unpackOf (get table (e .key)) .place ≡ f .at
-  speaks-of f m h q = ap (λ (k : ℕ). unpackOf (get table k) .place) (sym q) ∙ ap (λ (i : Info). i .place) (l .awaits f m h (single-of f q) .says)
+  speaks-of : (f : Entry) → Mem f (e ∷ left) → test f ≡ true → f .key ≡ e .key → unpackOf size (get table (e .key)) .place ≡ f .at
+  speaks-of f m h q = ap (λ (k : ℕ). unpackOf size (get table k) .place) (sym q) ∙ ap (λ (i : Info). i .place) (l .awaits f m h (single-of f q) .says)
 
   -- another key is owed the same
-  told-other : (k w : ℕ) → (k ≡ e .key → ⊥) → Told k w (e ∷ left) out → Told k w left out
+  told-other : (k w : ℕ) → (k ≡ e .key → ⊥) → Told size k w (e ∷ left) out → Told size k w left out
   told-other k w n (inl q) = inl (q ∙ rw (count-other k e left (λ p. n (sym p))))
   told-other k w n (inr d) = inr (record { entry = d .entry; member = go (d .member); of-key = d .of-key; place = d .place; narrow = d .narrow; delete = d .delete; nowhere = d .nowhere })
     where
@@ -134,17 +146,17 @@ module _ (ws : List ℕ) (until : ℕ) (es mid out : List Entry) (test : Entry �
       go (inl p) = absurd (n (sym (d .of-key) ∙ ap (λ (f : Entry). f .key) p))
       go (inr m) = m
 
-  awaits-other : (f : Entry) (w : ℕ) → (f .key ≡ e .key → ⊥) → Awaits w (e ∷ left) out f → Awaits w left out f
+  awaits-other : (f : Entry) (w : ℕ) → (f .key ≡ e .key → ⊥) → Awaits size w (e ∷ left) out f → Awaits size w left out f
   awaits-other f w n a = record { entries = a .entries; says = a .says; known = a .known; narrow = a .narrow; more = a .more ∙ rw (count-other (f .key) e left (λ p. n (sym p))) }
 
   -- one more has left, if its own key's word is right
   module _ (table′ : List ℕ) (keys′ to′ : ℕ) where
     passed : Probed table′ → used table′ ≡ keys′ → keys′ ≤ capacity (length table′) → ((k : ℕ) → (k ≡ e .key → ⊥) → get table′ k ≡ get table k)
-        → (NoneKept test left (e .key) → Told (e .key) (get table′ (e .key)) left out)
-        → ((f : Entry) → Mem f left → test f ≡ true → f .key ≡ e .key → Awaits (get table′ (e .key)) left out f)
+        → (NoneKept test left (e .key) → Told size (e .key) (get table′ (e .key)) left out)
+        → ((f : Entry) → Mem f left → test f ≡ true → f .key ≡ e .key → Awaits size (get table′ (e .key)) left out f)
         → ((c : Entry) → Mem c (placed to′ (filter test left)) → Mem c (placed to (filter test (e ∷ left))))
         → Stand ws to′ until (placed to′ (filter test left))
-        → Leaving ws until es mid out test table′ keys′ left to′
+        → Leaving size ws until es mid out test table′ keys′ left to′
     passed probed stored fits others own-told own-awaits fewer-copies standing = record {
       probed = probed;
       stored = stored;
@@ -156,7 +168,7 @@ module _ (ws : List ℕ) (until : ℕ) (es mid out : List Entry) (test : Entry �
           (λ q. rw q (own-told (rw q at h)))
           (λ n. rw (others k n) (told-other k (get table k) n (l .told k s (λ f m t q. elim m [ inl p ↦ n (sym q ∙ ap (λ (x : Entry). x .key) p) | inr m′ ↦ h f m′ t q ]))));
       awaits = λ f m h s. by-cases (ℕ-discrete (f .key) (e .key))
-          (λ q. subst (λ (w : ℕ). Awaits w left out f) (ap (get table′) (sym q)) (own-awaits f m h q))
+          (λ q. subst (λ (w : ℕ). Awaits size w left out f) (ap (get table′) (sym q)) (own-awaits f m h q))
           (λ n. rw (others (f .key) n) (awaits-other f (get table (f .key)) n (l .awaits f (inr m) h s)));
       copies = λ c m s. l .copies c (fewer-copies c m) s;
       standing = standing;
@@ -178,16 +190,16 @@ module _ (ws : List ℕ) (until : ℕ) (es mid out : List Entry) (test : Entry �
   -- still to leave
   pub record Speaks (w : ℕ) (g : Entry) : Type 0 where
     pub is : chosen (e .key) out ≡ some g
-    pub word-is : w ≡ owed (e .key) (e ∷ left) out
-    pub says : unpackOf w ≡ saying (e .key) (e ∷ left) out g
+    pub word-is : w ≡ owed size (e .key) (e ∷ left) out
+    pub says : unpackOf size w ≡ saying size (e .key) (e ∷ left) out g
 
-  speaks : (w : ℕ) → Told (e .key) w (e ∷ left) out → (w ≡ 0 → ⊥) → ((g : Entry) × Speaks w g) ⊎ Doomed (e .key) w (e ∷ left) out
+  speaks : (w : ℕ) → Told size (e .key) w (e ∷ left) out → (w ≡ 0 → ⊥) → ((g : Entry) × Speaks w g) ⊎ Doomed size (e .key) w (e ∷ left) out
   speaks w (inr d) n = inr d
   speaks w (inl q) n = go (chosen (e .key) out) refl
     where
-      go : (o : Option Entry) → chosen (e .key) out ≡ o → ((g : Entry) × Speaks w g) ⊎ Doomed (e .key) w (e ∷ left) out
-      go none h = absurd (n (q ∙ owed-none (e .key) (e ∷ left) out h))
-      go (some g) h = inl (g, record { is = h; word-is = q; says = ap unpackOf q ∙ owed-says (e .key) (e ∷ left) out (l .small-out) (l .few) g h })
+      go : (o : Option Entry) → chosen (e .key) out ≡ o → ((g : Entry) × Speaks w g) ⊎ Doomed size (e .key) w (e ∷ left) out
+      go none h = absurd (n (q ∙ owed-none size (e .key) (e ∷ left) out h))
+      go (some g) h = inl (g, record { is = h; word-is = q; says = ap (unpackOf size) q ∙ owed-says size (e .key) (e ∷ left) out (l .small-out) (l .few) g h })
 
   -- ## It is not kept
   module _ (drops : test e ≡ false) where
@@ -199,27 +211,27 @@ module _ (ws : List ℕ) (until : ℕ) (es mid out : List Entry) (test : Entry �
     not-this h f (inr m) t q = h f m t q
 
     went-on : (table′ : List ℕ) (keys′ : ℕ) → Probed table′ → used table′ ≡ keys′ → keys′ ≤ capacity (length table′) → ((k : ℕ) → (k ≡ e .key → ⊥) → get table′ k ≡ get table k)
-        → (NoneKept test left (e .key) → Told (e .key) (get table′ (e .key)) left out)
-        → ((f : Entry) → Mem f left → test f ≡ true → f .key ≡ e .key → Awaits (get table′ (e .key)) left out f)
-        → Leaving ws until es mid out test table′ keys′ left to
+        → (NoneKept test left (e .key) → Told size (e .key) (get table′ (e .key)) left out)
+        → ((f : Entry) → Mem f left → test f ≡ true → f .key ≡ e .key → Awaits size (get table′ (e .key)) left out f)
+        → Leaving size ws until es mid out test table′ keys′ left to
     went-on table′ keys′ p s f o t a = passed table′ keys′ to p s f o t a (λ c m. rw same-copies m) (rw same-copies at (l .standing))
 
     -- a key that the table does not have: nothing is to be done
-    absent : word ≡ 0 → Told (e .key) word (e ∷ left) out → Told (e .key) word left out
+    absent : word ≡ 0 → Told size (e .key) word (e ∷ left) out → Told size (e .key) word left out
     absent z (inl q) = go (chosen (e .key) out) refl
       where
-        go : (o : Option Entry) → chosen (e .key) out ≡ o → Told (e .key) word left out
-        go none h = inl (z ∙ sym (owed-none (e .key) left out h))
+        go : (o : Option Entry) → chosen (e .key) out ≡ o → Told size (e .key) word left out
+        go none h = inl (z ∙ sym (owed-none size (e .key) left out h))
         go (some g) h =
-            let s = small (e .key) (e ∷ left) out (l .small-out) (l .few) g h in
-            absurd (pack-nonzero (saying (e .key) (e ∷ left) out g) (s .place-low) (s .place-high) (sym (q ∙ owed-some (e .key) (e ∷ left) out g h) ∙ z))
+            let s = small size (e .key) (e ∷ left) out (l .small-out) (l .few) g h in
+            absurd (pack-nonzero size (saying size (e .key) (e ∷ left) out g) (s .place-low) (s .place-high) (sym (q ∙ owed-some size (e .key) (e ∷ left) out g h) ∙ z))
     absent z (inr d) =
-        let p : unpackOf word .place ≡ 0 = ap (λ (w : ℕ). unpackOf w .place) z in
+        let p : unpackOf size word .place ≡ 0 = ap (λ (w : ℕ). unpackOf size w .place) z ∙ zero-says size .0 in
         let s = l .small (d .entry) (d .member) .place-low in
         let q = d .place in
         absurd (omega arith)
 
-    pub leaves-absent : get table (e .key) ≡ 0 → Leaving ws until es mid out test table keys left to
+    pub leaves-absent : get table (e .key) ≡ 0 → Leaving size ws until es mid out test table keys left to
     leaves-absent z =
         went-on table keys (l .probed) (l .stored) (l .fits) (λ k n. refl)
         (λ h. absent z (l .told (e .key) (inl single) (not-this h)))
@@ -227,15 +239,15 @@ module _ (ws : List ℕ) (until : ℕ) (es mid out : List Entry) (test : Entry �
 
     -- the word speaks of this very entry: it is no entry of the new image, so the key is known no more, and is taken
     -- out
-    module _ (n : get table (e .key) ≡ 0 → ⊥) (p : unpackOf (get table (e .key)) .place ≡ e .at) where
+    module _ (n : get table (e .key) ≡ 0 → ⊥) (p : unpackOf size (get table (e .key)) .place ≡ e .at) where
       none-kept : NoneKept test (e ∷ left) (e .key)
       none-kept f (inl q) t k = not-both (test e) (ap test (sym q) ∙ t) drops
       none-kept f (inr m) t k = behind f m (sym (speaks-of f (inr m) t k) ∙ p)
 
-      doomed : Doomed (e .key) (get table (e .key)) (e ∷ left) out
+      doomed : Doomed size (e .key) (get table (e .key)) (e ∷ left) out
       doomed = go (speaks (get table (e .key)) (l .told (e .key) (inl single) none-kept) n)
         where
-          go : ((g : Entry) × Speaks (get table (e .key)) g) ⊎ Doomed (e .key) (get table (e .key)) (e ∷ left) out → Doomed (e .key) (get table (e .key)) (e ∷ left) out
+          go : ((g : Entry) × Speaks (get table (e .key)) g) ⊎ Doomed size (e .key) (get table (e .key)) (e ∷ left) out → Doomed size (e .key) (get table (e .key)) (e ∷ left) out
           go (inr d) = d
           go (inl (g, s)) = absurd (l .clear e g (inl refl) (chosen-is (e .key) out g (s .is) .in-list) (sym p ∙ ap (λ (i : Info). i .place) (s .says)))
 
@@ -246,50 +258,50 @@ module _ (ws : List ℕ) (until : ℕ) (es mid out : List Entry) (test : Entry �
           let same : d .entry ≡ e = rising-apart (l .low) (l .high) (e ∷ left) (l .rising) (d .entry) e (d .member) (inl refl) (sym (d .place) ∙ p) in
           d .delete (ap (λ (x : Entry). x .op) same ∙ o)
 
-      pub leaves-gone : (table′ : List ℕ) → Removed table table′ (e .key) → length table′ ≡ length table → Leaving ws until es mid out test table′ (keys - 1) left to
+      pub leaves-gone : (table′ : List ℕ) → Removed table table′ (e .key) → length table′ ≡ length table → Leaving size ws until es mid out test table′ (keys - 1) left to
       leaves-gone table′ r same =
           let u = r .fewer n in
           let s = l .stored in
           let f = l .fits in
           went-on table′ (keys - 1) (r .probed) (omega arith) (rw same (omega arith)) (r .others)
-          (λ h. inl (r .gone ∙ sym (owed-none (e .key) left out (doomed .nowhere))))
+          (λ h. inl (r .gone ∙ sym (owed-none size (e .key) left out (doomed .nowhere))))
           (λ f m h q. absurd (none-kept f (inr m) h q))
 
     -- the word speaks of another entry: one less is counted
-    module _ (n : get table (e .key) ≡ 0 → ⊥) (p : unpackOf (get table (e .key)) .place ≡ e .at → ⊥) where
+    module _ (n : get table (e .key) ≡ 0 → ⊥) (p : unpackOf size (get table (e .key)) .place ≡ e .at → ⊥) where
       i : Info
-      i = unpackOf (get table (e .key))
+      i = unpackOf size (get table (e .key))
 
-      narrow-less : get table (e .key) < 0x1_0000_0000_0000_0000 → Narrow (fewer (unpackOf (get table (e .key))))
+      narrow-less : get table (e .key) < 0x1_0000_0000_0000_0000 → Narrow size (fewer (unpackOf size (get table (e .key))))
       narrow-less w =
-          let h = unpack-narrow (get table (e .key)) w in
+          let h = unpack-narrow size (get table (e .key)) w in
           let x = h .entries-fits in
           record { extent-fits = h .extent-fits; place-fits = h .place-fits; version-fits = h .version-fits; entries-fits = omega arith; several-fits = h .several-fits }
 
-      told-less : ((g : Entry) × Speaks (get table (e .key)) g) ⊎ Doomed (e .key) (get table (e .key)) (e ∷ left) out → Told (e .key) (lessOf (get table (e .key))) left out
+      told-less : ((g : Entry) × Speaks (get table (e .key)) g) ⊎ Doomed size (e .key) (get table (e .key)) (e ∷ left) out → Told size (e .key) (lessOf size (get table (e .key))) left out
       unfolding lessOf
       told-less (inl (g, s)) =
           let c = count-own (e .key) e left refl in
           let m : entryCount (e .key) (e ∷ left) + entryCount (e .key) out - 1 ≡ entryCount (e .key) left + entryCount (e .key) out = omega arith in
-          inl (ap (λ (i : Info). packOf (fewer i)) (s .says) ∙ ap (λ (j : ℕ). packOf (record { extent = extentOf (g .placement) (g .field); place = g .at; version = g .version; entries = j; several = several (e .key) out })) m ∙ sym (owed-some (e .key) left out g (s .is)))
-      told-less (inr d) = inr (record { entry = d .entry; member = go (d .member); of-key = d .of-key; place = ap (λ (i : Info). i .place) (unpack-pack (fewer (unpackOf (get table (e .key)))) (narrow-less (d .narrow))) ∙ d .place; narrow = pack-fits (fewer (unpackOf (get table (e .key)))); delete = d .delete; nowhere = d .nowhere })
+          inl (ap (λ (i : Info). packOf size (fewer i)) (s .says) ∙ ap (λ (j : ℕ). packOf size (record { extent = extentOf size (g .placement) (g .field); place = g .at; version = g .version; entries = j; several = several (e .key) out })) m ∙ sym (owed-some size (e .key) left out g (s .is)))
+      told-less (inr d) = inr (record { entry = d .entry; member = go (d .member); of-key = d .of-key; place = ap (λ (i : Info). i .place) (unpack-pack size (fewer (unpackOf size (get table (e .key)))) (narrow-less (d .narrow))) ∙ d .place; narrow = pack-fits size (fewer (unpackOf size (get table (e .key)))); delete = d .delete; nowhere = d .nowhere })
         where
           go : Mem (d .entry) (e ∷ left) → Mem (d .entry) left
           go (inl q) = absurd (p (d .place ∙ ap (λ (f : Entry). f .at) q))
           go (inr m) = m
 
       -- the place of which a word speaks is that of an entry
-      low-told : ((g : Entry) × Speaks (get table (e .key)) g) ⊎ Doomed (e .key) (get table (e .key)) (e ∷ left) out → 1 ≤ unpackOf (get table (e .key)) .place
+      low-told : ((g : Entry) × Speaks (get table (e .key)) g) ⊎ Doomed size (e .key) (get table (e .key)) (e ∷ left) out → 1 ≤ unpackOf size (get table (e .key)) .place
       low-told (inr d) = let s = l .small (d .entry) (d .member) .place-low in let q = d .place in omega arith
       low-told (inl (g, s)) =
-          let q : unpackOf (get table (e .key)) .place ≡ g .at = ap (λ (i : Info). i .place) (s .says) in
-          let b = small (e .key) (e ∷ left) out (l .small-out) (l .few) g (s .is) .place-low in
+          let q : unpackOf size (get table (e .key)) .place ≡ g .at = ap (λ (i : Info). i .place) (s .says) in
+          let b = small size (e .key) (e ∷ left) out (l .small-out) (l .few) g (s .is) .place-low in
           omega arith
 
-      low-place : 1 ≤ unpackOf (get table (e .key)) .place
+      low-place : 1 ≤ unpackOf size (get table (e .key)) .place
       low-place = go (filter (λ (f : Entry). both (test f) (eqb (f .key) (e .key))) left) refl
         where
-          go : (fs : List Entry) → filter (λ (f : Entry). both (test f) (eqb (f .key) (e .key))) left ≡ fs → 1 ≤ unpackOf (get table (e .key)) .place
+          go : (fs : List Entry) → filter (λ (f : Entry). both (test f) (eqb (f .key) (e .key))) left ≡ fs → 1 ≤ unpackOf size (get table (e .key)) .place
           go (f ∷ fs) h =
               let m = mem-filter (λ (g : Entry). both (test g) (eqb (g .key) (e .key))) f left (rw h (inl refl)) in
               let q = speaks-of f (inr (m .0)) (both-l (test f) (eqb (f .key) (e .key)) (m .1)) (eqb-true (f .key) (e .key) (both-r (test f) (eqb (f .key) (e .key)) (m .1))) in
@@ -300,31 +312,28 @@ module _ (ws : List ℕ) (until : ℕ) (es mid out : List Entry) (test : Entry �
               none : NoneKept test left (e .key)
               none f m t q = absurd (rw h at (filter-mem (λ (g : Entry). both (test g) (eqb (g .key) (e .key))) f left m (both-i (test f) (eqb (f .key) (e .key)) t (eq-eqb (f .key) (e .key) q))))
 
-      less-nonzero : lessOf (get table (e .key)) ≡ 0 → ⊥
+      less-nonzero : lessOf size (get table (e .key)) ≡ 0 → ⊥
       unfolding lessOf
-      less-nonzero z = pack-nonzero (fewer (unpackOf (get table (e .key)))) low-place (mod-small (get table (e .key) / 0x100)) z
-        where
-          mod-small : (x : ℕ) → x % 0x4_0000 < 0x4_0000
-          mod-small x = omega arith
+      less-nonzero z = pack-nonzero size (fewer (unpackOf size (get table (e .key)))) low-place (place-few size (get table (e .key))) z
 
-      less-says : get table (e .key) < 0x1_0000_0000_0000_0000 → unpackOf (lessOf (get table (e .key))) ≡ fewer (unpackOf (get table (e .key)))
+      less-says : get table (e .key) < 0x1_0000_0000_0000_0000 → unpackOf size (lessOf size (get table (e .key))) ≡ fewer (unpackOf size (get table (e .key)))
       unfolding lessOf
-      less-says w = unpack-pack (fewer (unpackOf (get table (e .key)))) (narrow-less w)
+      less-says w = unpack-pack size (fewer (unpackOf size (get table (e .key)))) (narrow-less w)
 
-      less-fits : lessOf (get table (e .key)) < 0x1_0000_0000_0000_0000
+      less-fits : lessOf size (get table (e .key)) < 0x1_0000_0000_0000_0000
       unfolding lessOf
-      less-fits = pack-fits (fewer (unpackOf (get table (e .key))))
+      less-fits = pack-fits size (fewer (unpackOf size (get table (e .key))))
 
-      awaits-less : (f : Entry) → Mem f left → test f ≡ true → f .key ≡ e .key → Awaits (lessOf (get table (e .key))) left out f
+      awaits-less : (f : Entry) → Mem f left → test f ≡ true → f .key ≡ e .key → Awaits size (lessOf size (get table (e .key))) left out f
       awaits-less f m h q = go (l .awaits f (inr m) h (single-of f q))
         where
-          go : Awaits (get table (f .key)) (e ∷ left) out f → Awaits (lessOf (get table (e .key))) left out f
+          go : Awaits size (get table (f .key)) (e ∷ left) out f → Awaits size (lessOf size (get table (e .key))) left out f
           go a =
               let c = count-own (f .key) e left (sym q) in
               let d = count-known (f .key) left f m refl in
               let b = a .more in
               let w : get table (e .key) < 0x1_0000_0000_0000_0000 = subst (λ (k : ℕ). get table k < 0x1_0000_0000_0000_0000) q (a .narrow) in
-              let s : unpackOf (get table (e .key)) ≡ record { extent = extentOf (f .placement) (f .field); place = f .at; version = f .version; entries = a .entries; several = 0 } = ap (λ (k : ℕ). unpackOf (get table k)) (sym q) ∙ a .says in
+              let s : unpackOf size (get table (e .key)) ≡ record { extent = extentOf size (f .placement) (f .field); place = f .at; version = f .version; entries = a .entries; several = 0 } = ap (λ (k : ℕ). unpackOf size (get table k)) (sym q) ∙ a .says in
               record {
                 entries = a .entries - 1;
                 says = less-says w ∙ ap fewer s;
@@ -333,10 +342,10 @@ module _ (ws : List ℕ) (until : ℕ) (es mid out : List Entry) (test : Entry �
                 more = omega arith;
               }
 
-      pub leaves-less : (table′ : List ℕ) → table′ ≡ insert table (e .key) (lessOf (get table (e .key))) → Leaving ws until es mid out test table′ keys left to
+      pub leaves-less : (table′ : List ℕ) → table′ ≡ insert table (e .key) (lessOf size (get table (e .key))) → Leaving size ws until es mid out test table′ keys left to
       leaves-less table′ is =
-          let v = lessOf (get table (e .key)) in
-          let own : get table′ (e .key) ≡ lessOf (get table (e .key)) = rw is (insert-same table (e .key) v (room-stored table (e .key) n)) in
+          let v = lessOf size (get table (e .key)) in
+          let own : get table′ (e .key) ≡ lessOf size (get table (e .key)) = rw is (insert-same table (e .key) v (room-stored table (e .key) n)) in
           went-on table′ keys (rw is (insert-probed table (e .key) v (l .probed) less-nonzero)) (ap used is ∙ insert-old table (e .key) v n less-nonzero ∙ l .stored) (rw (is, insert-length table (e .key) v) (l .fits))
           (λ k m. rw is (insert-other table (e .key) v (l .probed) less-nonzero k m))
           (λ h. rw own (told-less (speaks (get table (e .key)) (l .told (e .key) (inl single) (not-this h)) n)))
@@ -344,13 +353,13 @@ module _ (ws : List ℕ) (until : ℕ) (es mid out : List Entry) (test : Entry �
 
   -- ## It is kept: the word speaks of its copy
   module _ (keeps : test e ≡ true) where
-    own : Awaits (get table (e .key)) (e ∷ left) out e
+    own : Awaits size (get table (e .key)) (e ∷ left) out e
     own = l .awaits e (inl refl) keeps single
 
     pub kept-known : get table (e .key) ≡ 0 → ⊥
     kept-known = own .known
 
-    pub kept-place : unpackOf (get table (e .key)) .place ≡ e .at
+    pub kept-place : unpackOf size (get table (e .key)) .place ≡ e .at
     kept-place = ap (λ (i : Info). i .place) (own .says)
 
     its-copies : placed to (filter test (e ∷ left)) ≡ moved to e ∷ placed (to + (2 + length (e .value))) (filter test left)
@@ -359,28 +368,28 @@ module _ (ws : List ℕ) (until : ℕ) (es mid out : List Entry) (test : Entry �
     is-copy : (chosen (e .key) out ≡ some (moved to e)) × (several (e .key) out ≡ 0)
     is-copy = l .copies (moved to e) (rw its-copies (inl refl)) single
 
-    copy-small : Small (moved to e)
+    copy-small : Small size (moved to e)
     copy-small = l .small-out .each (moved to e) (chosen-is (e .key) out (moved to e) (is-copy .0) .in-list)
 
-    pub to-low : to < 0x4_0000
-    to-low = copy-small .place-high
+    pub to-low : to < 0x40_0000
+    to-low = let h = copy-small .place-high in let m = place-most size in omega arith
 
-    turned-owed : turnedOf (get table (e .key)) to ≡ owed (e .key) left out
+    turned-owed : turnedOf size (get table (e .key)) to ≡ owed size (e .key) left out
     unfolding turnedOf
     turned-owed =
         let a = own .more in
         let b = count-own (e .key) e left refl in
         let c : own .entries ≡ entryCount (e .key) left + entryCount (e .key) out = omega arith in
-        ap (λ (i : Info). packOf (turned i to)) (own .says) ∙ sym (owed-some (e .key) left out (moved to e) (is-copy .0) ∙ rw (is-copy .1, c))
+        ap (λ (i : Info). packOf size (turned i to)) (own .says) ∙ sym (owed-some size (e .key) left out (moved to e) (is-copy .0) ∙ rw (is-copy .1, c))
 
-    turned-nonzero : turnedOf (get table (e .key)) to ≡ 0 → ⊥
+    turned-nonzero : turnedOf size (get table (e .key)) to ≡ 0 → ⊥
     turned-nonzero z =
         let s = copy-small in
-        pack-nonzero (saying (e .key) left out (moved to e)) (s .place-low) (s .place-high) (sym (turned-owed ∙ owed-some (e .key) left out (moved to e) (is-copy .0)) ∙ z)
+        pack-nonzero size (saying size (e .key) left out (moved to e)) (s .place-low) (s .place-high) (sym (turned-owed ∙ owed-some size (e .key) left out (moved to e) (is-copy .0)) ∙ z)
 
-    pub leaves-copied : (table′ : List ℕ) → table′ ≡ insert table (e .key) (turnedOf (get table (e .key)) to) → Leaving ws until es mid out test table′ keys left (to + (2 + length (e .value)))
+    pub leaves-copied : (table′ : List ℕ) → table′ ≡ insert table (e .key) (turnedOf size (get table (e .key)) to) → Leaving size ws until es mid out test table′ keys left (to + (2 + length (e .value)))
     leaves-copied table′ is =
-        let v = turnedOf (get table (e .key)) to in
+        let v = turnedOf size (get table (e .key)) to in
         let n = own .known in
         passed table′ keys (to + (2 + length (e .value))) (rw is (insert-probed table (e .key) v (l .probed) turned-nonzero)) (ap used is ∙ insert-old table (e .key) v n turned-nonzero ∙ l .stored) (rw (is, insert-length table (e .key) v) (l .fits))
         (λ k m. rw is (insert-other table (e .key) v (l .probed) turned-nonzero k m))
@@ -390,7 +399,7 @@ module _ (ws : List ℕ) (until : ℕ) (es mid out : List Entry) (test : Entry �
         (skip-copy ws to until e (filter test left) (rw its-copies at (l .standing)))
 
   -- ## Whether it is kept
-  pub kept-by : (get table (e .key) ≡ 0 → ⊥) → unpackOf (get table (e .key)) .place ≡ e .at → (e .op ≡ 1) ⊎ ((f : Entry) × Mem f (e ∷ left) × (test f ≡ true) × (f .key ≡ e .key)) → test e ≡ true
+  pub kept-by : (get table (e .key) ≡ 0 → ⊥) → unpackOf size (get table (e .key)) .place ≡ e .at → (e .op ≡ 1) ⊎ ((f : Entry) × Mem f (e ∷ left) × (test f ≡ true) × (f .key ≡ e .key)) → test e ≡ true
   kept-by n p why = go (test e) refl why
     where
       go : (b : Bool) → test e ≡ b → (e .op ≡ 1) ⊎ ((f : Entry) × Mem f (e ∷ left) × (test f ≡ true) × (f .key ≡ e .key)) → b ≡ true
@@ -416,12 +425,12 @@ once-apart (k ∷ ks) o = (λ i. o .0 (in-among k ks i), once-apart ks (o .1))
 
 -- ## All have left: the table is that of the new image
 
-pub leaving-single : (ws : List ℕ) (until : ℕ) (es mid out : List Entry) (test : Entry → Bool) (table : List ℕ) (keys to : ℕ) → Leaving ws until es mid out test table keys [] to → Singles mid es
-leaving-single ws until es mid out test table keys to l e m = elim (l .seen e m) [ inl n ↦ absurd n | inr s ↦ s ]
+pub leaving-single : (size : Size) → (ws : List ℕ) (until : ℕ) (es mid out : List Entry) (test : Entry → Bool) (table : List ℕ) (keys to : ℕ) → Leaving size ws until es mid out test table keys [] to → Singles mid es
+leaving-single size ws until es mid out test table keys to l e m = elim (l .seen e m) [ inl n ↦ absurd n | inr s ↦ s ]
 
-pub leaving-end : (ws : List ℕ) (until : ℕ) (es mid out : List Entry) (test : Entry → Bool) (table : List ℕ) (keys to : ℕ) → Leaving ws until es mid out test table keys [] to → Indexed table keys out
+pub leaving-end : (size : Size) → (ws : List ℕ) (until : ℕ) (es mid out : List Entry) (test : Entry → Bool) (table : List ℕ) (keys to : ℕ) → Leaving size ws until es mid out test table keys [] to → Indexed size table keys out
 unfolding infoOf
-leaving-end ws until es mid out test table keys to l = record {
+leaving-end size ws until es mid out test table keys to l = record {
   probed = l .probed;
   info = info;
   count = sym (l .stored) ∙ keys-count;
@@ -429,21 +438,21 @@ leaving-end ws until es mid out test table keys to l = record {
   fits = l .fits;
 }
   where
-    info : (k : ℕ) → get table k ≡ infoOf k out
+    info : (k : ℕ) → get table k ≡ infoOf size k out
     info k = go (l .told k (one (known k mid) refl) (λ f m t q. m))
       where
         one : (b : Bool) → known k mid ≡ b → Single es mid k
-        one true h = let r = known-mem k mid h in inl (ap (λ (j : ℕ). several j es) (sym (r .2)) ∙ leaving-single ws until es mid out test table keys to l (r .0) (r .1))
+        one true h = let r = known-mem k mid h in inl (ap (λ (j : ℕ). several j es) (sym (r .2)) ∙ leaving-single size ws until es mid out test table keys to l (r .0) (r .1))
         one false h = inr (λ e m q. not-both (known k mid) (mem-known k mid e m q) h)
 
-        go : Told k (get table k) [] out → get table k ≡ infoOf k out
-        go (inl q) = q ∙ ap (λ (n : ℕ). infoFor (chosen k out) n (several k out)) (let z : 0 + entryCount k out ≡ entryCount k out = omega arith in z)
+        go : Told size k (get table k) [] out → get table k ≡ infoOf size k out
+        go (inl q) = q ∙ ap (λ (n : ℕ). infoFor size (chosen k out) n (several k out)) (let z : 0 + entryCount k out ≡ entryCount k out = omega arith in z)
         go (inr d) = absurd (d .member)
 
     keys-count : used table ≡ length (keysOf out)
     keys-count =
         keys-used table (l .probed) (keysOf out) (once-apart (keysOf out) (distinct-once (keyList out)))
-        (λ k i z. not-both (known k out) (sym (keys-known k out) ∙ mem-isIn k (keysOf out) (in-among k (keysOf out) i)) (zero-unknown k out (l .small-out) (sym (info k) ∙ z)))
+        (λ k i z. not-both (known k out) (sym (keys-known k out) ∙ mem-isIn k (keysOf out) (in-among k (keysOf out) i)) (zero-unknown size k out (l .small-out) (sym (info k) ∙ z)))
         (λ k n. among-in k (keysOf out) (isIn-mem k (keysOf out) (keys-known k out ∙ there k n)))
       where
         there : (k : ℕ) → (get table k ≡ 0 → ⊥) → known k out ≡ true
@@ -451,4 +460,4 @@ leaving-end ws until es mid out test table keys to l = record {
           where
             go : (b : Bool) → known k out ≡ b → b ≡ true
             go true h = refl
-            go false h = absurd (n (info k ∙ unknown-zero k out (l .small-out) h))
+            go false h = absurd (n (info k ∙ unknown-zero size k out (l .small-out) h))

@@ -1,6 +1,7 @@
 // A commit's items join the key table and the chunks' sums, their blocks the bits; and the entries that they supersede
 // leave the sums, their blocks the bits.
 ghost use Prim.Native.Nat.{_^_, _≤_, _<_};
+ghost use Rattle.spec.specs.declared.Size.the-variants.{Small};
 ghost use Rattle.spec.specs.Words.{wordsOf};
 ghost use Rattle.spec.specs.Log.{firstOf};
 ghost use lib.ListN.{getD};
@@ -12,26 +13,27 @@ use batch::StagedItem;
 use buffer::BATCH_WORDS;
 use buffer::Buffer;
 use codec::Unit;
-use index::Info;
 use log::Short;
+use packing::Info;
 use spec::FirstWord;
+use spec::Size;
 
 // THE BLOCKS OF SUPERSEDED ENTRIES
 // The block of an entry with these parts, if it is a put in one, leaves the bits.
-fn release(buffer: &mut Buffer, op: u64, placement: u64, field: u64)
-    ensures { λ _. ⌜ Freed (now (buffer .entry)) (now (buffer .exit)) (blockAt op placement field) ⌝ }
+fn release(buffer: &mut Buffer, op: u64, placement: u64, field: u64, size: Size)
+    ensures { λ _. ⌜ Freed size (now (buffer .entry)) (now (buffer .exit)) (blockAt op placement field) ⌝ }
 {
     buffer::buffer_length(buffer);
     if op == 1 {
         if placement == 1 {
-            buffer::unset_bit(buffer, Unit(field));
+            buffer::unset_bit(buffer, Unit(field), size);
         }
     }
 }
 
 // The block of the entry that stands at word `place`.
-fn release_at(buffer: &mut Buffer, image: &[u8], place: usize)
-    ensures { λ _. ⌜ Freed (now (buffer .entry)) (now (buffer .exit)) (namedBy (firstOf (getD (wordsOf (now (image .entry))) place 0))) ⌝ }
+fn release_at(buffer: &mut Buffer, image: &[u8], place: usize, size: Size)
+    ensures { λ _. ⌜ Freed size (now (buffer .entry)) (now (buffer .exit)) (namedBy (firstOf (getD (wordsOf (now (image .entry))) place 0))) ⌝ }
 {
     buffer::buffer_length(buffer);
     let first = codec::first_of(words::load(image, place));
@@ -44,32 +46,32 @@ fn release_at(buffer: &mut Buffer, image: &[u8], place: usize)
             version: _,
             field,
         } => {
-            release(buffer, op, placement, field);
+            release(buffer, op, placement, field, size);
         }
     }
 }
 
 // The block of a key's top entries, of which the table says so much: the chosen one's, since all of them are equal in
 // every word.
-fn release_tops(buffer: &mut Buffer, image: &[u8], info: Info)
-    ensures { λ _. ⌜ Superseded (wordsOf (now (image .entry))) (now (buffer .entry)) (now (buffer .exit)) info ⌝ }
+fn release_tops(buffer: &mut Buffer, image: &[u8], info: Info, size: Size)
+    ensures { λ _. ⌜ Superseded size (wordsOf (now (image .entry))) (now (buffer .entry)) (now (buffer .exit)) info ⌝ }
 {
     buffer::buffer_length(buffer);
     if 0 < info.extent {
         return;
     }
-    release_at(buffer, image, info.place as usize);
+    release_at(buffer, image, info.place as usize, size);
 }
 
 // ONE ITEM
 // The block of an entry with these parts, if it is a put in one, joins the bits.
-fn claim(buffer: &mut Buffer, op: u64, placement: u64, field: u64)
-    ensures { λ _. ⌜ Claimed (now (buffer .entry)) (now (buffer .exit)) (blockAt op placement field) ⌝ }
+fn claim(buffer: &mut Buffer, op: u64, placement: u64, field: u64, size: Size)
+    ensures { λ _. ⌜ Claimed size (now (buffer .entry)) (now (buffer .exit)) (blockAt op placement field) ⌝ }
 {
     buffer::buffer_length(buffer);
     if placement == 1 {
         if op == 1 {
-            buffer::set_bit(buffer, Unit(field));
+            buffer::set_bit(buffer, Unit(field), size);
         }
     }
 }
@@ -85,13 +87,14 @@ fn join_one(
     key: u64,
     own: u64,
     weight: u64,
+    size: Size,
 ) -> usize
-    ensures { λ r. ⌜ OneJoined (wordsOf (now (image .entry))) (now (buffer .entry)) (now (buffer .exit)) (now (table .entry)) (now (table .exit)) keys key own weight r ⌝ }
+    ensures { λ r. ⌜ OneJoined size (wordsOf (now (image .entry))) (now (buffer .entry)) (now (buffer .exit)) (now (table .entry)) (now (table .exit)) keys key own weight r ⌝ }
 {
     buffer::buffer_length(buffer);
     let slot = index::slot_of(table, key);
     let old = index::word_at(table, slot);
-    volatile::chunk_sums::renew(image, buffer, old, own, weight);
+    volatile::chunk_sums::renew(image, buffer, old, own, weight, size);
     if old == 0 {
         if keys < index::capacity(table.len()) {
             index::set_slot(table, slot, key, own);
@@ -99,8 +102,8 @@ fn join_one(
         }
         return keys;
     }
-    index::set_slot(table, slot, key, volatile::with_entry(old, own));
-    release_tops(buffer, image, index::unpack(old));
+    index::set_slot(table, slot, key, volatile::with_entry(size, old, own));
+    release_tops(buffer, image, packing::unpack(size, old), size);
     keys
 }
 
@@ -110,9 +113,9 @@ struct Tried {
     keys: usize,
 }
 
-// A put with its value in the log joins the table, which has so many keys, without the image: it has a new key, for
-// which there is room, or the table says an extent of the key's chosen entry, which is lower. That one has its value in
-// the log too, so no block leaves the bits. Else nothing is done.
+// A put with its value in the log joins the table of an image with small chunks, which has so many keys, without the
+// image: it has a new key, for which there is room, or the table says an extent of the key's chosen entry, which is
+// lower. That one has its value in the log too, so no block leaves the bits. Else nothing is done.
 fn join_put(
     buffer: &mut Buffer,
     table: &mut [u64],
@@ -123,20 +126,20 @@ fn join_put(
     version: u64,
     weight: u64,
 ) -> Tried
-    ensures { λ r. ⌜ PutJoined (now (buffer .entry)) (now (buffer .exit)) (now (table .entry)) (now (table .exit)) keys key (alone extent place version) weight (r .joined) (r .keys) ⌝ }
+    ensures { λ r. ⌜ PutJoined Small (now (buffer .entry)) (now (buffer .exit)) (now (table .entry)) (now (table .exit)) keys key (alone Small extent place version) weight (r .joined) (r .keys) ⌝ }
 {
     buffer::buffer_length(buffer);
-    let own = volatile::single_entry(extent, place, version);
-    let new = index::unpack(own);
+    let own = volatile::single_entry(Size::Small, extent, place, version);
+    let new = packing::unpack(Size::Small, own);
     let slot = index::slot_of(table, key);
     let old = index::word_at(table, slot);
-    let was = index::unpack(old);
+    let was = packing::unpack(Size::Small, old);
     if 0 < was.extent {
         if was.version < new.version {
             let gone = volatile::chunk_sums::weigh_extent(was.extent);
-            volatile::chunk_sums::take_off(buffer, was.place as usize, gone);
-            volatile::chunk_sums::add(buffer, place, weight);
-            let info = volatile::with_entry(old, own);
+            volatile::chunk_sums::take_off(buffer, was.place as usize, gone, Size::Small);
+            volatile::chunk_sums::add(buffer, place, weight, Size::Small);
+            let info = volatile::with_entry(Size::Small, old, own);
             index::set_slot(table, slot, key, info);
             return Tried { joined: true, keys };
         }
@@ -147,7 +150,7 @@ fn join_put(
     }
     if old == 0 {
         if keys < index::capacity(table.len()) {
-            volatile::chunk_sums::add(buffer, place, weight);
+            volatile::chunk_sums::add(buffer, place, weight, Size::Small);
             index::set_slot(table, slot, key, own);
             return Tried {
                 joined: true,
@@ -168,8 +171,8 @@ struct Reached {
     keys: usize,
 }
 
-// A pass over the common items, from word `from` of the staged ones on: those that `join_put` takes. All else is left
-// to `join`.
+// A pass over the common items, from word `from` of the staged ones on, in an image with small chunks: those that
+// `join_put` takes. All else is left to `join`. No size is asked in the loop.
 fn join_puts(
     place: usize,
     from: usize,
@@ -179,7 +182,7 @@ fn join_puts(
     table: &mut [u64],
 ) -> Reached
     requires { ⌜ (place < 2 ^ 32) × (end ≤ batchRoom) ⌝ }
-    ensures { λ r. ⌜ PutsJoined place end (now (buffer .entry)) (now (table .entry)) known from (now (buffer .exit)) (now (table .exit)) (r .keys) (r .at) ⌝ }
+    ensures { λ r. ⌜ PutsJoined Small place end (now (buffer .entry)) (now (table .entry)) known from (now (buffer .exit)) (now (table .exit)) (r .keys) (r .at) ⌝ }
 {
     buffer::buffer_length(buffer);
     let mut at = from;
@@ -196,7 +199,7 @@ fn join_puts(
                 key,
                 words,
             } => {
-                let extent = volatile::extent_of(0, field);
+                let extent = volatile::extent_of(Size::Small, 0, field);
                 let weight = (2 + words) as u64;
                 let t = join_put(
                     buffer,
@@ -219,6 +222,29 @@ fn join_puts(
     }
 }
 
+// The same by the size: with large chunks the table says no extent, so that all items are left to `join`.
+fn join_common(
+    place: usize,
+    from: usize,
+    end: usize,
+    known: usize,
+    buffer: &mut Buffer,
+    table: &mut [u64],
+    size: Size,
+) -> Reached
+    requires { ⌜ (place < 2 ^ 32) × (end ≤ batchRoom) ⌝ }
+    ensures { λ r. ⌜ PutsJoined size place end (now (buffer .entry)) (now (table .entry)) known from (now (buffer .exit)) (now (table .exit)) (r .keys) (r .at) ⌝ }
+{
+    buffer::buffer_length(buffer);
+    match size {
+        Size::Small => join_puts(place, from, end, known, buffer, table),
+        Size::Large => Reached {
+            at: from,
+            keys: known,
+        },
+    }
+}
+
 // At a commit's last fence the staged items join a table of `known` keys: how many keys it has then. They are the
 // buffer's first `words` words, and stand at word `place` of the image. The common items go first.
 pub fn join(
@@ -228,16 +254,17 @@ pub fn join(
     buffer: &mut Buffer,
     image: &[u8],
     table: &mut [u64],
+    size: Size,
 ) -> usize
     requires { ⌜ place < 2 ^ 32 ⌝ }
-    ensures { λ r. ⌜ Joining place words known (now (buffer .entry)) (now (buffer .exit)) (wordsOf (now (image .entry))) (now (table .entry)) (now (table .exit)) r ⌝ }
+    ensures { λ r. ⌜ Joining size place words known (now (buffer .entry)) (now (buffer .exit)) (wordsOf (now (image .entry))) (now (table .entry)) (now (table .exit)) r ⌝ }
 {
     buffer::buffer_length(buffer);
     let end = words::lesser(words, BATCH_WORDS);
     let mut keys = known;
     let mut at: usize = 0;
     loop {
-        let r = join_puts(place, at, end, keys, buffer, table);
+        let r = join_common(place, at, end, keys, buffer, table, size);
         at = r.at;
         keys = r.keys;
         let item = batch::staged_entry(buffer, at, end);
@@ -253,11 +280,11 @@ pub fn join(
                 key,
                 words,
             } => {
-                let extent = volatile::extent_of(placement, field);
-                let own = volatile::single_entry(extent, place + at, version);
+                let extent = volatile::extent_of(size, placement, field);
+                let own = volatile::single_entry(size, extent, place + at, version);
                 let weight = volatile::chunk_sums::weigh(op, words);
-                keys = join_one(image, buffer, table, keys, key, own, weight);
-                claim(buffer, op, placement, field);
+                keys = join_one(image, buffer, table, keys, key, own, weight, size);
+                claim(buffer, op, placement, field, size);
                 at += 2 + words;
             }
         }

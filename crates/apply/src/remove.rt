@@ -6,11 +6,12 @@ ghost use Rattle.spec.specs.Words.{wordsOf};
 ghost use Rattle.apply.specs.Leaving.{lessOf, turnedOf};
 ghost use Rattle.apply.specs.Passes.{IsCopied, OneLeft, PutsLeft, AllLeft, Rebuilt, Emptying};
 use buffer::Buffer;
-use index::Info;
 use log::Cursor;
 use log::Next;
 use log::Short;
 use opening::CheckedImage;
+use packing::Info;
+use spec::Size;
 
 // What a pass has come to: how many keys the table has, and the word at which the next copy stands; false where a key
 // has several top entries, or the log is wrong: the table is then to be built anew.
@@ -36,37 +37,43 @@ fn one_less(x: usize) -> usize
 }
 
 // A word that speaks of a copy at this place from now on: the copy is one entry more, and its original one less.
-fn with_copy(word: u64, place: usize) -> u64
-    ensures { λ r. ⌜ r ≡ turnedOf word place ⌝ }
+fn with_copy(size: Size, word: u64, place: usize) -> u64
+    ensures { λ r. ⌜ r ≡ turnedOf size word place ⌝ }
 {
-    let info = index::unpack(word);
-    index::pack(Info {
-        extent: info.extent,
-        place: place as u64,
-        version: info.version,
-        entries: info.entries,
-        several: info.several,
-    })
+    let info = packing::unpack(size, word);
+    packing::pack(
+        size,
+        Info {
+            extent: info.extent,
+            place: place as u64,
+            version: info.version,
+            entries: info.entries,
+            several: info.several,
+        },
+    )
 }
 
 // A word that counts one entry less.
-fn with_less(word: u64) -> u64
-    ensures { λ r. ⌜ r ≡ lessOf word ⌝ }
+fn with_less(size: Size, word: u64) -> u64
+    ensures { λ r. ⌜ r ≡ lessOf size word ⌝ }
 {
-    let info = index::unpack(word);
+    let info = packing::unpack(size, word);
     let entries = one_less(info.entries as usize) as u64;
-    index::pack(Info {
-        extent: info.extent,
-        place: info.place,
-        version: info.version,
-        entries,
-        several: info.several,
-    })
+    packing::pack(
+        size,
+        Info {
+            extent: info.extent,
+            place: info.place,
+            version: info.version,
+            entries,
+            several: info.several,
+        },
+    )
 }
 
 // ONE ENTRY
 // Whether the chosen entry of a key has a copy: a put has; a delete, if the next copy is of its key.
-fn is_copied(image: &[u8], to: usize, until: usize, op: u64, key: u64) -> bool
+fn is_copied(image: &[u8], to: usize, until: usize, op: u64, key: u64, size: Size) -> bool
     ensures { λ r. ⌜ IsCopied (wordsOf (now (image .entry))) to until op key r ⌝ }
 {
     if op == 1 {
@@ -77,7 +84,7 @@ fn is_copied(image: &[u8], to: usize, until: usize, op: u64, key: u64) -> bool
         at: to,
         end: until,
     };
-    let n = log::next_in_log(image, 0, cursor);
+    let n = log::next_in_log(image, 0, cursor, size);
     match n {
         Next::Done => false,
         Next::Wrong => false,
@@ -103,14 +110,15 @@ fn remove_entry(
     key: u64,
     place: usize,
     to: usize,
-    size: usize,
+    words: usize,
     copied: bool,
+    size: Size,
 ) -> Removed
-    ensures { λ r. ⌜ OneLeft (now (table .entry)) (now (table .exit)) keys key place to size copied r ⌝ }
+    ensures { λ r. ⌜ OneLeft size (now (table .entry)) (now (table .exit)) keys key place to words copied r ⌝ }
 {
     let slot = index::slot_of(table, key);
     let word = index::word_at(table, slot);
-    let info = index::unpack(word);
+    let info = packing::unpack(size, word);
     if word == 0 {
         return Removed {
             keys,
@@ -127,10 +135,10 @@ fn remove_entry(
     }
     if info.place == place as u64 {
         if copied {
-            index::set_slot(table, slot, key, with_copy(word, to));
+            index::set_slot(table, slot, key, with_copy(size, word, to));
             return Removed {
                 keys,
-                to: std::num::wrapping_add_usize(to, size),
+                to: std::num::wrapping_add_usize(to, words),
                 single: true,
             };
         }
@@ -141,7 +149,7 @@ fn remove_entry(
             single: true,
         };
     }
-    index::set_slot(table, slot, key, with_less(word));
+    index::set_slot(table, slot, key, with_less(size, word));
     Removed {
         keys,
         to,
@@ -158,8 +166,9 @@ fn remove_puts(
     from: usize,
     end: usize,
     to: usize,
+    size: Size,
 ) -> Run
-    ensures { λ r. ⌜ PutsLeft (wordsOf (now (image .entry))) (now (table .entry)) (now (table .exit)) keys from end to r ⌝ }
+    ensures { λ r. ⌜ PutsLeft size (wordsOf (now (image .entry))) (now (table .entry)) (now (table .exit)) keys from end to r ⌝ }
 {
     let mut count = keys;
     let mut copy = to;
@@ -181,7 +190,7 @@ fn remove_puts(
                 key,
                 words,
             } => {
-                let went = remove_entry(table, count, key, place, copy, 2 + words, true);
+                let went = remove_entry(table, count, key, place, copy, 2 + words, true, size);
                 if went.single {
                     count = went.keys;
                     copy = went.to;
@@ -208,8 +217,9 @@ fn remove_entries(
     end: usize,
     from: usize,
     until: usize,
+    size: Size,
 ) -> Removed
-    ensures { λ r. ⌜ AllLeft (wordsOf (now (image .entry))) (now (table .entry)) (now (table .exit)) keys at end from until r ⌝ }
+    ensures { λ r. ⌜ AllLeft size (wordsOf (now (image .entry))) (now (table .entry)) (now (table .exit)) keys at end from until r ⌝ }
 {
     let mut count = keys;
     let mut copy = from;
@@ -217,7 +227,7 @@ fn remove_entries(
     loop {
         let chunk = cursor.chunk;
         let stop = cursor.end;
-        let run = remove_puts(image, table, count, cursor.at, stop, copy);
+        let run = remove_puts(image, table, count, cursor.at, stop, copy, size);
         let so = run.keys;
         let to = run.to;
         if run.single {
@@ -226,7 +236,7 @@ fn remove_entries(
                 at: run.at,
                 end: stop,
             };
-            let n = log::next_in_log(image, 0, here);
+            let n = log::next_in_log(image, 0, here, size);
             match n {
                 Next::Done => {
                     return Removed {
@@ -252,8 +262,8 @@ fn remove_entries(
                     place,
                     cursor: behind,
                 } => {
-                    let copied = is_copied(image, to, until, op, key);
-                    let went = remove_entry(table, so, key, place, to, 2 + words, copied);
+                    let copied = is_copied(image, to, until, op, key, size);
+                    let went = remove_entry(table, so, key, place, to, 2 + words, copied, size);
                     if went.single {
                         count = went.keys;
                         copy = went.to;
@@ -279,10 +289,17 @@ fn remove_entries(
 
 // TWINS
 // Table, bits and sums are built anew, as an opening does: how many keys the table has then.
-fn rebuild(image: &[u8], count: usize, buffer: &mut Buffer, table: &mut [u64], keys: usize) -> usize
-    ensures { λ r. ⌜ Rebuilt count (wordsOf (now (image .entry))) (now (buffer .entry)) (now (buffer .exit)) (now (table .entry)) (now (table .exit)) r ⌝ }
+fn rebuild(
+    image: &[u8],
+    count: usize,
+    buffer: &mut Buffer,
+    table: &mut [u64],
+    keys: usize,
+    size: Size,
+) -> usize
+    ensures { λ r. ⌜ Rebuilt size count (wordsOf (now (image .entry))) (now (buffer .entry)) (now (buffer .exit)) (now (table .entry)) (now (table .exit)) r ⌝ }
 {
-    let verdict = opening::check_log(image, count, table, buffer);
+    let verdict = opening::check_log(image, count, table, buffer, size);
     match verdict {
         CheckedImage::Refused(_) => keys,
         CheckedImage::Accepted(found) => found,
@@ -302,13 +319,14 @@ pub fn remove_chunk(
     from: usize,
     until: usize,
     words: usize,
+    size: Size,
 ) -> usize
-    ensures { λ r. ⌜ Emptying count (wordsOf (now (image .entry))) (now (buffer .entry)) (now (buffer .exit)) (now (table .entry)) (now (table .exit)) keys at end from until words r ⌝ }
+    ensures { λ r. ⌜ Emptying size count (wordsOf (now (image .entry))) (now (buffer .entry)) (now (buffer .exit)) (now (table .entry)) (now (table .exit)) keys at end from until words r ⌝ }
 {
-    let went = remove_entries(image, table, keys, at, end, from, until);
+    let went = remove_entries(image, table, keys, at, end, from, until, size);
     if went.single {
-        volatile::chunk_sums::turn_over(buffer, at / 512, from, words);
+        volatile::chunk_sums::turn_over(buffer, places::chunk_of_word(size, at), from, words, size);
         return went.keys;
     }
-    rebuild(image, count, buffer, table, keys)
+    rebuild(image, count, buffer, table, keys, size)
 }

@@ -47,7 +47,7 @@ add-none b words e n h =
       long = refl;
       above = λ i l h. refl;
       behind = λ i l. refl;
-      bits = λ u. refl;
+      bits = λ size u. refl;
       full = λ l. (refl, refl);
       count = λ l. absurd (omega arith);
       written = λ l. absurd (omega arith);
@@ -97,7 +97,7 @@ module _ (b d : List ℕ) (words next op pl v x key head marks : ℕ) (vs : List
         long = ap length laid ∙ length-overlay m words (head ∷ key ∷ vs) ∙ long-m;
         above = above-kept;
         behind = behind-kept;
-        bits = bits-agree b d (λ i l h. above-kept i (omega arith) h);
+        bits = λ size. bits-agree size b d (λ i l h. above-kept i (omega arith) h);
         full = λ l. absurd (omega arith);
         count = λ l. counted;
         written = λ l r f items w.

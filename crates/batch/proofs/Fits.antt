@@ -48,12 +48,12 @@ lines-bytes n = go (decLe n batchRoom)
     go (no h) = lt-leb (8 * n) 4096 (omega arith) ∙ sym (lt-leb n batchRoom (omega arith))
 
 -- an item in the log has no block
-items-more : (n : ℕ) (ws : List ℕ) (es items : List Entry) (e : Entry) → e .placement ≡ 0 → ItemsFit n ws es items → ItemsFit n ws es (items ++ (e ∷ []))
-items-more n ws es items e log f = record {
+items-more : (p n : ℕ) (ws : List ℕ) (es items : List Entry) (e : Entry) → e .placement ≡ 0 → ItemsFit p n ws es items → ItemsFit p n ws es (items ++ (e ∷ []))
+items-more p n ws es items e log f = record {
   blocks = λ g m. ⊎-elim (f .blocks g) (λ s. rw (plain g s)) (which g m);
-  dead = λ g h m t p q z. ⊎-elim (λ i. f .dead g h i t p q z) (λ s. absurd (not-both (pointed g) p (plain g s))) (which g m);
-  own = λ g h m l p q z.
-      ⊎-elim (λ i. ⊎-elim (λ j. f .own g h i j p q z) (λ s. absurd (not-both (pointed h) q (plain h s))) (which h l)) (λ s. absurd (not-both (pointed g) p (plain g s))) (which g m);
+  dead = λ g h m t y q z. ⊎-elim (λ i. f .dead g h i t y q z) (λ s. absurd (not-both (pointed g) y (plain g s))) (which g m);
+  own = λ g h m l y q z.
+      ⊎-elim (λ i. ⊎-elim (λ j. f .own g h i j y q z) (λ s. absurd (not-both (pointed h) q (plain h s))) (which h l)) (λ s. absurd (not-both (pointed g) y (plain g s))) (which g m);
 }
   where
     which : (g : Entry) → Mem g (items ++ (e ∷ [])) → Mem g items ⊎ (g ≡ e)
@@ -66,7 +66,7 @@ items-more n ws es items e log f = record {
         none true = refl
         none false = refl
 
-module _ (c : Control) (b : List ℕ) (n : ℕ) (ws : List ℕ) (es items : List Entry) (fits : BatchFits c b n ws es items) where
+module _ (c : Control) (b : List ℕ) (p n : ℕ) (ws : List ℕ) (es items : List Entry) (fits : BatchFits c b p n ws es items) where
   pub fits-staged : StagedIn b (c .words) items
   unfolding batchWords
   fits-staged = record { written = fits .written; right = fits .right; marked = fits .marked }
@@ -75,14 +75,14 @@ module _ (c : Control) (b : List ℕ) (n : ℕ) (ws : List ℕ) (es items : List
   pub fits-batch : (m : ℕ) → fitsBatch items m ≡ both (ltb (c .items) maxItems) (leb (c .words + m) batchRoom)
   fits-batch m =
       ap (λ (t : Bool). both (ltb (length items) maxItems) t) (lines-bytes (length (encodeAll items) + m))
-      ∙ ap (λ (k : ℕ). both (ltb (length items) maxItems) (leb (k + m) batchRoom)) (sym (words-counted c b n ws es items fits))
+      ∙ ap (λ (k : ℕ). both (ltb (length items) maxItems) (leb (k + m) batchRoom)) (sym (words-counted c b p n ws es items fits))
       ∙ ap (λ (k : ℕ). both (ltb k maxItems) (leb (c .words + m) batchRoom)) (sym (fits .count))
 
   -- THE BATCH WITH ONE MORE ITEM, whose value is in the log
   pub batch-more : (c′ : Control) (b′ : List ℕ) (e : Entry) → Added b b′ (c .words) (c′ .words) e
       → c .words + (2 + length (e .value)) ≤ batchRoom → c .items < maxItems → Right e → e .placement ≡ 0 → e .version ≡ suc (highest (e .key) (es ++ items))
       → c′ .items ≡ c .items + 1 → c′ .keys ≡ c .keys → c′ .fresh ≡ freshWith (isOld (e .key) es items) (c .fresh)
-      → BatchFits c′ b′ n ws es (items ++ (e ∷ []))
+      → BatchFits c′ b′ p n ws es (items ++ (e ∷ []))
   batch-more c′ b′ e a room less r log v ni k f =
       let q : c′ .words ≡ c .words + (2 + length (e .value)) = a .count room in
       let i : c .items ≡ length items = fits .count in
@@ -96,7 +96,7 @@ module _ (c : Control) (b : List ℕ) (n : ℕ) (ws : List ℕ) (es items : List
         few = omega arith;
         right = right-more items e (fits .right) r;
         counts = counts-more es items e (fits .counts) v;
-        fit = items-more n ws es items e log (fits .fit);
+        fit = items-more p n ws es items e log (fits .fit);
         marked = a .marked room items (sym (words-within c b (fits .room)) ∙ fits .written) (fits .marked);
         keys = rw (k, f) (keys-more (c .keys) (c .fresh) es items (fits .keys) e);
       }

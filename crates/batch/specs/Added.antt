@@ -8,6 +8,7 @@ use Rattle.spec.specs.Log.{Entry, encodeAll}
 use Rattle.theory_log.specs.Batch.{Right}
 use Rattle.buffer.specs.Areas.{batchStart, batchRoom, secondStart, filterPlace, bufferWords}
 use Rattle.buffer.specs.Bits.{hasBit}
+use Rattle.spec.specs.declared.Size.{Size}
 use Rattle.session.specs.State.{bufferPart}
 use Rattle.session.specs.Filter.{AllMarked}
 
@@ -18,7 +19,7 @@ pub record Added (before after : List ℕ) (words next : ℕ) (e : Entry) : Type
   pub long : length after ≡ length before
   pub above : (i : ℕ) → secondStart ≤ i → i < filterPlace → getD after i 0 ≡ getD before i 0
   pub behind : (i : ℕ) → filterPlace < i → getD after i 0 ≡ getD before i 0
-  pub bits : (u : ℕ) → hasBit after u ≡ hasBit before u
+  pub bits : (size : Size) (u : ℕ) → hasBit size after u ≡ hasBit size before u
   pub full : batchRoom < words + (2 + length (e .value)) → (after ≡ before) × (next ≡ words)
   pub count : words + (2 + length (e .value)) ≤ batchRoom → next ≡ words + (2 + length (e .value))
   pub written : words + (2 + length (e .value)) ≤ batchRoom → Right e → e .field < 2 ^ 40 → (items : List Entry)

@@ -14,49 +14,52 @@ use lib.Dec.{eqb}
 use lib.ListN.{length, getD, set, take, length-set}
 use lib.Seq.{getD-set-same, getD-set-other, ext-getD, getD-take, length-take-le}
 use Rattle.buffer.proofs.Word.{shifted, set-same, set-other, unset-same, unset-other}
-use Rattle.buffer.specs.Areas.{bitsStart, unitCount, bitsEnd, bufferWords}
+use Rattle.spec.specs.declared.Size.{Size}
+use Rattle.spec.specs.declared.Size.the-variants as S
+use Rattle.buffer.specs.Areas.{bitsStart, bitsEndOf, bitsEnd, bufferWords}
+use Rattle.places.specs.Sizes.{unitCount, unit-most}
 use Rattle.buffer.specs.Bits.{wordOf, hasBit, WordsKept, FrontKept, BitWritten, BitsCleared}
 
 -- the bit of a unit, and none past the last
-pub bit-in : (b : List ℕ) (u : ℕ) → u < unitCount → hasBit b u ≡ eqb (getD b (wordOf u) 0 / 2 ^ (u % 64) % 2) 1
+pub bit-in : (size : Size) (b : List ℕ) (u : ℕ) → u < unitCount size → hasBit size b u ≡ eqb (getD b (wordOf u) 0 / 2 ^ (u % 64) % 2) 1
 unfolding hasBit
-bit-in b u l = rw (lt-ltb u unitCount l)
+bit-in size b u l = rw (lt-ltb u (unitCount size) l)
 
-pub bit-beyond : (b : List ℕ) (u : ℕ) → unitCount ≤ u → hasBit b u ≡ false
+pub bit-beyond : (size : Size) (b : List ℕ) (u : ℕ) → unitCount size ≤ u → hasBit size b u ≡ false
 unfolding hasBit
-bit-beyond b u l = rw (le-ltb u unitCount l)
+bit-beyond size b u l = rw (le-ltb u (unitCount size) l)
 
 -- two buffers whose words at a unit agree in its bit
-pub bit-agrees : (b d : List ℕ) (u : ℕ)
-    → (u < unitCount → getD b (wordOf u) 0 / 2 ^ (u % 64) % 2 ≡ getD d (wordOf u) 0 / 2 ^ (u % 64) % 2) → hasBit b u ≡ hasBit d u
-bit-agrees b d u h =
-    by-cases (decLt u unitCount)
-    (λ l. bit-in b u l ∙ ap (λ x. eqb x 1) (h l) ∙ sym (bit-in d u l))
-    (λ l. let g : unitCount ≤ u = omega arith in bit-beyond b u g ∙ sym (bit-beyond d u g))
+pub bit-agrees : (size : Size) (b d : List ℕ) (u : ℕ)
+    → (u < unitCount size → getD b (wordOf u) 0 / 2 ^ (u % 64) % 2 ≡ getD d (wordOf u) 0 / 2 ^ (u % 64) % 2) → hasBit size b u ≡ hasBit size d u
+bit-agrees size b d u h =
+    by-cases (decLt u (unitCount size))
+    (λ l. bit-in size b u l ∙ ap (λ x. eqb x 1) (h l) ∙ sym (bit-in size d u l))
+    (λ l. let g : unitCount size ≤ u = omega arith in bit-beyond size b u g ∙ sym (bit-beyond size d u g))
 
 -- two buffers that agree in the area of the bits
-pub bits-agree : (b d : List ℕ) → ((i : ℕ) → bitsStart ≤ i → i < bitsEnd → getD d i 0 ≡ getD b i 0) → (u : ℕ) → hasBit d u ≡ hasBit b u
-bits-agree b d h u = bit-agrees d b u (λ l. rw (h (wordOf u) (omega arith) (omega arith)))
+pub bits-agree : (size : Size) (b d : List ℕ) → ((i : ℕ) → bitsStart ≤ i → i < bitsEnd → getD d i 0 ≡ getD b i 0) → (u : ℕ) → hasBit size d u ≡ hasBit size b u
+bits-agree size b d h u = bit-agrees size d b u (λ l. let m = unit-most size in rw (h (wordOf u) (omega arith) (omega arith)))
 
 -- a buffer that is as it was
 pub kept-all : (b : List ℕ) → length b ≡ bufferWords → WordsKept b b
 kept-all b n = record { size = n; long = refl; below = λ i l. refl; above = λ i l. refl }
 
-pub beyond-kept : (b : List ℕ) (u : ℕ) (value : Bool) → length b ≡ bufferWords → unitCount ≤ u → BitWritten b b u value
-beyond-kept b u value n g =
+pub beyond-kept : (size : Size) (b : List ℕ) (u : ℕ) (value : Bool) → length b ≡ bufferWords → unitCount size ≤ u → BitWritten size b b u value
+beyond-kept size b u value n g =
     record { at = λ l. absurd (omega arith); other = λ v d. refl; beyond = λ l. refl; kept = kept-all b n }
 
 -- a store of a word that differs in the unit's bit alone
-module _ (b : List ℕ) (u w : ℕ) (value : Bool) (n : length b ≡ bufferWords) (l : u < unitCount) where
+module _ (size : Size) (b : List ℕ) (u w : ℕ) (value : Bool) (n : length b ≡ bufferWords) (l : u < unitCount size) where
   in-range : wordOf u < length b
-  in-range = omega arith
+  in-range = let m = unit-most size in omega arith
 
   pub written : eqb (w / 2 ^ (u % 64) % 2) 1 ≡ value
-      → ((k : ℕ) → (k ≡ u % 64 → ⊥) → w / 2 ^ k % 2 ≡ getD b (wordOf u) 0 / 2 ^ k % 2) → BitWritten b (set b (wordOf u) w) u value
+      → ((k : ℕ) → (k ≡ u % 64 → ⊥) → w / 2 ^ k % 2 ≡ getD b (wordOf u) 0 / 2 ^ k % 2) → BitWritten size b (set b (wordOf u) w) u value
   written same others =
       record {
-        at = λ h. bit-in (set b (wordOf u) w) u h ∙ rw (getD-set-same b (wordOf u) w 0 in-range) same;
-        other = λ v d. bit-agrees (set b (wordOf u) w) b v (λ h. by-cases (ℕ-discrete (v / 64) (u / 64))
+        at = λ h. bit-in size (set b (wordOf u) w) u h ∙ rw (getD-set-same b (wordOf u) w 0 in-range) same;
+        other = λ v d. bit-agrees size (set b (wordOf u) w) b v (λ h. by-cases (ℕ-discrete (v / 64) (u / 64))
             (λ q.
             let e : v % 64 ≡ u % 64 → ⊥ = λ r. d (omega (arith, div-add-mod' v 64, div-add-mod' u 64)) in
             rw (q, getD-set-same b (wordOf u) w 0 in-range) (others (v % 64) e))
@@ -66,23 +69,23 @@ module _ (b : List ℕ) (u w : ℕ) (value : Bool) (n : length b ≡ bufferWords
           size = n;
           long = length-set b (wordOf u) w;
           below = λ i h. getD-set-other b (wordOf u) i w 0 (λ r. omega arith);
-          above = λ i h. getD-set-other b (wordOf u) i w 0 (λ r. omega arith);
+          above = λ i h. getD-set-other b (wordOf u) i w 0 (λ r. let m = unit-most size in omega arith);
         };
       }
 
 -- what the code stores
-module _ (b : List ℕ) (u : ℕ) (n : length b ≡ bufferWords) (l : u < unitCount) where
-  pub set-shows : BitWritten b (set b (wordOf u) (bitOr (getD b (wordOf u) 0) (1 * 2 ^ (u % 64) % 2 ^ 64))) u true
+module _ (size : Size) (b : List ℕ) (u : ℕ) (n : length b ≡ bufferWords) (l : u < unitCount size) where
+  pub set-shows : BitWritten size b (set b (wordOf u) (bitOr (getD b (wordOf u) 0) (1 * 2 ^ (u % 64) % 2 ^ 64))) u true
   set-shows =
       let w = getD b (wordOf u) 0 in
       let k = u % 64 in
-      rw (shifted k (omega arith)) (written b u (bitOr w (2 ^ k)) true n l (eq-eqb _ 1 (set-same w k)) (set-other w k))
+      rw (shifted k (omega arith)) (written size b u (bitOr w (2 ^ k)) true n l (eq-eqb _ 1 (set-same w k)) (set-other w k))
 
-  pub unset-shows : BitWritten b (set b (wordOf u) (bitXor (getD b (wordOf u) 0) (bitAnd (getD b (wordOf u) 0) (1 * 2 ^ (u % 64) % 2 ^ 64)))) u false
+  pub unset-shows : BitWritten size b (set b (wordOf u) (bitXor (getD b (wordOf u) 0) (bitAnd (getD b (wordOf u) 0) (1 * 2 ^ (u % 64) % 2 ^ 64)))) u false
   unset-shows =
       let w = getD b (wordOf u) 0 in
       let k = u % 64 in
-      rw (shifted k (omega arith)) (written b u (bitXor w (bitAnd w (2 ^ k))) false n l (ap (λ x. eqb x 1) (unset-same w k)) (unset-other w k))
+      rw (shifted k (omega arith)) (written size b u (bitXor w (bitAnd w (2 ^ k))) false n l (ap (λ x. eqb x 1) (unset-same w k)) (unset-other w k))
 
 -- the words before i that hold bits are 0, and every other is as it was
 pub record Clearing (before after : List ℕ) (i : ℕ) : Type 0 where
@@ -111,13 +114,17 @@ clear-more b d i c g l =
 zero-bit : (k : ℕ) → 0 / 2 ^ k % 2 ≡ 0
 zero-bit k = rw (zero-div (2 ^ k))
 
-pub clear-all : (b d : List ℕ) → Clearing b d bitsEnd → BitsCleared b d
-clear-all b d c =
+unit-inside : (size : Size) (v : ℕ) → v < unitCount size → wordOf v < bitsEndOf size
+unit-inside S.Small v l = omega arith
+unit-inside S.Large v l = omega arith
+
+pub clear-all : (size : Size) (b d : List ℕ) → Clearing b d (bitsEndOf size) → BitsCleared size b d
+clear-all size b d c =
     record {
-      none = λ v. by-cases (decLt v unitCount)
-          (λ l. bit-in d v l ∙ rw (c .done (wordOf v) (omega arith) (omega arith), zero-bit (v % 64)))
-          (λ l. bit-beyond d v (omega arith));
-      kept = record { size = c .size; long = c .long ∙ sym (c .size); below = c .low; above = c .left };
+      none = λ v. by-cases (decLt v (unitCount size))
+          (λ l. bit-in size d v l ∙ rw (c .done (wordOf v) (omega arith) (unit-inside size v l), zero-bit (v % 64)))
+          (λ l. bit-beyond size d v (omega arith));
+      kept = record { size = c .size; long = c .long ∙ sym (c .size); below = c .low; above = λ i l. c .left i (let m = unit-most size in omega arith) };
     }
 
 -- one change after another

@@ -8,6 +8,7 @@ use native.Mathlib.Omega.{arith}
 use lib.Bits.{bitAnd, bitOr, bitXor}
 use lib.Dec.{lit<}
 use lib.ListN.{set, replicate}
+use Rattle.spec.specs.declared.Size.the-variants as S
 use Rattle.buffer.specs.Areas.{bitsStart, bufferWords}
 use Rattle.buffer.specs.Bits.{hasBit, BitWritten}
 
@@ -18,14 +19,14 @@ buffer w = set (replicate bufferWords 0) bitsStart w
 not-so : true ≡ false → ⊥
 not-so h = let z : _≡_ {A = ℕ} 0 1 = cc in omega arith
 
-sets-next-unit : BitWritten (buffer 0) (buffer (bitOr 0 (2 * 2 ^ 0 % 2 ^ 64))) 0 true → ⊥
+sets-next-unit : BitWritten S.Small (buffer 0) (buffer (bitOr 0 (2 * 2 ^ 0 % 2 ^ 64))) 0 true → ⊥
 unfolding hasBit
 sets-next-unit r = not-so (sym (r .at (lit< tt)))
 
-toggles-on-unset : BitWritten (buffer 0) (buffer (bitXor 0 (1 * 2 ^ 0 % 2 ^ 64))) 0 false → ⊥
+toggles-on-unset : BitWritten S.Small (buffer 0) (buffer (bitXor 0 (1 * 2 ^ 0 % 2 ^ 64))) 0 false → ⊥
 unfolding hasBit
 toggles-on-unset r = not-so (r .at (lit< tt))
 
-unsets-all-others : BitWritten (buffer 3) (buffer (bitAnd 3 (bitAnd 3 (1 * 2 ^ 0 % 2 ^ 64)))) 0 false → ⊥
+unsets-all-others : BitWritten S.Small (buffer 3) (buffer (bitAnd 3 (bitAnd 3 (1 * 2 ^ 0 % 2 ^ 64)))) 0 false → ⊥
 unfolding hasBit
 unsets-all-others r = not-so (r .at (lit< tt))

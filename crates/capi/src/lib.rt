@@ -166,22 +166,23 @@ pub fn run_rest(s: &mut Session, image: &mut [u8], table: &mut [u64]) -> Answer
 }
 
 // THE CALLS
-// Begins a formatting (`store::format`); a mark is 0 where the number behind it is absent.
+// Begins a formatting (`store::format`), told the chunk power; a mark is 0 where the number behind it is absent.
 #[no_mangle]
 pub extern "C" fn zkv_format(
     s: &mut Session,
     image: &[u8],
     table: &[u64],
+    power: u64,
     station_given: u64,
     station: u64,
     centre_given: u64,
     centre: u64,
 ) -> Answer
-    ensures { λ r. ⌜ Encodes (Does (Format (given (isGiven «station_given») station) (given (isGiven «centre_given») centre)) (memory (now (s .entry)) (now (image .entry)) (now (table .entry))) (memory (now (s .exit)) (now (image .entry)) (now (table .entry)))) r ⌝ }
+    ensures { λ r. ⌜ Encodes (Does (Format power (given (isGiven «station_given») station) (given (isGiven «centre_given») centre)) (memory (now (s .entry)) (now (image .entry)) (now (table .entry))) (memory (now (s .exit)) (now (image .entry)) (now (table .entry)))) r ⌝ }
 {
     let a = answers::is_given(station_given);
     let b = answers::is_given(centre_given);
-    let report = store::format(s, image, table, a, station, b, centre);
+    let report = store::format(s, image, table, power, a, station, b, centre);
     answers::encode_report(report)
 }
 

@@ -5,14 +5,13 @@ ghost use Rattle.answers.specs.Answers.{Encodes, Shown, CountTold, ListTold};
 ghost use mathlib.Core.Path.{_≡_};
 ghost use lib.ListN.{length};
 ghost use Rattle.spec.specs.Words.{wordsOf};
-ghost use Rattle.spec.specs.Places.{chunksIn};
 ghost use Rattle.spec.specs.Directory.{freeChunks};
 ghost use Rattle.store.specs.Look.{Reported};
 ghost use Rattle.store.specs.Choice.{Chosen};
 ghost use Rattle.store.specs.List.{KeysListed, KeyListed};
 ghost use Rattle.directory.specs.Counts.{linesUsed};
 ghost use Rattle.inspect.specs.KnownKeys.{Known};
-ghost use Rattle.inspect.specs.Numbers.{stationOf, centreOf, ToldAs};
+ghost use Rattle.inspect.specs.Numbers.{powerRead, chunksRead, stationOf, centreOf, ToldAs};
 ghost use Rattle.inspect.specs.History.{entryFrom};
 ghost use Rattle.inspect.specs.KeyEntries.{entriesFrom, EntriesListed};
 ghost use Rattle.faults.specs.Faults.{Told as Located};
@@ -91,26 +90,26 @@ pub extern "C" fn zkv_keys(s: &Session) -> u64
     inspect::keys(s)
 }
 
-// How many chunks the directory says are free (`directory::free_chunks`).
+// How many chunks the directory says are free, chunks being of the size that the header says (`directory::free_chunks`).
 #[no_mangle]
 pub extern "C" fn zkv_free_chunks(image: &[u8]) -> u64
-    ensures { λ r. ⌜ r ≡ length (freeChunks 12 (chunksIn 12 (length (now (image .entry)))) (wordsOf (now (image .entry)))) ⌝ }
+    ensures { λ r. ⌜ r ≡ length (freeChunks (powerRead (wordsOf (now (image .entry)))) (chunksRead (length (now (image .entry))) (wordsOf (now (image .entry)))) (wordsOf (now (image .entry)))) ⌝ }
 {
-    directory::free_chunks(image)
+    directory::free_chunks(image, inspect::header::size_said(image))
 }
 
 // The committed lines of all log chunks (`directory::lines_used`).
 #[no_mangle]
 pub extern "C" fn zkv_lines_used(image: &[u8]) -> u64
-    ensures { λ r. ⌜ r ≡ linesUsed 12 (chunksIn 12 (length (now (image .entry)))) (wordsOf (now (image .entry))) ⌝ }
+    ensures { λ r. ⌜ r ≡ linesUsed (powerRead (wordsOf (now (image .entry)))) (chunksRead (length (now (image .entry))) (wordsOf (now (image .entry)))) (wordsOf (now (image .entry))) ⌝ }
 {
-    directory::lines_used(image)
+    directory::lines_used(image, inspect::header::size_said(image))
 }
 
 // The station number that the header names: 1 and the number, or 0 and 0 (`inspect::header::tell_station`).
 #[no_mangle]
 pub extern "C" fn zkv_station(image: &[u8], number: &mut u64) -> u64
-    ensures { λ r. ⌜ ToldAs (stationOf (chunksIn 12 (length (now (image .entry)))) (wordsOf (now (image .entry)))) r (now (number .exit)) ⌝ }
+    ensures { λ r. ⌜ ToldAs (stationOf (length (now (image .entry))) (wordsOf (now (image .entry)))) r (now (number .exit)) ⌝ }
 {
     inspect::header::tell_station(image, number)
 }
@@ -118,7 +117,7 @@ pub extern "C" fn zkv_station(image: &[u8], number: &mut u64) -> u64
 // The centre number that the header names: 1 and the number, or 0 and 0 (`inspect::header::tell_centre`).
 #[no_mangle]
 pub extern "C" fn zkv_centre(image: &[u8], number: &mut u64) -> u64
-    ensures { λ r. ⌜ ToldAs (centreOf (chunksIn 12 (length (now (image .entry)))) (wordsOf (now (image .entry)))) r (now (number .exit)) ⌝ }
+    ensures { λ r. ⌜ ToldAs (centreOf (length (now (image .entry))) (wordsOf (now (image .entry)))) r (now (number .exit)) ⌝ }
 {
     inspect::header::tell_centre(image, number)
 }
@@ -127,7 +126,7 @@ pub extern "C" fn zkv_centre(image: &[u8], number: &mut u64) -> u64
 // (`inspect::entries::entries_from`); how many there are.
 #[no_mangle]
 pub extern "C" fn zkv_entries(image: &[u8], key: u64, from: usize, words: &mut [u64]) -> usize
-    ensures { λ r. ⌜ EntriesListed (entriesFrom 12 (chunksIn 12 (length (now (image .entry)))) (wordsOf (now (image .entry))) key from) (now (words .entry)) (now (words .exit)) r ⌝ }
+    ensures { λ r. ⌜ EntriesListed (entriesFrom (powerRead (wordsOf (now (image .entry)))) (chunksRead (length (now (image .entry))) (wordsOf (now (image .entry)))) (wordsOf (now (image .entry))) key from) (now (words .entry)) (now (words .exit)) r ⌝ }
 {
     inspect::entries::entries_from(image, key, from, words)
 }
@@ -135,7 +134,7 @@ pub extern "C" fn zkv_entries(image: &[u8], key: u64, from: usize, words: &mut [
 // The first entry of a key that stands at or behind a word of the image (`inspect::history::entry_from`).
 #[no_mangle]
 pub extern "C" fn zkv_entry(image: &[u8], key: u64, from: usize) -> KeyEntry
-    ensures { λ r. ⌜ r ≡ entryFrom 12 (chunksIn 12 (length (now (image .entry)))) (wordsOf (now (image .entry))) key from ⌝ }
+    ensures { λ r. ⌜ r ≡ entryFrom (powerRead (wordsOf (now (image .entry)))) (chunksRead (length (now (image .entry))) (wordsOf (now (image .entry)))) (wordsOf (now (image .entry))) key from ⌝ }
 {
     inspect::history::entry_from(image, key, from)
 }

@@ -12,6 +12,7 @@ use session::Gated;
 use session::Setup;
 use spec::Refusal;
 use spec::Report;
+use spec::Size;
 
 // The chunk that was chosen, or none.
 pub enum Choice {
@@ -29,13 +30,13 @@ pub struct Candidate {
 
 // ONE CHUNK
 // Its entries are read once; a chunk that is no log chunk has none.
-fn candidate_at(image: &[u8], table: &[u64], chunk: usize) -> Candidate
-    ensures { λ r. ⌜ Weighed (wordsOf (now (image .entry))) (now (table .entry)) chunk r ⌝ }
+fn candidate_at(image: &[u8], table: &[u64], chunk: usize, size: Size) -> Candidate
+    ensures { λ r. ⌜ Weighed size (wordsOf (now (image .entry))) (now (table .entry)) chunk r ⌝ }
 {
-    let lines = lines_of(image, chunk);
-    let at = 512 * (chunk % 512);
+    let lines = lines_of(image, chunk, size);
+    let at = places::first_word(size, chunk % 512);
     let end = at + 8 * lines;
-    let tally = gathering::size::kept_size(image, table, at, end);
+    let tally = gathering::measure::kept_size(image, table, at, end, size);
     Candidate {
         chunk,
         lines,
@@ -44,10 +45,10 @@ fn candidate_at(image: &[u8], table: &[u64], chunk: usize) -> Candidate
 }
 
 // The same, where the words are known.
-fn counted_at(image: &[u8], chunk: usize, words: usize) -> Candidate
-    ensures { λ r. ⌜ Counted (wordsOf (now (image .entry))) chunk words r ⌝ }
+fn counted_at(image: &[u8], chunk: usize, words: usize, size: Size) -> Candidate
+    ensures { λ r. ⌜ Counted size (wordsOf (now (image .entry))) chunk words r ⌝ }
 {
-    let lines = lines_of(image, chunk);
+    let lines = lines_of(image, chunk, size);
     Candidate {
         chunk,
         lines,
@@ -105,8 +106,9 @@ fn better_at(
     table: &[u64],
     buffer: &Buffer,
     chunk: usize,
+    size: Size,
 ) -> Candidate
-    ensures { λ r. ⌜ BetteredAt (wordsOf (now (image .entry))) (now (table .entry)) (now (buffer .entry)) best chunk r ⌝ }
+    ensures { λ r. ⌜ BetteredAt size (wordsOf (now (image .entry))) (now (table .entry)) (now (buffer .entry)) best chunk r ⌝ }
 {
     let sum = volatile::chunk_sums::sum_at(buffer, chunk);
     let least = (sum % 0x1_0000_0000) as usize;
@@ -116,16 +118,16 @@ fn better_at(
         }
     }
     if sum < 0x1_0000_0000 {
-        let next = counted_at(image, chunk, least);
+        let next = counted_at(image, chunk, least, size);
         return better_of(best, next);
     }
-    let next = candidate_at(image, table, chunk);
+    let next = candidate_at(image, table, chunk, size);
     better_of(best, next)
 }
 
 // ALL CHUNKS, of an image of `count`
-pub fn choose(image: &[u8], table: &[u64], buffer: &Buffer, count: usize) -> Choice
-    ensures { λ r. ⌜ Chooses (wordsOf (now (image .entry))) (now (table .entry)) (now (buffer .entry)) count r ⌝ }
+pub fn choose(image: &[u8], table: &[u64], buffer: &Buffer, count: usize, size: Size) -> Choice
+    ensures { λ r. ⌜ Chooses size (wordsOf (now (image .entry))) (now (table .entry)) (now (buffer .entry)) count r ⌝ }
 {
     let mut best = Candidate {
         chunk: 0,
@@ -134,7 +136,7 @@ pub fn choose(image: &[u8], table: &[u64], buffer: &Buffer, count: usize) -> Cho
     };
     let mut c = 1;
     while c < count {
-        best = better_at(best, image, table, buffer, c);
+        best = better_at(best, image, table, buffer, c, size);
         c += 1;
     }
     if best.chunk == 0 {
@@ -156,8 +158,9 @@ pub fn choose_core(
     let gated = session::gate(control, setup, image.len(), table.len());
     match gated {
         Gated::Open => {
-            let count = image.len() / 4096;
-            let choice = choose(image, table, &buffer, count);
+            let size = places::size_by(setup.power);
+            let count = places::chunks_in(size, image.len());
+            let choice = choose(image, table, &buffer, count, size);
             match choice {
                 Choice::At(c) => Report::Chosen(c),
                 Choice::Nothing => Report::Refused(Refusal::NotCleanable),

@@ -9,11 +9,12 @@ use lib.ListN.{length}
 use Rattle.spec.specs.Words.{wordsOf}
 use Rattle.spec.specs.Places.{chunksIn}
 use Rattle.spec.specs.Log.{Entry}
-use Rattle.buffer.specs.Areas.{batchRoom, secondStart, bufferWords}
+use Rattle.buffer.specs.Areas.{secondStart, bufferWords}
 use Rattle.session.specs.declared.Control.{Control}
 use Rattle.session.specs.declared.Setup.{Setup}
 use Rattle.spec.specs.declared.Refusal.{Refusal}
 use Rattle.spec.specs.declared.Report.the-variants as R
+use Rattle.session.specs.State.{sizeIn, powerIn}
 use Rattle.session.specs.Fits.{soleMark, RestFits}
 use Rattle.gathering.specs.Gathering.{Copied}
 use Rattle.gathering.proofs.Words.{stored-gathered}
@@ -31,7 +32,7 @@ module _ (f : Source) (kept b : List ℕ) where
   pub stored-none : f .words ≡ 0 → KeptStored f kept b b
   stored-none z = inl (z, refl)
 
-  pub stored-some : (b′ : List ℕ) (n : ℕ) → (f .words ≡ 0 → ⊥) → length b ≡ bufferWords → n ≡ min (f .words) batchRoom → Copied kept b b′ 0 secondStart n → KeptStored f kept b b′
+  pub stored-some : (b′ : List ℕ) (n : ℕ) → (f .words ≡ 0 → ⊥) → length b ≡ bufferWords → n ≡ min (f .words) (length kept) → Copied kept b b′ 0 secondStart n → KeptStored f kept b b′
   stored-some b′ n z long is c = inr (z, long, n, is, c)
 
 module _ (c : Control) (k : Setup) (b image table words : List ℕ) (s : ℕ) (plan : CleanPlan) (right : CleanPlanned c k b image table words s plan) where
@@ -57,18 +58,19 @@ module _ (c : Control) (k : Setup) (b image table words : List ℕ) (s : ℕ) (p
         go (inl a) = ap length (a .1)
         go (inr a) = a .4 .long
 
-    began : (r : RestFits (record { control = c; setup = k; buffer = b }) ws table []) → Beginning ws (r .entries) (chunksIn 12 (k .image)) s chunk old lines (k .first % soleMark) first g actions → KeptStored g words b b′
-        → (g .words ≡ 0) ⊎ KeptAt g ws table words → Begun c k′ g b′ ws table (r .entries) (chunksIn 12 (k .image)) s actions
-    began r q (inl a) h = subst (λ (x : List ℕ). Begun c k′ g x ws table (r .entries) (chunksIn 12 (k .image)) s actions) (sym (a .1)) (begins-bare c k b ws table r s chunk old lines first g actions q (a .0))
+    began : (r : RestFits (record { control = c; setup = k; buffer = b }) ws table []) → Beginning (sizeIn k) ws (r .entries) (chunksIn (powerIn k) (k .image)) s chunk old lines (k .first % soleMark) first g actions → KeptStored g words b b′
+        → (g .words ≡ 0) ⊎ KeptAt (sizeIn k) g ws table words → Begun c k′ g b′ ws table (r .entries) (chunksIn (powerIn k) (k .image)) s actions
+    began r q (inl a) h = subst (λ (x : List ℕ). Begun c k′ g x ws table (r .entries) (chunksIn (powerIn k) (k .image)) s actions) (sym (a .1)) (begins-bare c k b ws table r s chunk old lines first g actions q (a .0))
     began r q (inr a) (inl z) = absurd (a .0 z)
-    began r q (inr (z, size, n, is, copied)) (inr h) =
+    began r q (inr (z, sized, n, is, copied)) (inr h) =
         let low = h .collected .bound in
+        let full = h .collected .long in
         let w = h .words in
         let n-is : n ≡ h .tally .words = omega arith in
-        begins-copies c k b ws table r s chunk old lines first g actions q b′ (h .at) (h .end) (h .tally) (h .at-is) (h .end-is) (stored-gathered ws table words b b′ (h .at) (h .end) n (h .tally) (h .collected) n-is size copied) z
+        begins-copies c k b ws table r s chunk old lines first g actions q b′ (h .at) (h .end) (h .tally) (h .at-is) (h .end-is) (stored-gathered (sizeIn k) ws table words b b′ (h .at) (h .end) n (h .tally) (h .collected) n-is sized copied) z
 
-    all : (items : List Entry) (q : RestFits (record { control = c; setup = k; buffer = b }) ws table items) → (items ≡ []) × Beginning ws (q .entries) (chunksIn 12 (k .image)) s chunk old lines (k .first % soleMark) first g actions
-        → (items ≡ []) × Begun c k′ g b′ ws table (q .entries) (chunksIn 12 (k .image)) s actions
+    all : (items : List Entry) (q : RestFits (record { control = c; setup = k; buffer = b }) ws table items) → (items ≡ []) × Beginning (sizeIn k) ws (q .entries) (chunksIn (powerIn k) (k .image)) s chunk old lines (k .first % soleMark) first g actions
+        → (items ≡ []) × Begun c k′ g b′ ws table (q .entries) (chunksIn (powerIn k) (k .image)) s actions
     all [] q h = (h .0, began q (h .1) kept (p .keeps))
     all (i ∷ items) q h = absurd (let z : _≡_ {A = ℕ} 0 1 = let y = h .0 in cc in omega arith)
 
@@ -79,6 +81,7 @@ module _ (c : Control) (k : Setup) (b image table words : List ℕ) (s : ℕ) (p
           report = refl;
           count = p .sound ∙ sym (length-clean k′ g b′);
           control = refl;
+          power-same = refl;
           image-same = refl;
           table-same = refl;
           kept = long;

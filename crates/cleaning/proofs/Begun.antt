@@ -8,27 +8,28 @@ use mathlib.Core.List.{List, [], _∷_, _++_}
 use Prim.Native.Nat.{ℕ, _+_, _*_, _%_, _≤_, _<_, min}
 use native.Mathlib.Omega.{arith}
 use lib.ListN.{length, getD, drop, length-append}
-use Rattle.spec.specs.Places.{directoryWord, chunksIn}
+use Rattle.places.specs.Sizes.{power-low, power-high}
+use Rattle.spec.specs.Places.{base, chunkLines, directoryWord, chunksIn}
 use Rattle.spec.specs.Directory.{isLog, roleAt, linesOf}
 use Rattle.spec.specs.Log.{Entry, encodeAll}
 use Rattle.spec.specs.Contents.{keptIn}
 use Rattle.spec.specs.Plans.{oldOf, Cleaning, Begin, appendTo, hasLive, free, planClean}
 use Rattle.session.specs.declared.Control.{Control}
 use Rattle.session.specs.declared.Setup.{Setup}
+use Rattle.theory_base.proofs.Places.{words-most, lines-words}
 use Rattle.theory_crash.specs.Accepted.{Ok}
-use Rattle.theory_crash.proofs.Opening.{opens-ok}
-use Rattle.buffer.specs.Areas.{batchRoom, secondStart}
-use Rattle.session.specs.State.{bufferPart, sourceIn, sourceLines, keptWords, cleanActions, cleanOlds}
+use Rattle.session.proofs.OpensRight.{opens-right}
+use Rattle.buffer.specs.Areas.{secondRoom, secondStart}
+use Rattle.session.specs.State.{sizeIn, powerIn, bufferPart, sourceIn, sourceLines, keptWords, cleanActions, cleanOlds}
 use Rattle.session.specs.Fits.{NoneBelow, soleMark, RestFits, CleanFits, Reads}
 use Rattle.session.proofs.Part.{length-part}
 use Rattle.actions.specs.Nth.{nth}
 use Rattle.forward.proofs.Freed.{lines-few}
-use Rattle.gathering.specs.declared.size.Size.{Size}
+use Rattle.gathering.specs.declared.measure.Tally.{Tally}
 use Rattle.gathering.specs.Gathering.{Gathered}
 use Rattle.gathering.proofs.Chunks.{chunk-gathered}
 use Rattle.session.specs.declared.Source.{Source}
 use Rattle.actions.specs.Record.{cleaning, copyingTo, sourceOf}
-use Rattle.forward.proofs.Cleaning.{lo, hi}
 use Rattle.actions.proofs.Acting.{length-clean, clean-next}
 use Rattle.cleaning.proofs.Starts.{copies-acts, copies-olds, copies-reads, copies-fit, none-acts, none-olds, none-reads, none-fits, data-fits}
 use Rattle.cleaning.specs.Plans.{Copies, Bare, Beginning}
@@ -36,30 +37,30 @@ use Rattle.cleaning.specs.Begun.{Begun}
 use Rattle.cleaning.proofs.PlanShows.{plan-none, plan-copies, plan-dead}
 
 module _ (c : Control) (k : Setup) (b ws table : List ℕ) (r : RestFits (record { control = c; setup = k; buffer = b }) ws table []) (s chunk old lines first : ℕ) (f : Source) (actions : ℕ)
-    (q : Beginning ws (r .entries) (chunksIn 12 (k .image)) s chunk old lines (k .first % soleMark) first f actions) where
+    (q : Beginning (sizeIn k) ws (r .entries) (chunksIn (powerIn k) (k .image)) s chunk old lines (k .first % soleMark) first f actions) where
   abbrev n : ℕ
-  n = chunksIn 12 (k .image)
+  n = chunksIn (powerIn k) (k .image)
 
   abbrev es : List Entry
   es = r .entries
 
   abbrev kept : List Entry
-  kept = keptIn 12 s es
+  kept = keptIn (powerIn k) s es
 
   abbrev k′ : Setup
   k′ = copyingTo k chunk old lines first (k .least) f
 
   abbrev g : Source
-  g = sourceOf ws s (f .words) (f .entries)
+  g = sourceOf (sizeIn k) ws s (f .words) (f .entries)
 
-  ok : Ok 12 n ws es
-  ok = opens-ok 12 lo hi (k .image) (k .table) ws es (r .long) (r .accepted) .0
+  ok : Ok (powerIn k) n ws es
+  ok = opens-right (powerIn k) (k .image) (k .table) ws es (r .long) (r .accepted) .0
 
-  all : (b′ : List ℕ) → planClean 12 n ws es [] s ≡ Begin [] (Cleaning (f .entries) (cleanOlds k′ g)) (cleanActions k′ g b′)
+  all : (b′ : List ℕ) → planClean (powerIn k) n ws es [] s ≡ Begin [] (Cleaning (f .entries) (cleanOlds k′ g)) (cleanActions k′ g b′)
       → Reads (record { control = cleaning c; setup = k′; buffer = b′ }) (cleanOlds k′ g) (cleanActions k′ g b′) ws table → CleanFits (cleaning c) k′ g b′ ws table (nth (cleanActions k′ g b′) 0 ∷ drop 1 (cleanActions k′ g b′))
       → Begun c k′ f b′ ws table es n s actions
   all b′ p d t = record {
-    plan = subst (λ (x : Source). planClean 12 n ws es [] s ≡ Begin [] (Cleaning (f .entries) (cleanOlds k′ x)) (cleanActions k′ x b′)) (sym (q .source)) p;
+    plan = subst (λ (x : Source). planClean (powerIn k) n ws es [] s ≡ Begin [] (Cleaning (f .entries) (cleanOlds k′ x)) (cleanActions k′ x b′)) (sym (q .source)) p;
     count = q .count ∙ sym (length-clean k′ f b′);
     first = clean-next k′ f b′ 0 (omega arith);
     fits = subst (λ (x : Source). CleanFits (cleaning c) k′ x b′ ws table (nth (cleanActions k′ x b′) 0 ∷ drop 1 (cleanActions k′ x b′))) (sym (q .source)) t;
@@ -67,13 +68,13 @@ module _ (c : Control) (k : Setup) (b ws table : List ℕ) (r : RestFits (record
   }
 
   -- NOTHING COPIED: the buffer stays
-  begun-bare : Bare ws es s chunk old lines (k .first % soleMark) first f → Begun c k′ f b ws table es n s actions
+  begun-bare : Bare (sizeIn k) ws es s chunk old lines (k .first % soleMark) first f → Begun c k′ f b ws table es n s actions
   begun-bare a = all b (plan (a .why)) reads (fit (a .why))
     where
       small-chunk : chunk ≤ 503
       small-chunk = let e = a .chunk-is in omega arith
 
-      small-lines : lines ≤ 64
+      small-lines : lines ≤ chunkLines (powerIn k)
       small-lines = let e = a .lines-is in omega arith
 
       k-is : k′ ≡ copyingTo k chunk old lines (k .first % soleMark) (k .least) f
@@ -90,11 +91,11 @@ module _ (c : Control) (k : Setup) (b ws table : List ℕ) (r : RestFits (record
           subst (λ (x : Setup). Reads (record { control = cleaning c; setup = x; buffer = b }) (cleanOlds x g) (cleanActions x g b) ws table) (sym k-is)
           (none-reads c k b ws table r s (q .low) (q .high) (f .words) (f .entries) (q .room) b (λ i l. refl) f (a .words) chunk old lines small-chunk small-lines)
 
-      plan : ((isLog (roleAt 12 ws s) ≡ true) × (kept ≡ [])) ⊎ ((isLog (roleAt 12 ws s) ≡ false) × (hasLive 12 es s ≡ false)) → planClean 12 n ws es [] s ≡ Begin [] (Cleaning (f .entries) (cleanOlds k′ g)) (cleanActions k′ g b)
-      plan (inl (log, e)) = rw (acts-are, olds-are, a .entries) (plan-none n ws es s (q .low) (q .high) (q .used) log e)
-      plan (inr (log, e)) = rw (acts-are, olds-are, a .entries) (plan-dead n ws es s (q .low) (q .high) (q .used) log e)
+      plan : ((isLog (roleAt (powerIn k) ws s) ≡ true) × (kept ≡ [])) ⊎ ((isLog (roleAt (powerIn k) ws s) ≡ false) × (hasLive (powerIn k) es s ≡ false)) → planClean (powerIn k) n ws es [] s ≡ Begin [] (Cleaning (f .entries) (cleanOlds k′ g)) (cleanActions k′ g b)
+      plan (inl (log, e)) = rw (acts-are, olds-are, a .entries) (plan-none (sizeIn k) n ws es s (q .low) (q .high) (q .used) log e)
+      plan (inr (log, e)) = rw (acts-are, olds-are, a .entries) (plan-dead (sizeIn k) n ws es s (q .low) (q .high) (q .used) log e)
 
-      fit : ((isLog (roleAt 12 ws s) ≡ true) × (kept ≡ [])) ⊎ ((isLog (roleAt 12 ws s) ≡ false) × (hasLive 12 es s ≡ false)) → CleanFits (cleaning c) k′ g b ws table (nth (cleanActions k′ g b) 0 ∷ drop 1 (cleanActions k′ g b))
+      fit : ((isLog (roleAt (powerIn k) ws s) ≡ true) × (kept ≡ [])) ⊎ ((isLog (roleAt (powerIn k) ws s) ≡ false) × (hasLive (powerIn k) es s ≡ false)) → CleanFits (cleaning c) k′ g b ws table (nth (cleanActions k′ g b) 0 ∷ drop 1 (cleanActions k′ g b))
       fit (inl (log, e)) = rw k-is (none-fits c k b ws table r s (q .low) (q .high) (f .words) (f .entries) (q .room) b (λ i l. refl) f (a .words) chunk old lines small-chunk small-lines log e)
       fit (inr (log, e)) = rw k-is (data-fits c k b ws table r s (q .low) (q .high) (f .words) (f .entries) (q .room) b (λ i l. refl) f (a .words) chunk old lines small-chunk small-lines log e)
 
@@ -106,41 +107,41 @@ module _ (c : Control) (k : Setup) (b ws table : List ℕ) (r : RestFits (record
   pub begins-bare : f .words ≡ 0 → Begun c k′ f b ws table es n s actions
   begins-bare z = go (q .how)
     where
-      go : Copies ws es n s chunk old lines (k .first % soleMark) first f ⊎ Bare ws es s chunk old lines (k .first % soleMark) first f → Begun c k′ f b ws table es n s actions
+      go : Copies (sizeIn k) ws es n s chunk old lines (k .first % soleMark) first f ⊎ Bare (sizeIn k) ws es s chunk old lines (k .first % soleMark) first f → Begun c k′ f b ws table es n s actions
       go (inl a) = absurd (some-words kept (a .some-kept) (sym (a .words) ∙ z))
       go (inr a) = begun-bare a
 
   -- SOME COPIED: their words are gathered
-  module _ (b′ : List ℕ) (at end : ℕ) (t : Size) (ea : at ≡ 512 * sourceIn f) (ee : end ≡ at + 8 * sourceLines f) (gathered : Gathered ws table b b′ at end t) where
-    at-is : at ≡ 512 * (s % 512)
-    at-is = ea ∙ ap (λ (x : Source). 512 * sourceIn x) (q .source)
+  module _ (b′ : List ℕ) (at end : ℕ) (t : Tally) (ea : at ≡ base (powerIn k) (sourceIn f)) (ee : end ≡ at + 8 * sourceLines f) (gathered : Gathered (sizeIn k) ws table b b′ at end t) where
+    at-is : at ≡ base (powerIn k) (s % 512)
+    at-is = ea ∙ ap (λ (x : Source). base (powerIn k) (sourceIn x)) (q .source)
 
-    end-is : end ≡ at + 8 * linesOf 12 ws s
-    end-is = let l = lines-few ws s in let e : sourceLines f ≡ linesOf 12 ws s % 128 = ap sourceLines (q .source) in omega arith
+    end-is : end ≡ at + 8 * linesOf (powerIn k) ws s
+    end-is = let l = lines-few (sizeIn k) ws s in let w = words-most (powerIn k) (power-low (sizeIn k)) (power-high (sizeIn k)) in let v = lines-words (powerIn k) (power-low (sizeIn k)) (power-high (sizeIn k)) in let e : sourceLines f ≡ linesOf (powerIn k) ws s % 2048 = ap sourceLines (q .source) in omega arith
 
     words-are : (bufferPart b′ secondStart (t .words) ≡ encodeAll kept) × (t .entries ≡ length kept)
-    words-are = chunk-gathered n s at end (c .keys) ws table es ok (r .built .indexed) (q .low) (q .high) at-is end-is b b′ t gathered
+    words-are = chunk-gathered (sizeIn k) n s at end (c .keys) ws table es ok (r .built .indexed) (q .low) (q .high) at-is end-is b b′ t gathered
 
-    begun-copies : Copies ws es n s chunk old lines (k .first % soleMark) first f → Begun c k′ f b′ ws table es n s actions
+    begun-copies : Copies (sizeIn k) ws es n s chunk old lines (k .first % soleMark) first f → Begun c k′ f b′ ws table es n s actions
     unfolding keptWords
     begun-copies a = all b′ plan reads fit
       where
         same-words : t .words ≡ f .words
         same-words = sym (length-part b′ secondStart (t .words)) ∙ ap length (words-are .0) ∙ sym (a .words)
 
-        written : bufferPart b′ secondStart (min (f .words) batchRoom) ≡ encodeAll kept
-        written = ap (bufferPart b′ secondStart) (let h = q .room in let e = same-words in let z : min (f .words) batchRoom ≡ t .words = omega arith in z) ∙ words-are .0
+        written : bufferPart b′ secondStart (min (f .words) secondRoom) ≡ encodeAll kept
+        written = ap (bufferPart b′ secondStart) (let h = q .room in let w = words-most (powerIn k) (power-low (sizeIn k)) (power-high (sizeIn k)) in let e = same-words in let z : min (f .words) secondRoom ≡ t .words = omega arith in z) ∙ words-are .0
 
-        k-is : k′ ≡ copyingTo k chunk (getD ws (directoryWord chunk) 0) (linesOf 12 ws chunk) first (k .least) f
+        k-is : k′ ≡ copyingTo k chunk (getD ws (directoryWord chunk) 0) (linesOf (powerIn k) ws chunk) first (k .least) f
         k-is = rw (a .old-is, a .lines-is)
 
         plain : first < soleMark
         plain = let h = a .below in omega arith
 
-        below : NoneBelow (chunksIn 12 (k .image)) ws first (k .least)
+        below : NoneBelow (powerIn k) (chunksIn (powerIn k) (k .image)) ws first (k .least)
         below d l u m = r .hint .below d l (let h = a .below in omega arith) m
 
-        acts-are : cleanActions k′ g b′ ≡ appendTo 12 ws (encodeAll kept) chunk ++ free s ws
+        acts-are : cleanActions k′ g b′ ≡ appendTo (powerIn k) ws (encodeAll kept) chunk ++ free s ws
         acts-are =
             ap (λ (x : Setup). cleanActions x g b′) k-is
             ∙ copies-acts c k b ws table r s (q .low) (q .high) (f .words) (f .entries) (q .room) b′ (gathered .area .above) f (a .log) (a .some-kept) written chunk (a .found) first (k .least) below (a .under) plain
@@ -155,8 +156,8 @@ module _ (c : Control) (k : Setup) (b ws table : List ℕ) (r : RestFits (record
             subst (λ (x : Setup). Reads (record { control = cleaning c; setup = x; buffer = b′ }) (cleanOlds x g) (cleanActions x g b′) ws table) (sym k-is)
             (copies-reads c k b ws table r s (q .low) (q .high) (f .words) (f .entries) (q .room) b′ (gathered .area .above) f (a .log) (a .some-kept) written chunk (a .found) first (k .least) below (a .under) plain)
 
-        plan : planClean 12 n ws es [] s ≡ Begin [] (Cleaning (f .entries) (cleanOlds k′ g)) (cleanActions k′ g b′)
-        plan = rw (acts-are, olds-are, a .entries) (plan-copies n ws es s (q .low) (q .high) (q .used) (a .log) (a .some-kept) chunk (a .found))
+        plan : planClean (powerIn k) n ws es [] s ≡ Begin [] (Cleaning (f .entries) (cleanOlds k′ g)) (cleanActions k′ g b′)
+        plan = rw (acts-are, olds-are, a .entries) (plan-copies (sizeIn k) n ws es s (q .low) (q .high) (q .used) (a .log) (a .some-kept) chunk (a .found))
 
         fit : CleanFits (cleaning c) k′ g b′ ws table (nth (cleanActions k′ g b′) 0 ∷ drop 1 (cleanActions k′ g b′))
         fit = rw k-is (copies-fit c k b ws table r s (q .low) (q .high) (f .words) (f .entries) (q .room) b′ (gathered .area .above) f (a .log) (a .some-kept) written chunk (a .found) first (k .least) below (a .under) plain)
@@ -165,6 +166,6 @@ module _ (c : Control) (k : Setup) (b ws table : List ℕ) (r : RestFits (record
     pub begins-copies : (f .words ≡ 0 → ⊥) → Begun c k′ f b′ ws table es n s actions
     begins-copies z = go (q .how)
       where
-        go : Copies ws es n s chunk old lines (k .first % soleMark) first f ⊎ Bare ws es s chunk old lines (k .first % soleMark) first f → Begun c k′ f b′ ws table es n s actions
+        go : Copies (sizeIn k) ws es n s chunk old lines (k .first % soleMark) first f ⊎ Bare (sizeIn k) ws es s chunk old lines (k .first % soleMark) first f → Begun c k′ f b′ ws table es n s actions
         go (inl a) = begun-copies a
         go (inr a) = absurd (z (a .words))

@@ -9,7 +9,9 @@ use mathlib.Core.List.{List, [], _∷_, _++_}
 use Prim.Native.Nat.{ℕ, zero, suc, _+_, _-_, _*_, _/_, _%_, _≤_, _<_, min}
 use native.Mathlib.Omega.{arith}
 use lib.ListN.{length, getD, drop, length-append}
-use Rattle.spec.specs.Places.{chunkLines, directoryWord, chunksIn}
+use Rattle.spec.specs.declared.Size.{Size}
+use Rattle.places.specs.Sizes.{powerOf, power-low, power-high}
+use Rattle.spec.specs.Places.{chunkWords, chunkLines, directoryWord, chunksIn}
 use Rattle.spec.specs.Medium.{Action}
 use Rattle.spec.specs.Directory.{isLog, roleAt, linesOf}
 use Rattle.spec.specs.Log.{Entry, encodeAll}
@@ -20,14 +22,15 @@ use Rattle.spec.specs.Plans.{Olds, oldOf, logPlace, appendTo, hasLive, free}
 use Rattle.session.specs.declared.Control.{Control}
 use Rattle.session.specs.declared.Setup.{Setup}
 use Rattle.theory_crash.specs.Accepted.{Ok}
-use Rattle.theory_crash.proofs.Opening.{opens-ok}
+use Rattle.session.proofs.OpensRight.{opens-right}
 use Rattle.theory_crash.proofs.Append.{padding}
 use Rattle.buffer.specs.Bits.{hasBit}
 use Rattle.buffer.proofs.Laws.{bits-agree}
-use Rattle.buffer.specs.Areas.{batchRoom, bitsStart}
-use Rattle.session.specs.State.{sourceIn, keptWords, cleanActions, cleanOlds}
+use Rattle.buffer.specs.Areas.{secondRoom, bitsStart}
+use Rattle.session.specs.State.{sizeIn, powerIn, sourceIn, keptWords, cleanActions, cleanOlds}
 use Rattle.session.specs.Fits.{NoneBelow, soleMark, Built, RestFits, batchPlace, CleanFits, Shown, Reads}
 use Rattle.session.proofs.Kept.{plain-hint, reads-from}
+use Rattle.theory_base.proofs.Places.{words-most, lines-words}
 use Rattle.theory_base.proofs.Through.{Each}
 use Rattle.theory_crash.proofs.Cells.{each-append}
 use Rattle.theory_base.proofs.PutBack.{AreOf, AreLow}
@@ -44,12 +47,12 @@ use Rattle.forward.proofs.Moving.{nothing-kept, moving}
 use Rattle.session.specs.declared.Source.{Source}
 use Rattle.forward.specs.Cleaning.{Ahead}
 use Rattle.actions.specs.Record.{cleaning, copyingTo, sourceOf}
-use Rattle.forward.proofs.Cleaning.{lo, hi, below-ahead, place-small, clean-forward, clean-forward-none, clean-forward-data}
+use Rattle.forward.proofs.Cleaning.{below-ahead, place-small, clean-forward, clean-forward-none, clean-forward-data}
 use Rattle.actions.proofs.Acting.{kept-length, copied-some, copied-none, clean-next}
 
 -- the bits stay where the words behind the second area do
-back-bits : (b b′ : List ℕ) → ((i : ℕ) → bitsStart ≤ i → getD b′ i 0 ≡ getD b i 0) → (u : ℕ) → hasBit b′ u ≡ hasBit b u
-back-bits b b′ back = bits-agree b b′ (λ i l h. back i l)
+back-bits : (size : Size) (b b′ : List ℕ) → ((i : ℕ) → bitsStart ≤ i → getD b′ i 0 ≡ getD b i 0) → (u : ℕ) → hasBit size b′ u ≡ hasBit size b u
+back-bits size b b′ back = bits-agree size b b′ (λ i l h. back i l)
 
 -- entries that are some have words
 some-words : (es : List Entry) → (es ≡ [] → ⊥) → length (encodeAll es) ≡ 0 → ⊥
@@ -57,23 +60,22 @@ some-words [] h e = h refl
 some-words (f ∷ fs) h e = let l = length-append (f .value) (encodeAll fs) in absurd (omega arith)
 
 -- as the code's words, they fit into a chunk
-lines-kept : (words : ℕ) (ws : List ℕ) → words ≤ batchRoom → words ≡ length ws → linesFor (length ws) ≤ chunkLines 12
-unfolding chunkLines
-lines-kept words ws h e = omega arith
+lines-kept : (size : Size) (words : ℕ) (ws : List ℕ) → words ≤ chunkWords (powerOf size) → words ≡ length ws → linesFor (length ws) ≤ chunkLines (powerOf size)
+lines-kept size words ws h e = let w = lines-words (powerOf size) (power-low size) (power-high size) in omega arith
 
-module _ (c : Control) (k : Setup) (b ws table : List ℕ) (r : RestFits (record { control = c; setup = k; buffer = b }) ws table []) (s : ℕ) (low : 1 ≤ s) (high : s < chunksIn 12 (k .image))
-    (words entries : ℕ) (room : words ≤ batchRoom) (b′ : List ℕ) (back : (i : ℕ) → bitsStart ≤ i → getD b′ i 0 ≡ getD b i 0) (g : Source) where
+module _ (c : Control) (k : Setup) (b ws table : List ℕ) (r : RestFits (record { control = c; setup = k; buffer = b }) ws table []) (s : ℕ) (low : 1 ≤ s) (high : s < chunksIn (powerIn k) (k .image))
+    (words entries : ℕ) (room : words ≤ chunkWords (powerIn k)) (b′ : List ℕ) (back : (i : ℕ) → bitsStart ≤ i → getD b′ i 0 ≡ getD b i 0) (g : Source) where
   abbrev es : List Entry
   es = r .entries
 
   abbrev kept : List Entry
-  kept = keptIn 12 s es
+  kept = keptIn (powerIn k) s es
 
   abbrev f : Source
-  f = sourceOf ws s words entries
+  f = sourceOf (sizeIn k) ws s words entries
 
-  ok : Ok 12 (chunksIn 12 (k .image)) ws es
-  ok = opens-ok 12 lo hi (k .image) (k .table) ws es (r .long) (r .accepted) .0
+  ok : Ok (powerIn k) (chunksIn (powerIn k) (k .image)) ws es
+  ok = opens-right (powerIn k) (k .image) (k .table) ws es (r .long) (r .accepted) .0
 
   small : s ≤ 503
   small = let m = ok .most in omega arith
@@ -82,7 +84,7 @@ module _ (c : Control) (k : Setup) (b ws table : List ℕ) (r : RestFits (record
   source-is = let h = small in omega arith
 
   -- with what is ahead, the record fits
-  module _ (chunk old lines first least : ℕ) (in-chunks : chunk ≤ 503) (in-lines : lines ≤ 64) (fits : 8 * lines + words ≤ 512) (counts : (words ≡ length (encodeAll kept)) ⊎ (words ≡ 0)) (d z : ℕ) (below : NoneBelow (chunksIn 12 (k .image)) ws first least) (under : first ≤ d) (plain : first < soleMark) where
+  module _ (chunk old lines first least : ℕ) (in-chunks : chunk ≤ 503) (in-lines : lines ≤ chunkLines (powerIn k)) (fits : 8 * lines + words ≤ chunkWords (powerIn k)) (counts : (words ≡ length (encodeAll kept)) ⊎ (words ≡ 0)) (d z : ℕ) (below : NoneBelow (powerIn k) (chunksIn (powerIn k) (k .image)) ws first least) (under : first ≤ d) (plain : first < soleMark) where
     abbrev k′ : Setup
     k′ = copyingTo k chunk old lines first least g
 
@@ -92,7 +94,7 @@ module _ (c : Control) (k : Setup) (b ws table : List ℕ) (r : RestFits (record
     pub begun-first : drop 0 acts ≡ nth acts 0 ∷ drop 1 acts
     begun-first = clean-next k′ f b′ 0 (omega arith)
 
-    fits-by : (x : Action) (xs : List Action) → Ahead lo hi (k .image) (k .table) s (batchPlace k′) (linesFor words) z d ws (runWords (x ∷ xs) ws) es → CleanFits (cleaning c) k′ f b′ ws table (x ∷ xs)
+    fits-by : (x : Action) (xs : List Action) → Ahead (sizeIn k) (power-low (sizeIn k)) (power-high (sizeIn k)) (k .image) (k .table) s (batchPlace k′) (linesFor words) z d ws (runWords (x ∷ xs) ws) es → CleanFits (cleaning c) k′ f b′ ws table (x ∷ xs)
     fits-by x xs a = record {
       xs = a .xs;
       mid = a .mid;
@@ -102,83 +104,84 @@ module _ (c : Control) (k : Setup) (b ws table : List ℕ) (r : RestFits (record
       chunk = in-chunks;
       lines = in-lines;
       source = small;
-      committed = lines-few ws s;
-      room = room;
-      moves = moving lo hi n s (batchPlace k′) (linesFor words) z ws vs es (a .xs) (a .mid) (a .ys) (a .as′) (a .bs) (a .freed) words chunk lines small in-chunks refl fits (keeps counts);
+      committed = lines-few (sizeIn k) ws s;
+      room = let w = words-most (powerIn k) (power-low (sizeIn k)) (power-high (sizeIn k)) in omega arith;
+      moves = moving (sizeIn k) (power-low (sizeIn k)) (power-high (sizeIn k)) n s (batchPlace k′) (linesFor words) z ws vs es (a .xs) (a .mid) (a .ys) (a .as′) (a .bs) (a .freed) words chunk lines small in-chunks refl fits (keeps counts);
       accepted = a .accepted;
       long = r .long;
       lent = r .lent;
-      cleaned = cleaned lo hi n s (batchPlace k′) (linesFor words) z ws vs es (a .xs) (a .mid) (a .ys) (a .as′) (a .bs) (a .freed);
-      here = stands-here lo hi n s (batchPlace k′) (linesFor words) z ws vs es (a .xs) (a .mid) (a .ys) (a .as′) (a .bs) (a .freed);
-      copied = stands-copied lo hi n s (batchPlace k′) (linesFor words) z ws vs es (a .xs) (a .mid) (a .ys) (a .as′) (a .bs) (a .freed);
-      built = record { indexed = rw (a .freed .parts .whole) at (r .built .indexed); blocks = λ u. back-bits b b′ back u ∙ (rw (a .freed .parts .whole) at (r .built .blocks)) u; sums = summed-same b b′ (before (a .xs) (a .mid) (a .ys)) (λ i l. back i (omega arith)) (rw (a .freed .parts .whole) at (r .built .sums)) };
-      hint = plain-hint n vs first least plain (below-ahead (k .image) (k .table) s (batchPlace k′) (linesFor words) z d ws vs es a first least under below);
+      cleaned = cleaned (sizeIn k) (power-low (sizeIn k)) (power-high (sizeIn k)) n s (batchPlace k′) (linesFor words) z ws vs es (a .xs) (a .mid) (a .ys) (a .as′) (a .bs) (a .freed);
+      here = stands-here (sizeIn k) (power-low (sizeIn k)) (power-high (sizeIn k)) n s (batchPlace k′) (linesFor words) z ws vs es (a .xs) (a .mid) (a .ys) (a .as′) (a .bs) (a .freed);
+      copied = stands-copied (sizeIn k) (power-low (sizeIn k)) (power-high (sizeIn k)) n s (batchPlace k′) (linesFor words) z ws vs es (a .xs) (a .mid) (a .ys) (a .as′) (a .bs) (a .freed);
+      built = record { indexed = rw (a .freed .parts .whole) at (r .built .indexed); blocks = λ u. back-bits (sizeIn k) b b′ back u ∙ (rw (a .freed .parts .whole) at (r .built .blocks)) u; sums = summed-same (sizeIn k) b b′ (before (a .xs) (a .mid) (a .ys)) (λ i l. back i (omega arith)) (rw (a .freed .parts .whole) at (r .built .sums)) };
+      hint = plain-hint (powerIn k) n vs first least plain (below-ahead (sizeIn k) (k .image) (k .table) s (batchPlace k′) (linesFor words) z d ws vs es a first least under below);
     }
       where
         n : ℕ
-        n = chunksIn 12 (k .image)
+        n = chunksIn (powerIn k) (k .image)
 
         vs : List ℕ
         vs = runWords (x ∷ xs) ws
 
         keeps : (words ≡ length (encodeAll kept)) ⊎ (words ≡ 0) → words ≡ length (encodeAll (keptOf (a .xs) (a .mid) (a .ys)))
         keeps (inl e) = e ∙ ap (λ (l : List Entry). length (encodeAll l)) (sym (a .kept))
-        keeps (inr e) = e ∙ sym (nothing-kept lo hi (chunksIn 12 (k .image)) s (batchPlace k′) (linesFor words) z ws (runWords (x ∷ xs) ws) es (a .xs) (a .mid) (a .ys) (a .as′) (a .bs) (a .freed) (omega arith))
+        keeps (inr e) = e ∙ sym (nothing-kept (sizeIn k) (power-low (sizeIn k)) (power-high (sizeIn k)) (chunksIn (powerIn k) (k .image)) s (batchPlace k′) (linesFor words) z ws (runWords (x ∷ xs) ws) es (a .xs) (a .mid) (a .ys) (a .as′) (a .bs) (a .freed) (omega arith))
 
-    fits-all : Ahead lo hi (k .image) (k .table) s (batchPlace k′) (linesFor words) z d ws (runWords acts ws) es → CleanFits (cleaning c) k′ f b′ ws table (nth acts 0 ∷ drop 1 acts)
-    fits-all a = fits-by (nth acts 0) (drop 1 acts) (subst (λ (l : List Action). Ahead lo hi (k .image) (k .table) s (batchPlace k′) (linesFor words) z d ws (runWords l ws) es) begun-first a)
+    fits-all : Ahead (sizeIn k) (power-low (sizeIn k)) (power-high (sizeIn k)) (k .image) (k .table) s (batchPlace k′) (linesFor words) z d ws (runWords acts ws) es → CleanFits (cleaning c) k′ f b′ ws table (nth acts 0 ∷ drop 1 acts)
+    fits-all a = fits-by (nth acts 0) (drop 1 acts) (subst (λ (l : List Action). Ahead (sizeIn k) (power-low (sizeIn k)) (power-high (sizeIn k)) (k .image) (k .table) s (batchPlace k′) (linesFor words) z d ws (runWords l ws) es) begun-first a)
 
   -- WHAT LOOK-UP READS, by the actions
-  built-then : Built (cleaning c) b′ table es
-  built-then = record { indexed = r .built .indexed; blocks = λ u. back-bits b b′ back u ∙ r .built .blocks u; sums = summed-same b b′ es (λ i l. back i (omega arith)) (r .built .sums) }
+  built-then : Built (cleaning c) (sizeIn k) b′ table es
+  built-then = record { indexed = r .built .indexed; blocks = λ u. back-bits (sizeIn k) b b′ back u ∙ r .built .blocks u; sums = summed-same (sizeIn k) b b′ es (λ i l. back i (omega arith)) (r .built .sums) }
 
-  reads-by : (k′ : Setup) → k′ .image ≡ k .image → k′ .table ≡ k .table → (olds olds′ : Olds) → olds′ ≡ olds → (acts acts′ : List Action) → acts′ ≡ acts → AreOf ws olds → AreLow olds
-      → Each (Shy 12 lo hi (chunksIn 12 (k .image)) ws es (begin-ok (k .image) (k .table) ws es (r .accepted) (r .long)) olds) acts → Reads (record { control = cleaning c; setup = k′; buffer = b′ }) olds′ acts′ ws table
-  reads-by k′ ei et olds olds′ eo acts acts′ ea of below shy =
-      reads-from (record { control = cleaning c; setup = k′; buffer = b′ }) olds′ es acts′ ws table (rw eo below) (rw ei (r .long))
-      (subst (λ (x : ℕ). Shown x (k′ .table) olds′ es acts′ ws) (sym ei) (subst (λ (y : ℕ). Shown (k .image) y olds′ es acts′ ws) (sym et)
-      (subst (λ (o : Olds). Shown (k .image) (k .table) o es acts′ ws) (sym eo) (subst (λ (l : List Action). Shown (k .image) (k .table) olds es l ws) (sym ea)
-      (shown-by (k .image) (k .table) ws es (r .accepted) (r .long) olds acts of shy))))) built-then
+  reads-by : (chunk old lines first least : ℕ) (olds olds′ : Olds) → olds′ ≡ olds → (acts acts′ : List Action) → acts′ ≡ acts → AreOf ws olds → AreLow olds
+      → Each (Shy (powerIn k) (power-low (sizeIn k)) (power-high (sizeIn k)) (chunksIn (powerIn k) (k .image)) ws es (begin-ok (sizeIn k) (k .image) (k .table) ws es (r .accepted) (r .long)) olds) acts
+      → Reads (record { control = cleaning c; setup = copyingTo k chunk old lines first least g; buffer = b′ }) olds′ acts′ ws table
+  reads-by chunk old lines first least olds olds′ eo acts acts′ ea of below shy =
+      reads-from (record { control = cleaning c; setup = copyingTo k chunk old lines first least g; buffer = b′ }) olds′ es acts′ ws table (rw eo below) (r .long)
+      (subst (λ (o : Olds). Shown (powerIn k) (k .image) (k .table) o es acts′ ws) (sym eo) (subst (λ (l : List Action). Shown (powerIn k) (k .image) (k .table) olds es l ws) (sym ea)
+      (shown-by (sizeIn k) (k .image) (k .table) ws es (r .accepted) (r .long) olds acts of shy))) built-then
 
   -- SOME COPIED, to chunk d
-  module _ (log : isLog (roleAt 12 ws s) ≡ true) (some-kept : kept ≡ [] → ⊥) (written : keptWords words b′ ≡ encodeAll kept) (d : ℕ)
-      (found : logPlace 12 (chunksIn 12 (k .image)) ws (linesFor (length (encodeAll kept))) s 1 ≡ some d) (first least : ℕ) (below : NoneBelow (chunksIn 12 (k .image)) ws first least) (under : first ≤ d) (plain : first < soleMark) where
+  module _ (log : isLog (roleAt (powerIn k) ws s) ≡ true) (some-kept : kept ≡ [] → ⊥) (written : keptWords words b′ ≡ encodeAll kept) (d : ℕ)
+      (found : logPlace (powerIn k) (chunksIn (powerIn k) (k .image)) ws (linesFor (length (encodeAll kept))) s 1 ≡ some d) (first least : ℕ) (below : NoneBelow (powerIn k) (chunksIn (powerIn k) (k .image)) ws first least) (under : first ≤ d) (plain : first < soleMark) where
     abbrev old : ℕ
     old = getD ws (directoryWord d) 0
 
     abbrev lines : ℕ
-    lines = linesOf 12 ws d
+    lines = linesOf (powerIn k) ws d
 
     abbrev k-copies : Setup
     k-copies = copyingTo k d old lines first least g
 
     in-chunks : d ≤ 503
-    in-chunks = place-small (k .image) (k .table) ws es (r .accepted) (r .long) s 0 low high d found
+    in-chunks = place-small (sizeIn k) (k .image) (k .table) ws es (r .accepted) (r .long) s 0 low high d found
 
     counted : words ≡ length (encodeAll kept)
-    counted = (let q : words ≡ min words batchRoom = omega arith in q) ∙ sym (kept-length words b′) ∙ ap length written
+    counted = (let w = words-most (powerIn k) (power-low (sizeIn k)) (power-high (sizeIn k)) in let q : words ≡ min words secondRoom = omega arith in q) ∙ sym (kept-length words b′) ∙ ap length written
 
-    pub copies-acts : cleanActions k-copies f b′ ≡ appendTo 12 ws (encodeAll kept) d ++ free s ws
+    pub copies-acts : cleanActions k-copies f b′ ≡ appendTo (powerIn k) ws (encodeAll kept) d ++ free s ws
     unfolding cleanActions
     copies-acts =
-        rw (copied-some k-copies words b′ (λ e. some-words kept some-kept (sym counted ∙ e)), source-is, chunk-in k-copies in-chunks, lines-in k-copies (lines-few ws d), written)
+        rw (copied-some k-copies words b′ (λ e. some-words kept some-kept (sym counted ∙ e)), source-is, chunk-in k-copies in-chunks, lines-in k-copies (lines-few (sizeIn k) ws d), written)
 
     -- there is space for them
-    space : 8 * linesOf 12 ws d + words ≤ 512
-    unfolding chunkLines
+    space : 8 * linesOf (powerIn k) ws d + words ≤ chunkWords (powerIn k)
     space =
-        let p = log-place 12 (chunksIn 12 (k .image)) ws (linesFor (length (encodeAll kept))) s 1 d (let q = counted in omega arith) found .0 .fit in
+        let p = log-place (powerIn k) (chunksIn (powerIn k) (k .image)) ws (linesFor (length (encodeAll kept))) s 1 d (lines-kept (sizeIn k) words (encodeAll kept) room counted) found .0 .fit in
         let q = counted in
+        let w = lines-words (powerIn k) (power-low (sizeIn k)) (power-high (sizeIn k)) in
         omega arith
 
     pub copies-fit : CleanFits (cleaning c) k-copies f b′ ws table (nth (cleanActions k-copies f b′) 0 ∷ drop 1 (cleanActions k-copies f b′))
     copies-fit =
-        fits-all d old lines first least in-chunks (lines-few ws d) space (inl counted) d (padding kept) below under plain
-        (rw (copies-acts, counted) (clean-forward (k .image) (k .table) ws es (r .accepted) (r .long) s (getD ws (directoryWord s) 0) low high log d old some-kept found))
+        fits-all d old lines first least in-chunks (lines-few (sizeIn k) ws d) space (inl counted) d (padding kept) below under plain
+        (rw (copies-acts, counted) (clean-forward (sizeIn k) (k .image) (k .table) ws es (r .accepted) (r .long) s (getD ws (directoryWord s) 0) low high log d old some-kept found))
 
     pub copies-olds : cleanOlds k-copies f ≡ oldOf ws d ∷ oldOf ws s ∷ []
     copies-olds =
-        let z : min words batchRoom ≡ words = omega arith in
+        let w = words-most (powerIn k) (power-low (sizeIn k)) (power-high (sizeIn k)) in
+        let z : min words secondRoom ≡ words = omega arith in
         rw (z, ne-eqb words 0 (λ e. some-words kept some-kept (sym counted ∙ e)), chunk-in k-copies in-chunks, source-is)
 
     pub copies-reads : Reads (record { control = cleaning c; setup = k-copies; buffer = b′ }) (cleanOlds k-copies f) (cleanActions k-copies f b′) ws table
@@ -187,14 +190,14 @@ module _ (c : Control) (k : Setup) (b ws table : List ℕ) (r : RestFits (record
         let a = in-chunks in
         let o = small in
         let below : AreLow olds = (omega arith, (omega arith, tt)) in
-        let p = log-place 12 (chunksIn 12 (k .image)) ws (linesFor (length (encodeAll kept))) s 1 d (lines-kept words (encodeAll kept) room counted) found .0 in
-        let e = begin-ok (k .image) (k .table) ws es (r .accepted) (r .long) in
-        reads-by k-copies refl refl olds (cleanOlds k-copies f) copies-olds (appendTo 12 ws (encodeAll kept) d ++ free s ws) (cleanActions k-copies f b′) copies-acts (refl, (refl, tt)) below
-        (each-append (Shy 12 lo hi (chunksIn 12 (k .image)) ws es e olds) (appendTo 12 ws (encodeAll kept) d) (free s ws)
-        (append-shy 12 lo hi (chunksIn 12 (k .image)) ws es e olds below d old (encodeAll kept) p (inl refl)) (seal-shy 12 lo hi (chunksIn 12 (k .image)) ws es e olds below s _ (inr (inl refl))))
+        let p = log-place (powerIn k) (chunksIn (powerIn k) (k .image)) ws (linesFor (length (encodeAll kept))) s 1 d (lines-kept (sizeIn k) words (encodeAll kept) room counted) found .0 in
+        let e = begin-ok (sizeIn k) (k .image) (k .table) ws es (r .accepted) (r .long) in
+        reads-by d old lines first least olds (cleanOlds k-copies f) copies-olds (appendTo (powerIn k) ws (encodeAll kept) d ++ free s ws) (cleanActions k-copies f b′) copies-acts (refl, (refl, tt)) below
+        (each-append (Shy (powerIn k) (power-low (sizeIn k)) (power-high (sizeIn k)) (chunksIn (powerIn k) (k .image)) ws es e olds) (appendTo (powerIn k) ws (encodeAll kept) d) (free s ws)
+        (append-shy (powerIn k) (power-low (sizeIn k)) (power-high (sizeIn k)) (chunksIn (powerIn k) (k .image)) ws es e olds below d old (encodeAll kept) p (inl refl)) (seal-shy (powerIn k) (power-low (sizeIn k)) (power-high (sizeIn k)) (chunksIn (powerIn k) (k .image)) ws es e olds below s _ (inr (inl refl))))
 
   -- NOTHING COPIED
-  module _ (none : words ≡ 0) (chunk old lines : ℕ) (in-chunks : chunk ≤ 503) (in-lines : lines ≤ 64) where
+  module _ (none : words ≡ 0) (chunk old lines : ℕ) (in-chunks : chunk ≤ 503) (in-lines : lines ≤ chunkLines (powerIn k)) where
     abbrev k-none : Setup
     k-none = copyingTo k chunk old lines (k .first % soleMark) (k .least) g
 
@@ -209,17 +212,17 @@ module _ (c : Control) (k : Setup) (b ws table : List ℕ) (r : RestFits (record
     none-reads =
         let o = small in
         let below : AreLow (oldOf ws s ∷ []) = (omega arith, tt) in
-        reads-by k-none refl refl (oldOf ws s ∷ []) (cleanOlds k-none f) none-olds (free s ws) (cleanActions k-none f b′) none-acts (refl, tt) below
-        (seal-shy 12 lo hi (chunksIn 12 (k .image)) ws es (begin-ok (k .image) (k .table) ws es (r .accepted) (r .long)) (oldOf ws s ∷ []) below s _ (inl refl))
+        reads-by chunk old lines (k .first % soleMark) (k .least) (oldOf ws s ∷ []) (cleanOlds k-none f) none-olds (free s ws) (cleanActions k-none f b′) none-acts (refl, tt) below
+        (seal-shy (powerIn k) (power-low (sizeIn k)) (power-high (sizeIn k)) (chunksIn (powerIn k) (k .image)) ws es (begin-ok (sizeIn k) (k .image) (k .table) ws es (r .accepted) (r .long)) (oldOf ws s ∷ []) below s _ (inl refl))
 
-    freed-fits : Ahead lo hi (k .image) (k .table) s (batchPlace k-none) 0 0 (k .first % soleMark) ws (runWords (free s ws) ws) es
+    freed-fits : Ahead (sizeIn k) (power-low (sizeIn k)) (power-high (sizeIn k)) (k .image) (k .table) s (batchPlace k-none) 0 0 (k .first % soleMark) ws (runWords (free s ws) ws) es
         → CleanFits (cleaning c) k-none f b′ ws table (nth (cleanActions k-none f b′) 0 ∷ drop 1 (cleanActions k-none f b′))
-    freed-fits a = fits-all chunk old lines (k .first % soleMark) (k .least) in-chunks in-lines (omega arith) (inr none) (k .first % soleMark) 0 (r .hint .below) (omega arith) (omega arith) (rw (none-acts, none) a)
+    freed-fits a = fits-all chunk old lines (k .first % soleMark) (k .least) in-chunks in-lines (let w = lines-words (powerIn k) (power-low (sizeIn k)) (power-high (sizeIn k)) in omega arith) (inr none) (k .first % soleMark) 0 (r .hint .below) (omega arith) (omega arith) (rw (none-acts, none) a)
 
     -- a log chunk of which nothing is kept
-    pub none-fits : isLog (roleAt 12 ws s) ≡ true → kept ≡ [] → CleanFits (cleaning c) k-none f b′ ws table (nth (cleanActions k-none f b′) 0 ∷ drop 1 (cleanActions k-none f b′))
-    none-fits log e = freed-fits (clean-forward-none (k .image) (k .table) ws es (r .accepted) (r .long) s (getD ws (directoryWord s) 0) low high log (batchPlace k-none) (k .first % soleMark) e)
+    pub none-fits : isLog (roleAt (powerIn k) ws s) ≡ true → kept ≡ [] → CleanFits (cleaning c) k-none f b′ ws table (nth (cleanActions k-none f b′) 0 ∷ drop 1 (cleanActions k-none f b′))
+    none-fits log e = freed-fits (clean-forward-none (sizeIn k) (k .image) (k .table) ws es (r .accepted) (r .long) s (getD ws (directoryWord s) 0) low high log (batchPlace k-none) (k .first % soleMark) e)
 
     -- a data chunk with no live block
-    pub data-fits : isLog (roleAt 12 ws s) ≡ false → hasLive 12 es s ≡ false → CleanFits (cleaning c) k-none f b′ ws table (nth (cleanActions k-none f b′) 0 ∷ drop 1 (cleanActions k-none f b′))
-    data-fits log e = freed-fits (clean-forward-data (k .image) (k .table) ws es (r .accepted) (r .long) s (getD ws (directoryWord s) 0) low high log (batchPlace k-none) (k .first % soleMark) e)
+    pub data-fits : isLog (roleAt (powerIn k) ws s) ≡ false → hasLive (powerIn k) es s ≡ false → CleanFits (cleaning c) k-none f b′ ws table (nth (cleanActions k-none f b′) 0 ∷ drop 1 (cleanActions k-none f b′))
+    data-fits log e = freed-fits (clean-forward-data (sizeIn k) (k .image) (k .table) ws es (r .accepted) (r .long) s (getD ws (directoryWord s) 0) low high log (batchPlace k-none) (k .first % soleMark) e)

@@ -1,21 +1,24 @@
 // Plan and begin of a cleaning. The plan changes neither record, image nor key table: it is a refusal, or the words
 // that are kept, the place of their copies and how many actions there are. The begin stores these words in the record.
 ghost use mathlib.Core.Path.{_≡_};
-ghost use Prim.Native.Nat.{_%_};
+ghost use Prim.Native.Nat.{_%_, _≤_};
+ghost use lib.ListN.{length};
+ghost use Rattle.spec.specs.declared.Size.the-variants as S;
 ghost use Rattle.spec.specs.Words.{wordsOf};
-ghost use Rattle.spec.specs.Places.{firstUnit};
+ghost use Rattle.spec.specs.Places.{chunkWords, chunkUnits, firstUnit};
+ghost use Rattle.places.specs.Sizes.{powerOf};
+ghost use Rattle.buffer.specs.Areas.{secondRoom};
+ghost use Rattle.session.specs.State.{sizeIn, powerIn};
 ghost use Rattle.spec.specs.Plans.{logPlace};
 ghost use Rattle.placing.specs.Found.{placeOf};
 ghost use Rattle.cleaning.specs.Plans.{anyBit, LogPlanned, DataPlanned, CleanPlanned};
 ghost use Rattle.spec.specs.Machine.{Clean};
 ghost use Rattle.cleaning.specs.Outsets.{KeptStored, Outsets};
 ghost use Rattle.session.specs.Promise.{Does, memoryOf};
-use buffer::BATCH_WORDS;
 use buffer::Buffer;
 use codec::Unit;
 use directory::Found;
 use directory::lines_of;
-use gathering::Kept;
 use placing::lines::Place;
 use session::Control;
 use session::Gated;
@@ -24,6 +27,7 @@ use session::Setup;
 use session::Source;
 use spec::Refusal;
 use spec::Report;
+use spec::Size;
 
 // A cleaning's begin: turned down, or where its copies go (chunk, its directory word, its committed lines), where the
 // next commit looks for space, what the record is to hold of the cleaned chunk, and the number of actions.
@@ -41,16 +45,16 @@ pub enum CleanPlan {
 
 // WHERE THE COPIES GO
 // The place for so many lines of copies: the first log chunk other than x with space, else the first free chunk.
-fn copy_place(image: &[u8], count: usize, lines: usize, x: usize) -> Place
-    ensures { λ r. ⌜ r ≡ placeOf (wordsOf (now (image .entry))) (logPlace 12 count (wordsOf (now (image .entry))) lines x 1) ⌝ }
+fn copy_place(image: &[u8], count: usize, lines: usize, x: usize, size: Size) -> Place
+    ensures { λ r. ⌜ r ≡ placeOf (powerOf size) (wordsOf (now (image .entry))) (logPlace (powerOf size) count (wordsOf (now (image .entry))) lines x 1) ⌝ }
 {
-    let next = placing::lines::next_chunk(image, 1, count, lines, x);
+    let next = placing::lines::next_chunk(image, 1, count, lines, x, size);
     if next < count {
-        return placing::lines::place_at(image, next);
+        return placing::lines::place_at(image, next, size);
     }
-    let free = directory::free_chunk(image, count, 1);
+    let free = directory::free_chunk(image, count, 1, size);
     match free {
-        Found::At(c) => placing::lines::place_at(image, c),
+        Found::At(c) => placing::lines::place_at(image, c, size),
         Found::Nothing => Place {
             found: false,
             chunk: 0,
@@ -61,12 +65,13 @@ fn copy_place(image: &[u8], count: usize, lines: usize, x: usize) -> Place
 }
 
 // Whether a block of the chunk is in use.
-fn has_live(buffer: &Buffer, chunk: usize) -> bool
-    ensures { λ r. ⌜ r ≡ anyBit (now (buffer .entry)) (firstUnit 12 (chunk % 512)) 16 ⌝ }
+fn has_live(buffer: &Buffer, chunk: usize, size: Size) -> bool
+    ensures { λ r. ⌜ r ≡ anyBit size (now (buffer .entry)) (firstUnit (powerOf size) (chunk % 512)) (chunkUnits (powerOf size)) ⌝ }
 {
+    let units = places::units(size);
     let mut i = 0;
-    while i < 16 {
-        if buffer::has_bit(buffer, Unit::of(chunk % 512, i)) {
+    while i < units {
+        if buffer::has_bit(buffer, Unit::of(size, chunk % 512, i), size) {
             return true;
         }
         i += 1;
@@ -78,18 +83,20 @@ fn has_live(buffer: &Buffer, chunk: usize) -> bool
 fn plan_log(
     image: &[u8],
     table: &[u64],
-    kept: &mut Kept,
+    kept: &mut [u64],
     count: usize,
     chunk: usize,
     first: usize,
+    size: Size,
 ) -> CleanPlan
-    ensures { λ r. ⌜ LogPlanned (wordsOf (now (image .entry))) (now (table .entry)) (now (kept .exit)) count chunk first r ⌝ }
+    requires { ⌜ length (now kept) ≡ chunkWords (powerOf size) ⌝ }
+    ensures { λ r. ⌜ LogPlanned size (wordsOf (now (image .entry))) (now (table .entry)) (now (kept .exit)) count chunk first r ⌝ }
 {
     let old = directory::directory_word(image, chunk);
-    let lines = lines_of(image, chunk);
-    let at = 512 * (chunk % 512);
+    let lines = lines_of(image, chunk, size);
+    let at = places::first_word(size, chunk % 512);
     let end = at + 8 * lines;
-    let tally = gathering::gather(image, table, kept, at, end);
+    let tally = gathering::gather(image, table, kept, at, end, size);
     let words = tally.words;
     let source = Source {
         chunk,
@@ -108,7 +115,7 @@ fn plan_log(
             actions: 3,
         };
     }
-    let place = copy_place(image, count, (words + 7) / 8, chunk);
+    let place = copy_place(image, count, (words + 7) / 8, chunk, size);
     if place.found {
         let actions = actions::clean::clean_count(words);
         let low = words::lesser(first, place.chunk);
@@ -125,14 +132,14 @@ fn plan_log(
 }
 
 // of a chunk that is no log chunk: it is only freed
-fn plan_data(buffer: &Buffer, image: &[u8], chunk: usize, first: usize) -> CleanPlan
-    ensures { λ r. ⌜ DataPlanned (wordsOf (now (image .entry))) (now (buffer .entry)) chunk first r ⌝ }
+fn plan_data(buffer: &Buffer, image: &[u8], chunk: usize, first: usize, size: Size) -> CleanPlan
+    ensures { λ r. ⌜ DataPlanned size (wordsOf (now (image .entry))) (now (buffer .entry)) chunk first r ⌝ }
 {
-    if has_live(buffer, chunk) {
+    if has_live(buffer, chunk, size) {
         return CleanPlan::Refused(Refusal::NotCleanable);
     }
     let old = directory::directory_word(image, chunk);
-    let lines = lines_of(image, chunk);
+    let lines = lines_of(image, chunk, size);
     let source = Source {
         chunk,
         old,
@@ -157,32 +164,35 @@ pub fn plan_clean(
     buffer: &Buffer,
     image: &[u8],
     table: &[u64],
-    kept: &mut Kept,
+    kept: &mut [u64],
     chunk: usize,
 ) -> CleanPlan
+    requires { ⌜ length (now kept) ≡ chunkWords (powerIn setup) ⌝ }
     ensures { λ r. ⌜ CleanPlanned control setup (now (buffer .entry)) (now (image .entry)) (now (table .entry)) (now (kept .exit)) chunk r ⌝ }
 {
     if control.items == 0 {
-        let count = image.len() / 4096;
+        let size = places::size_by(setup.power);
+        let count = places::chunks_in(size, image.len());
         if chunk == 0 {
             return CleanPlan::Refused(Refusal::NotCleanable);
         }
         if count <= chunk {
             return CleanPlan::Refused(Refusal::NotCleanable);
         }
-        if directory::is_free(image, chunk) {
+        if directory::is_free(image, chunk, size) {
             return CleanPlan::Refused(Refusal::NotCleanable);
         }
-        if lines_of(image, chunk) == 0 {
-            return plan_data(buffer, image, chunk, setup.first % 512);
+        if lines_of(image, chunk, size) == 0 {
+            return plan_data(buffer, image, chunk, setup.first % 512, size);
         }
-        return plan_log(image, table, kept, count, chunk, setup.first % 512);
+        return plan_log(image, table, kept, count, chunk, setup.first % 512, size);
     }
     CleanPlan::Refused(Refusal::BatchStaged)
 }
 
 // The kept words go to the buffer's second area, if there are any.
-fn store_kept(source: Source, buffer: &mut Buffer, kept: &Kept)
+fn store_kept(source: Source, buffer: &mut Buffer, kept: &[u64])
+    requires { ⌜ length (now kept) ≤ secondRoom ⌝ }
     ensures { λ _. ⌜ KeptStored source (now (kept .entry)) (now (buffer .entry)) (now (buffer .exit)) ⌝ }
 {
     buffer::buffer_length(buffer);
@@ -190,23 +200,24 @@ fn store_kept(source: Source, buffer: &mut Buffer, kept: &Kept)
     if words == 0 {
         return;
     }
-    let n = words::lesser(words, BATCH_WORDS);
+    let n = words::lesser(words, kept.len());
     gathering::store_kept(buffer, kept, n);
 }
 
-// Behind the gate: 15, 16, 13, or begun.
-fn begin_clean(
+// Behind the gate: 15, 16, 13, or begun. What is kept goes through words of the caller's.
+fn begin_with(
     control: Control,
     setup: Setup,
     buffer: &mut Buffer,
     image: &[u8],
     table: &[u64],
+    kept: &mut [u64],
     number: usize,
 ) -> Outcome
+    requires { ⌜ length (now kept) ≡ chunkWords (powerIn setup) ⌝ }
     ensures { λ r. ⌜ Outsets control (r .control) setup (r .setup) (now (buffer .entry)) (now (buffer .exit)) (now (image .entry)) (now (table .entry)) number (r .report) ⌝ }
 {
-    let mut kept: Kept = [0; BATCH_WORDS];
-    let plan = plan_clean(control, setup, buffer, image, table, &mut kept, number);
+    let plan = plan_clean(control, setup, buffer, image, table, kept, number);
     match plan {
         CleanPlan::Refused(n) => Outcome {
             control,
@@ -221,7 +232,7 @@ fn begin_clean(
             source,
             actions,
         } => {
-            store_kept(source, buffer, &kept);
+            store_kept(source, buffer, kept);
             let begun = session::in_phase(control, session::CLEANING, 0);
             let target = session::append_setup(
                 setup,
@@ -238,6 +249,54 @@ fn begin_clean(
                 report: Report::Begun(actions),
             }
         }
+    }
+}
+
+// The same with as many words as a chunk has.
+fn small_begin(
+    control: Control,
+    setup: Setup,
+    buffer: &mut Buffer,
+    image: &[u8],
+    table: &[u64],
+    number: usize,
+) -> Outcome
+    requires { ⌜ sizeIn setup ≡ S.Small ⌝ }
+    ensures { λ r. ⌜ Outsets control (r .control) setup (r .setup) (now (buffer .entry)) (now (buffer .exit)) (now (image .entry)) (now (table .entry)) number (r .report) ⌝ }
+{
+    let mut kept: [u64; 512] = [0; 512];
+    begin_with(control, setup, buffer, image, table, &mut kept, number)
+}
+
+fn large_begin(
+    control: Control,
+    setup: Setup,
+    buffer: &mut Buffer,
+    image: &[u8],
+    table: &[u64],
+    number: usize,
+) -> Outcome
+    requires { ⌜ sizeIn setup ≡ S.Large ⌝ }
+    ensures { λ r. ⌜ Outsets control (r .control) setup (r .setup) (now (buffer .entry)) (now (buffer .exit)) (now (image .entry)) (now (table .entry)) number (r .report) ⌝ }
+{
+    let mut kept: [u64; 8192] = [0; 8192];
+    begin_with(control, setup, buffer, image, table, &mut kept, number)
+}
+
+fn begin_clean(
+    control: Control,
+    setup: Setup,
+    buffer: &mut Buffer,
+    image: &[u8],
+    table: &[u64],
+    number: usize,
+) -> Outcome
+    ensures { λ r. ⌜ Outsets control (r .control) setup (r .setup) (now (buffer .entry)) (now (buffer .exit)) (now (image .entry)) (now (table .entry)) number (r .report) ⌝ }
+{
+    let size = places::size_by(setup.power);
+    match size {
+        Size::Small => small_begin(control, setup, buffer, image, table, number),
+        Size::Large => large_begin(control, setup, buffer, image, table, number),
     }
 }
 

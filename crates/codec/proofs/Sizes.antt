@@ -1,5 +1,6 @@
--- Block sizes of chunks of 4,096 bytes: the table from needed units to block size, and that each entry is the smallest
--- size that fits.
+-- Block sizes: the tables from needed units to block size, of small chunks and of large ones. That an entry is the size
+-- of the two divisions, and of the small table that it is the smallest that fits, is shown by a computed test of each;
+-- for every chunk power `theory_base` shows the latter of the two divisions.
 -- Assumes nothing.
 use mathlib.Core.Path.{_≡_, refl, sym, _∙_, ap}
 use mathlib.Core.Bool.{Bool, true, false}
@@ -13,12 +14,12 @@ use lib.ListN.{length, getD}
 use Rattle.spec.specs.Basics.{pick, both, either, all, upFrom}
 use Rattle.spec.specs.Places.{chunkUnits}
 use Rattle.spec.specs.Directory.{sizeFor, isSize}
-use Rattle.spec.specs.Blocks.{unitsFor, blockSize}
+use Rattle.spec.specs.Blocks.{blockLimit, unitsFor, blockSize}
 use Rattle.codec.proofs.Table.{eachFrom, at, below, both-left, both-right}
 
--- the block size for so many units, 0 to 16
-abbrev pub blockSizes : List ℕ
-blockSizes = 0 ∷ 0 ∷ 2 ∷ 3 ∷ 4 ∷ 5 ∷ 8 ∷ 8 ∷ 8 ∷ 16 ∷ 16 ∷ 16 ∷ 16 ∷ 16 ∷ 16 ∷ 16 ∷ 16 ∷ []
+-- SMALL CHUNKS: the block size for so many units, 0 to 16
+abbrev pub smallSizes : List ℕ
+smallSizes = 0 ∷ 0 ∷ 2 ∷ 3 ∷ 4 ∷ 5 ∷ 8 ∷ 8 ∷ 8 ∷ 16 ∷ 16 ∷ 16 ∷ 16 ∷ 16 ∷ 16 ∷ 16 ∷ 16 ∷ []
 
 -- x is the smallest size that holds k units: it is one, and every size that holds them is at least x
 abbrev smallest : ℕ → ℕ → Bool
@@ -28,7 +29,7 @@ smallest k x = both (isSize 12 x) (both (leb k x) (all (λ s. pick (both (isSize
 right : ℕ → ℕ → Bool
 right k x = pick (leb 2 k) (both (eqb x (sizeFor 12 k)) (smallest k x)) (eqb x 0)
 
-tested : T (eachFrom right 0 blockSizes)
+tested : T (eachFrom right 0 smallSizes)
 unfolding right isSize sizeFor chunkUnits
 tested = tt
 
@@ -69,31 +70,28 @@ smallest-of u x t = record { isOne = T-true (isSize 12 x) (both-left (isSize 12 
 
 -- every entry, from its test
 module _ (u : ℕ) (low : 2 ≤ u) (high : u ≤ 16) where
-  entry : T (both (eqb (getD blockSizes u 0) (sizeFor 12 u)) (smallest u (getD blockSizes u 0)))
+  entry : T (both (eqb (getD smallSizes u 0) (sizeFor 12 u)) (smallest u (getD smallSizes u 0)))
   unfolding right
-  entry = rw (le-leb 2 u low) at (at right blockSizes tested u (omega arith))
+  entry = rw (le-leb 2 u low) at (at right smallSizes tested u (omega arith))
 
-  pub size-entry : getD blockSizes u 0 ≡ sizeFor 12 u
-  size-entry = eqb→eq (getD blockSizes u 0) (sizeFor 12 u) (both-left (eqb (getD blockSizes u 0) (sizeFor 12 u)) (smallest u (getD blockSizes u 0)) entry)
+  pub size-entry : getD smallSizes u 0 ≡ sizeFor 12 u
+  size-entry = eqb→eq (getD smallSizes u 0) (sizeFor 12 u) (both-left (eqb (getD smallSizes u 0) (sizeFor 12 u)) (smallest u (getD smallSizes u 0)) entry)
 
   pub size-smallest : Smallest 12 u (sizeFor 12 u)
-  size-smallest = rw size-entry at (smallest-of u (getD blockSizes u 0) (both-right (eqb (getD blockSizes u 0) (sizeFor 12 u)) (smallest u (getD blockSizes u 0)) entry))
+  size-smallest = rw size-entry at (smallest-of u (getD smallSizes u 0) (both-right (eqb (getD smallSizes u 0) (sizeFor 12 u)) (smallest u (getD smallSizes u 0)) entry))
 
--- below 2 units and past 16 there is none
-pub size-none : (u : ℕ) → u < 2 → getD blockSizes u 0 ≡ 0
+-- below 2 units there is none
+none-below : (u : ℕ) → u < 2 → getD smallSizes u 0 ≡ 0
 unfolding right
-size-none u h = eqb→eq (getD blockSizes u 0) 0 (rw (lt-leb 2 u h) at (at right blockSizes tested u (omega arith)))
+none-below u h = eqb→eq (getD smallSizes u 0) 0 (rw (lt-leb 2 u h) at (at right smallSizes tested u (omega arith)))
 
 -- the table, read at any number
-pub entry-inside : (u : ℕ) → u < 17 → getD blockSizes u 0 ≡ pick (both (leb 2 u) (leb u 16)) (sizeFor 12 u) 0
-entry-inside u h = go (decLe 2 u)
+pub small-inside : (u : ℕ) → u < 17 → getD smallSizes u 0 ≡ pick (both (leb 2 u) (leb u 16)) (sizeFor 12 u) 0
+small-inside u h = go (decLe 2 u)
   where
-    go : Dec (2 ≤ u) → getD blockSizes u 0 ≡ pick (both (leb 2 u) (leb u 16)) (sizeFor 12 u) 0
+    go : Dec (2 ≤ u) → getD smallSizes u 0 ≡ pick (both (leb 2 u) (leb u 16)) (sizeFor 12 u) 0
     go (yes l) = size-entry u l (omega arith) ∙ sym (rw (le-leb 2 u l, le-leb u 16 (omega arith)))
-    go (no n) = size-none u (omega arith) ∙ sym (rw (lt-leb 2 u (omega arith)))
-
-pub entry-past : (u : ℕ) → 17 ≤ u → 0 ≡ pick (both (leb 2 u) (leb u 16)) (sizeFor 12 u) 0
-entry-past u h = sym (rw (le-leb 2 u (omega arith), lt-leb u 16 (omega arith)))
+    go (no n) = none-below u (omega arith) ∙ sym (rw (lt-leb 2 u (omega arith)))
 
 -- the sizes, one by one
 abbrev pub sizeTest : ℕ → Bool
@@ -125,7 +123,7 @@ isSize-test s = go (decLt s 17)
     go (yes h) = same-eq (isSize 12 s) (sizeTest s) (below (λ s. same (isSize 12 s) (sizeTest s)) 17 computed s h)
     go (no n) = large s (omega arith)
 
--- large values: the units that they need, and that the block holds them
+-- large values in small chunks: the units that they need, and that the block holds them
 module _ (n : ℕ) (low : 257 ≤ n) (high : n ≤ 4088) where
   pub units-low : (2 ≤ unitsFor n) × (unitsFor n ≤ 16)
   unfolding unitsFor
@@ -139,21 +137,64 @@ module _ (n : ℕ) (low : 257 ≤ n) (high : n ≤ 4088) where
   unfolding unitsFor
   block-holds = let h = block-smallest .holds in omega arith
 
--- the block size, read at any length
-pub length-inside : (n r u : ℕ) → 257 ≤ n → n ≤ 4088 → u ≡ (n + 263) / 256 → r ≡ pick (both (leb 2 u) (leb u 16)) (sizeFor 12 u) 0
-    → r ≡ pick (both (leb 257 n) (leb n 4088)) (blockSize 12 n) 0
-unfolding blockSize unitsFor
-length-inside n r u low high e q =
-    let f : (8 + n + 255) / 256 ≡ u = omega arith in
-    q ∙ rw (le-leb 257 n low, le-leb n 4088 high, le-leb 2 u (omega arith), le-leb u 16 (omega arith), f)
+-- LARGE CHUNKS: the block size for so many units, 0 to 256
+abbrev pub largeSizes : List ℕ
+largeSizes =
+    0 ∷ 0 ∷ 2 ∷ 3 ∷ 4 ∷ 5 ∷ 6 ∷ 7 ∷ 8 ∷ 9 ∷ 10 ∷ 11 ∷ 12 ∷ 13 ∷ 14 ∷ 15 ∷ 16 ∷ 17 ∷ 18 ∷ 19 ∷ 21 ∷ 21 ∷ 23 ∷ 23 ∷
+    25 ∷ 25 ∷ 28 ∷ 28 ∷ 28 ∷ 32 ∷ 32 ∷ 32 ∷ 32 ∷ 36 ∷ 36 ∷ 36 ∷ 36 ∷ 42 ∷ 42 ∷ 42 ∷ 42 ∷ 42 ∷ 42 ∷ 51 ∷ 51 ∷ 51 ∷ 51 ∷ 51 ∷
+    51 ∷ 51 ∷ 51 ∷ 51 ∷ 64 ∷ 64 ∷ 64 ∷ 64 ∷ 64 ∷ 64 ∷ 64 ∷ 64 ∷ 64 ∷ 64 ∷ 64 ∷ 64 ∷ 64 ∷ 85 ∷ 85 ∷ 85 ∷ 85 ∷ 85 ∷ 85 ∷ 85 ∷
+    85 ∷ 85 ∷ 85 ∷ 85 ∷ 85 ∷ 85 ∷ 85 ∷ 85 ∷ 85 ∷ 85 ∷ 85 ∷ 85 ∷ 85 ∷ 85 ∷ 128 ∷ 128 ∷ 128 ∷ 128 ∷ 128 ∷ 128 ∷ 128 ∷ 128 ∷ 128 ∷ 128 ∷
+    128 ∷ 128 ∷ 128 ∷ 128 ∷ 128 ∷ 128 ∷ 128 ∷ 128 ∷ 128 ∷ 128 ∷ 128 ∷ 128 ∷ 128 ∷ 128 ∷ 128 ∷ 128 ∷ 128 ∷ 128 ∷ 128 ∷ 128 ∷ 128 ∷ 128 ∷ 128 ∷ 128 ∷
+    128 ∷ 128 ∷ 128 ∷ 128 ∷ 128 ∷ 128 ∷ 128 ∷ 128 ∷ 128 ∷ 256 ∷ 256 ∷ 256 ∷ 256 ∷ 256 ∷ 256 ∷ 256 ∷ 256 ∷ 256 ∷ 256 ∷ 256 ∷ 256 ∷ 256 ∷ 256 ∷ 256 ∷
+    256 ∷ 256 ∷ 256 ∷ 256 ∷ 256 ∷ 256 ∷ 256 ∷ 256 ∷ 256 ∷ 256 ∷ 256 ∷ 256 ∷ 256 ∷ 256 ∷ 256 ∷ 256 ∷ 256 ∷ 256 ∷ 256 ∷ 256 ∷ 256 ∷ 256 ∷ 256 ∷ 256 ∷
+    256 ∷ 256 ∷ 256 ∷ 256 ∷ 256 ∷ 256 ∷ 256 ∷ 256 ∷ 256 ∷ 256 ∷ 256 ∷ 256 ∷ 256 ∷ 256 ∷ 256 ∷ 256 ∷ 256 ∷ 256 ∷ 256 ∷ 256 ∷ 256 ∷ 256 ∷ 256 ∷ 256 ∷
+    256 ∷ 256 ∷ 256 ∷ 256 ∷ 256 ∷ 256 ∷ 256 ∷ 256 ∷ 256 ∷ 256 ∷ 256 ∷ 256 ∷ 256 ∷ 256 ∷ 256 ∷ 256 ∷ 256 ∷ 256 ∷ 256 ∷ 256 ∷ 256 ∷ 256 ∷ 256 ∷ 256 ∷
+    256 ∷ 256 ∷ 256 ∷ 256 ∷ 256 ∷ 256 ∷ 256 ∷ 256 ∷ 256 ∷ 256 ∷ 256 ∷ 256 ∷ 256 ∷ 256 ∷ 256 ∷ 256 ∷ 256 ∷ 256 ∷ 256 ∷ 256 ∷ 256 ∷ 256 ∷ 256 ∷ 256 ∷
+    256 ∷ 256 ∷ 256 ∷ 256 ∷ 256 ∷ 256 ∷ 256 ∷ 256 ∷ 256 ∷ 256 ∷ 256 ∷ 256 ∷ 256 ∷ 256 ∷ 256 ∷ 256 ∷ 256 ∷ []
 
-pub length-outside : (n : ℕ) → (257 ≤ n → n ≤ 4088 → ⊥) → 0 ≡ pick (both (leb 257 n) (leb n 4088)) (blockSize 12 n) 0
-length-outside n out = go (decLe 257 n)
+-- the rule of an entry: from 2 units on the size of the two divisions; below, none
+abbrev divided : ℕ → ℕ
+divided u = pick (leb 2 u) (sizeFor 16 u) 0
+
+large-tested : T (eachFrom (λ k x. eqb x (divided k)) 0 largeSizes)
+unfolding sizeFor chunkUnits
+large-tested = tt
+
+pub large-inside : (u : ℕ) → u < 257 → getD largeSizes u 0 ≡ pick (both (leb 2 u) (leb u 256)) (sizeFor 16 u) 0
+large-inside u h = eqb→eq (getD largeSizes u 0) (divided u) (at (λ k x. eqb x (divided k)) largeSizes large-tested u (omega arith)) ∙ go (decLe 2 u)
   where
-    go : Dec (257 ≤ n) → 0 ≡ pick (both (leb 257 n) (leb n 4088)) (blockSize 12 n) 0
-    go (yes l) = sym (rw (le-leb 257 n l, lt-leb n 4088 (above (decLe n 4088))))
-      where
-        above : Dec (n ≤ 4088) → 4088 < n
-        above (yes h) = absurd (out l h)
-        above (no m) = omega arith
-    go (no m) = sym (rw (lt-leb 257 n (omega arith)))
+    go : Dec (2 ≤ u) → divided u ≡ pick (both (leb 2 u) (leb u 256)) (sizeFor 16 u) 0
+    go (yes l) = rw (le-leb 2 u l, le-leb u 256 (omega arith))
+    go (no l) = rw (lt-leb 2 u (omega arith))
+
+-- BOTH: past a table there is no size
+pub entry-past : (p most u : ℕ) → 2 ≤ u → most < u → 0 ≡ pick (both (leb 2 u) (leb u most)) (sizeFor p u) 0
+entry-past p most u l h = sym (rw (le-leb 2 u l, lt-leb u most h))
+
+-- whether a number is a block size: the size for it is itself
+pub size-none : (p u : ℕ) → u < 2 → false ≡ isSize p u
+unfolding isSize
+size-none p u h = sym (rw (lt-leb 2 u h))
+
+pub size-own : (p u r : ℕ) → 2 ≤ u → r ≡ pick (both (leb 2 u) (leb u (chunkUnits p))) (sizeFor p u) 0 → eqb r u ≡ isSize p u
+unfolding isSize
+size-own p u r l e = go (decLe u (chunkUnits p))
+  where
+    go : Dec (u ≤ chunkUnits p) → eqb r u ≡ both (leb 2 u) (both (leb u (chunkUnits p)) (eqb (sizeFor p u) u))
+    go (yes h) = let q : r ≡ sizeFor p u = e ∙ rw (le-leb 2 u l, le-leb u (chunkUnits p) h) in rw (q, le-leb 2 u l, le-leb u (chunkUnits p) h)
+    go (no h) = let q : r ≡ 0 = e ∙ rw (le-leb 2 u l, lt-leb u (chunkUnits p) (omega arith)) in rw (q, le-leb 2 u l, lt-leb u (chunkUnits p) (omega arith)) (ne-eqb 0 u (omega arith))
+
+-- the block size, read at any length
+module _ (p n : ℕ) where
+  pub length-inside : (r u : ℕ) → 257 ≤ n → n ≤ blockLimit p → u ≡ (n + 263) / 256 → r ≡ pick (both (leb 2 u) (leb u (chunkUnits p))) (sizeFor p u) 0
+      → r ≡ pick (both (leb 257 n) (leb n (blockLimit p))) (blockSize p n) 0
+  unfolding blockSize unitsFor blockLimit
+  length-inside r u low high e q =
+      let f : (8 + n + 255) / 256 ≡ u = omega arith in
+      q ∙ rw (le-leb 257 n low, le-leb n (blockLimit p) high, le-leb 2 u (omega arith), le-leb u (chunkUnits p) (omega arith), f)
+
+  pub length-short : n < 257 → 0 ≡ pick (both (leb 257 n) (leb n (blockLimit p))) (blockSize p n) 0
+  length-short h = sym (rw (lt-leb 257 n h))
+
+  pub length-long : 257 ≤ n → blockLimit p < n → 0 ≡ pick (both (leb 257 n) (leb n (blockLimit p))) (blockSize p n) 0
+  length-long l h = sym (rw (le-leb 257 n l, lt-leb n (blockLimit p) h))

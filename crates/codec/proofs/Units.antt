@@ -2,14 +2,14 @@
 -- Assumes nothing.
 use mathlib.Core.Path.{_≡_}
 use Prim.Native.Nat.{ℕ, _+_, _%_, _^_, _<_}
-use native.Mathlib.Omega.{arith}
+use native.Mathlib.Nat.{mod-eq-of-lt}
 use Rattle.spec.specs.Places.{firstUnit, unitIn, chunkUnits}
 use Rattle.codec.specs.Units.{unitAt}
 
-pub unit-of : (c i : ℕ) → c < 2 ^ 60 → unitAt c i ≡ firstUnit 12 c + unitIn 12 i
-unfolding unitAt firstUnit unitIn chunkUnits
-unit-of c i h = omega arith
+pub unit-of : (p c i : ℕ) → c < 2 ^ 48 → unitAt p c i ≡ firstUnit p c + unitIn p i
+unfolding unitAt
+unit-of p c i h = rw (mod-eq-of-lt h)
 
-pub unit-at : (c i : ℕ) → c < 2 ^ 60 → i < 16 → unitAt c i ≡ firstUnit 12 c + i
-unfolding unitAt firstUnit unitIn chunkUnits
-unit-at c i h l = omega arith
+pub unit-at : (p c i : ℕ) → c < 2 ^ 48 → i < chunkUnits p → unitAt p c i ≡ firstUnit p c + i
+unfolding unitAt unitIn
+unit-at p c i h l = rw (mod-eq-of-lt h, mod-eq-of-lt l)

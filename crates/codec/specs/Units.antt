@@ -4,5 +4,5 @@ use Prim.Native.Nat.{ℕ, _+_, _%_, _^_}
 use Rattle.spec.specs.Places.{firstUnit, unitIn}
 
 -- chunk and place, each modulo the numbers that there is room for
-unfoldable pub unitAt : (c i : ℕ) → ℕ
-unitAt c i = firstUnit 12 (c % 2 ^ 60) + unitIn 12 i
+unfoldable pub unitAt : (p c i : ℕ) → ℕ
+unitAt p c i = firstUnit p (c % 2 ^ 48) + unitIn p i

@@ -22,10 +22,10 @@ use Rattle.session.specs.Promise.{Does, memoryOf}
 use Rattle.session.specs.Numbers.{inPhase, appendSetup}
 
 -- the place that the definition finds for the staged items, where the hint holds
-abbrev pub PlaceFor : (buffer : List ℕ) (words : ℕ) (image : List ℕ) (first least : ℕ) → Placed → Type 0
-PlaceFor buffer words image first least r =
-    (items : List Entry) → StagedIn buffer words items → Hint (chunksIn 12 (length image)) (wordsOf image) first least
-    → Searched (wordsOf image) (chunksIn 12 (length image)) (linesFor (length (encodeAll items))) (freeNeeded items) r
+abbrev pub PlaceFor : (p : ℕ) (buffer : List ℕ) (words : ℕ) (image : List ℕ) (first least : ℕ) → Placed → Type 0
+PlaceFor p buffer words image first least r =
+    (items : List Entry) → StagedIn buffer words items → Hint p (chunksIn p (length image)) (wordsOf image) first least
+    → Searched p (wordsOf image) (chunksIn p (length image)) (linesFor (length (encodeAll items))) (freeNeeded items) r
 
 -- the record's small parts at a commit's begin: no action done yet, where it writes, and where the next one looks for
 -- space

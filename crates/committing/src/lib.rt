@@ -2,6 +2,7 @@
 ghost use mathlib.Core.Path.{_≡_};
 ghost use Rattle.spec.specs.Basics.{pick};
 ghost use Rattle.spec.specs.Machine.{Commit};
+ghost use Rattle.places.specs.Sizes.{powerOf};
 ghost use Rattle.committing.specs.Planned.{PlaceFor, CommitPlanned};
 ghost use Rattle.session.specs.Promise.{Does, memoryOf};
 use buffer::Buffer;
@@ -12,6 +13,7 @@ use session::Outcome;
 use session::Setup;
 use spec::Refusal;
 use spec::Report;
+use spec::Size;
 
 // What a commit finds: a refusal, or where it writes (chunk, its directory word, its committed lines), where the next
 // one looks for space, and how many actions it has.
@@ -35,14 +37,21 @@ fn free_needed(deletes: bool) -> usize
 }
 
 // The place for the staged items, looked for from the hint on.
-fn commit_place(buffer: &Buffer, words: usize, first: usize, least: usize, image: &[u8]) -> Placed
-    ensures { λ r. ⌜ PlaceFor (now (buffer .entry)) words (now (image .entry)) first least r ⌝ }
+fn commit_place(
+    buffer: &Buffer,
+    words: usize,
+    first: usize,
+    least: usize,
+    image: &[u8],
+    size: Size,
+) -> Placed
+    ensures { λ r. ⌜ PlaceFor (powerOf size) (now (buffer .entry)) words (now (image .entry)) first least r ⌝ }
 {
-    let count = image.len() / 4096;
+    let count = places::chunks_in(size, image.len());
     let lines = actions::append::batch_lines(words);
     let deletes = batch::only_deletes(buffer, words);
     let needed = free_needed(deletes);
-    placing::lines::log_place(image, count, lines, needed, first, least)
+    placing::lines::log_place(image, count, lines, needed, first, least, size)
 }
 
 // 2, 1, 8, 14, 13, or the place. Nothing is changed.
@@ -62,7 +71,8 @@ pub fn plan_commit(
             if control.items == 0 {
                 return CommitPlan::Refused(Refusal::NothingStaged);
             }
-            let placed = commit_place(buffer, control.words, setup.first, setup.least, image);
+            let size = places::size_by(setup.power);
+            let placed = commit_place(buffer, control.words, setup.first, setup.least, image, size);
             let place = placed.place;
             if place.found {
                 let actions = actions::append::commit_count(control.words);
@@ -111,6 +121,7 @@ pub fn commit_core(
             let bound = Setup {
                 image: setup.image,
                 table: setup.table,
+                power: setup.power,
                 chunk,
                 old,
                 lines,

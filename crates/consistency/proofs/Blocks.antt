@@ -27,27 +27,26 @@ every-append (true ∷ xs) ys = every-append xs ys
 every-append (false ∷ xs) ys = refl
 
 -- The start: the unit's chunk, and its place there.
-module _ (n u s chunk place : ℕ) (is-chunk : chunk ≡ unitChunk 12 u) (is-place : place ≡ unitIn 12 u) where
-  pub start-chunk : chunk < 1 → false ≡ every (startTests 12 n u s)
+module _ (p n u s chunk place : ℕ) (is-chunk : chunk ≡ unitChunk p u) (is-place : place ≡ unitIn p u) where
+  pub start-chunk : chunk < 1 → false ≡ every (startTests p n u s)
   start-chunk h = rw (← is-chunk, lt-leb 1 chunk h)
 
-  pub start-past : n ≤ chunk → 1 ≤ chunk → false ≡ every (startTests 12 n u s)
+  pub start-past : n ≤ chunk → 1 ≤ chunk → false ≡ every (startTests p n u s)
   start-past h l = rw (← is-chunk, le-leb 1 chunk l, le-ltb chunk n h)
 
   module _ (low : 1 ≤ chunk) (high : chunk < n) where
-    pub start-free : s < 1 → false ≡ every (startTests 12 n u s)
+    pub start-free : s < 1 → false ≡ every (startTests p n u s)
     start-free h = rw (← is-chunk, le-leb 1 chunk low, lt-ltb chunk n high, lt-leb 1 s h)
 
-    pub start-within : 1 ≤ s → (place % s ≡ 0 → ⊥) → false ≡ every (startTests 12 n u s)
+    pub start-within : 1 ≤ s → (place % s ≡ 0 → ⊥) → false ≡ every (startTests p n u s)
     start-within h d = rw (← is-chunk, ← is-place, le-leb 1 chunk low, lt-ltb chunk n high, le-leb 1 s h, ne-eqb (place % s) 0 d)
 
-    pub start-fits : 1 ≤ s → place % s ≡ 0 → leb (place + s) 16 ≡ every (startTests 12 n u s)
-    unfolding chunkUnits
-    start-fits h d = rw (← is-chunk, ← is-place, le-leb 1 chunk low, lt-ltb chunk n high, le-leb 1 s h, eq-eqb (place % s) 0 d) (sym (both-true (leb (place + s) 16)))
+    pub start-fits : 1 ≤ s → place % s ≡ 0 → leb (place + s) (chunkUnits p) ≡ every (startTests p n u s)
+    start-fits h d = rw (← is-chunk, ← is-place, le-leb 1 chunk low, lt-ltb chunk n high, le-leb 1 s h, eq-eqb (place % s) 0 d) (sym (both-true (leb (place + s) (chunkUnits p))))
 
 -- what a right start says of the block size
-pub start-size : (n u s : ℕ) → every (startTests 12 n u s) ≡ true → 1 ≤ s
-start-size n u s h = leb-true 1 s (every-true (startTests 12 n u s) h .1 .1 .0)
+pub start-size : (p n u s : ℕ) → every (startTests p n u s) ≡ true → 1 ≤ s
+start-size p n u s h = leb-true 1 s (every-true (startTests p n u s) h .1 .1 .0)
 
 -- The length and the fill.
 module _ (s len last : ℕ) where
@@ -88,15 +87,15 @@ pub cut-first : (ws : List ℕ) (at bound : ℕ) → length ws ≤ bound → get
 cut-first ws at bound h = rw (add-zero (min at bound), add-zero at) at (cut ws at 0 bound h)
 
 -- what the code shows: the words are read from the block's first word, which is cut where it is past the image
-module _ (ws : List ℕ) (n u s : ℕ) (short : length ws ≤ 2 ^ 61 - 1) (is-size : s ≡ sizeOf 12 ws (unitChunk 12 u)) where
-  pub shows-start : every (startTests 12 n u s) ≡ false → false ≡ blockRight 12 n ws u
+module _ (p : ℕ) (ws : List ℕ) (n u s : ℕ) (short : length ws ≤ 2 ^ 61 - 1) (is-size : s ≡ sizeOf p ws (unitChunk p u)) where
+  pub shows-start : every (startTests p n u s) ≡ false → false ≡ blockRight p n ws u
   shows-start h =
       let len = getD ws (unitWord u) 0 in
-      block-start 12 n u s len (getD ws (unitWord u + (len + 7) / 8) 0) h ∙ rw is-size
+      block-start p n u s len (getD ws (unitWord u + (len + 7) / 8) 0) h ∙ rw is-size
 
   pub shows-block : (at len last : ℕ) (r : Bool) → at ≡ min (unitWord u) (2 ^ 61 - 1) → len ≡ getD ws at 0 → last ≡ getD ws (at + (len + 7) / 8) 0
-      → every (startTests 12 n u s) ≡ true → r ≡ every (lengthTests s len last) → r ≡ blockRight 12 n ws u
+      → every (startTests p n u s) ≡ true → r ≡ every (lengthTests s len last) → r ≡ blockRight p n ws u
   shows-block at len last r is-at is-len is-last t h =
       let l : len ≡ getD ws (unitWord u) 0 = is-len ∙ rw is-at (cut-first ws (unitWord u) (2 ^ 61 - 1) short) in
       let m : last ≡ getD ws (unitWord u + (getD ws (unitWord u) 0 + 7) / 8) 0 = is-last ∙ rw (is-at, l) (cut ws (unitWord u) ((getD ws (unitWord u) 0 + 7) / 8) (2 ^ 61 - 1) short) in
-      h ∙ block-length 12 n u s len last t ∙ rw (is-size, m, l)
+      h ∙ block-length p n u s len last t ∙ rw (is-size, m, l)

@@ -10,6 +10,7 @@ use native.Mathlib.Omega.{arith}
 use lib.Dec.{eqb, leb, ltb}
 use lib.ListN.{length}
 use borrow.Author.Tests.{ne-eqb, leb-true, ltb-true, le-leb, lt-ltb}
+use Rattle.spec.specs.declared.Size.{Size}
 use Rattle.spec.specs.Basics.{pick, both, larger, filter, first}
 use Rattle.spec.specs.Log.{Entry}
 use Rattle.spec.specs.Contents.{highest, isTopOf, tops, chosen}
@@ -64,8 +65,8 @@ module _ (low high key : ℕ) (h : low ≤ high) where
 pub class-all : (es : List Entry) → classIn 0 0x1_0000_0000 es ≡ es
 class-all es = filter-all (λ (e : Entry). within 0 0x1_0000_0000 (e .key)) es (in-all _ es (λ e m. within-all (e .key)))
 
-pub class-bounded : (low high : ℕ) (es : List Entry) → Bounded es → Bounded (classIn low high es)
-class-bounded low high es b =
+pub class-bounded : (size : Size) → (low high : ℕ) (es : List Entry) → Bounded size es → Bounded size (classIn low high es)
+class-bounded size low high es b =
     let l = filter-length (λ (e : Entry). within low high (e .key)) es in
     let f = b .few in
     record { each = λ e m. b .each e (mem-filter (λ (x : Entry). within low high (x .key)) e es m .0); few = omega arith }

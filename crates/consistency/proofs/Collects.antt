@@ -7,6 +7,8 @@ use Prim.Native.Nat.{ℕ, _+_, _/_, _≤_, _<_}
 use native.Mathlib.Omega.{arith}
 use lib.ListN.{length, length-replicate}
 use borrow.Author.Tests.{le-ltb}
+use Rattle.spec.specs.declared.Size.{Size}
+use Rattle.places.specs.Sizes.{powerOf}
 use Rattle.spec.specs.Basics.{negate, both}
 use Rattle.spec.specs.Places.{maxChunks}
 use Rattle.spec.specs.Log.{Entry, Entries, imageEntries}
@@ -41,14 +43,14 @@ module _ (low high : ℕ) (xs : List Entry) (e : Entry) where
   pub class-other : within low high (e .key) ≡ false → classIn low high (xs ++ e ∷ []) ≡ classIn low high xs
   class-other h = filter-append (λ (x : Entry). within low high (x .key)) xs (e ∷ []) ∙ rw (h, append-nil (classIn low high xs))
 
-module _ (table : List ℕ) (keys low high key own : ℕ) where
-  pub enter-other : within low high key ≡ false → Entering table table keys low high key own true keys
+module _ (size : Size) (table : List ℕ) (keys low high key own : ℕ) where
+  pub enter-other : within low high key ≡ false → Entering size table table keys low high key own true keys
   enter-other h = record { sized = refl; enters = λ xs e k o b inv t. rw (class-other low high xs e (ap (within low high) k ∙ h)) inv }
 
-  pub enter-full : (table′ : List ℕ) → length table′ ≡ length table → Entering table table′ keys low high key own false keys
+  pub enter-full : (table′ : List ℕ) → length table′ ≡ length table → Entering size table table′ keys low high key own false keys
   enter-full table′ l = record { sized = l; enters = λ xs e k o b inv t. absurd (not-both true refl (sym t)) }
 
-  module _ (h : within low high key ≡ true) (slot old : ℕ) (is-slot : slot ≡ stopOf table key) (is-word : old ≡ infoAt table slot) (table′ : List ℕ) (info : ℕ) (is-info : info ≡ noted old own)
+  module _ (h : within low high key ≡ true) (slot old : ℕ) (is-slot : slot ≡ stopOf table key) (is-word : old ≡ infoAt table slot) (table′ : List ℕ) (info : ℕ) (is-info : info ≡ noted size old own)
       (is-put : table′ ≡ putAt table slot key info) where
     is-old : old ≡ get table key
     is-old = is-word ∙ look-in table key slot is-slot
@@ -59,20 +61,20 @@ module _ (table : List ℕ) (keys low high key own : ℕ) where
     long : length table′ ≡ length table
     long = ap length is-table ∙ insert-length table key info
 
-    pub enter-new : old ≡ 0 → keys < tableRoom (length table) → Entering table table′ keys low high key own true (keys + 1)
+    pub enter-new : old ≡ 0 → keys < tableRoom (length table) → Entering size table table′ keys low high key own true (keys + 1)
     enter-new z c = record {
       sized = long;
       enters = λ xs e k o b inv t.
           let last = class-last low high xs e (ap (within low high) k ∙ h) in
-          rw last (fill-new (length table) (classIn low high xs) e table table′ keys old info inv (rw last at b) (rw k is-old) (rw o is-info) (rw k is-table) z (rw (capacity-same (length table)) c));
+          rw last (fill-new size (length table) (classIn low high xs) e table table′ keys old info inv (rw last at b) (rw k is-old) (rw o is-info) (rw k is-table) z (rw (capacity-same (length table)) c));
     }
 
-    pub enter-old : (old ≡ 0 → ⊥) → Entering table table′ keys low high key own true keys
+    pub enter-old : (old ≡ 0 → ⊥) → Entering size table table′ keys low high key own true keys
     enter-old n = record {
       sized = long;
       enters = λ xs e k o b inv t.
           let last = class-last low high xs e (ap (within low high) k ∙ h) in
-          rw last (fill-old (length table) (classIn low high xs) e table table′ keys old info inv (rw last at b) (rw k is-old) (rw o is-info) (rw k is-table) n);
+          rw last (fill-old size (length table) (classIn low high xs) e table table′ keys old info inv (rw last at b) (rw k is-old) (rw o is-info) (rw k is-table) n);
     }
 
 -- ## The pass
@@ -91,41 +93,41 @@ class-over low high xs over h =
     not-asked false q = refl
 
 -- at a cursor: the table is that of the entries of the range that are passed
-pub record Reached (n : ℕ) (ws : List ℕ) (words : ℕ) (table : List ℕ) (keys low high : ℕ) (c : Cursor) : Type 0 where
+pub record Reached (size : Size) (n : ℕ) (ws : List ℕ) (words : ℕ) (table : List ℕ) (keys low high : ℕ) (c : Cursor) : Type 0 where
   pub sized : length table ≡ words
-  pub holds : n ≤ maxChunks → (es : List Entry) → imageEntries 12 n ws ≡ Entries es → (xs : List Entry) × Passed n ws c es xs × FillInv words (classIn low high xs) table keys true
+  pub holds : n ≤ maxChunks → (es : List Entry) → imageEntries (powerOf size) n ws ≡ Entries es → (xs : List Entry) × Passed (powerOf size) n ws c es xs × FillInv size words (classIn low high xs) table keys true
 
-module _ (n : ℕ) (ws : List ℕ) (low high : ℕ) where
-  pub reached-start : (words : ℕ) (table : List ℕ) → table ≡ zeros words → (c : Cursor) → c ≡ start → Reached n ws (length table) table 0 low high c
+module _ (size : Size) (n : ℕ) (ws : List ℕ) (low high : ℕ) where
+  pub reached-start : (words : ℕ) (table : List ℕ) → table ≡ zeros words → (c : Cursor) → c ≡ start → Reached size n ws (length table) table 0 low high c
   reached-start words table e c q = record {
     sized = refl;
-    holds = λ most es h. ([], passed-start n ws c es q h, rw (e, length-replicate {A = ℕ} words 0) (fill-start words));
+    holds = λ most es h. ([], passed-start (powerOf size) n ws c es q h, rw (e, length-replicate {A = ℕ} words 0) (fill-start size words));
   }
 
-  module _ (words : ℕ) (table : List ℕ) (keys chunk at end : ℕ) (inv : Reached n ws words table keys low high (cursorAt chunk at end)) (marks : List ℕ) (none-marked : marks ≡ []) (at′ : ℕ)
+  module _ (words : ℕ) (table : List ℕ) (keys chunk at end : ℕ) (inv : Reached size n ws words table keys low high (cursorAt chunk at end)) (marks : List ℕ) (none-marked : marks ≡ []) (at′ : ℕ)
       (run : PassedOver ws end false marks low high at at′) where
-    pub reached-over : Reached n ws words table keys low high (cursorAt chunk at′ end)
+    pub reached-over : Reached size n ws words table keys low high (cursorAt chunk at′ end)
     reached-over = record {
       sized = inv .sized;
       holds = λ most es h.
           let i = inv .holds most es h in (
             i .0 ++ run .over,
-            run .passes n chunk es (i .0) (i .1),
+            run .passes (powerOf size) n chunk es (i .0) (i .1),
             rw (class-over low high (i .0) (run .over) (λ e m. rw none-marked at (run .unasked e m))) (i .2),
           );
     }
 
-  module _ (words : ℕ) (table : List ℕ) (keys : ℕ) (c : Cursor) (inv : Reached n ws words table keys low high c) (r : Next) (told : Advanced n ws c r) where
-    module _ (op pl v x k m a : ℕ) (behind : Cursor) (q : r ≡ N.Entry op pl v x k m a behind) (own : ℕ) (is-own : own ≡ alone (extentOf pl x) a v) (table′ : List ℕ) (fits : Bool) (keys′ : ℕ)
-        (entered : Entering table table′ keys low high k own fits keys′) where
-      pub reached-next : fits ≡ true → Reached n ws words table′ keys′ low high behind
+  module _ (words : ℕ) (table : List ℕ) (keys : ℕ) (c : Cursor) (inv : Reached size n ws words table keys low high c) (r : Next) (told : Advanced (powerOf size) n ws c r) where
+    module _ (op pl v x k m a : ℕ) (behind : Cursor) (q : r ≡ N.Entry op pl v x k m a behind) (own : ℕ) (is-own : own ≡ alone size (extentOf size pl x) a v) (table′ : List ℕ) (fits : Bool) (keys′ : ℕ)
+        (entered : Entering size table table′ keys low high k own fits keys′) where
+      pub reached-next : fits ≡ true → Reached size n ws words table′ keys′ low high behind
       reached-next t = record {
         sized = entered .sized ∙ inv .sized;
         holds = λ most es h.
             let i = inv .holds most es h in
             let f = entryIn ws op pl v x k m a in
-            let p = passed-next n ws c es (i .0) r told (i .1) op pl v x k m a behind q in
-            let small = class-bounded low high (i .0 ++ f ∷ []) (bounded-front (i .0 ++ f ∷ []) (p .rest) (rw (p .split) at (image-bounded n ws es h most))) in
+            let p = passed-next (powerOf size) n ws c es (i .0) r told (i .1) op pl v x k m a behind q in
+            let small = class-bounded size low high (i .0 ++ f ∷ []) (bounded-front size (i .0 ++ f ∷ []) (p .rest) (rw (p .split) at (image-bounded size n ws es h most))) in
             (i .0 ++ f ∷ [], p, rw (inv .sized) at (entered .enters (i .0) f refl (sym is-own) small (rw (inv .sized) (i .2)) t));
       }
 
@@ -133,14 +135,14 @@ module _ (n : ℕ) (ws : List ℕ) (low high : ℕ) where
       same : words ≡ length before
       same = cleared ∙ length-replicate (length before) 0
 
-      pub reached-full : (table′ : List ℕ) → length table′ ≡ length table → (fits : Bool) → fits ≡ false → (keys′ : ℕ) → Collecting n ws before table′ low high fits keys′
+      pub reached-full : (table′ : List ℕ) → length table′ ≡ length table → (fits : Bool) → fits ≡ false → (keys′ : ℕ) → Collecting size n ws before table′ low high fits keys′
       reached-full table′ l fits f keys′ = record { sized = l ∙ inv .sized ∙ same; holds = λ most es h t. absurd (not-both fits t f) }
 
-      pub reached-done : r ≡ N.Done → Collecting n ws before table low high true keys
+      pub reached-done : r ≡ N.Done → Collecting size n ws before table low high true keys
       reached-done q = record {
         sized = inv .sized ∙ same;
         holds = λ most es h t.
             let i = inv .holds most es h in
-            let all = passed-done n ws c es (i .0) r told (i .1) q in
-            fill-end words (classIn low high es) table keys (rw all at (i .2));
+            let all = passed-done (powerOf size) n ws c es (i .0) r told (i .1) q in
+            fill-end size words (classIn low high es) table keys (rw all at (i .2));
       }

@@ -5,6 +5,7 @@ use mathlib.Core.Bool.{Bool, true, false}
 use mathlib.Core.Option.{some}
 use mathlib.Core.List.{List}
 use Prim.Native.Nat.{ℕ}
+use Rattle.spec.specs.declared.Size.{Size}
 use Rattle.spec.specs.Log.{Entry}
 use Rattle.spec.specs.Contents.{chosen}
 use Rattle.theory_base.proofs.Lists.{not-both}
@@ -21,33 +22,33 @@ own-chosen : (ws : List ℕ) (h : Head) (es : List Entry) (words : ℕ) (f : Ent
     → chosen (h .key) es ≡ some (entryOf ws h words)
 own-chosen ws h es words f apart m c q = c ∙ ap some (apart f (entryOf ws h words) (chosen-is (h .key) es f c .in-list) m q)
 
-module _ (apart : Bool) (h : Head) (place : ℕ) (before : List ℕ) where
+module _ (size : Size) (apart : Bool) (h : Head) (place : ℕ) (before : List ℕ) where
   -- one that is not the chosen one
-  pub marked-other : (h .place ≡ place → ⊥) → MarkedIs apart h place before before apart
+  pub marked-other : (h .place ≡ place → ⊥) → MarkedIs size apart h place before before apart
   marked-other n = record {
     kept = λ k. k;
-    marks = λ ws es xs words f one in-es part fresh c at bit m. marks-skip es xs (entryOf ws h words) (hasBit before) apart m
+    marks = λ ws es xs words f one in-es part fresh c at bit m. marks-skip es xs (entryOf ws h words) (hasBit size before) apart m
         (λ own p. n (let q : some f ≡ some (entryOf ws h words) = sym c ∙ own in let r : f ≡ entryOf ws h words = cc in ap (λ (x : Entry). x .at) (sym r) ∙ at));
   }
 
   -- one with no block
-  pub marked-none : points (h .op) (h .placement) ≡ false → MarkedIs apart h place before before apart
+  pub marked-none : points (h .op) (h .placement) ≡ false → MarkedIs size apart h place before before apart
   marked-none z = record {
     kept = λ k. k;
-    marks = λ ws es xs words f one in-es part fresh c at bit m. marks-skip es xs (entryOf ws h words) (hasBit before) apart m (λ own p. not-both (points (h .op) (h .placement)) p z);
+    marks = λ ws es xs words f one in-es part fresh c at bit m. marks-skip es xs (entryOf ws h words) (hasBit size before) apart m (λ own p. not-both (points (h .op) (h .placement)) p z);
   }
 
   module _ (q : h .place ≡ place) (p : points (h .op) (h .placement) ≡ true) where
-    pub marked-seen : hasBit before (h .field) ≡ true → MarkedIs apart h place before before false
+    pub marked-seen : hasBit size before (h .field) ≡ true → MarkedIs size apart h place before before false
     marked-seen has = record {
       kept = λ k. k;
       marks = λ ws es xs words f one in-es part fresh c at bit m.
-          marks-clash es xs (entryOf ws h words) (hasBit before) apart m part (own-chosen ws h es words f one in-es c (at ∙ sym q)) p fresh has;
+          marks-clash es xs (entryOf ws h words) (hasBit size before) apart m part (own-chosen ws h es words f one in-es c (at ∙ sym q)) p fresh has;
     }
 
-    pub marked-new : hasBit before (h .field) ≡ false → (after : List ℕ) → BitWritten before after (h .field) true → MarkedIs apart h place before after apart
+    pub marked-new : hasBit size before (h .field) ≡ false → (after : List ℕ) → BitWritten size before after (h .field) true → MarkedIs size apart h place before after apart
     marked-new has after written = record {
       kept = λ k. written .kept;
       marks = λ ws es xs words f one in-es part fresh c at bit m.
-          marks-new es xs (entryOf ws h words) (hasBit before) apart m part (own-chosen ws h es words f one in-es c (at ∙ sym q)) p (hasBit after) has (written .at (bit p)) (written .other);
+          marks-new es xs (entryOf ws h words) (hasBit size before) apart m part (own-chosen ws h es words f one in-es c (at ∙ sym q)) p (hasBit size after) has (written .at (bit p)) (written .other);
     }

@@ -29,35 +29,35 @@ use Rattle.log.proofs.Walk.{remaining-start, handed, next-wrong, next-padding, 
 use Rattle.consistency.specs.Classes.{asked}
 use Rattle.consistency.specs.Passing.{Passed, PassedOver}
 
-pub passed-start : (n : ℕ) (ws : List ℕ) (c : Cursor) (es : List Entry) → c ≡ start → imageEntries 12 n ws ≡ Entries es → Passed n ws c es []
-passed-start n ws c es q h = record { rest = es; split = refl; remains = ap (remaining 12 n ws) q ∙ remaining-start 12 n ws ∙ h }
+pub passed-start : (p n : ℕ) (ws : List ℕ) (c : Cursor) (es : List Entry) → c ≡ start → imageEntries p n ws ≡ Entries es → Passed p n ws c es []
+passed-start p n ws c es q h = record { rest = es; split = refl; remains = ap (remaining p n ws) q ∙ remaining-start p n ws ∙ h }
 
-module _ (n : ℕ) (ws : List ℕ) (c : Cursor) (es xs : List Entry) (r : Next) (told : Advanced n ws c r) (inv : Passed n ws c es xs) where
+module _ (p n : ℕ) (ws : List ℕ) (c : Cursor) (es xs : List Entry) (r : Next) (told : Advanced p n ws c r) (inv : Passed p n ws c es xs) where
   pub passed-done : r ≡ N.Done → xs ≡ es
   passed-done q =
-      let a : remaining 12 n ws c ≡ Entries [] = rw q at told in
+      let a : remaining p n ws c ≡ Entries [] = rw q at told in
       let b = inv .remains in
       let z : inv .rest ≡ [] = cc in
       sym (inv .split ∙ ap (xs ++_) z ∙ append-nil xs)
 
   pub passed-wrong : r ≡ N.Wrong → ⊥
   passed-wrong q =
-      let a : remaining 12 n ws c ≡ Wrong = rw q at told in
+      let a : remaining p n ws c ≡ Wrong = rw q at told in
       let b = inv .remains in
       let z : _≡_ {A = ℕ} 0 1 = cc in
       omega arith
 
   module _ (op pl v x k m a : ℕ) (behind : Cursor) (q : r ≡ N.Entry op pl v x k m a behind) where
-    given : Handed n ws c op pl v x k m a behind
-    given = handed n ws c r told op pl v x k m a behind q
+    given : Handed p n ws c op pl v x k m a behind
+    given = handed p n ws c r told op pl v x k m a behind q
 
-    next : (ys : List Entry) × (remaining 12 n ws behind ≡ Entries ys) × (inv .rest ≡ entryIn ws op pl v x k m a ∷ ys)
-    next = cons-inv (entryIn ws op pl v x k m a) (remaining 12 n ws behind) (inv .rest) (sym (given .whole) ∙ inv .remains)
+    next : (ys : List Entry) × (remaining p n ws behind ≡ Entries ys) × (inv .rest ≡ entryIn ws op pl v x k m a ∷ ys)
+    next = cons-inv (entryIn ws op pl v x k m a) (remaining p n ws behind) (inv .rest) (sym (given .whole) ∙ inv .remains)
 
     pub passed-split : (ys : List Entry) × (es ≡ xs ++ entryIn ws op pl v x k m a ∷ ys)
     passed-split = (next .0, inv .split ∙ ap (xs ++_) (next .2))
 
-    pub passed-next : Passed n ws behind es (xs ++ entryIn ws op pl v x k m a ∷ [])
+    pub passed-next : Passed p n ws behind es (xs ++ entryIn ws op pl v x k m a ∷ [])
     passed-next = record { rest = next .0; split = inv .split ∙ ap (xs ++_) (next .2) ∙ sym (append-assoc xs (entryIn ws op pl v x k m a ∷ []) (next .0)); remains = next .1 }
 
 -- ## Passing over
@@ -114,7 +114,7 @@ module _ (ws : List ℕ) (end : ℕ) (single : Bool) (marks : List ℕ) (low hig
     over = [];
     unpointed = λ e m. absurd m;
     unasked = λ e m. absurd m;
-    passes = λ n c es xs p. rw (append-nil xs) p;
+    passes = λ p n c es xs s. rw (append-nil xs) s;
   }
 
   -- past padding
@@ -124,9 +124,9 @@ module _ (ws : List ℕ) (end : ℕ) (single : Bool) (marks : List ℕ) (low hig
     over = so-far .over;
     unpointed = so-far .unpointed;
     unasked = so-far .unasked;
-    passes = λ n c es xs p.
-        let q = so-far .passes n c es xs p in
-        record { rest = q .rest; split = q .split; remains = sym (next-padding n ws c at′ end (padding-stands ws at′ end h l is-zero)) ∙ q .remains };
+    passes = λ p n c es xs s.
+        let q = so-far .passes p n c es xs s in
+        record { rest = q .rest; split = q .split; remains = sym (next-padding p n ws c at′ end (padding-stands ws at′ end h l is-zero)) ∙ q .remains };
   }
 
   -- past a put
@@ -137,7 +137,7 @@ module _ (ws : List ℕ) (end : ℕ) (single : Bool) (marks : List ℕ) (low hig
     over = so-far .over ++ f ∷ [];
     unpointed = λ e i. either-of (λ (y : Entry). pointed y ≡ false) e (so-far .unpointed e) refl (mem-cases e (so-far .over) (f ∷ []) i);
     unasked = λ e i. either-of (λ (y : Entry). asked single marks low high (y .key) ≡ false) e (so-far .unasked e) none-asked (mem-cases e (so-far .over) (f ∷ []) i);
-    passes = λ n c es xs p. on n c es xs (so-far .passes n c es xs p) (put-stands ws at′ end w h l is-word put);
+    passes = λ p n c es xs s. on p n c es xs (so-far .passes p n c es xs s) (put-stands ws at′ end w h l is-word put);
   }
     where
       v : ℕ
@@ -154,13 +154,13 @@ module _ (ws : List ℕ) (end : ℕ) (single : Bool) (marks : List ℕ) (low hig
       either-of P e a b (inr (inl y)) = rw y b
       either-of P e a b (inr (inr i)) = absurd i
 
-      on : (n c : ℕ) (es xs : List Entry) → Passed n ws (cursorAt c at′ end) es (xs ++ so-far .over)
+      on : (p n c : ℕ) (es xs : List Entry) → Passed p n ws (cursorAt c at′ end) es (xs ++ so-far .over)
           → (stepOf (slice at′ end ws) ≡ S.Wrong) ⊎ (stepOf (slice at′ end ws) ≡ S.Entry 1 0 (w / 16 % 1048576) (w / 16777216) (getD ws (at′ + 1) 0) ((w / 16777216 + 7) / 8))
-          → Passed n ws (cursorAt c (at′ + (2 + m)) end) es (xs ++ (so-far .over ++ f ∷ []))
-      on n c es xs p (inl q) = absurd (passed-wrong n ws (cursorAt c at′ end) es (xs ++ so-far .over) N.Wrong (next-wrong n ws c at′ end q) p refl)
-      on n c es xs p (inr q) =
+          → Passed p n ws (cursorAt c (at′ + (2 + m)) end) es (xs ++ (so-far .over ++ f ∷ []))
+      on p n c es xs s (inl q) = absurd (passed-wrong p n ws (cursorAt c at′ end) es (xs ++ so-far .over) N.Wrong (next-wrong p n ws c at′ end q) s refl)
+      on p n c es xs s (inr q) =
           rw (append-assoc xs (so-far .over) (f ∷ [])) at
-          (passed-next n ws (cursorAt c at′ end) es (xs ++ so-far .over) (N.Entry 1 0 v x k m at′ (cursorAt c (at′ + (2 + m)) end)) (next-found n ws c at′ end 1 0 v x k m (q ∙ rw (is-key, is-words))) p 1 0 v x k m at′
+          (passed-next p n ws (cursorAt c at′ end) es (xs ++ so-far .over) (N.Entry 1 0 v x k m at′ (cursorAt c (at′ + (2 + m)) end)) (next-found p n ws c at′ end 1 0 v x k m (q ∙ rw (is-key, is-words))) s 1 0 v x k m at′
           (cursorAt c (at′ + (2 + m)) end) refl)
 
   -- its first two words and the value's, counted together

@@ -9,6 +9,8 @@ use native.Mathlib.Decide.{ℕ-discrete}
 use native.Mathlib.Omega.{arith}
 use lib.Dec.{eqb}
 use borrow.Author.Tests.{eq-eqb, ne-eqb}
+use Rattle.spec.specs.declared.Size.{Size}
+use Rattle.places.specs.Sizes.{powerOf, power-low, power-high}
 use Rattle.spec.specs.Basics.{pick, both}
 use Rattle.spec.specs.Log.{Entry}
 use Rattle.spec.specs.Blocks.{blockRight}
@@ -48,20 +50,20 @@ module _ (ws : List ℕ) (so : Bool) (h : Head) (place : ℕ) where
 
 -- ## One more entry
 
-module _ (n : ℕ) (ws table : List ℕ) (fits : Bool) (low high : ℕ) (h : Head) where
+module _ (size : Size) (n : ℕ) (ws table : List ℕ) (fits : Bool) (low high : ℕ) (h : Head) where
   -- of another class
-  pub visited-out : within low high (h .key) ≡ false → (s : Checked) (before : List ℕ) → VisitedIs n ws table fits low high s h before before s
+  pub visited-out : within low high (h .key) ≡ false → (s : Checked) (before : List ℕ) → VisitedIs size n ws table fits low high s h before before s
   visited-out o s before = record {
     kept = λ k. k;
     right = λ es xs words l m part fresh inv t. rw (o, append-nil xs) inv;
     wrong = λ es words l m t f. absurd (not-both (s .blocks) t f);
   }
 
-  module _ (own : within low high (h .key) ≡ true) (top : Best) (is-top-of : TopIs n ws table fits (h .key) top) where
+  module _ (own : within low high (h .key) ≡ true) (top : Best) (is-top-of : TopIs size n ws table fits (h .key) top) where
     one-of : (words : ℕ) → classIn low high (entryOf ws h words ∷ []) ≡ entryOf ws h words ∷ []
     one-of words = rw own
 
-    module _ (es : List Entry) (words : ℕ) (l : ListedIn n ws table fits low high es) (member : Mem (entryOf ws h words) es) where
+    module _ (es : List Entry) (words : ℕ) (l : ListedIn size n ws table fits low high es) (member : Mem (entryOf ws h words) es) where
       best : top ≡ bestOf (chosen (h .key) es)
       best = is-top-of low high es l own
 
@@ -85,13 +87,13 @@ module _ (n : ℕ) (ws table : List ℕ) (fits : Bool) (low high : ℕ) (h : Hea
       agreement q agreeing r is = go (pick-chosen q) (ℕ-discrete (h .place) (top .place)) agreeing refl
         where
           read : (f : Entry) → Mem f es → StandsIn ws f
-          read f m = image-stands 12 (omega arith) (omega arith) n ws es (l .entries) f m
+          read f m = image-stands (powerOf size) (power-low size) (power-high size) n ws es (l .entries) f m
 
           go : ((f : Entry) × (chosen (h .key) es ≡ some f) × (f .at ≡ top .place)) → Dec (h .place ≡ top .place) → (so : Bool) → agreeing ≡ so
               → r ≡ both so (agreeWith (entryOf ws h words) (chosen (h .key) es))
           go t (no p) false a = is .before a
           go t (yes p) so a =
-              let own = agreed-own es (entryOf ws h words) (t .0) (image-apart 12 (omega arith) (omega arith) n ws es (l .entries)) member (t .1) (t .2 ∙ sym p) in
+              let own = agreed-own es (entryOf ws h words) (t .0) (image-apart (powerOf size) (power-low size) (power-high size) n ws es (l .entries)) member (t .1) (t .2 ∙ sym p) in
               is .own p ∙ a ∙ sym (ap (both so) own ∙ both-true so)
           go t (no p) true a =
               let f = t .0 in
@@ -99,35 +101,35 @@ module _ (n : ℕ) (ws table : List ℕ) (fits : Bool) (low high : ℕ) (h : Hea
               is .other p a words f (read (entryOf ws h words) member) (read f (chosen-is (h .key) es f c .in-list)) (t .2) ∙ sym (agreed-other es (entryOf ws h words) f c)
 
       -- the marks, with its block
-      marking : h .version ≡ top .version → (xs : List Entry) → Part xs es → (Mem (entryOf ws h words) xs → ⊥) → (before after : List ℕ) (apart r : Bool) → MarkedIs apart h (top .place) before after r
-          → fine 12 n ws (entryOf ws h words) ≡ true → Marks es xs (hasBit before) apart → Marks es (xs ++ entryOf ws h words ∷ []) (hasBit after) r
+      marking : h .version ≡ top .version → (xs : List Entry) → Part xs es → (Mem (entryOf ws h words) xs → ⊥) → (before after : List ℕ) (apart r : Bool) → MarkedIs size apart h (top .place) before after r
+          → fine (powerOf size) n ws (entryOf ws h words) ≡ true → Marks es xs (hasBit size before) apart → Marks es (xs ++ entryOf ws h words ∷ []) (hasBit size after) r
       marking q xs part fresh before after apart r is b m =
           let c = pick-chosen q in
-          is .marks ws es xs words (c .0) (image-apart 12 (omega arith) (omega arith) n ws es (l .entries)) member part fresh (c .1) (c .2) (λ p. block-bit n ws (entryOf ws h words) (l .few) b p) m
+          is .marks ws es xs words (c .0) (image-apart (powerOf size) (power-low size) (power-high size) n ws es (l .entries)) member part fresh (c .1) (c .2) (λ p. block-bit size n ws (entryOf ws h words) (l .few) b p) m
 
     module _ (s : Checked) (before : List ℕ) where
-      pub visited-below : (h .version ≡ top .version → ⊥) → VisitedIs n ws table fits low high s h before before s
+      pub visited-below : (h .version ≡ top .version → ⊥) → VisitedIs size n ws table fits low high s h before before s
       visited-below m = record {
         kept = λ k. k;
-        right = λ es xs words l member part fresh inv t. rw (one-of words) (check-skip 12 n ws es xs (entryOf ws h words) (hasBit before) true (s .agreeing) (s .apart) inv (is-below es words l member m));
+        right = λ es xs words l member part fresh inv t. rw (one-of words) (check-skip (powerOf size) n ws es xs (entryOf ws h words) (hasBit size before) true (s .agreeing) (s .apart) inv (is-below es words l member m));
         wrong = λ es words l member t f. absurd (not-both (s .blocks) t f);
       }
 
       module _ (q : h .version ≡ top .version) where
-        pub visited-wrong : pick (points (h .op) (h .placement)) (blockRight 12 n ws (h .field)) true ≡ false → VisitedIs n ws table fits low high s h before before (record { blocks = false; agreeing = s .agreeing; apart = s .apart })
+        pub visited-wrong : pick (points (h .op) (h .placement)) (blockRight (powerOf size) n ws (h .field)) true ≡ false → VisitedIs size n ws table fits low high s h before before (record { blocks = false; agreeing = s .agreeing; apart = s .apart })
         visited-wrong b = record {
           kept = λ k. k;
           right = λ es xs words l member part fresh inv t. absurd (not-both true refl (sym t));
-          wrong = λ es words l member t f. block-wrong 12 n ws es (entryOf ws h words) member (is-highest es words l member q) b;
+          wrong = λ es words l member t f. block-wrong (powerOf size) n ws es (entryOf ws h words) member (is-highest es words l member q) b;
         }
 
-        pub visited-top : pick (points (h .op) (h .placement)) (blockRight 12 n ws (h .field)) true ≡ true → (agreeing apart : Bool) (after : List ℕ) → AgreedIs ws (s .agreeing) h (top .place) agreeing
-            → MarkedIs (s .apart) h (top .place) before after apart → VisitedIs n ws table fits low high s h before after (record { blocks = true; agreeing = agreeing; apart = apart })
+        pub visited-top : pick (points (h .op) (h .placement)) (blockRight (powerOf size) n ws (h .field)) true ≡ true → (agreeing apart : Bool) (after : List ℕ) → AgreedIs ws (s .agreeing) h (top .place) agreeing
+            → MarkedIs size (s .apart) h (top .place) before after apart → VisitedIs size n ws table fits low high s h before after (record { blocks = true; agreeing = agreeing; apart = apart })
         visited-top b agreeing apart after agrees marked = record {
           kept = marked .kept;
           right = λ es xs words l member part fresh inv t.
               rw (one-of words)
-              (check-top 12 n ws es xs (entryOf ws h words) (hasBit before) true (s .agreeing) (s .apart) inv (hasBit after) true agreeing apart (is-highest es words l member q) (sym b)
+              (check-top (powerOf size) n ws es xs (entryOf ws h words) (hasBit size before) true (s .agreeing) (s .apart) inv (hasBit size after) true agreeing apart (is-highest es words l member q) (sym b)
               (agreement es words l member q (s .agreeing) agreeing agrees) (marking es words l member q xs part (fresh own) before after (s .apart) apart marked b (inv .marks)));
           wrong = λ es words l member t f. absurd (not-both true refl f);
         }

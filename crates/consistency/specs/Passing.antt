@@ -5,6 +5,8 @@ use mathlib.Core.Bool.{Bool, true, false}
 use mathlib.Core.List.{List, [], _∷_, _++_}
 use Prim.Native.Nat.{ℕ, _+_, _≤_, _<_}
 use lib.ListN.{length}
+use Rattle.spec.specs.declared.Size.{Size}
+use Rattle.places.specs.Sizes.{powerOf}
 use Rattle.spec.specs.Places.{maxChunks}
 use Rattle.spec.specs.Log.{Entry, Entries, imageEntries}
 use Rattle.spec.specs.Blocks.{pointed}
@@ -16,10 +18,10 @@ use Rattle.volatile.specs.Known.{ownOf, Bounded, Indexed, FillInv}
 use Rattle.consistency.specs.Classes.{marked, asked, classIn}
 
 -- from the cursor on remains what follows the entries xs
-pub record Passed (n : ℕ) (ws : List ℕ) (c : Cursor) (es xs : List Entry) : Type 0 where
+pub record Passed (p n : ℕ) (ws : List ℕ) (c : Cursor) (es xs : List Entry) : Type 0 where
   pub rest : List Entry
   pub split : es ≡ xs ++ rest
-  pub remains : remaining 12 n ws c ≡ Entries rest
+  pub remains : remaining p n ws c ≡ Entries rest
 
 -- from word `at` to word `at′` of any chunk stand entries that a pass may leave out: no value of them lies in a
 -- block, and none is asked for
@@ -28,27 +30,27 @@ pub record PassedOver (ws : List ℕ) (end : ℕ) (single : Bool) (marks : List 
   pub over : List Entry
   pub unpointed : (e : Entry) → Mem e over → pointed e ≡ false
   pub unasked : (e : Entry) → Mem e over → asked single marks low high (e .key) ≡ false
-  pub passes : (n c : ℕ) (es xs : List Entry) → Passed n ws (cursorAt c at end) es xs → Passed n ws (cursorAt c at′ end) es (xs ++ over)
+  pub passes : (p n c : ℕ) (es xs : List Entry) → Passed p n ws (cursorAt c at end) es xs → Passed p n ws (cursorAt c at′ end) es (xs ++ over)
 
 -- the chunks from c on that have no committed words are passed: what remains from the beginning of chunk c remains from
 -- the cursor
-pub record Onward (n : ℕ) (ws : List ℕ) (c : ℕ) (r : Cursor) : Type 0 where
+pub record Onward (p n : ℕ) (ws : List ℕ) (c : ℕ) (r : Cursor) : Type 0 where
   pub first : Cursor
-  pub opened : Opened ws c first
+  pub opened : Opened p ws c first
   pub nearer : left n ws r ≤ left n ws first
-  pub same : remaining 12 n ws first ≡ remaining 12 n ws r
+  pub same : remaining p n ws first ≡ remaining p n ws r
 
 -- the table before and after one more entry of a key, of which it would hold `own` with this entry alone; with the
 -- numbers of keys before and after
-pub record Entering (table table′ : List ℕ) (keys low high key own : ℕ) (fits : Bool) (keys′ : ℕ) : Type 0 where
+pub record Entering (size : Size) (table table′ : List ℕ) (keys low high key own : ℕ) (fits : Bool) (keys′ : ℕ) : Type 0 where
   pub sized : length table′ ≡ length table
-  pub enters : (xs : List Entry) (e : Entry) → e .key ≡ key → ownOf e ≡ own → Bounded (classIn low high (xs ++ e ∷ [])) → FillInv (length table) (classIn low high xs) table keys true
-      → fits ≡ true → FillInv (length table) (classIn low high (xs ++ e ∷ [])) table′ keys′ true
+  pub enters : (xs : List Entry) (e : Entry) → e .key ≡ key → ownOf size e ≡ own → Bounded size (classIn low high (xs ++ e ∷ [])) → FillInv size (length table) (classIn low high xs) table keys true
+      → fits ≡ true → FillInv size (length table) (classIn low high (xs ++ e ∷ [])) table′ keys′ true
 
 -- the table before and after a pass over the log of an image of n chunks
-pub record Collecting (n : ℕ) (ws table table′ : List ℕ) (low high : ℕ) (fits : Bool) (keys : ℕ) : Type 0 where
+pub record Collecting (size : Size) (n : ℕ) (ws table table′ : List ℕ) (low high : ℕ) (fits : Bool) (keys : ℕ) : Type 0 where
   pub sized : length table′ ≡ length table
-  pub holds : n ≤ maxChunks → (es : List Entry) → imageEntries 12 n ws ≡ Entries es → fits ≡ true → Indexed table′ keys (classIn low high es)
+  pub holds : n ≤ maxChunks → (es : List Entry) → imageEntries (powerOf size) n ws ≡ Entries es → fits ≡ true → Indexed size table′ keys (classIn low high es)
 
 -- the mark of a key is set if its word has the bit of several top entries, and no mark is taken away
 pub record OneMarked (marks marks′ : List ℕ) (key info : ℕ) : Type 0 where

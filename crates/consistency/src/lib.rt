@@ -9,6 +9,7 @@ ghost use lib.Dec.{ltb};
 ghost use Rattle.spec.specs.Basics.{pick, either, every};
 ghost use Rattle.spec.specs.Words.{wordsOf};
 ghost use Rattle.spec.specs.Blocks.{startTests, lengthTests, blockRight};
+ghost use Rattle.places.specs.Sizes.{powerOf};
 ghost use Rattle.consistency.specs.Heads.{sameFrom, points};
 ghost use Rattle.consistency.specs.Pass.{AgreesWith, TopIs, AgreedIs, MarkedIs, VisitedIs, SweptAs, ClassChecked, AllChecked, Examined};
 
@@ -27,12 +28,13 @@ use buffer::set_bit;
 use codec::Unit;
 use directory::size_of;
 use index::get;
-use index::unpack;
 use log::Best;
 use log::best_of;
 use log::next_entry;
 use log::words_for;
+use packing::unpack;
 use spec::LogStep;
+use spec::Size;
 use words::lesser;
 use words::load;
 
@@ -55,33 +57,33 @@ pub struct Checked {
 
 // BLOCKS
 // Whether a unit of an image of `count` chunks starts a block of so many units.
-fn starts(count: usize, unit: Unit, size: usize) -> bool
-    requires { ⌜ size ≤ 16 ⌝ }
-    ensures { λ r. ⌜ r ≡ every (startTests 12 count (unit .0) size) ⌝ }
+fn starts(count: usize, unit: Unit, units: usize, size: Size) -> bool
+    requires { ⌜ units ≤ 256 ⌝ }
+    ensures { λ r. ⌜ r ≡ every (startTests (powerOf size) count (unit .0) units) ⌝ }
 {
-    let chunk = unit.chunk() as usize;
-    let place = unit.place() as usize;
+    let chunk = unit.chunk(size) as usize;
+    let place = unit.place(size) as usize;
     if chunk < 1 {
         return false;
     }
     if count <= chunk {
         return false;
     }
-    if size < 1 {
+    if units < 1 {
         return false;
     }
-    if place % size == 0 {
-        return place + size <= 16;
+    if place % units == 0 {
+        return place + units <= places::units(size);
     }
     false
 }
 
 // Whether a block of so many units may have this length and its value ends in this word.
-fn length_right(size: usize, length: u64, last: u64) -> bool
-    requires { ⌜ (1 ≤ size) × (size ≤ 16) ⌝ }
-    ensures { λ r. ⌜ r ≡ every (lengthTests size length last) ⌝ }
+fn length_right(units: usize, length: u64, last: u64) -> bool
+    requires { ⌜ (1 ≤ units) × (units ≤ 256) ⌝ }
+    ensures { λ r. ⌜ r ≡ every (lengthTests units length last) ⌝ }
 {
-    let room = 256 * (size as u64) - 8;
+    let room = 256 * (units as u64) - 8;
     if length < 257 {
         return false;
     }
@@ -96,15 +98,15 @@ fn length_right(size: usize, length: u64, last: u64) -> bool
 }
 
 // Whether a unit of an image of `count` chunks starts a block, its length is right and its value zero-filled.
-pub fn block_right(image: &[u8], count: usize, unit: Unit) -> bool
-    ensures { λ r. ⌜ r ≡ blockRight 12 count (wordsOf (now (image .entry))) (unit .0) ⌝ }
+pub fn block_right(image: &[u8], count: usize, unit: Unit, size: Size) -> bool
+    ensures { λ r. ⌜ r ≡ blockRight (powerOf size) count (wordsOf (now (image .entry))) (unit .0) ⌝ }
 {
-    let size = size_of(image, unit.chunk() as usize);
-    if starts(count, unit, size) {
+    let units = size_of(image, unit.chunk(size) as usize, size);
+    if starts(count, unit, units, size) {
         let at = unit.word_offset();
         let length = load(image, at);
         let last = load(image, at + words_for(0, length));
-        return length_right(size, length, last);
+        return length_right(units, length, last);
     }
     false
 }
@@ -138,17 +140,17 @@ fn agrees(image: &[u8], e: Head, place: usize) -> bool
 
 // TOP ENTRIES
 // The chosen top entry of a key: by the key table where it holds the keys, else by a scan.
-pub fn top_of(image: &[u8], count: usize, table: &[u64], fits: bool, key: u64) -> Best
-    ensures { λ r. ⌜ TopIs count (wordsOf (now (image .entry))) (now (table .entry)) fits key r ⌝ }
+pub fn top_of(image: &[u8], count: usize, table: &[u64], fits: bool, key: u64, size: Size) -> Best
+    ensures { λ r. ⌜ TopIs size count (wordsOf (now (image .entry))) (now (table .entry)) fits key r ⌝ }
 {
     if fits {
-        let info = unpack(get(table, key));
+        let info = unpack(size, get(table, key));
         return Best {
             version: info.version,
             place: info.place as usize,
         };
     }
-    best_of(image, count, key)
+    best_of(image, count, key, size)
 }
 
 // MARKS
@@ -165,29 +167,36 @@ pub fn points(op: u64, placement: u64) -> bool
 // A top entry's block is marked if it is the chosen one of its key, which stands at word `place`: the others have the
 // same block, or disagree. The answer is whether no two keys share a block: one that is marked already is another
 // key's.
-fn marked(buffer: &mut Buffer, apart: bool, e: Head, place: usize) -> bool
-    ensures { λ r. ⌜ MarkedIs apart e place (now (buffer .entry)) (now (buffer .exit)) r ⌝ }
+fn marked(buffer: &mut Buffer, apart: bool, e: Head, place: usize, size: Size) -> bool
+    ensures { λ r. ⌜ MarkedIs size apart e place (now (buffer .entry)) (now (buffer .exit)) r ⌝ }
 {
     if e.place != place {
         return apart;
     }
     if points(e.op, e.placement) {
         let unit = Unit(e.field);
-        if has_bit(buffer, unit) {
+        if has_bit(buffer, unit, size) {
             return false;
         }
-        set_bit(buffer, unit);
+        set_bit(buffer, unit, size);
     }
     apart
 }
 
 // THE PASS
 // Whether the block of an entry with these parts is right, if it points to one.
-pub fn block_fine(image: &[u8], count: usize, op: u64, placement: u64, field: u64) -> bool
-    ensures { λ r. ⌜ r ≡ pick (points op placement) (blockRight 12 count (wordsOf (now (image .entry))) field) true ⌝ }
+pub fn block_fine(
+    image: &[u8],
+    count: usize,
+    op: u64,
+    placement: u64,
+    field: u64,
+    size: Size,
+) -> bool
+    ensures { λ r. ⌜ r ≡ pick (points op placement) (blockRight (powerOf size) count (wordsOf (now (image .entry))) field) true ⌝ }
 {
     if points(op, placement) {
-        return block_right(image, count, Unit(field));
+        return block_right(image, count, Unit(field), size);
     }
     true
 }
@@ -216,17 +225,18 @@ fn visit(
     buffer: &mut Buffer,
     s: Checked,
     e: Head,
+    size: Size,
 ) -> Checked
-    ensures { λ r. ⌜ VisitedIs count (wordsOf (now (image .entry))) (now (table .entry)) fits low high s e (now (buffer .entry)) (now (buffer .exit)) r ⌝ }
+    ensures { λ r. ⌜ VisitedIs size count (wordsOf (now (image .entry))) (now (table .entry)) fits low high s e (now (buffer .entry)) (now (buffer .exit)) r ⌝ }
 {
     if is_within(low, high, e.key) {
-        let top = top_of(image, count, table, fits, e.key);
+        let top = top_of(image, count, table, fits, e.key, size);
         if e.version != top.version {
             return s;
         }
-        if block_fine(image, count, e.op, e.placement, e.field) {
+        if block_fine(image, count, e.op, e.placement, e.field, size) {
             let agreeing = agreed(image, s.agreeing, e, top.place);
-            let apart = marked(buffer, s.apart, e, top.place);
+            let apart = marked(buffer, s.apart, e, top.place, size);
             return Checked {
                 blocks: true,
                 agreeing,
@@ -255,8 +265,9 @@ fn sweep(
     high: u64,
     buffer: &mut Buffer,
     so: Checked,
+    size: Size,
 ) -> Checked
-    ensures { λ r. ⌜ SweptAs count (wordsOf (now (image .entry))) (now (table .entry)) fits single (now (marks .entry)) low high so (now (buffer .entry)) (now (buffer .exit)) r ⌝ }
+    ensures { λ r. ⌜ SweptAs size count (wordsOf (now (image .entry))) (now (table .entry)) fits single (now (marks .entry)) low high so (now (buffer .entry)) (now (buffer .exit)) r ⌝ }
 {
     let mut s = so;
     let mut chunk: usize = 0;
@@ -273,7 +284,7 @@ fn sweep(
                 if count - chunk == 1 {
                     return s;
                 }
-                let next = onward(image, count, chunk + 1);
+                let next = onward(image, count, chunk + 1, size);
                 chunk = next.chunk;
                 place = next.at;
                 end = next.end;
@@ -300,7 +311,7 @@ fn sweep(
                     key,
                     place: at,
                 };
-                s = visit(image, count, table, fits, low, high, buffer, s, e);
+                s = visit(image, count, table, fits, low, high, buffer, s, e, size);
                 if s.blocks {
                     place = at + (2 + words);
                 } else {
@@ -333,8 +344,9 @@ fn check_class(
     high: u64,
     buffer: &mut Buffer,
     so: Checked,
+    size: Size,
 ) -> Checked
-    ensures { λ r. ⌜ ClassChecked count (wordsOf (now (image .entry))) (now (table .entry)) fits single low high so (now (buffer .entry)) (now (buffer .exit)) r ⌝ }
+    ensures { λ r. ⌜ ClassChecked size count (wordsOf (now (image .entry))) (now (table .entry)) fits single low high so (now (buffer .entry)) (now (buffer .exit)) r ⌝ }
 {
     if takes_marks(fits, single) {
         let mut marks: [u8; MARKS] = [0; MARKS];
@@ -350,6 +362,7 @@ fn check_class(
             high,
             buffer,
             so,
+            size,
         );
     }
     sweep(
@@ -363,6 +376,7 @@ fn check_class(
         high,
         buffer,
         so,
+        size,
     )
 }
 
@@ -380,9 +394,9 @@ pub fn range_end(low: u64, width: u64) -> u64
 }
 
 // A table of the call's own has so many words, and holds so many keys.
-pub const OWN_WORDS: usize = 6144;
+pub const OWN_WORDS: usize = 65536;
 
-const OWN_KEYS: usize = 1536;
+const OWN_KEYS: usize = 16384;
 
 // How many classes the next range is to have, where one of so many had so many keys: so many as are likely to have
 // seven eighths of the keys that a table of the call's own holds, and at most eight times as many as before.
@@ -411,8 +425,8 @@ pub fn is_enough(fits: bool, width: u64) -> bool
 
 // All classes, with a table of the call's own for one range of them after the other. A range whose keys do not fit it
 // is halved; one class alone whose keys do not fit is checked by scans.
-fn check_classes(image: &[u8], count: usize, buffer: &mut Buffer) -> Checked
-    ensures { λ r. ⌜ AllChecked count (wordsOf (now (image .entry))) (now (buffer .entry)) (now (buffer .exit)) r ⌝ }
+fn check_classes(image: &[u8], count: usize, buffer: &mut Buffer, size: Size) -> Checked
+    ensures { λ r. ⌜ AllChecked size count (wordsOf (now (image .entry))) (now (buffer .entry)) (now (buffer .exit)) r ⌝ }
 {
     let mut own: [u64; OWN_WORDS] = [0; OWN_WORDS];
     let mut s = Checked {
@@ -424,9 +438,10 @@ fn check_classes(image: &[u8], count: usize, buffer: &mut Buffer) -> Checked
     let mut width: u64 = 0x1_0000_0000;
     while low < 0x1_0000_0000 {
         let high = range_end(low, width);
-        let c = collect(image, count, &mut own, low, high);
-        if is_enough(c.fits, width) {
-            s = check_class(image, count, &own, c.fits, false, low, high, buffer, s);
+        let c = collect(image, count, &mut own, low, high, size);
+        let fits = c.fits;
+        if is_enough(fits, width) {
+            s = check_class(image, count, &own, fits, false, low, high, buffer, s, size);
             if s.blocks {
                 low = high;
                 width = next_width(width, c.keys);
@@ -450,10 +465,11 @@ pub fn examine(
     single: bool,
     direct: bool,
     buffer: &mut Buffer,
+    size: Size,
 ) -> Checked
-    ensures { λ r. ⌜ Examined count (wordsOf (now (image .entry))) (now (table .entry)) fits single direct (now (buffer .entry)) (now (buffer .exit)) r ⌝ }
+    ensures { λ r. ⌜ Examined size count (wordsOf (now (image .entry))) (now (table .entry)) fits single direct (now (buffer .entry)) (now (buffer .exit)) r ⌝ }
 {
-    clear_bits(buffer);
+    clear_bits(buffer, size);
     let s = Checked {
         blocks: true,
         agreeing: true,
@@ -475,7 +491,8 @@ pub fn examine(
             0x1_0000_0000,
             buffer,
             s,
+            size,
         );
     }
-    check_classes(image, count, buffer)
+    check_classes(image, count, buffer, size)
 }

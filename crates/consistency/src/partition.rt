@@ -4,10 +4,12 @@ ghost use mathlib.Core.Path.{_≡_};
 ghost use Prim.Native.Nat.{_/_, _<_};
 ghost use lib.ListN.{length};
 ghost use Rattle.spec.specs.Words.{wordsOf};
+ghost use Rattle.places.specs.Sizes.{powerOf};
 ghost use Rattle.consistency.specs.Classes.{classOf, within, asked};
 ghost use Rattle.consistency.specs.Passing.{PassedOver, Onward, Entering, Collecting, OneMarked, QuietFrom, TwinsMarked};
 use log::Cursor;
 use log::Next;
+use spec::Size;
 use words::lesser;
 use words::load;
 
@@ -94,10 +96,10 @@ pub fn pass_over(
 
 // From chunk c on, in an image of `count` chunks: the beginning of the first chunk that has committed words, or of the
 // last one.
-pub fn onward(image: &[u8], count: usize, c: usize) -> Cursor
-    ensures { λ r. ⌜ Onward count (wordsOf (now (image .entry))) c r ⌝ }
+pub fn onward(image: &[u8], count: usize, c: usize, size: Size) -> Cursor
+    ensures { λ r. ⌜ Onward (powerOf size) count (wordsOf (now (image .entry))) c r ⌝ }
 {
-    let mut next = log::chunk_cursor(image, c);
+    let mut next = log::chunk_cursor(image, c, size);
     while next.chunk < count {
         if next.at < next.end {
             return next;
@@ -105,7 +107,7 @@ pub fn onward(image: &[u8], count: usize, c: usize) -> Cursor
         if count - next.chunk == 1 {
             return next;
         }
-        next = log::chunk_cursor(image, next.chunk + 1);
+        next = log::chunk_cursor(image, next.chunk + 1, size);
     }
     next
 }
@@ -119,8 +121,16 @@ pub struct Collected {
 
 // One more entry; `own` is what the table would hold of the key with this entry alone. An entry of another class
 // changes nothing.
-fn enter(table: &mut [u64], keys: usize, low: u64, high: u64, key: u64, own: u64) -> Collected
-    ensures { λ r. ⌜ Entering (now (table .entry)) (now (table .exit)) keys low high key own (r .fits) (r .keys) ⌝ }
+fn enter(
+    table: &mut [u64],
+    keys: usize,
+    low: u64,
+    high: u64,
+    key: u64,
+    own: u64,
+    size: Size,
+) -> Collected
+    ensures { λ r. ⌜ Entering size (now (table .entry)) (now (table .exit)) keys low high key own (r .fits) (r .keys) ⌝ }
 {
     if is_within(low, high, key) {
         let slot = index::slot_of(table, key);
@@ -135,15 +145,22 @@ fn enter(table: &mut [u64], keys: usize, low: u64, high: u64, key: u64, own: u64
             }
             return Collected { fits: false, keys };
         }
-        let info = volatile::with_entry(old, own);
+        let info = volatile::with_entry(size, old, own);
         index::set_slot(table, slot, key, info);
     }
     Collected { fits: true, keys }
 }
 
 // The entries of a range of classes go into the table, as far as it holds their keys: it is theirs alone.
-pub fn collect(image: &[u8], count: usize, table: &mut [u64], low: u64, high: u64) -> Collected
-    ensures { λ r. ⌜ Collecting count (wordsOf (now (image .entry))) (now (table .entry)) (now (table .exit)) low high (r .fits) (r .keys) ⌝ }
+pub fn collect(
+    image: &[u8],
+    count: usize,
+    table: &mut [u64],
+    low: u64,
+    high: u64,
+    size: Size,
+) -> Collected
+    ensures { λ r. ⌜ Collecting size count (wordsOf (now (image .entry))) (now (table .entry)) (now (table .exit)) low high (r .fits) (r .keys) ⌝ }
 {
     index::clear(table);
     let mut keys: usize = 0;
@@ -152,7 +169,7 @@ pub fn collect(image: &[u8], count: usize, table: &mut [u64], low: u64, high: u6
         let chunk = cursor.chunk;
         let end = cursor.end;
         let at = pass_over(image, cursor.at, end, false, &image[0..0], low, high);
-        let n = log::next_in_log(image, count, Cursor { chunk, at, end });
+        let n = log::next_in_log(image, count, Cursor { chunk, at, end }, size);
         match n {
             Next::Done => {
                 return Collected { fits: true, keys };
@@ -171,11 +188,12 @@ pub fn collect(image: &[u8], count: usize, table: &mut [u64], low: u64, high: u6
                 cursor: behind,
             } => {
                 let own = volatile::single_entry(
-                    volatile::extent_of(placement, field),
+                    size,
+                    volatile::extent_of(size, placement, field),
                     place,
                     version,
                 );
-                let e = enter(table, keys, low, high, key, own);
+                let e = enter(table, keys, low, high, key, own, size);
                 if e.fits {
                     keys = e.keys;
                     cursor = behind;

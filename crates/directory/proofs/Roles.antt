@@ -1,4 +1,4 @@
--- What the directory says of a chunk, in chunks of 4,096 bytes: the bounds of lines and block sizes, and that a log
+-- What the directory says of a chunk, the bounds of lines and block sizes, and that a log
 -- chunk has at least one line.
 -- Assumes nothing.
 use mathlib.Core.Path.{_≡_, refl, sym}
@@ -11,28 +11,45 @@ use lib.ListN.{getD}
 use Rattle.spec.specs.Basics.{pick, both}
 use Rattle.spec.specs.declared.Role.{Role}
 use Rattle.spec.specs.declared.Role.the-variants as R
+use Rattle.spec.specs.declared.Size.{Size}
+use Rattle.spec.specs.declared.Size.the-variants as S
 use Rattle.spec.specs.Places.{chunkLines, directoryWord}
+use Rattle.places.specs.Sizes.{powerOf}
+use Rattle.theory_base.proofs.Places.{lines-words, words-most, units-most}
+use Rattle.theory_base.proofs.Sizes.{size-is}
 use Rattle.spec.specs.Directory.{isSize, roleBy, roleOf, linesIn, sizeIn, isLog, roleAt, linesOf, sizeOf}
 use Rattle.theory_base.proofs.Lists.{both-l}
-use Rattle.theory_log.proofs.Directory.{word-lines, lines-is, size-is}
+use Rattle.theory_log.proofs.Directory.{word-lines, lines-is, size-is as size-said}
 use Rattle.codec.proofs.Roles.{data-role}
-use Rattle.codec.proofs.Sizes.{isSize-low}
+
+-- the powers are 12 and 16
+pub low : (s : Size) → 12 ≤ powerOf s
+low S.Small = omega arith
+low S.Large = omega arith
+
+pub high : (s : Size) → powerOf s ≤ 16
+high S.Small = omega arith
+high S.Large = omega arith
+
+lines-most : (s : Size) → chunkLines (powerOf s) ≤ 1024
+lines-most s = let a = lines-words (powerOf s) (low s) (high s) in let b = words-most (powerOf s) (low s) (high s) in omega arith
 
 -- what the code finds from the role
-pub lines-found : (ws : List ℕ) (c : ℕ) (r : Role) → roleAt 12 ws c ≡ r → (linesIn r ≡ linesOf 12 ws c) × (linesIn r ≤ 64)
-unfolding chunkLines
-lines-found ws c r e =
-    let l = word-lines 12 (getD ws (directoryWord c) 0) in
-    (rw (lines-is 12 ws c, e), rw e at l)
+pub lines-found : (s : Size) (ws : List ℕ) (c : ℕ) (r : Role) → roleAt (powerOf s) ws c ≡ r → (linesIn r ≡ linesOf (powerOf s) ws c) × (linesIn r ≤ 1024)
+lines-found s ws c r e =
+    let l = word-lines (powerOf s) (getD ws (directoryWord c) 0) in
+    let m = lines-most s in
+    let l′ : linesIn r ≤ chunkLines (powerOf s) = rw e at l in
+    (rw (lines-is (powerOf s) ws c, e), omega arith)
 
-size-bound : (w : ℕ) (r : Role) → roleOf 12 w ≡ r → sizeIn r ≤ 16
-size-bound w R.Free e = omega arith
-size-bound w (R.Log n) e = omega arith
-size-bound w (R.Data s) e = isSize-low s (data-role 12 w s e .0) .1
-size-bound w R.Wrong e = omega arith
+size-bound : (z : Size) (w : ℕ) (r : Role) → roleOf (powerOf z) w ≡ r → sizeIn r ≤ 256
+size-bound z w R.Free e = omega arith
+size-bound z w (R.Log n) e = omega arith
+size-bound z w (R.Data s) e = let a = size-is (powerOf z) s (data-role (powerOf z) w s e .0) .1 in let b = units-most (powerOf z) (low z) (high z) in omega arith
+size-bound z w R.Wrong e = omega arith
 
-pub size-found : (ws : List ℕ) (c : ℕ) (r : Role) → roleAt 12 ws c ≡ r → (sizeIn r ≡ sizeOf 12 ws c) × (sizeIn r ≤ 16)
-size-found ws c r e = (rw (size-is 12 ws c, e), size-bound (getD ws (directoryWord c) 0) r e)
+pub size-found : (z : Size) (ws : List ℕ) (c : ℕ) (r : Role) → roleAt (powerOf z) ws c ≡ r → (sizeIn r ≡ sizeOf (powerOf z) ws c) × (sizeIn r ≤ 256)
+size-found z ws c r e = (rw (size-said (powerOf z) ws c, e), size-bound z (getD ws (directoryWord c) 0) r e)
 
 by-log : (p low high : ℕ) → isLog (roleBy p low high) ≡ leb 1 (linesIn (roleBy p low high))
 by-log p low high = go (eqb low 0) (eqb high 0) (eqb low 1) (both (leb 1 high) (leb high (chunkLines p))) refl (eqb low 2) (isSize p high)

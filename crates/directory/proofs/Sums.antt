@@ -7,14 +7,9 @@ use Prim.Native.Nat.{ℕ, _+_, _-_, _/_, _≤_}
 use native.Mathlib.Omega.{arith}
 use lib.ListN.{length}
 use Rattle.spec.specs.Basics.{pick, upFrom, filter}
-use Rattle.spec.specs.Places.{chunkBytes, chunksIn}
 use Rattle.spec.specs.Directory.{roleAt, isFree, linesOf, freeChunks}
 use Rattle.directory.proofs.Search.{upFrom-split}
 use Rattle.directory.specs.Counts.{sumOver, linesUsed}
-
-chunks-are : (bytes : ℕ) → chunksIn 12 bytes ≡ bytes / 4096
-unfolding chunksIn chunkBytes
-chunks-are bytes = refl
 
 sum-append : (f : ℕ → ℕ) (xs ys : List ℕ) → sumOver f (xs ++ ys) ≡ sumOver f xs + sumOver f ys
 sum-append f [] ys = omega arith
@@ -51,9 +46,8 @@ module _ (f : ℕ → ℕ) where
   below-end c n t l u e = let same : c - 1 ≡ n - 1 = omega arith in e ∙ ap (λ (k : ℕ). sumOver f (upFrom 1 k)) same
 
 -- the sums over the chunks of an image of so many bytes
-pub lines-all : (bytes : ℕ) (ws : List ℕ) (t : ℕ) → t ≡ below (linesOf 12 ws) (bytes / 4096) → t ≡ linesUsed 12 (chunksIn 12 bytes) ws
-lines-all bytes ws t e = e ∙ ap (λ (n : ℕ). linesUsed 12 n ws) (sym (chunks-are bytes))
+pub lines-all : (p n : ℕ) (ws : List ℕ) (t : ℕ) → t ≡ below (linesOf p ws) n → t ≡ linesUsed p n ws
+lines-all p n ws t e = e
 
-pub free-all : (bytes : ℕ) (ws : List ℕ) (t : ℕ) → t ≡ below (λ c. pick (isFree (roleAt 12 ws c)) 1 0) (bytes / 4096) → t ≡ length (freeChunks 12 (chunksIn 12 bytes) ws)
-free-all bytes ws t e =
-    e ∙ sym (counted (λ c. isFree (roleAt 12 ws c)) (upFrom 1 (bytes / 4096 - 1))) ∙ ap (λ (n : ℕ). length (freeChunks 12 n ws)) (sym (chunks-are bytes))
+pub free-all : (p n : ℕ) (ws : List ℕ) (t : ℕ) → t ≡ below (λ c. pick (isFree (roleAt p ws c)) 1 0) n → t ≡ length (freeChunks p n ws)
+free-all p n ws t e = e ∙ sym (counted (λ c. isFree (roleAt p ws c)) (upFrom 1 (n - 1)))

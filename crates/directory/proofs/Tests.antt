@@ -15,12 +15,12 @@ use Rattle.spec.specs.Opening.{directoryTest}
 use Rattle.directory.specs.Tests.{firstNot, wordRight, directoryFault}
 
 -- one word, of a chunk of the image, and of another
-module _ (n c w : ℕ) where
-  pub word-inside : 1 ≤ c → c < n → directoryRight 12 n c w ≡ isRole (roleOf 12 w)
+module _ (p n c w : ℕ) where
+  pub word-inside : 1 ≤ c → c < n → directoryRight p n c w ≡ isRole (roleOf p w)
   unfolding directoryRight
   word-inside l h = rw (le-leb 1 c l, lt-ltb c n h)
 
-  pub word-past : n ≤ c → directoryRight 12 n c w ≡ eqb w 0
+  pub word-past : n ≤ c → directoryRight p n c w ≡ eqb w 0
   unfolding directoryRight
   word-past h = rw (le-ltb c n h, both-none (leb 1 c))
     where
@@ -28,7 +28,7 @@ module _ (n c w : ℕ) where
       both-none true = refl
       both-none false = refl
 
-  pub word-zero : c < 1 → directoryRight 12 n c w ≡ eqb w 0
+  pub word-zero : c < 1 → directoryRight p n c w ≡ eqb w 0
   unfolding directoryRight
   word-zero h = rw (lt-leb 1 c h)
 
@@ -52,31 +52,31 @@ module _ (test : ℕ → Bool) where
 
 -- the directory's test
 
-step : (n i c k : ℕ) (ws : List ℕ) → directoryFrom 12 n (suc i) c (drop k ws) ≡ both (directoryRight 12 n c (getD ws k 0)) (directoryFrom 12 n i (suc c) (drop (suc k) ws))
-step n i c zero [] = refl
-step n i c zero (w ∷ ws) = refl
-step n i c (suc k) [] = refl
-step n i c (suc k) (w ∷ ws) = step n i c k ws
+step : (p n i c k : ℕ) (ws : List ℕ) → directoryFrom p n (suc i) c (drop k ws) ≡ both (directoryRight p n c (getD ws k 0)) (directoryFrom p n i (suc c) (drop (suc k) ws))
+step p n i c zero [] = refl
+step p n i c zero (w ∷ ws) = refl
+step p n i c (suc k) [] = refl
+step p n i c (suc k) (w ∷ ws) = step p n i c k ws
 
-from-test : (n i c : ℕ) (ws : List ℕ) → directoryFrom 12 n i c (drop (8 + c) ws) ≡ negate (ltb (firstNot (wordRight 12 n ws) i c) (c + i))
+from-test : (p n i c : ℕ) (ws : List ℕ) → directoryFrom p n i c (drop (8 + c) ws) ≡ negate (ltb (firstNot (wordRight p n ws) i c) (c + i))
 unfolding firstNot
-from-test n zero c ws = rw (le-ltb c (c + 0) (omega arith))
-from-test n (suc i) c ws =
+from-test p n zero c ws = rw (le-ltb c (c + 0) (omega arith))
+from-test p n (suc i) c ws =
     let k : suc (8 + c) ≡ 8 + suc c = omega arith in
-    step n i c (8 + c) ws ∙ rw k (go (wordRight 12 n ws c) (from-test n i (suc c) ws))
+    step p n i c (8 + c) ws ∙ rw k (go (wordRight p n ws c) (from-test p n i (suc c) ws))
   where
-    go : (b : Bool) → directoryFrom 12 n i (suc c) (drop (8 + suc c) ws) ≡ negate (ltb (firstNot (wordRight 12 n ws) i (suc c)) (suc c + i))
-        → both b (directoryFrom 12 n i (suc c) (drop (8 + suc c) ws)) ≡ negate (ltb (pick b (firstNot (wordRight 12 n ws) i (suc c)) c) (c + suc i))
+    go : (b : Bool) → directoryFrom p n i (suc c) (drop (8 + suc c) ws) ≡ negate (ltb (firstNot (wordRight p n ws) i (suc c)) (suc c + i))
+        → both b (directoryFrom p n i (suc c) (drop (8 + suc c) ws)) ≡ negate (ltb (pick b (firstNot (wordRight p n ws) i (suc c)) c) (c + suc i))
     go true h = let s : c + suc i ≡ suc c + i = omega arith in rw s h
     go false h = rw (lt-ltb c (c + suc i) (omega arith))
 
-pub directory-tested : (n : ℕ) (ws : List ℕ) → directoryTest 12 n ws ≡ negate (ltb (directoryFault 12 n ws) maxChunks)
-directory-tested n ws = from-test n 504 0 ws
+pub directory-tested : (p n : ℕ) (ws : List ℕ) → directoryTest p n ws ≡ negate (ltb (directoryFault p n ws) maxChunks)
+directory-tested p n ws = from-test p n 504 0 ws
 
 -- what the search tells: every word is right where it finds none
-module _ (n : ℕ) (ws : List ℕ) (c : ℕ) (is-c : c ≡ directoryFault 12 n ws) where
-  pub test-wrong : c < 504 → false ≡ directoryTest 12 n ws
-  test-wrong h = sym (directory-tested n ws ∙ rw (← is-c, lt-ltb c 504 h))
+module _ (p n : ℕ) (ws : List ℕ) (c : ℕ) (is-c : c ≡ directoryFault p n ws) where
+  pub test-wrong : c < 504 → false ≡ directoryTest p n ws
+  test-wrong h = sym (directory-tested p n ws ∙ rw (← is-c, lt-ltb c 504 h))
 
-  pub test-right : 504 ≤ c → true ≡ directoryTest 12 n ws
-  test-right h = sym (directory-tested n ws ∙ rw (← is-c, le-ltb c 504 h))
+  pub test-right : 504 ≤ c → true ≡ directoryTest p n ws
+  test-right h = sym (directory-tested p n ws ∙ rw (← is-c, le-ltb c 504 h))

@@ -22,5 +22,5 @@ pub record Stops (test : ℕ → Bool) (from count r : ℕ) : Type 0 where
   pub here : r < count → test r ≡ true
 
 -- a search for free chunks, where no chunk below `from` is free
-abbrev pub FreeFound : (ws : List ℕ) (from count needed : ℕ) → Found → Type 0
-FreeFound ws from count needed r = ((c : ℕ) → 1 ≤ c → c < from → isFree (roleAt 12 ws c) ≡ false) → r ≡ foundOf (freeChunk 12 count ws needed)
+abbrev pub FreeFound : (p : ℕ) (ws : List ℕ) (from count needed : ℕ) → Found → Type 0
+FreeFound p ws from count needed r = ((c : ℕ) → 1 ≤ c → c < from → isFree (roleAt p ws c) ≡ false) → r ≡ foundOf (freeChunk p count ws needed)

@@ -6,9 +6,9 @@ use mathlib.Core.List.{List, [], _∷_}
 use Prim.Native.Nat.{ℕ, zero, suc}
 use lib.Dec.{T}
 use lib.ListN.{replicate}
-use Rattle.spec.specs.Places.{basePower, base, firstLine, firstUnit, chunkBytes, chunkWords, chunkLines, chunkUnits, chunksIn, lengthAllowed, unitChunk, unitIn, wordChunk}
+use Rattle.spec.specs.Places.{basePower, largePower, base, firstLine, firstUnit, chunkBytes, chunkWords, chunkLines, chunkUnits, chunksIn, lengthAllowed, unitChunk, unitIn, wordChunk, sizeAllowed, anyAllowed}
 use Rattle.spec.specs.Medium.{Fence}
-use Rattle.spec.specs.Header.{headerTail, headerTest}
+use Rattle.spec.specs.Header.{headerTail, headerTest, fieldsTest, powerSaid, powerBit, powerField}
 use Rattle.spec.specs.Directory.{roleOf, linesOf, sizeOf, sizeFor, isSize, directoryRight}
 use Rattle.spec.specs.Log.{Entry, firstOf, stepOf}
 use Rattle.spec.specs.Blocks.{blockLimit, unitsFor, blockSize, blockTest}
@@ -22,18 +22,18 @@ use Rattle.examples.specs.Shown.{Shown, Words, Number, Refused, Accepted
 use Rattle.examples.specs.Images.{Change, _becomes_, changed, image, first, log, blocks}
 
 abbrev ask : Call → State → List ℕ → ℕ → ℕ → Shown
-ask k σ ws bytes table = shownReport (answer basePower (blockLimit basePower) k σ ws bytes table)
+ask k σ ws bytes table = shownReport (answer k σ ws bytes table)
 
 -- on an open register of 16,384 bytes with a table of 64 words: these items are staged, and these words are changed
 abbrev on : List Entry → List Change → Call → Shown
-on items changes k = ask k (Rest 16384 64 items) (changed changes image) 16384 64
+on items changes k = ask k (Rest 12 16384 64 items) (changed changes image) 16384 64
 
 -- on a register of four chunks as a formatting leaves it
 abbrev empty : List ℕ
-empty = 1 ∷ blankOf (headerTail 4 G.Absent G.Absent)
+empty = 1 ∷ blankOf (headerTail basePower 4 G.Absent G.Absent)
 
 abbrev onEmpty : List Entry → List Change → Call → Shown
-onEmpty items changes k = ask k (Rest 16384 64 items) (changed changes empty) 16384 64
+onEmpty items changes k = ask k (Rest 12 16384 64 items) (changed changes empty) 16384 64
 
 -- staged items: an empty put, a delete, a put in a block; n empty puts of keys n and below
 abbrev put : ℕ → ℕ → Entry
@@ -51,7 +51,7 @@ puts (suc n) = put 1 (suc n) ∷ puts n
 
 -- unfinished calls
 abbrev committing : State
-committing = Busy 16384 64 [] (Committing ((1, log 6) ∷ [])) (Fence ∷ [])
+committing = Busy 12 16384 64 [] (Committing ((1, log 6) ∷ [])) (Fence ∷ [])
 
 -- a delete of 7 in a seventh line of chunk 1, and the directory word that commits it
 abbrev deleting : List ℕ
@@ -69,30 +69,35 @@ rows =
     ∷ ask (LookUp 7) (Formatting false 16384 64 []) image 16384 64 is Refused 2
     ∷ on [] [] (LookUp 7) is Words (4112 ∷ 5 ∷ 1 ∷ [])
     -- 1: a lent length unlike that at opening, or at a formatting's begin; an idle step looks at no length
-    ∷ ask (LookUp 7) (Rest 16384 64 []) image 20480 64 is Refused 1
-    ∷ ask (LookUp 7) (Rest 16384 64 []) image 16384 63 is Refused 1
+    ∷ ask (LookUp 7) (Rest 12 16384 64 []) image 20480 64 is Refused 1
+    ∷ ask (LookUp 7) (Rest 12 16384 64 []) image 16384 63 is Refused 1
     ∷ ask Step committing image 16384 63 is Refused 1
     ∷ ask Step committing image 16384 64 is Fenced
     ∷ ask Step (Formatting true 16384 64 (Fence ∷ [])) image 20480 64 is Refused 1
     ∷ ask Step (Formatting true 16384 64 (Fence ∷ [])) image 16384 64 is Fenced
-    ∷ ask Step (Rest 16384 64 []) image 20480 63 is Idle
+    ∷ ask Step (Rest 12 16384 64 []) image 20480 63 is Idle
     ∷ ask Step Closed image 0 0 is Idle
     -- 1: a formatting asks only whether the length is allowed
-    ∷ ask (Format G.Absent G.Absent) (Rest 16384 64 []) image 4095 64 is Refused 1
-    ∷ ask (Format G.Absent G.Absent) (Rest 16384 64 []) image 20480 63 is Begun 582
+    ∷ ask (Format 12 G.Absent G.Absent) (Rest 12 16384 64 []) image 4095 64 is Refused 1
+    ∷ ask (Format 12 G.Absent G.Absent) (Rest 12 16384 64 []) image 20480 63 is Begun 582
+    ∷ ask (Format 16 G.Absent G.Absent) (Rest 12 16384 64 []) image 262144 63 is Begun 582
+    ∷ ask (Format 12 G.Absent G.Absent) (Rest 12 16384 64 []) image 262144 63 is Begun 582
+    ∷ ask (Format 16 G.Absent G.Absent) (Rest 12 16384 64 []) image 20480 63 is Refused 1
+    ∷ ask (Format 16 G.Absent G.Absent) (Rest 12 16384 64 []) image 196608 63 is Refused 1
+    ∷ ask (Format 13 G.Absent G.Absent) (Rest 12 16384 64 []) image 262144 63 is Refused 1
     -- 8: a call is unfinished; an opening may come at any time
     ∷ ask Commit committing image 16384 64 is Refused 8
     ∷ ask (LookUp 7) (Formatting true 16384 64 []) image 16384 64 is Refused 8
     ∷ ask (LookUp 7) (Formatting true 16384 64 []) image 20480 64 is Refused 1
     ∷ ask (LookUp 7) (Formatting true 16384 64 []) image 16384 63 is Refused 1
     ∷ ask (LookUp 7) (Formatting false 16384 64 []) image 16384 64 is Refused 2
-    ∷ ask (Format G.Absent G.Absent) committing image 16384 64 is Refused 8
-    ∷ ask (Format G.Absent G.Absent) (Formatting false 16384 64 []) image 16384 64 is Refused 8
+    ∷ ask (Format 12 G.Absent G.Absent) committing image 16384 64 is Refused 8
+    ∷ ask (Format 12 G.Absent G.Absent) (Formatting false 16384 64 []) image 16384 64 is Refused 8
     ∷ ask Open committing image 16384 64 is Accepted
     -- look-up in a commit that deletes 7: the register of before, and from the last fence on the one that it makes
     ∷ ask (LookUp 7) committing image 16384 64 is Words (4112 ∷ 5 ∷ 1 ∷ [])
     ∷ ask (LookUp 7) committing deleting 16384 64 is Words (4112 ∷ 5 ∷ 1 ∷ [])
-    ∷ ask (LookUp 7) (Busy 16384 64 [] (Committing ((1, log 6) ∷ [])) []) deleting 16384 64 is Refused 11
+    ∷ ask (LookUp 7) (Busy 12 16384 64 [] (Committing ((1, log 6) ∷ [])) []) deleting 16384 64 is Refused 11
     ∷ ask (LookUp 7) committing image 20480 64 is Refused 1
     -- 9: value too long
     ∷ onEmpty [] [] (Put G.Absent 7 (large 4089)) is Refused 9
@@ -153,14 +158,14 @@ rows =
     ∷ on [] (512 becomes first 1 0 1048575 5 ∷ []) (Delete (G.Number 1048575) 7) is Refused 12
     ∷ on [] (512 becomes first 1 0 1048575 5 ∷ []) (Delete (G.Number 1048574) 7) is Refused 17
     -- 7: known and staged keys exceed the table: of three words, and of 16 or 20 with four known
-    ∷ ask (Put G.Absent 7 []) (Rest 16384 3 []) empty 16384 3 is Refused 7
-    ∷ ask (Put G.Absent 7 []) (Rest 16384 4 []) empty 16384 4 is Begun 0
-    ∷ ask (Put G.Absent 7 []) (Rest 16384 16 []) image 16384 16 is Begun 0
-    ∷ ask (Put G.Absent 5 []) (Rest 16384 16 []) image 16384 16 is Begun 0
-    ∷ ask (Put G.Absent 8 []) (Rest 16384 16 []) image 16384 16 is Refused 7
-    ∷ ask (Put G.Absent 8 []) (Rest 16384 20 []) image 16384 20 is Begun 0
-    ∷ ask (Put G.Absent 8 []) (Rest 16384 20 (put 1 6 ∷ [])) image 16384 20 is Refused 7
-    ∷ ask (Put G.Absent 6 []) (Rest 16384 20 (put 1 6 ∷ [])) image 16384 20 is Begun 0
+    ∷ ask (Put G.Absent 7 []) (Rest 12 16384 3 []) empty 16384 3 is Refused 7
+    ∷ ask (Put G.Absent 7 []) (Rest 12 16384 4 []) empty 16384 4 is Begun 0
+    ∷ ask (Put G.Absent 7 []) (Rest 12 16384 16 []) image 16384 16 is Begun 0
+    ∷ ask (Put G.Absent 5 []) (Rest 12 16384 16 []) image 16384 16 is Begun 0
+    ∷ ask (Put G.Absent 8 []) (Rest 12 16384 16 []) image 16384 16 is Refused 7
+    ∷ ask (Put G.Absent 8 []) (Rest 12 16384 20 []) image 16384 20 is Begun 0
+    ∷ ask (Put G.Absent 8 []) (Rest 12 16384 20 (put 1 6 ∷ [])) image 16384 20 is Refused 7
+    ∷ ask (Put G.Absent 6 []) (Rest 12 16384 20 (put 1 6 ∷ [])) image 16384 20 is Begun 0
     -- 14: nothing staged
     ∷ onEmpty [] [] Commit is Refused 14
     ∷ onEmpty (put 1 7 ∷ []) [] Commit is Begun 13
@@ -211,14 +216,14 @@ rows =
     ∷ on (put 1048574 5 ∷ puts 15) [] (Put G.Absent 5 []) is Refused 12
     ∷ on (put 1048574 5 ∷ puts 15) [] (Delete G.Absent 5) is Refused 10
     ∷ on (put 1048575 5 ∷ puts 15) [] (Delete G.Absent 5) is Refused 12
-    ∷ ask (Put G.Absent 25 []) (Rest 16384 64 (puts 16)) empty 16384 64 is Refused 10
-    ∷ ask (Put G.Absent 25 (large 257)) (Rest 16384 3 []) image 16384 3 is Refused 7
+    ∷ ask (Put G.Absent 25 []) (Rest 12 16384 64 (puts 16)) empty 16384 64 is Refused 10
+    ∷ ask (Put G.Absent 25 (large 257)) (Rest 12 16384 3 []) image 16384 3 is Refused 7
     ∷ onEmpty [] (9 becomes log 64 ∷ 10 becomes log 64 ∷ 11 becomes log 64 ∷ []) Commit is Refused 14
     ∷ on [] (11 becomes log 64 ∷ []) (Clean 2) is Refused 16
     ∷ []
 
 pub computed : T (allHold rows)
-unfolding base firstLine firstUnit chunkBytes chunkWords chunkLines chunkUnits chunksIn lengthAllowed unitChunk unitIn wordChunk headerTail headerTest roleOf linesOf sizeOf sizeFor isSize directoryRight firstOf stepOf blockLimit unitsFor blockSize blockTest chosen tops capacity keptIn opening appendOf commitOf bodyOf padded blockOf formatOf blankOf fillOf planPut planDelete planCommit planClean slotFor logPlace chosenChunk lookUp
+unfolding base firstLine firstUnit chunkBytes chunkWords chunkLines chunkUnits chunksIn lengthAllowed unitChunk unitIn wordChunk headerTail headerTest roleOf linesOf sizeOf sizeFor isSize directoryRight firstOf stepOf blockLimit unitsFor blockSize blockTest chosen tops capacity keptIn opening appendOf commitOf bodyOf padded blockOf formatOf blankOf fillOf planPut planDelete planCommit planClean slotFor logPlace chosenChunk lookUp fieldsTest powerSaid powerBit powerField sizeAllowed anyAllowed
 computed = tt
 
 -- CHOOSING
@@ -240,5 +245,32 @@ choices =
     ∷ []
 
 pub choices-computed : T (allHold choices)
-unfolding base firstLine firstUnit chunkBytes chunkWords chunkLines chunkUnits chunksIn lengthAllowed unitChunk unitIn wordChunk headerTail headerTest roleOf linesOf sizeOf sizeFor isSize directoryRight firstOf stepOf blockLimit unitsFor blockSize blockTest chosen tops capacity keptIn opening appendOf commitOf bodyOf padded blockOf formatOf blankOf fillOf planPut planDelete planCommit planClean slotFor logPlace chosenChunk lookUp
+unfolding base firstLine firstUnit chunkBytes chunkWords chunkLines chunkUnits chunksIn lengthAllowed unitChunk unitIn wordChunk headerTail headerTest roleOf linesOf sizeOf sizeFor isSize directoryRight firstOf stepOf blockLimit unitsFor blockSize blockTest chosen tops capacity keptIn opening appendOf commitOf bodyOf padded blockOf formatOf blankOf fillOf planPut planDelete planCommit planClean slotFor logPlace chosenChunk lookUp fieldsTest powerSaid powerBit powerField sizeAllowed anyAllowed
 choices-computed = tt
+
+-- LARGE CHUNKS: on a register of four chunks of 65,536 bytes as a formatting leaves it
+abbrev emptyLarge : List ℕ
+emptyLarge = 9 ∷ blankOf (headerTail largePower 4 G.Absent G.Absent)
+
+abbrev onLarge : List Entry → List Change → Call → Shown
+onLarge items changes k = ask k (Rest 16 262144 64 items) (changed changes emptyLarge) 262144 64
+
+abbrev largeRows : List Row
+largeRows =
+    ask Open Closed emptyLarge 262144 64 is Accepted
+    -- 9: a value fills a chunk but for its length word; a batch is no larger
+    ∷ onLarge [] [] (Put G.Absent 7 (large 65529)) is Refused 9
+    ∷ onLarge [] [] (Put G.Absent 7 (large 65528)) is Begun 9218
+    ∷ onLarge [] [] (Put G.Absent 7 (large 4089)) is Begun 580
+    ∷ onLarge (puts 16) [] (Put G.Absent 25 []) is Refused 10
+    -- 13: a log chunk has 1,024 lines
+    ∷ onLarge (put 1 7 ∷ []) (9 becomes log 1024 ∷ []) Commit is Refused 13
+    ∷ onLarge (put 1 7 ∷ []) (9 becomes log 1023 ∷ []) Commit is Begun 13
+    -- 13: a chunk of blocks of 51 units has five of them, so that the fifth is the last; of 64 units, four
+    ∷ onLarge (putIn 256 1 ∷ putIn 307 2 ∷ putIn 358 3 ∷ putIn 409 4 ∷ []) (9 becomes blocks 51 ∷ []) (Put G.Absent 7 (large 11000)) is Begun 1548
+    ∷ onLarge (putIn 256 1 ∷ putIn 307 2 ∷ putIn 358 3 ∷ putIn 409 4 ∷ putIn 460 5 ∷ []) (9 becomes blocks 51 ∷ []) (Put G.Absent 7 (large 11000)) is Refused 13
+    ∷ []
+
+pub large-computed : T (allHold largeRows)
+unfolding base firstLine firstUnit chunkBytes chunkWords chunkLines chunkUnits chunksIn lengthAllowed unitChunk unitIn wordChunk headerTail headerTest roleOf linesOf sizeOf sizeFor isSize directoryRight firstOf stepOf blockLimit unitsFor blockSize blockTest chosen tops capacity keptIn opening appendOf commitOf bodyOf padded blockOf formatOf blankOf fillOf planPut planDelete planCommit planClean slotFor logPlace chosenChunk lookUp fieldsTest powerSaid powerBit powerField sizeAllowed anyAllowed
+large-computed = tt

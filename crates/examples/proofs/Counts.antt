@@ -6,10 +6,10 @@ use Prim.Native.Nat.{ℕ, suc, _+_, _-_, _*_, _/_}
 use lib.Dec.{T, eqb}
 use lib.ListN.{length, replicate}
 use Rattle.spec.specs.Basics.{both, all, filter, upFrom, distinct, sameList}
-use Rattle.spec.specs.Places.{basePower, base, firstLine, firstUnit, chunkWords, chunkLines, chunkUnits, lineOf}
+use Rattle.spec.specs.Places.{basePower, largePower, base, firstLine, firstUnit, chunkWords, chunkLines, chunkUnits, lineOf}
 use Rattle.spec.specs.Words.{packed}
 use Rattle.spec.specs.Medium.{Action, Store, Flush, Fence}
-use Rattle.spec.specs.Header.{headerTail}
+use Rattle.spec.specs.Header.{headerTail, powerBit, powerField}
 use Rattle.spec.specs.Directory.{isSize, sizeFor, sizeOf, roleOf}
 use Rattle.spec.specs.Blocks.{blockLimit, blockSize, unitsFor}
 use Rattle.spec.specs.Contents.{capacity, tops, chosen}
@@ -59,10 +59,10 @@ actionsOf (Refuse n) = []
 actionsOf (Begin items task acts) = acts
 
 abbrev empty : List ℕ
-empty = 1 ∷ blankOf (headerTail 4 G.Absent G.Absent)
+empty = 1 ∷ blankOf (headerTail basePower 4 G.Absent G.Absent)
 
 abbrev staging : ℕ → List Action
-staging bytes = actionsOf (planPut basePower (blockLimit basePower) 4 empty 64 [] [] G.Absent 7 (replicate bytes 94))
+staging bytes = actionsOf (planPut basePower 4 empty 64 [] [] G.Absent 7 (replicate bytes 94))
 
 -- the stores and flushes of a block alone, at unit 50
 abbrev block : ℕ → List Action
@@ -74,10 +74,10 @@ stagingCounts bytes = both (eqb (length (stored (block bytes))) (1 + (bytes + 7)
 abbrev rows : List Row
 rows =
     -- format: 3, then 511 + 64 + 1, then 3
-    counted (formatOf 4 G.Absent G.Absent) is Words (513 ∷ 66 ∷ 3 ∷ 582 ∷ [])
-    ∷ counted (formatOf 504 (G.Number 5) (G.Number 6)) is Words (513 ∷ 66 ∷ 3 ∷ 582 ∷ [])
-    ∷ Words (stored (formatOf 4 G.Absent G.Absent)) is Words ((0 ∷ upFrom 1 511) ++ (0 ∷ []))
-    ∷ Words (flushed (formatOf 4 G.Absent G.Absent)) is Words ((0 ∷ upFrom 0 64) ++ (0 ∷ []))
+    counted (formatOf basePower 4 G.Absent G.Absent) is Words (513 ∷ 66 ∷ 3 ∷ 582 ∷ [])
+    ∷ counted (formatOf basePower 504 (G.Number 5) (G.Number 6)) is Words (513 ∷ 66 ∷ 3 ∷ 582 ∷ [])
+    ∷ Words (stored (formatOf basePower 4 G.Absent G.Absent)) is Words ((0 ∷ upFrom 1 511) ++ (0 ∷ []))
+    ∷ Words (flushed (formatOf basePower 4 G.Absent G.Absent)) is Words ((0 ∷ upFrom 0 64) ++ (0 ∷ []))
     -- commit of one line behind three lines of chunk 1
     ∷ counted (commit 5) is Words (9 ∷ 2 ∷ 2 ∷ 13 ∷ [])
     ∷ Words (stored (commit 5)) is Words (536 ∷ 537 ∷ 538 ∷ 539 ∷ 540 ∷ 541 ∷ 542 ∷ 543 ∷ 9 ∷ [])
@@ -96,11 +96,12 @@ rows =
     -- block sizes, blocks in a chunk, and the size for 2 to 16 units
     ∷ Words (filter (isSize basePower) (upFrom 0 300)) is Words (2 ∷ 3 ∷ 4 ∷ 5 ∷ 8 ∷ 16 ∷ [])
     ∷ Words (map (λ s. chunkUnits basePower / s) (2 ∷ 3 ∷ 4 ∷ 5 ∷ 8 ∷ 16 ∷ [])) is Words (8 ∷ 5 ∷ 4 ∷ 3 ∷ 2 ∷ 1 ∷ [])
+    ∷ Words (map (sizeFor largePower) (20 ∷ 22 ∷ 43 ∷ 52 ∷ 65 ∷ 86 ∷ 129 ∷ 256 ∷ [])) is Words (21 ∷ 23 ∷ 51 ∷ 64 ∷ 85 ∷ 128 ∷ 256 ∷ 256 ∷ [])
     ∷ Words (map (sizeFor basePower) (upFrom 2 15)) is Words (2 ∷ 3 ∷ 4 ∷ 5 ∷ 8 ∷ 8 ∷ 8 ∷ 16 ∷ 16 ∷ 16 ∷ 16 ∷ 16 ∷ 16 ∷ 16 ∷ 16 ∷ [])
     -- the keys that a table holds
     ∷ Words (map capacity (3 ∷ 4 ∷ 7 ∷ 8192 ∷ 262143 ∷ 262144 ∷ 262148 ∷ [])) is Words (0 ∷ 1 ∷ 1 ∷ 2048 ∷ 65535 ∷ 65536 ∷ 65536 ∷ [])
     ∷ []
 
 pub computed : T (both (allHold rows) (both (all commitCounts (upFrom 1 61)) (all stagingCounts (257 ∷ 264 ∷ 265 ∷ 504 ∷ 505 ∷ 4081 ∷ 4088 ∷ []))))
-unfolding base firstLine firstUnit chunkWords chunkLines chunkUnits headerTail isSize sizeFor sizeOf roleOf blockLimit blockSize unitsFor capacity tops chosen formatOf blankOf fillOf appendOf commitOf bodyOf padded blockOf planPut slotFor
+unfolding base firstLine firstUnit chunkWords chunkLines chunkUnits headerTail isSize sizeFor sizeOf roleOf blockLimit blockSize unitsFor capacity tops chosen formatOf blankOf fillOf appendOf commitOf bodyOf padded blockOf planPut slotFor powerBit powerField
 computed = tt

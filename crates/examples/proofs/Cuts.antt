@@ -7,9 +7,9 @@ use lib.Dec.{T}
 use lib.ListN.{replicate, take, drop}
 use Rattle.spec.specs.Basics.{all, upFrom}
 use Rattle.spec.specs.Words.{packed, valueBytes}
-use Rattle.spec.specs.Places.{basePower, base, firstLine, chunkBytes, chunkWords, chunkLines, chunkUnits, chunksIn, lengthAllowed, unitChunk, unitIn, wordChunk}
+use Rattle.spec.specs.Places.{basePower, base, firstLine, chunkBytes, chunkWords, chunkLines, chunkUnits, chunksIn, lengthAllowed, unitChunk, unitIn, wordChunk, sizeAllowed, anyAllowed}
 use Rattle.spec.specs.Medium.{Action, settledAt}
-use Rattle.spec.specs.Header.{headerTail, headerTest}
+use Rattle.spec.specs.Header.{headerTail, headerTest, fieldsTest, powerSaid, powerBit, powerField}
 use Rattle.spec.specs.Directory.{roleOf, linesOf, sizeOf, sizeFor, isSize, directoryRight}
 use Rattle.spec.specs.Log.{encodeAll, firstOf, stepOf}
 use Rattle.spec.specs.Blocks.{blockTest}
@@ -88,7 +88,7 @@ reusing = blockOf 32 (257 ∷ replicate 33 2)
 
 -- FORMATTING, its first twelve actions, up to the directory word of chunk 1
 abbrev formatting : List Action
-formatting = take 12 (formatOf 4 G.Absent G.Absent)
+formatting = take 12 (formatOf basePower 4 G.Absent G.Absent)
 
 abbrev unfenced : List Action
 unfenced = take 9 commit ++ drop 10 commit
@@ -137,5 +137,5 @@ rows =
     ∷ []
 
 pub computed : T (all sightHolds rows)
-unfolding base firstLine chunkBytes chunkWords chunkLines chunkUnits chunksIn lengthAllowed unitChunk unitIn wordChunk headerTail headerTest roleOf linesOf sizeOf sizeFor isSize directoryRight firstOf stepOf blockTest chosen tops capacity contents keptIn opening appendOf commitOf bodyOf padded blockOf formatOf blankOf fillOf planClean logPlace
+unfolding base firstLine chunkBytes chunkWords chunkLines chunkUnits chunksIn lengthAllowed unitChunk unitIn wordChunk headerTail headerTest roleOf linesOf sizeOf sizeFor isSize directoryRight firstOf stepOf blockTest chosen tops capacity contents keptIn opening appendOf commitOf bodyOf padded blockOf formatOf blankOf fillOf planClean logPlace fieldsTest powerSaid powerBit powerField sizeAllowed anyAllowed
 computed = tt

@@ -4,8 +4,8 @@ use mathlib.Core.List.{List, [], _∷_}
 use Prim.Native.Nat.{ℕ}
 use lib.Dec.{T}
 use lib.ListN.{replicate}
-use Rattle.spec.specs.Places.{base, firstLine, wordChunk, chunkBytes, chunkWords, chunkLines, chunkUnits, chunksIn, lengthAllowed}
-use Rattle.spec.specs.Header.{headerTail, headerTest}
+use Rattle.spec.specs.Places.{base, firstLine, wordChunk, chunkBytes, chunkWords, chunkLines, chunkUnits, chunksIn, lengthAllowed, sizeAllowed, anyAllowed}
+use Rattle.spec.specs.Header.{headerTail, headerTest, fieldsTest, powerSaid, powerBit, powerField}
 use Rattle.spec.specs.Directory.{roleOf, linesOf, isSize, directoryRight}
 use Rattle.spec.specs.Log.{firstOf, stepOf}
 use Rattle.spec.specs.Blocks.{blockLimit}
@@ -28,7 +28,7 @@ hello = 104 ∷ 101 ∷ 108 ∷ 108 ∷ 111 ∷ []
 abbrev session : List Line
 session =
     Answers Open (Refused 2)
-    ∷ Runs (Format G.Absent G.Absent) 582 (0 ∷ 0 ∷ 0 ∷ []) 0
+    ∷ Runs (Format 12 G.Absent G.Absent) 582 (0 ∷ 0 ∷ 0 ∷ []) 0
     ∷ Answers (LookUp 7) (Refused 2)
     ∷ Answers Open Accepted
     ∷ Lists []
@@ -60,5 +60,5 @@ session =
     ∷ []
 
 pub computed : T (holds session unformatted)
-unfolding base firstLine wordChunk chunkBytes chunkWords chunkLines chunkUnits chunksIn lengthAllowed headerTail headerTest roleOf linesOf isSize directoryRight firstOf stepOf blockLimit chosen tops contents capacity keptIn opening formatOf blankOf fillOf appendOf commitOf bodyOf padded next planPut planDelete planCommit planClean logPlace chosenChunk lookUp
+unfolding base firstLine wordChunk chunkBytes chunkWords chunkLines chunkUnits chunksIn lengthAllowed headerTail headerTest roleOf linesOf isSize directoryRight firstOf stepOf blockLimit chosen tops contents capacity keptIn opening formatOf blankOf fillOf appendOf commitOf bodyOf padded next planPut planDelete planCommit planClean logPlace chosenChunk lookUp fieldsTest powerSaid powerBit powerField sizeAllowed anyAllowed
 computed = tt

@@ -1,12 +1,12 @@
 -- For every clause of an opening's refusals 1 to 7: an image that is refused by it, and its nearest neighbour that is
 -- accepted.
 -- Assumes nothing.
-use mathlib.Core.List.{List, [], _∷_}
+use mathlib.Core.List.{List, [], _∷_, _++_}
 use Prim.Native.Nat.{ℕ, _+_}
 use lib.Dec.{T}
 use Rattle.spec.specs.Basics.{both, all}
-use Rattle.spec.specs.Places.{base, chunkBytes, chunkWords, chunkLines, chunkUnits, chunksIn, lengthAllowed, unitChunk, unitIn}
-use Rattle.spec.specs.Header.{headerTail, headerWords, headerTest}
+use Rattle.spec.specs.Places.{basePower, largePower, base, chunkBytes, chunkWords, chunkLines, chunkUnits, chunksIn, lengthAllowed, unitChunk, unitIn, sizeAllowed, anyAllowed}
+use Rattle.spec.specs.Header.{headerTail, headerWords, headerTest, fieldsTest, powerSaid, powerBit, powerField}
 use Rattle.spec.specs.Directory.{roleOf, linesOf, sizeOf, sizeFor, isSize, directoryRight}
 use Rattle.spec.specs.Log.{firstOf, stepOf}
 use Rattle.spec.specs.Blocks.{blockTest}
@@ -21,7 +21,14 @@ abbrev same : List ℕ → List ℕ
 same ws = ws
 
 abbrev empty : ℕ → List ℕ → List ℕ
-empty n ws = headerWords n G.Absent G.Absent
+empty n ws = headerWords basePower n G.Absent G.Absent
+
+abbrev emptyLarge : ℕ → List ℕ → List ℕ
+emptyLarge n ws = headerWords largePower n G.Absent G.Absent
+
+-- four large chunks, with this directory word of chunk 1
+abbrev largeWith : ℕ → List ℕ → List ℕ
+largeWith w ws = emptyLarge 4 ws ++ (0 ∷ w ∷ [])
 
 abbrev cases : List Case
 cases =
@@ -32,13 +39,27 @@ cases =
     ∷ refused 1 (lent same 16392 64) (lent same 16384 64)
     ∷ refused 1 (lent same 12288 64) (lent same 16384 64)
     ∷ refused 1 (lent (empty 505) 2068480 64) (lent (empty 504) 2064384 64)
+    -- 1: 505 large chunks
+    ∷ refused 1 (lent (emptyLarge 505) 33095680 64) (lent (emptyLarge 504) 33030144 64)
     -- 2: word 0 = 0
     ∷ refuses 2 (0 becomes 0 ∷ []) []
     -- 2: a bit map without bit 0, though word 1 is the count and the sum is right
     ∷ refuses 2 (0 becomes 2 ∷ 7 becomes minus 6 ∷ []) (0 becomes 3 ∷ 7 becomes minus 7 ∷ [])
     ∷ refuses 2 (0 becomes 4 ∷ 7 becomes minus 8 ∷ []) (0 becomes 5 ∷ 7 becomes minus 9 ∷ [])
     ∷ refuses 2 (0 becomes 6 ∷ 7 becomes minus 10 ∷ []) (0 becomes 7 ∷ 7 becomes minus 11 ∷ [])
-    -- 2: another bit of the map, 3 and 63
+    -- 2: a power that is not there, in the place that its field has by the map; a power absent where a field stands
+    ∷ refuses 2 (0 becomes 9 ∷ 2 becomes 13 ∷ 7 becomes minus 26 ∷ []) (0 becomes 9 ∷ 2 becomes 12 ∷ 7 becomes minus 25 ∷ [])
+    ∷ refuses 2 (0 becomes 11 ∷ 2 becomes 12 ∷ 3 becomes 13 ∷ 7 becomes minus 40 ∷ []) (0 becomes 11 ∷ 2 becomes 13 ∷ 3 becomes 12 ∷ 7 becomes minus 40 ∷ [])
+    ∷ refuses 2 (0 becomes 13 ∷ 2 becomes 12 ∷ 3 becomes 13 ∷ 7 becomes minus 42 ∷ []) (0 becomes 13 ∷ 2 becomes 13 ∷ 3 becomes 12 ∷ 7 becomes minus 42 ∷ [])
+    ∷ refuses 2 (0 becomes 15 ∷ 3 becomes 12 ∷ 4 becomes 11 ∷ 7 becomes minus 42 ∷ []) (0 becomes 15 ∷ 3 becomes 11 ∷ 4 becomes 12 ∷ 7 becomes minus 42 ∷ [])
+    ∷ refuses 2 (0 becomes 9 ∷ 2 becomes 16 ∷ 7 becomes minus 29 ∷ []) (0 becomes 9 ∷ 2 becomes 12 ∷ 7 becomes minus 25 ∷ [])
+    -- 2: a length that is allowed, but not for the header's power and count
+    ∷ refused 2 (lent (emptyLarge 3) 196608 64) (lent (emptyLarge 4) 262144 64)
+    ∷ refused 2 (lent (empty 608) 2490368 64) (lent (emptyLarge 38) 2490368 64)
+    ∷ refused 2 (lent (emptyLarge 64) 262144 64) (lent (empty 64) 262144 64)
+    ∷ refused 2 (lent (empty 4) 262144 64) (lent (emptyLarge 4) 262144 64)
+    -- 2: another bit of the map, 3 without its field, 4 and 63
+    ∷ refuses 2 (0 becomes 17 ∷ 7 becomes minus 21 ∷ []) (0 becomes 1 ∷ 7 becomes minus 5 ∷ [])
     ∷ refuses 2 (0 becomes 9 ∷ 7 becomes minus 13 ∷ []) (0 becomes 1 ∷ 7 becomes minus 5 ∷ [])
     ∷ refuses 2 (0 becomes 9223372036854775809 ∷ 7 becomes minus 9223372036854775813 ∷ []) (0 becomes 1 ∷ 7 becomes minus 5 ∷ [])
     -- 2: a word that the map leaves unused is not 0; the neighbour has its bit
@@ -46,13 +67,20 @@ cases =
     ∷ refuses 2 (3 becomes 6 ∷ 7 becomes minus 11 ∷ []) (0 becomes 7 ∷ 3 becomes 6 ∷ 7 becomes minus 17 ∷ [])
     ∷ refuses 2 (0 becomes 3 ∷ 3 becomes 6 ∷ 7 becomes minus 13 ∷ []) (0 becomes 7 ∷ 3 becomes 6 ∷ 7 becomes minus 17 ∷ [])
     ∷ refuses 2 (0 becomes 5 ∷ 3 becomes 6 ∷ 7 becomes minus 15 ∷ []) (0 becomes 7 ∷ 3 becomes 6 ∷ 7 becomes minus 17 ∷ [])
-    -- 2: words 4, 5 and 6 are unused in any map
+    -- 2: words 5 and 6 are unused in any map, word 4 in one without bit 3
     ∷ refuses 2 (4 becomes 6 ∷ 7 becomes minus 11 ∷ []) []
     ∷ refuses 2 (0 becomes 7 ∷ 4 becomes 6 ∷ 7 becomes minus 17 ∷ []) (0 becomes 7 ∷ 7 becomes minus 11 ∷ [])
     ∷ refuses 2 (5 becomes 6 ∷ 7 becomes minus 11 ∷ []) []
     ∷ refuses 2 (0 becomes 7 ∷ 5 becomes 6 ∷ 7 becomes minus 17 ∷ []) (0 becomes 7 ∷ 7 becomes minus 11 ∷ [])
     ∷ refuses 2 (6 becomes 6 ∷ 7 becomes minus 11 ∷ []) []
     ∷ refuses 2 (0 becomes 7 ∷ 6 becomes 6 ∷ 7 becomes minus 17 ∷ []) (0 becomes 7 ∷ 7 becomes minus 11 ∷ [])
+    -- 2: the words behind the last field are unused, by the map with bit 3 too
+    ∷ refuses 2 (0 becomes 9 ∷ 2 becomes 12 ∷ 3 becomes 6 ∷ 7 becomes minus 31 ∷ []) (0 becomes 9 ∷ 2 becomes 12 ∷ 7 becomes minus 25 ∷ [])
+    ∷ refuses 2 (0 becomes 9 ∷ 2 becomes 12 ∷ 4 becomes 6 ∷ 7 becomes minus 31 ∷ []) (0 becomes 9 ∷ 2 becomes 12 ∷ 7 becomes minus 25 ∷ [])
+    ∷ refuses 2 (0 becomes 11 ∷ 2 becomes 13 ∷ 3 becomes 12 ∷ 4 becomes 6 ∷ 7 becomes minus 46 ∷ []) (0 becomes 11 ∷ 2 becomes 13 ∷ 3 becomes 12 ∷ 7 becomes minus 40 ∷ [])
+    ∷ refuses 2 (0 becomes 13 ∷ 2 becomes 13 ∷ 3 becomes 12 ∷ 4 becomes 6 ∷ 7 becomes minus 48 ∷ []) (0 becomes 13 ∷ 2 becomes 13 ∷ 3 becomes 12 ∷ 7 becomes minus 42 ∷ [])
+    ∷ refuses 2 (0 becomes 15 ∷ 3 becomes 11 ∷ 4 becomes 12 ∷ 5 becomes 6 ∷ 7 becomes minus 48 ∷ []) (0 becomes 15 ∷ 3 becomes 11 ∷ 4 becomes 12 ∷ 7 becomes minus 42 ∷ [])
+    ∷ refuses 2 (0 becomes 15 ∷ 3 becomes 11 ∷ 4 becomes 12 ∷ 6 becomes 6 ∷ 7 becomes minus 48 ∷ []) (0 becomes 15 ∷ 3 becomes 11 ∷ 4 becomes 12 ∷ 7 becomes minus 42 ∷ [])
     -- 2: the sum, one too much and one too little; a sum that wraps; word 7 is 0
     ∷ refuses 2 (7 becomes minus 4 ∷ []) (7 becomes minus 5 ∷ [])
     ∷ refuses 2 (7 becomes minus 6 ∷ []) (7 becomes minus 5 ∷ [])
@@ -89,6 +117,11 @@ cases =
     ∷ refuses 3 (11 becomes blocks 15 ∷ []) (11 becomes blocks 16 ∷ [])
     ∷ refuses 3 (11 becomes blocks 17 ∷ []) (11 becomes blocks 16 ∷ [])
     ∷ refuses 3 (11 becomes (blocks 3 + 9223372036854775808) ∷ []) (11 becomes blocks 3 ∷ [])
+    -- 3: by the power: 1,025 lines, and block sizes, of large chunks
+    ∷ refused 3 (lent (largeWith (log 1025)) 262144 64) (lent (largeWith (log 1024)) 262144 64)
+    ∷ refused 3 (lent (largeWith (blocks 20)) 262144 64) (lent (largeWith (blocks 21)) 262144 64)
+    ∷ refused 3 (lent (largeWith (blocks 1)) 262144 64) (lent (largeWith (blocks 2)) 262144 64)
+    ∷ refused 3 (lent (largeWith (blocks 257)) 262144 64) (lent (largeWith (blocks 256)) 262144 64)
     -- 3: a word of chunk 0
     ∷ refuses 3 (8 becomes log 1 ∷ []) (8 becomes 0 ∷ [])
     ∷ refuses 3 (8 becomes blocks 2 ∷ []) (8 becomes 0 ∷ [])
@@ -210,5 +243,5 @@ pairs =
     ∷ []
 
 pub computed : T (both (all (caseHolds image) cases) (all (faultsHold image) pairs))
-unfolding base chunkBytes chunkWords chunkLines chunkUnits chunksIn lengthAllowed unitChunk unitIn headerTail headerWords headerTest roleOf linesOf sizeOf sizeFor isSize directoryRight firstOf stepOf blockTest chosen tops capacity opening
+unfolding base chunkBytes chunkWords chunkLines chunkUnits chunksIn lengthAllowed unitChunk unitIn headerTail headerWords headerTest roleOf linesOf sizeOf sizeFor isSize directoryRight firstOf stepOf blockTest chosen tops capacity opening fieldsTest powerSaid powerBit powerField sizeAllowed anyAllowed
 computed = tt

@@ -6,9 +6,9 @@ use Prim.Native.Nat.{ℕ, zero, suc, _*_}
 use lib.Dec.{T}
 use lib.ListN.{length, replicate}
 use Rattle.spec.specs.Basics.{pick}
-use Rattle.spec.specs.Places.{basePower, chunkLines, chunkUnits, firstUnit}
+use Rattle.spec.specs.Places.{basePower, largePower, chunkLines, chunkUnits, firstUnit}
 use Rattle.spec.specs.Medium.{Action, Store, Flush, Fence}
-use Rattle.spec.specs.Header.{headerMap, headerTail, headerWords, headerTest, headerRight}
+use Rattle.spec.specs.Header.{headerMap, headerTail, headerWords, headerTest, headerRight, fieldsTest, powerSaid, powerBit, powerField}
 use Rattle.spec.specs.Directory.{logWord, dataWord, roleOf, sizeIn, sizeFor, isSize, sizeOf}
 use Rattle.spec.specs.Log.{Entry, headOf, encodeAll, firstOf}
 use Rattle.spec.specs.Blocks.{blockLimit, unitsFor, blockSize}
@@ -25,10 +25,10 @@ use Rattle.examples.specs.Shown.{Shown, Words, Number, Refused, Accepted
 
 -- Staging in an empty register of 16 chunks, of which words 0 to 511 are read, with a key table of 256 words.
 abbrev empty : List ℕ
-empty = headerMap G.Absent G.Absent ∷ blankOf (headerTail 16 G.Absent G.Absent)
+empty = headerMap basePower G.Absent G.Absent ∷ blankOf (headerTail basePower 16 G.Absent G.Absent)
 
 abbrev put : List Entry → ℕ → ℕ → Plan
-put items key bytes = planPut basePower (blockLimit basePower) 16 empty 256 [] items G.Absent key (replicate bytes 94)
+put items key bytes = planPut basePower 16 empty 256 [] items G.Absent key (replicate bytes 94)
 
 abbrev delete : List Entry → ℕ → Plan
 delete items key = planDelete 256 [] items G.Absent key
@@ -72,8 +72,9 @@ parts (F.Entry op placement version field) = Words (op ∷ placement ∷ version
 abbrev rows : List Row
 rows =
     -- header, 16 chunks, bit map 1
-    Words (headerWords 16 G.Absent G.Absent) is Words (1 ∷ 16 ∷ 0 ∷ 0 ∷ 0 ∷ 0 ∷ 0 ∷ 18446744073709551599 ∷ [])
-    ∷ pick (headerRight 16 (headerWords 16 G.Absent G.Absent)) Accepted (Refused 2) is Accepted
+    Words (headerWords basePower 16 G.Absent G.Absent) is Words (1 ∷ 16 ∷ 0 ∷ 0 ∷ 0 ∷ 0 ∷ 0 ∷ 18446744073709551599 ∷ [])
+    ∷ Words (headerWords largePower 16 (G.Number 5) G.Absent) is Words (11 ∷ 16 ∷ 5 ∷ 16 ∷ 0 ∷ 0 ∷ 0 ∷ 18446744073709551568 ∷ [])
+    ∷ pick (headerRight 16 (headerWords basePower 16 G.Absent G.Absent)) Accepted (Refused 2) is Accepted
     -- log, 2 lines
     ∷ Number (logWord 0 2) is Number 513
     ∷ role (roleOf basePower 513) is Words (1 ∷ 2 ∷ [])
@@ -106,5 +107,5 @@ rows =
     ∷ []
 
 pub stated : T (allHold rows)
-unfolding headerTail headerWords headerTest blankOf blockOf chunkLines chunkUnits firstUnit roleOf sizeFor isSize sizeOf firstOf blockLimit unitsFor blockSize capacity tops chosen planPut planDelete slotFor
+unfolding headerTail headerWords headerTest blankOf blockOf chunkLines chunkUnits firstUnit roleOf sizeFor isSize sizeOf firstOf blockLimit unitsFor blockSize capacity tops chosen planPut planDelete slotFor fieldsTest powerSaid powerBit powerField
 stated = tt

@@ -33,7 +33,7 @@ seenBy (Refused n) ws keys = Refusal (number n)
 seenBy (Accepted es) ws keys = Holds (map (contents basePower 4 ws) keys)
 
 abbrev pub seen : List ℕ → List ℕ → Seen
-seen ws keys = seenBy (opening basePower 16384 ws 64) ws keys
+seen ws keys = seenBy (opening 16384 ws 64) ws keys
 
 -- Which value each word keeps: its newest; the one before; by turns; the newest save for word w; only word w the
 -- newest.

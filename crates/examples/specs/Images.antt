@@ -6,7 +6,6 @@ use Prim.Native.Nat.{ℕ, _+_, _-_, _*_}
 use lib.Dec.{eqb, ltb}
 use lib.ListN.{set, replicate}
 use Rattle.spec.specs.Basics.{both, every}
-use Rattle.spec.specs.Places.{basePower}
 use Rattle.spec.specs.Opening.{Opening, Refused, Accepted, opening}
 use Rattle.spec.specs.Reports.{number}
 
@@ -75,7 +74,7 @@ refusal (Refused n) = number n
 refusal (Accepted es) = 0
 
 abbrev pub opens : List ℕ → Lent → ℕ
-opens ws l = refusal (opening basePower (l .bytes) (l .made ws) (l .table))
+opens ws l = refusal (opening (l .bytes) (l .made ws) (l .table))
 
 -- A case: refused with a number, and its nearest neighbour, which is accepted.
 pub record Case : Type 0 where

@@ -9,7 +9,6 @@ use lib.ListN.{getD}
 use Rattle.spec.specs.Basics.{pick, both, sameList, upFrom}
 use Rattle.spec.specs.Places.{basePower}
 use Rattle.spec.specs.Log.{Entry}
-use Rattle.spec.specs.Blocks.{blockLimit}
 use Rattle.spec.specs.Contents.{Held, chosen, contents, sameHeld, entriesIn}
 use Rattle.spec.specs.Reports.{wordsAfter}
 use Rattle.spec.specs.Machine.{Call, Step, State, answer, next}
@@ -28,11 +27,11 @@ pub record Memory : Type 0 where
   pub words : List ℕ
 
 abbrev pub asked : Call → Memory → Report
-asked k m = answer basePower (blockLimit basePower) k (m .state) (m .words) imageBytes tableWords
+asked k m = answer k (m .state) (m .words) imageBytes tableWords
 
 abbrev pub left : Call → Memory → Memory
 left k m = record {
-  state = next basePower (blockLimit basePower) k (m .state) (m .words) imageBytes tableWords;
+  state = next k (m .state) (m .words) imageBytes tableWords;
   words = wordsAfter (asked k m) (m .words);
 }
 

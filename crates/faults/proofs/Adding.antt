@@ -8,6 +8,8 @@ use Prim.Native.Nat.{ℕ, _≤_, _<_}
 use native.Mathlib.Decide.{ℕ-discrete}
 use native.Mathlib.Omega.{arith}
 use lib.ListN.{length, getD}
+use Rattle.places.specs.Sizes.{powerOf, power-low, power-high, unitCount}
+use Rattle.spec.specs.declared.Size.{Size}
 use Rattle.spec.specs.Basics.{pick, negate}
 use Rattle.spec.specs.Log.{Entry, Entries, imageEntries}
 use Rattle.spec.specs.Blocks.{pointed, blockRight}
@@ -24,14 +26,14 @@ use Rattle.consistency.specs.Heads.{entryOf, points}
 use Rattle.consistency.specs.Pass.{ListedIn, TopIs, Part}
 use Rattle.consistency.proofs.Visits.{is-below, is-highest, agreement}
 use Rattle.faults.specs.declared.top.Spots.{Spots}
-use Rattle.faults.specs.Spots.{least, Reaches, StandsAt, unitCount, Uses, UnitIs, blockFails, topFails, OddReached, Found, ComparedIs, SharedIs, VisitedIs}
+use Rattle.faults.specs.Spots.{least, Reaches, StandsAt, Uses, UnitIs, blockFails, topFails, OddReached, Found, ComparedIs, SharedIs, VisitedIs}
 use Rattle.faults.proofs.Places.{least-own, least-keeps, least-stands}
 use Rattle.faults.proofs.Units.{last-or, uses-in, uses-last, Falls, unit-falls, unit-among, Joins, joins}
 
 -- ## None, and fewer
 
-module _ (n : ℕ) (ws : List ℕ) (es : List Entry) where
-  pub found-none : (units : List ℕ) → unitCount ≤ length units → ((u : ℕ) → getD units u 0 ≡ 0) → Found n ws es [] units (record { block = 0; tops = 0 })
+module _ (size : Size) (n : ℕ) (ws : List ℕ) (es : List Entry) where
+  pub found-none : (units : List ℕ) → unitCount size ≤ length units → ((u : ℕ) → getD units u 0 ≡ 0) → Found size n ws es [] units (record { block = 0; tops = 0 })
   found-none units long zero = record {
     room = long;
     block-stands = λ z. absurd (z refl);
@@ -41,8 +43,8 @@ module _ (n : ℕ) (ws : List ℕ) (es : List Entry) where
     units-are = λ u r. rw (zero u) (record { none = λ q e i. i .member; one = λ a b. absurd (a refl); several = λ q. absurd (omega arith); shared = λ q. absurd (omega arith) });
   }
 
-  module _ (xs : List Entry) (units : List ℕ) (s : Spots) (inv : Found n ws es xs units s) where
-    pub found-fewer : (ys : List Entry) → Part ys xs → Found n ws es ys units s
+  module _ (xs : List Entry) (units : List ℕ) (s : Spots) (inv : Found size n ws es xs units s) where
+    pub found-fewer : (ys : List Entry) → Part ys xs → Found size n ws es ys units s
     found-fewer ys part = record {
       room = inv .room;
       block-stands = inv .block-stands;
@@ -72,37 +74,37 @@ module _ (n : ℕ) (ws : List ℕ) (es : List Entry) where
           go g j (inr q) = absurd (n (subst (Uses es (xs ++ e ∷ []) u) q j))
 
       -- one that is no top entry
-      pub found-below : isTop es e ≡ false → Found n ws es (xs ++ e ∷ []) units s
+      pub found-below : isTop es e ≡ false → Found size n ws es (xs ++ e ∷ []) units s
       found-below f = record {
         room = inv .room;
         block-stands = inv .block-stands;
-        block-least = each (λ g. blockFails n ws es g ≡ true → Reaches (s .block) (g .at)) (inv .block-least) (λ t. absurd (not-both (isTop es e) (both-l (isTop es e) _ t) f));
+        block-least = each (λ g. blockFails size n ws es g ≡ true → Reaches (s .block) (g .at)) (inv .block-least) (λ t. absurd (not-both (isTop es e) (both-l (isTop es e) _ t) f));
         tops-stands = inv .tops-stands;
-        tops-least = each (OddReached n ws es (s .tops)) (inv .tops-least) (λ t. absurd (not-both (isTop es e) t f));
+        tops-least = each (OddReached size n ws es (s .tops)) (inv .tops-least) (λ t. absurd (not-both (isTop es e) t f));
         units-are = λ u r. unit-kept (s .tops) u (getD units u 0) (λ i. not-both (isTop es e) (i .top) f) (inv .units-are u r);
       }
 
-      module _ (h : imageEntries 12 n ws ≡ Entries es) (member : Mem e es) (top : isTop es e ≡ true) where
+      module _ (h : imageEntries (powerOf size) n ws ≡ Entries es) (member : Mem e es) (top : isTop es e ≡ true) where
         some-place : e .at ≡ 0 → ⊥
-        some-place z = let l = image-low 12 (omega arith) (omega arith) n ws es h e member in omega arith
+        some-place z = let l = image-low (powerOf size) (power-low size) (power-high size) n ws es h e member in omega arith
 
         -- one with a wrong block
-        pub found-wrong : fine 12 n ws e ≡ false → Found n ws es (xs ++ e ∷ []) units (record { block = least (s .block) (e .at); tops = s .tops })
+        pub found-wrong : fine (powerOf size) n ws e ≡ false → Found size n ws es (xs ++ e ∷ []) units (record { block = least (s .block) (e .at); tops = s .tops })
         found-wrong f = record {
           room = inv .room;
-          block-stands = least-stands es (blockFails n ws es) (s .block) e member (both-i (isTop es e) (negate (fine 12 n ws e)) top (rw f)) (inv .block-stands);
-          block-least = each (λ g. blockFails n ws es g ≡ true → Reaches (least (s .block) (e .at)) (g .at))
+          block-stands = least-stands es (blockFails size n ws es) (s .block) e member (both-i (isTop es e) (negate (fine (powerOf size) n ws e)) top (rw f)) (inv .block-stands);
+          block-least = each (λ g. blockFails size n ws es g ≡ true → Reaches (least (s .block) (e .at)) (g .at))
               (λ g m t. least-keeps (s .block) (e .at) some-place (g .at) (inv .block-least g m t)) (λ t. least-own (s .block) (e .at) some-place);
           tops-stands = inv .tops-stands;
-          tops-least = each (OddReached n ws es (s .tops)) (inv .tops-least) (λ t r. absurd (not-both (fine 12 n ws e) r f));
+          tops-least = each (OddReached size n ws es (s .tops)) (inv .tops-least) (λ t r. absurd (not-both (fine (powerOf size) n ws e) r f));
           units-are = λ u r. unit-kept (s .tops) u (getD units u 0) (wrong-unit u r) (inv .units-are u r);
         }
           where
-            wrong-unit : (u : ℕ) → blockRight 12 n ws u ≡ true → Uses es (xs ++ e ∷ []) u e → ⊥
-            wrong-unit u r i = not-both (blockRight 12 n ws u) r (rw (i .points, i .unit) at f)
+            wrong-unit : (u : ℕ) → blockRight (powerOf size) n ws u ≡ true → Uses es (xs ++ e ∷ []) u e → ⊥
+            wrong-unit u r i = not-both (blockRight (powerOf size) n ws u) r (rw (i .points, i .unit) at f)
 
         -- one with a right block or none
-        module _ (right : fine 12 n ws e ≡ true) (same : Bool) (compares : same ≡ agreeWith e (chosen (e .key) es)) where
+        module _ (right : fine (powerOf size) n ws e ≡ true) (same : Bool) (compares : same ≡ agreeWith e (chosen (e .key) es)) where
           abbrev odd : ℕ
           odd = pick same (s .tops) (least (s .tops) (e .at))
 
@@ -129,107 +131,107 @@ module _ (n : ℕ) (ws : List ℕ) (es : List Entry) where
 
           -- the units and the place after it
           module _ (after : List ℕ) (long : length after ≡ length units) (tops : ℕ) (falls : Falls odd tops) (stands : StandsAt es (topFails es) tops)
-              (are : (u : ℕ) → blockRight 12 n ws u ≡ true → UnitIs es (xs ++ e ∷ []) tops u (getD after u 0)) where
-            top-found : Found n ws es (xs ++ e ∷ []) after (record { block = s .block; tops = tops })
+              (are : (u : ℕ) → blockRight (powerOf size) n ws u ≡ true → UnitIs es (xs ++ e ∷ []) tops u (getD after u 0)) where
+            top-found : Found size n ws es (xs ++ e ∷ []) after (record { block = s .block; tops = tops })
             top-found = record {
               room = let r = inv .room in omega arith;
               block-stands = inv .block-stands;
-              block-least = each (λ g. blockFails n ws es g ≡ true → Reaches (s .block) (g .at)) (inv .block-least) (λ t. absurd (not-both (negate (fine 12 n ws e)) (both-r (isTop es e) _ t) (rw right)));
+              block-least = each (λ g. blockFails size n ws es g ≡ true → Reaches (s .block) (g .at)) (inv .block-least) (λ t. absurd (not-both (negate (fine (powerOf size) n ws e)) (both-r (isTop es e) _ t) (rw right)));
               tops-stands = stands;
-              tops-least = each (OddReached n ws es tops)
+              tops-least = each (OddReached size n ws es tops)
                   (λ g m t r f. falls (g .at) (odd-falls (g .at) (inv .tops-least g m t r f))) (λ t r f. falls (e .at) (odd-own f));
               units-are = are;
             }
 
           -- the old units, with the place as it is after the comparison
-          unit-odd : (u : ℕ) → blockRight 12 n ws u ≡ true → UnitIs es xs odd u (getD units u 0)
+          unit-odd : (u : ℕ) → blockRight (powerOf size) n ws u ≡ true → UnitIs es xs odd u (getD units u 0)
           unit-odd u r = unit-falls es xs (s .tops) u (getD units u 0) (inv .units-are u r) odd odd-falls
 
 -- ## What the code shows
 
-module _ (n : ℕ) (ws table : List ℕ) (fits : Bool) (low high : ℕ) (h : Head) where
+module _ (size : Size) (n : ℕ) (ws table : List ℕ) (fits : Bool) (low high : ℕ) (h : Head) where
   -- of another class
-  pub visited-out : within low high (h .key) ≡ false → (so : Spots) (before : List ℕ) → VisitedIs n ws table fits low high so h before before so
+  pub visited-out : within low high (h .key) ≡ false → (so : Spots) (before : List ℕ) → VisitedIs size n ws table fits low high so h before before so
   visited-out o so before = record { sized = refl; finds = λ es xs words l m inv. rw (o, append-nil xs) inv }
 
-  module _ (own : within low high (h .key) ≡ true) (top : Best) (is-top-of : TopIs n ws table fits (h .key) top) (so : Spots) (before : List ℕ) where
+  module _ (own : within low high (h .key) ≡ true) (top : Best) (is-top-of : TopIs size n ws table fits (h .key) top) (so : Spots) (before : List ℕ) where
     one-of : (words : ℕ) → classIn low high (entryOf ws h words ∷ []) ≡ entryOf ws h words ∷ []
     one-of words = rw own
 
-    pub visited-below : (h .version ≡ top .version → ⊥) → VisitedIs n ws table fits low high so h before before so
+    pub visited-below : (h .version ≡ top .version → ⊥) → VisitedIs size n ws table fits low high so h before before so
     visited-below b = record {
       sized = refl;
-      finds = λ es xs words l m inv. rw (one-of words) (found-below n ws es xs before so inv (entryOf ws h words) (is-below n ws table fits low high h own top is-top-of es words l m b));
+      finds = λ es xs words l m inv. rw (one-of words) (found-below size n ws es xs before so inv (entryOf ws h words) (is-below size n ws table fits low high h own top is-top-of es words l m b));
     }
 
     module _ (q : h .version ≡ top .version) where
-      pub visited-wrong : pick (points (h .op) (h .placement)) (blockRight 12 n ws (h .field)) true ≡ false → (block : ℕ) → block ≡ least (so .block) (h .place)
-          → VisitedIs n ws table fits low high so h before before (record { block = block; tops = so .tops })
+      pub visited-wrong : pick (points (h .op) (h .placement)) (blockRight (powerOf size) n ws (h .field)) true ≡ false → (block : ℕ) → block ≡ least (so .block) (h .place)
+          → VisitedIs size n ws table fits low high so h before before (record { block = block; tops = so .tops })
       visited-wrong f block is = record {
         sized = refl;
         finds = λ es xs words l m inv.
-            rw (one-of words, is) (found-wrong n ws es xs before so inv (entryOf ws h words) (l .entries) m (is-highest n ws table fits low high h own top is-top-of es words l m q) f);
+            rw (one-of words, is) (found-wrong size n ws es xs before so inv (entryOf ws h words) (l .entries) m (is-highest size n ws table fits low high h own top is-top-of es words l m q) f);
       }
 
-      module _ (right : pick (points (h .op) (h .placement)) (blockRight 12 n ws (h .field)) true ≡ true) (compared tops : ℕ) (after : List ℕ) (compares : ComparedIs ws h (top .place) (so .tops) compared)
-          (shares : SharedIs ws h compared before after tops) (es xs : List Entry) (words : ℕ) (l : ListedIn n ws table fits low high es) (member : Mem (entryOf ws h words) es) (inv : Found n ws es xs before so) where
+      module _ (right : pick (points (h .op) (h .placement)) (blockRight (powerOf size) n ws (h .field)) true ≡ true) (compared tops : ℕ) (after : List ℕ) (compares : ComparedIs ws h (top .place) (so .tops) compared)
+          (shares : SharedIs ws h compared before after tops) (es xs : List Entry) (words : ℕ) (l : ListedIn size n ws table fits low high es) (member : Mem (entryOf ws h words) es) (inv : Found size n ws es xs before so) where
         abbrev e : Entry
         e = entryOf ws h words
 
         is-top : isTop es e ≡ true
-        is-top = is-highest n ws table fits low high h own top is-top-of es words l member q
+        is-top = is-highest size n ws table fits low high h own top is-top-of es words l member q
 
         agrees : compares .same ≡ agreeWith e (chosen (h .key) es)
-        agrees = agreement n ws table fits low high h own top is-top-of es words l member q true (compares .same) (compares .agrees)
+        agrees = agreement size n ws table fits low high h own top is-top-of es words l member q true (compares .same) (compares .agrees)
 
-        found : (falls : Falls compared tops) → StandsAt es (topFails es) tops → ((u : ℕ) → blockRight 12 n ws u ≡ true → UnitIs es (xs ++ e ∷ []) tops u (getD after u 0))
-            → Found n ws es (xs ++ e ∷ []) after (record { block = so .block; tops = tops })
+        found : (falls : Falls compared tops) → StandsAt es (topFails es) tops → ((u : ℕ) → blockRight (powerOf size) n ws u ≡ true → UnitIs es (xs ++ e ∷ []) tops u (getD after u 0))
+            → Found size n ws es (xs ++ e ∷ []) after (record { block = so .block; tops = tops })
         found falls stands are =
-            top-found n ws es xs before so inv e (l .entries) member is-top right (compares .same) agrees after (shares .sized) tops (subst (λ x. Falls x tops) (compares .least-is) falls) stands are
+            top-found size n ws es xs before so inv e (l .entries) member is-top right (compares .same) agrees after (shares .sized) tops (subst (λ x. Falls x tops) (compares .least-is) falls) stands are
 
         -- the units and the place as they are after the comparison
         compared-stands : StandsAt es (topFails es) compared
-        compared-stands = subst (StandsAt es (topFails es)) (sym (compares .least-is)) (odd-stands n ws es xs before so inv e (l .entries) member is-top right (compares .same) agrees)
+        compared-stands = subst (StandsAt es (topFails es)) (sym (compares .least-is)) (odd-stands size n ws es xs before so inv e (l .entries) member is-top right (compares .same) agrees)
 
-        unit-before : (u : ℕ) → blockRight 12 n ws u ≡ true → UnitIs es xs compared u (getD before u 0)
-        unit-before u r = subst (λ x. UnitIs es xs x u (getD before u 0)) (sym (compares .least-is)) (unit-odd n ws es xs before so inv e (l .entries) member is-top right (compares .same) agrees u r)
+        unit-before : (u : ℕ) → blockRight (powerOf size) n ws u ≡ true → UnitIs es xs compared u (getD before u 0)
+        unit-before u r = subst (λ x. UnitIs es xs x u (getD before u 0)) (sym (compares .least-is)) (unit-odd size n ws es xs before so inv e (l .entries) member is-top right (compares .same) agrees u r)
 
         -- no unit
-        found-direct : pointed e ≡ false → Found n ws es (xs ++ e ∷ []) after (record { block = so .block; tops = tops })
+        found-direct : pointed e ≡ false → Found size n ws es (xs ++ e ∷ []) after (record { block = so .block; tops = tops })
         found-direct f =
             let o = shares .other f in
             let t : compared ≡ tops = sym (o .1) in
             found (λ x r. subst (λ y. Reaches y x) t r) (subst (StandsAt es (topFails es)) t compared-stands)
-            (λ u r. rw (o .0) (subst (λ y. UnitIs es (xs ++ e ∷ []) y u (getD before u 0)) t (unit-kept n ws es xs before so inv e compared u (getD before u 0) (λ i. not-both (pointed e) (i .points) f) (unit-before u r))))
+            (λ u r. rw (o .0) (subst (λ y. UnitIs es (xs ++ e ∷ []) y u (getD before u 0)) t (unit-kept size n ws es xs before so inv e compared u (getD before u 0) (λ i. not-both (pointed e) (i .points) f) (unit-before u r))))
 
         -- a unit
         module _ (t : pointed e ≡ true) where
-          own-right : blockRight 12 n ws (h .field) ≡ true
+          own-right : blockRight (powerOf size) n ws (h .field) ≡ true
           own-right = rw t at right
 
           inside : h .field < length before
-          inside = let b = block-bit n ws e (l .few) right t in let r = inv .room in omega arith
+          inside = let b = block-bit size n ws e (l .few) right t in let r = inv .room in omega arith
 
           joined-so : Joins es (xs ++ e ∷ []) compared (h .field) (record { user = getD after (h .field) 0; tops = tops })
           joined-so =
               subst (Joins es (xs ++ e ∷ []) compared (h .field)) (shares .own t inside)
-              (joins n ws es (l .entries) xs compared (h .field) (getD before (h .field) 0) (unit-before (h .field) own-right) compared-stands e (record { member = member; top = is-top; points = t; unit = refl }))
+              (joins size n ws es (l .entries) xs compared (h .field) (getD before (h .field) 0) (unit-before (h .field) own-right) compared-stands e (record { member = member; top = is-top; points = t; unit = refl }))
 
-          unit-after : (u : ℕ) → blockRight 12 n ws u ≡ true → Dec (u ≡ h .field) → UnitIs es (xs ++ e ∷ []) tops u (getD after u 0)
+          unit-after : (u : ℕ) → blockRight (powerOf size) n ws u ≡ true → Dec (u ≡ h .field) → UnitIs es (xs ++ e ∷ []) tops u (getD after u 0)
           unit-after u r (yes z) = rw z (joined-so .unit-is)
           unit-after u r (no z) =
               rw (shares .others u z)
-              (unit-falls es (xs ++ e ∷ []) compared u (getD before u 0) (unit-kept n ws es xs before so inv e compared u (getD before u 0) (λ i. z (sym (i .unit))) (unit-before u r)) tops (joined-so .falls))
+              (unit-falls es (xs ++ e ∷ []) compared u (getD before u 0) (unit-kept size n ws es xs before so inv e compared u (getD before u 0) (λ i. z (sym (i .unit))) (unit-before u r)) tops (joined-so .falls))
 
-          found-shared : Found n ws es (xs ++ e ∷ []) after (record { block = so .block; tops = tops })
+          found-shared : Found size n ws es (xs ++ e ∷ []) after (record { block = so .block; tops = tops })
           found-shared = found (joined-so .falls) (joined-so .stands) (λ u r. unit-after u r (ℕ-discrete u (h .field)))
 
-        found-top : (b : Bool) → pointed e ≡ b → Found n ws es (xs ++ e ∷ []) after (record { block = so .block; tops = tops })
+        found-top : (b : Bool) → pointed e ≡ b → Found size n ws es (xs ++ e ∷ []) after (record { block = so .block; tops = tops })
         found-top true t = found-shared t
         found-top false f = found-direct f
 
-      pub visited-top : pick (points (h .op) (h .placement)) (blockRight 12 n ws (h .field)) true ≡ true → (compared tops : ℕ) (after : List ℕ) → ComparedIs ws h (top .place) (so .tops) compared
-          → SharedIs ws h compared before after tops → VisitedIs n ws table fits low high so h before after (record { block = so .block; tops = tops })
+      pub visited-top : pick (points (h .op) (h .placement)) (blockRight (powerOf size) n ws (h .field)) true ≡ true → (compared tops : ℕ) (after : List ℕ) → ComparedIs ws h (top .place) (so .tops) compared
+          → SharedIs ws h compared before after tops → VisitedIs size n ws table fits low high so h before after (record { block = so .block; tops = tops })
       visited-top right compared tops after compares shares = record {
         sized = shares .sized;
         finds = λ es xs words l m inv. rw (one-of words) (found-top right compared tops after compares shares es xs words l m inv (points (h .op) (h .placement)) refl);

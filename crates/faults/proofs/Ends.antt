@@ -9,6 +9,8 @@ use native.Mathlib.Omega.{arith}
 use lib.Dec.{eqb}
 use lib.ListN.{getD}
 use borrow.Author.Tests.{eqb-true, eq-eqb}
+use Rattle.places.specs.Sizes.{powerOf, power-low, power-high}
+use Rattle.spec.specs.declared.Size.{Size}
 use Rattle.spec.specs.Basics.{pick, both, negate}
 use Rattle.spec.specs.Places.{base, maxChunks}
 use Rattle.spec.specs.Log.{Entry, Entries, imageEntries}
@@ -38,16 +40,16 @@ reaches-or so at = go (ℕ-discrete so 0) (decLe so at)
     go (no z) (yes l) = yes (z, l)
     go (no z) (no l) = no (λ r. l (r .1))
 
-module _ (n : ℕ) (ws : List ℕ) (es : List Entry) (h : imageEntries 12 n ws ≡ Entries es) (units : List ℕ) (s : Spots) (inv : Found n ws es es units s) where
-  rises : Rising (base 12 1) (base 12 (1 + (n - 1))) es
-  rises = all-sound 12 (omega arith) (omega arith) (n - 1) 1 ws es h .rising
+module _ (size : Size) (n : ℕ) (ws : List ℕ) (es : List Entry) (h : imageEntries (powerOf size) n ws ≡ Entries es) (units : List ℕ) (s : Spots) (inv : Found size n ws es es units s) where
+  rises : Rising (base (powerOf size) 1) (base (powerOf size) (1 + (n - 1))) es
+  rises = all-sound (powerOf size) (power-low size) (power-high size) (n - 1) 1 ws es h .rising
 
-  pub block-end : s .block ≡ placeOr (firstTop es (fine 12 n ws))
-  block-end = first-least (blockFails n ws es) (s .block) (base 12 1) (base 12 (1 + (n - 1))) es rises (inv .block-stands) (inv .block-least)
+  pub block-end : s .block ≡ placeOr (firstTop es (fine (powerOf size) n ws))
+  block-end = first-least (blockFails size n ws es) (s .block) (base (powerOf size) 1) (base (powerOf size) (1 + (n - 1))) es rises (inv .block-stands) (inv .block-least)
 
   module _ (none : s .block ≡ 0) where
-    right : (e : Entry) → Top es e → fine 12 n ws e ≡ true
-    right e t = not-false (fine 12 n ws e) (λ f. inv .block-least e (t .0) (both-i (isTop es e) (negate (fine 12 n ws e)) (top-is es e t) (rw f)) .0 none)
+    right : (e : Entry) → Top es e → fine (powerOf size) n ws e ≡ true
+    right e t = not-false (fine (powerOf size) n ws e) (λ f. inv .block-least e (t .0) (both-i (isTop es e) (negate (fine (powerOf size) n ws e)) (top-is es e t) (rw f)) .0 none)
 
     -- two keys' entries that point to one unit: the place found is not behind either
     alone : (e f : Entry) → Top es e → Top es f → (Reaches (s .tops) (e .at) → ⊥) → sharing e f ≡ true → e .key ≡ f .key
@@ -99,13 +101,13 @@ module _ (n : ℕ) (ws : List ℕ) (es : List Entry) (h : imageEntries 12 n ws �
         go (no r) = absurd (not-both (negate (atOne es e)) (both-r (isTop es e) _ t) (rw (agrees r, apart e is r)))
 
     pub tops-end : s .tops ≡ placeOr (firstTop es (atOne es))
-    tops-end = first-least (topFails es) (s .tops) (base 12 1) (base 12 (1 + (n - 1))) es rises (inv .tops-stands) least-top
+    tops-end = first-least (topFails es) (s .tops) (base (powerOf size) 1) (base (powerOf size) (1 + (n - 1))) es rises (inv .tops-stands) least-top
 
-pub spotted : (n : ℕ) (ws units : List ℕ) (s : Spots) (low : ℕ) → Done n ws units s low → low ≡ 0x1_0000_0000 → Spotted n ws s
-spotted n ws units s low inv q = record {
-  block-first = λ es few h. block-end n ws es h units s (found es few h);
-  tops-first = λ es few h z. tops-end n ws es h units s (found es few h) z;
+pub spotted : (size : Size) → (n : ℕ) (ws units : List ℕ) (s : Spots) (low : ℕ) → Done size n ws units s low → low ≡ 0x1_0000_0000 → Spotted size n ws s
+spotted size n ws units s low inv q = record {
+  block-first = λ es few h. block-end size n ws es h units s (found es few h);
+  tops-first = λ es few h z. tops-end size n ws es h units s (found es few h) z;
 }
   where
-    found : (es : List Entry) → n ≤ maxChunks → imageEntries 12 n ws ≡ Entries es → Found n ws es es units s
+    found : (es : List Entry) → n ≤ maxChunks → imageEntries (powerOf size) n ws ≡ Entries es → Found size n ws es es units s
     found es few h = rw (q, class-all es) at (inv .finds es few h)

@@ -7,6 +7,9 @@ use native.Mathlib.Nat.{add-zero, add-suc, suc-add, le-of-suc-le-suc}
 use native.Mathlib.Omega.{arith}
 use lib.ListN.{length, drop}
 use lib.Seq.{slice}
+use Rattle.spec.specs.declared.Size.{Size}
+use Rattle.spec.specs.declared.Size.the-variants as Z
+use Rattle.places.specs.Sizes.{powerOf}
 use Rattle.spec.specs.Places.{base, chunkWords}
 use Rattle.spec.specs.Directory.{linesOf}
 use Rattle.spec.specs.declared.LogStep.{LogStep}
@@ -59,18 +62,20 @@ stop-before : (k : ℕ) (e : Entry) (r : Reading) → stopBy k (before e r) ≡ 
 stop-before k e (Whole es) = refl
 stop-before k e (Upto es w) = let q : k + suc (length es) ≡ k + 1 + length es = omega arith in ap (T.At w) q
 
+-- where a chunk begins at most
+pub base-most : (size : Size) (c : ℕ) → base (powerOf size) c ≤ 8192 * c
+unfolding base chunkWords
+base-most Z.Small c = omega arith
+base-most Z.Large c = omega arith
+
 -- ## What is left from a place of a chunk on
 
-abbrev pub leftFrom : ℕ → List ℕ → (chunk at end : ℕ) → Reading
-leftFrom n ws chunk at end = andThen (readWords (slice at end ws) 0 at) (readFrom 12 (n - suc chunk) (suc chunk) ws)
+abbrev pub leftFrom : ℕ → ℕ → List ℕ → (chunk at end : ℕ) → Reading
+leftFrom p n ws chunk at end = andThen (readWords (slice at end ws) 0 at) (readFrom p (n - suc chunk) (suc chunk) ws)
 
-base-is : (c : ℕ) → base 12 c ≡ 512 * c
-unfolding base chunkWords
-base-is c = omega arith
-
-module _ (n : ℕ) (ws : List ℕ) (k chunk at end : ℕ) where
+module _ (p n : ℕ) (ws : List ℕ) (k chunk at end : ℕ) where
   abbrev now : Stop
-  now = stopBy k (leftFrom n ws chunk at end)
+  now = stopBy k (leftFrom p n ws chunk at end)
 
   pub stops-not : stepOf (slice at end ws) ≡ S.End → n ≤ chunk + 1 → now ≡ T.Nowhere
   stops-not q h = let z : n - suc chunk ≡ 0 = omega arith in rw (read-end (slice at end ws) at q, z)
@@ -78,20 +83,19 @@ module _ (n : ℕ) (ws : List ℕ) (k chunk at end : ℕ) where
   pub stops-here : stepOf (slice at end ws) ≡ S.Wrong → now ≡ T.At at k
   stops-here q = let z : k + 0 ≡ k = omega arith in rw (read-wrong (slice at end ws) at q, z)
 
-  pub goes-padding : stepOf (slice at end ws) ≡ S.Padding → now ≡ stopBy k (leftFrom n ws chunk (at + 1) end)
+  pub goes-padding : stepOf (slice at end ws) ≡ S.Padding → now ≡ stopBy k (leftFrom p n ws chunk (at + 1) end)
   goes-padding q = rw (read-padding (slice at end ws) at q, slice-more at 1 end ws)
 
-  pub goes-entry : (op pl v x key m : ℕ) → stepOf (slice at end ws) ≡ S.Entry op pl v x key m → now ≡ stopBy (k + 1) (leftFrom n ws chunk (at + (2 + m)) end)
+  pub goes-entry : (op pl v x key m : ℕ) → stepOf (slice at end ws) ≡ S.Entry op pl v x key m → now ≡ stopBy (k + 1) (leftFrom p n ws chunk (at + (2 + m)) end)
   goes-entry op pl v x key m q =
-      rw (read-next (slice at end ws) at op pl v x key m q, then-before, slice-more at (2 + m) end ws) (stop-before k (entryAt op pl v x key m (slice at end ws) at) (leftFrom n ws chunk (at + (2 + m)) end))
+      rw (read-next (slice at end ws) at op pl v x key m q, then-before, slice-more at (2 + m) end ws) (stop-before k (entryAt op pl v x key m (slice at end ws) at) (leftFrom p n ws chunk (at + (2 + m)) end))
 
-  pub goes-chunk : (lines : ℕ) → stepOf (slice at end ws) ≡ S.End → suc chunk < n → lines ≡ linesOf 12 ws (chunk + 1)
-      → now ≡ stopBy k (leftFrom n ws (chunk + 1) (512 * (chunk + 1)) (512 * (chunk + 1) + 8 * lines))
+  pub goes-chunk : (lines : ℕ) → stepOf (slice at end ws) ≡ S.End → suc chunk < n → lines ≡ linesOf p ws (chunk + 1)
+      → now ≡ stopBy k (leftFrom p n ws (chunk + 1) (base p (chunk + 1)) (base p (chunk + 1) + 8 * lines))
   goes-chunk lines q h e =
       let s : chunk + 1 ≡ suc chunk = omega arith in
       let z : n - suc chunk ≡ suc (n - suc (suc chunk)) = omega arith in
-      let b : base 12 (suc chunk) ≡ 512 * suc chunk = base-is (suc chunk) in
-      rw (read-end (slice at end ws) at q, z, e, s, b)
+      rw (read-end (slice at end ws) at q, z, e, s)
 
 -- ## What an opening parses
 

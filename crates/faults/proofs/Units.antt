@@ -11,6 +11,8 @@ use lib.Dec.{eqb}
 use lib.ListN.{length, getD, set, length-set}
 use lib.Seq.{getD-set-same, getD-set-other}
 use borrow.Author.Tests.{eqb-true, eq-eqb, ne-eqb}
+use Rattle.places.specs.Sizes.{powerOf, power-low, power-high}
+use Rattle.spec.specs.declared.Size.{Size}
 use Rattle.spec.specs.Basics.{pick, both, negate}
 use Rattle.spec.specs.Log.{Entry, Entries, imageEntries}
 use Rattle.spec.specs.Contents.{isTop, chosen}
@@ -89,13 +91,13 @@ pub record Joins (es xs : List Entry) (tops u : ℕ) (j : Joined) : Type 0 where
   pub falls : Falls tops (j .tops)
   pub stands : StandsAt es (topFails es) (j .tops)
 
-module _ (n : ℕ) (ws : List ℕ) (es : List Entry) (h : imageEntries 12 n ws ≡ Entries es) where
+module _ (size : Size) (n : ℕ) (ws : List ℕ) (es : List Entry) (h : imageEntries (powerOf size) n ws ≡ Entries es) where
   low : (e : Entry) → Mem e es → 2 ≤ e .at
-  low e m = let l = image-low 12 (omega arith) (omega arith) n ws es h e m in omega arith
+  low e m = let l = image-low (powerOf size) (power-low size) (power-high size) n ws es h e m in omega arith
 
   key-at : (e : Entry) → Mem e es → keyAt ws (e .at) ≡ e .key
   key-at e m =
-      let s = image-stands 12 (omega arith) (omega arith) n ws es h e m in
+      let s = image-stands (powerOf size) (power-low size) (power-high size) n ws es h e m in
       let f = s .fits in
       let i : min (e .at) (length ws) ≡ e .at = omega arith in
       rw i (s .key)

@@ -5,13 +5,15 @@ use mathlib.Core.Logic.{_⊎_}
 use mathlib.Core.Bool.{Bool, true}
 use mathlib.Core.Option.{Option, none, some}
 use mathlib.Core.List.{List, [], _∷_}
-use Prim.Native.Nat.{ℕ, suc, _/_}
-use lib.Dec.{eqb, ltb}
+use Prim.Native.Nat.{ℕ, suc, _+_, _/_, _%_}
+use lib.Dec.{eqb, leb, ltb}
 use lib.ListN.{length, getD}
-use Rattle.spec.specs.Basics.{pick, either}
+use Rattle.spec.specs.Basics.{pick, both, either}
 use Rattle.spec.specs.Words.{wordsOf}
-use Rattle.spec.specs.Places.{lengthAllowed, chunksIn, maxChunks, directoryWord}
-use Rattle.spec.specs.Header.{headerRight}
+use Rattle.spec.specs.Places.{sizeAllowed, anyAllowed, chunksIn, maxChunks, directoryWord, wordChunk}
+use Rattle.spec.specs.Header.{headerRight, headerPower}
+use Rattle.spec.specs.declared.Size.{Size}
+use Rattle.places.specs.Sizes.{powerOf, sizeBy}
 use Rattle.spec.specs.Log.{Entry}
 use Rattle.spec.specs.Opening.{Opening, Refused, Accepted, opening, fine}
 use Rattle.spec.specs.declared.Refusal.the-variants as N
@@ -24,11 +26,19 @@ use Rattle.faults.specs.Reading.{Reading, Whole, Upto, readImage}
 
 -- ## 2: the header
 
+-- how many fields stand behind the count, by the bit map
+unfoldable pub fieldCount : ℕ → ℕ
+fieldCount map = map / 2 % 2 + map / 4 % 2 + map / 8 % 2
+
 -- what each word of a header is asked by itself: the bit map, the chunk count, the fields, the unused words
 abbrev pub wordTests : (n a b c d e f g : ℕ) → List Bool
 wordTests n a b c d e f g =
-    either (eqb a 1) (either (eqb a 3) (either (eqb a 5) (eqb a 7)))
-    ∷ eqb b n ∷ pick (eqb a 1) (eqb c 0) true ∷ pick (eqb a 7) true (eqb d 0) ∷ eqb e 0 ∷ eqb f 0 ∷ eqb g 0 ∷ []
+    both (eqb (a % 2) 1) (ltb a 16)
+    ∷ eqb b n ∷ pick (leb 1 (fieldCount a)) true (eqb c 0) ∷ pick (leb 2 (fieldCount a)) true (eqb d 0) ∷ pick (leb 3 (fieldCount a)) true (eqb e 0) ∷ eqb f 0 ∷ eqb g 0 ∷ []
+
+-- the word that says a chunk power, the bit map where none does
+unfoldable pub powerWord : ℕ → ℕ
+powerWord map = pick (eqb map 9) 2 (pick (either (eqb map 11) (eqb map 13)) 3 (pick (eqb map 15) 4 0))
 
 -- the number of the first test that fails; past the last where none does
 abbrev pub failing : List Bool → ℕ
@@ -62,9 +72,14 @@ chunksFault p n ws =
     (pick (ltb (directoryFault p n ws) maxChunks) (F.Directory (directoryFault p n ws) (directoryWord (directoryFault p n ws))) (logFault p n ws (readImage p n ws)))
     (F.Header (headerFault n ws))
 
+-- by the power that the header says: where there is no such, or the length is not one of such chunks, the word that
+-- says it
+abbrev pub powerFault : ℕ → ℕ → List ℕ → Fault
+powerFault p bytes ws = pick (sizeAllowed p bytes) (chunksFault p (chunksIn p bytes) ws) (F.Header (powerWord (getD ws 0 0)))
+
 -- of an image of so many bytes whose words are ws
-unfoldable pub faultOf : ℕ → ℕ → List ℕ → Fault
-faultOf p bytes ws = pick (lengthAllowed p bytes) (chunksFault p (chunksIn p bytes) ws) F.Length
+unfoldable pub faultOf : ℕ → List ℕ → Fault
+faultOf bytes ws = pick (anyAllowed bytes) (powerFault (headerPower ws) bytes ws) F.Length
 
 -- by the two places that the pass finds, 0 where it finds none
 abbrev pub spotFault : (block tops : ℕ) → Fault
@@ -84,25 +99,25 @@ Answers (F.Tops w) o = o ≡ Refused N.TopsDisagree
 
 -- THE CALL: the fault, and that it is why an opening refuses the image, whatever the key table's length
 pub record Located (bytes : List ℕ) (r : Fault) : Type 0 where
-  pub place : r ≡ faultOf 12 (length bytes) (wordsOf bytes)
-  pub refuses : (table : ℕ) → Answers r (opening 12 (length bytes) (wordsOf bytes) table)
+  pub place : r ≡ faultOf (length bytes) (wordsOf bytes)
+  pub refuses : (table : ℕ) → Answers r (opening (length bytes) (wordsOf bytes) table)
 
 -- ## In numbers
 
 -- the refusal's number, the chunk of the word, the word, and how many entries stand before it
-abbrev pub placeAt : (refusal word before : ℕ) → FaultPlace
-placeAt refusal word before = record { refusal = refusal; chunk = word / 512; word = word; before = before }
+abbrev pub placeAt : (size : Size) → (refusal word before : ℕ) → FaultPlace
+placeAt size refusal word before = record { refusal = refusal; chunk = wordChunk (powerOf size) word; word = word; before = before }
 
-abbrev pub numbersOf : Fault → FaultPlace
-numbersOf F.Nothing = placeAt 0 0 0
-numbersOf F.Length = placeAt 1 0 0
-numbersOf (F.Header w) = placeAt 2 w 0
-numbersOf (F.Directory c w) = record { refusal = 3; chunk = c; word = w; before = 0 }
-numbersOf (F.Entry w k) = placeAt 4 w k
-numbersOf (F.Block w) = placeAt 5 w 0
-numbersOf (F.Tops w) = placeAt 6 w 0
+abbrev pub numbersOf : (size : Size) → Fault → FaultPlace
+numbersOf size F.Nothing = placeAt size 0 0 0
+numbersOf size F.Length = placeAt size 1 0 0
+numbersOf size (F.Header w) = placeAt size 2 w 0
+numbersOf size (F.Directory c w) = record { refusal = 3; chunk = c; word = w; before = 0 }
+numbersOf size (F.Entry w k) = placeAt size 4 w k
+numbersOf size (F.Block w) = placeAt size 5 w 0
+numbersOf size (F.Tops w) = placeAt size 6 w 0
 
 pub record Told (bytes : List ℕ) (r : FaultPlace) : Type 0 where
   pub fault : Fault
   pub located : Located bytes fault
-  pub told : r ≡ numbersOf fault
+  pub told : r ≡ numbersOf (sizeBy (headerPower (wordsOf bytes))) fault

@@ -8,6 +8,8 @@ use lib.Dec.{eqb}
 use lib.ListN.{length, getD}
 use Rattle.spec.specs.Basics.{pick, both, negate}
 use Rattle.spec.specs.Places.{maxChunks}
+use Rattle.spec.specs.declared.Size.{Size}
+use Rattle.places.specs.Sizes.{powerOf, unitCount}
 use Rattle.spec.specs.Log.{Entry, Entries, imageEntries}
 use Rattle.spec.specs.Blocks.{pointed, blockRight}
 use Rattle.spec.specs.Contents.{isTop, chosen}
@@ -37,9 +39,10 @@ StandsAt es test so = (so ≡ 0 → ⊥) → (e : Entry) × Mem e es × (test e 
 
 -- ## Units
 
--- an image has so many units at most
-abbrev pub unitCount : ℕ
-unitCount = 16 * maxChunks
+-- a word of zero for each unit that an image has at most
+pub record Unused (size : Size) (units : List ℕ) : Type 0 where
+  pub long : unitCount size ≤ length units
+  pub zero : (u : ℕ) → getD units u 0 ≡ 0
 
 -- the user of a unit to which top entries of several keys point
 abbrev pub severalKeys : ℕ
@@ -88,25 +91,25 @@ pub record UnitIs (es xs : List Entry) (tops u user : ℕ) : Type 0 where
 -- ## What is found
 
 -- the tests of refusals 5 and 6, of which the first top entry that fails is looked for
-abbrev pub blockFails : ℕ → List ℕ → List Entry → Entry → Bool
-blockFails n ws es e = both (isTop es e) (negate (fine 12 n ws e))
+abbrev pub blockFails : (size : Size) → ℕ → List ℕ → List Entry → Entry → Bool
+blockFails size n ws es e = both (isTop es e) (negate (fine (powerOf size) n ws e))
 
 abbrev pub topFails : List Entry → Entry → Bool
 topFails es e = both (isTop es e) (negate (atOne es e))
 
 -- if it is a top entry with a right block or none that disagrees with the chosen one of its key, its place is reached
-abbrev pub OddReached : ℕ → List ℕ → List Entry → (so : ℕ) → Entry → Type 0
-OddReached n ws es so e = isTop es e ≡ true → fine 12 n ws e ≡ true → agreeWith e (chosen (e .key) es) ≡ false → Reaches so (e .at)
+abbrev pub OddReached : (size : Size) → ℕ → List ℕ → List Entry → (so : ℕ) → Entry → Type 0
+OddReached size n ws es so e = isTop es e ≡ true → fine (powerOf size) n ws e ≡ true → agreeWith e (chosen (e .key) es) ≡ false → Reaches so (e .at)
 
 -- AFTER THE ENTRIES xs, part of all entries es: the least place of a wrong block; of the entries with right blocks the
 -- least place of one that disagrees; and the units. An entry that shares its block is found when the other is met.
-pub record Found (n : ℕ) (ws : List ℕ) (es xs : List Entry) (units : List ℕ) (s : Spots) : Type 0 where
-  pub room : unitCount ≤ length units
-  pub block-stands : StandsAt es (blockFails n ws es) (s .block)
-  pub block-least : (e : Entry) → Mem e xs → blockFails n ws es e ≡ true → Reaches (s .block) (e .at)
+pub record Found (size : Size) (n : ℕ) (ws : List ℕ) (es xs : List Entry) (units : List ℕ) (s : Spots) : Type 0 where
+  pub room : unitCount size ≤ length units
+  pub block-stands : StandsAt es (blockFails size n ws es) (s .block)
+  pub block-least : (e : Entry) → Mem e xs → blockFails size n ws es e ≡ true → Reaches (s .block) (e .at)
   pub tops-stands : StandsAt es (topFails es) (s .tops)
-  pub tops-least : (e : Entry) → Mem e xs → OddReached n ws es (s .tops) e
-  pub units-are : (u : ℕ) → blockRight 12 n ws u ≡ true → UnitIs es xs (s .tops) u (getD units u 0)
+  pub tops-least : (e : Entry) → Mem e xs → OddReached size n ws es (s .tops) e
+  pub units-are : (u : ℕ) → blockRight (powerOf size) n ws u ≡ true → UnitIs es xs (s .tops) u (getD units u 0)
 
 -- ## What the functions tell
 
@@ -124,17 +127,17 @@ pub record SharedIs (ws : List ℕ) (h : Head) (tops : ℕ) (before after : List
   pub others : (u : ℕ) → (u ≡ h .field → ⊥) → getD after u 0 ≡ getD before u 0
 
 -- with one more entry, if its key's class is within the range
-pub record VisitedIs (n : ℕ) (ws table : List ℕ) (fits : Bool) (low high : ℕ) (so : Spots) (h : Head) (before after : List ℕ) (r : Spots) : Type 0 where
+pub record VisitedIs (size : Size) (n : ℕ) (ws table : List ℕ) (fits : Bool) (low high : ℕ) (so : Spots) (h : Head) (before after : List ℕ) (r : Spots) : Type 0 where
   pub sized : length after ≡ length before
-  pub finds : (es xs : List Entry) (words : ℕ) → ListedIn n ws table fits low high es → Mem (entryOf ws h words) es → Found n ws es xs before so
-      → Found n ws es (xs ++ classIn low high (entryOf ws h words ∷ [])) after r
+  pub finds : (es xs : List Entry) (words : ℕ) → ListedIn size n ws table fits low high es → Mem (entryOf ws h words) es → Found size n ws es xs before so
+      → Found size n ws es (xs ++ classIn low high (entryOf ws h words ∷ [])) after r
 
 -- with the entries of a range of classes
-pub record SweptAs (n : ℕ) (ws table : List ℕ) (fits : Bool) (low high : ℕ) (so : Spots) (before after : List ℕ) (r : Spots) : Type 0 where
+pub record SweptAs (size : Size) (n : ℕ) (ws table : List ℕ) (fits : Bool) (low high : ℕ) (so : Spots) (before after : List ℕ) (r : Spots) : Type 0 where
   pub sized : length after ≡ length before
-  pub finds : (es xs : List Entry) → ListedIn n ws table fits low high es → Found n ws es xs before so → Found n ws es (xs ++ classIn low high es) after r
+  pub finds : (es xs : List Entry) → ListedIn size n ws table fits low high es → Found size n ws es xs before so → Found size n ws es (xs ++ classIn low high es) after r
 
 -- THE PLACES: the first top entry whose block is wrong; where there is none, the first that disagrees or shares
-pub record Spotted (n : ℕ) (ws : List ℕ) (r : Spots) : Type 0 where
-  pub block-first : (es : List Entry) → n ≤ maxChunks → imageEntries 12 n ws ≡ Entries es → r .block ≡ placeOr (firstTop es (fine 12 n ws))
-  pub tops-first : (es : List Entry) → n ≤ maxChunks → imageEntries 12 n ws ≡ Entries es → r .block ≡ 0 → r .tops ≡ placeOr (firstTop es (atOne es))
+pub record Spotted (size : Size) (n : ℕ) (ws : List ℕ) (r : Spots) : Type 0 where
+  pub block-first : (es : List Entry) → n ≤ maxChunks → imageEntries (powerOf size) n ws ≡ Entries es → r .block ≡ placeOr (firstTop es (fine (powerOf size) n ws))
+  pub tops-first : (es : List Entry) → n ≤ maxChunks → imageEntries (powerOf size) n ws ≡ Entries es → r .block ≡ 0 → r .tops ≡ placeOr (firstTop es (atOne es))

@@ -2,17 +2,19 @@
 ghost use mathlib.Core.Path.{_≡_};
 ghost use mathlib.Core.Bool.{true};
 ghost use mathlib.Core.List.{[], _∷_};
-ghost use Prim.Native.Nat.{_≤_};
-ghost use lib.Dec.{eqb};
-ghost use Rattle.spec.specs.Basics.{pick, either};
+ghost use Prim.Native.Nat.{_≤_, _%_};
+ghost use lib.Dec.{eqb, leb, ltb};
+ghost use Rattle.spec.specs.Basics.{pick, both};
 ghost use Rattle.spec.specs.Words.{wordsOf};
+ghost use Rattle.places.specs.Sizes.{powerOf};
 ghost use Rattle.faults.specs.Reading.{readImage, stopBy};
-ghost use Rattle.faults.specs.Faults.{failing, headerFault, spotFault, logFault, placeAt, numbersOf, Located, Told};
+ghost use Rattle.faults.specs.Faults.{failing, fieldCount, powerWord, headerFault, spotFault, logFault, placeAt, numbersOf, Located, Told};
 
 pub mod top;
 
 use crate::top::Spots;
 use spec::LogStep;
+use spec::Size;
 
 // Why an opening refuses an image, and where: the word of the header, the chunk whose directory word is wrong and that
 // word, the first word of the entry; `before` is how many entries stand before it in the log.
@@ -28,38 +30,48 @@ pub enum Fault {
 
 // 2: THE HEADER
 fn is_map(map: u64) -> bool
-    ensures { λ r. ⌜ r ≡ either (eqb map 1) (either (eqb map 3) (either (eqb map 5) (eqb map 7))) ⌝ }
+    ensures { λ r. ⌜ r ≡ both (eqb (map % 2) 1) (ltb map 16) ⌝ }
 {
-    if map == 1 {
-        return true;
+    if map % 2 == 1 {
+        return map < 16;
     }
-    if map == 3 {
-        return true;
-    }
-    if map == 5 {
-        return true;
-    }
-    map == 7
+    false
 }
 
-// Whether the first field is 0 where the bit map has none.
-fn first_right(map: u64, first: u64) -> bool
-    ensures { λ r. ⌜ r ≡ pick (eqb map 1) (eqb first 0) true ⌝ }
+// How many fields stand behind the count, by the bit map.
+fn field_count(map: u64) -> u64
+    ensures { λ r. ⌜ r ≡ fieldCount map ⌝ }
 {
-    if map == 1 {
-        return first == 0;
-    }
-    true
+    map / 2 % 2 + map / 4 % 2 + map / 8 % 2
 }
 
-// Whether the second field is 0 where the bit map has none.
-fn second_right(map: u64, second: u64) -> bool
-    ensures { λ r. ⌜ r ≡ pick (eqb map 7) true (eqb second 0) ⌝ }
+// Whether the word of a field is 0 where the bit map has so many and no such.
+fn field_right(fields: u64, field: u64, word: u64) -> bool
+    ensures { λ r. ⌜ r ≡ pick (leb field fields) true (eqb word 0) ⌝ }
 {
-    if map == 7 {
+    if field <= fields {
         return true;
     }
-    second == 0
+    word == 0
+}
+
+// The word that says a chunk power, the bit map where none does.
+fn power_word(map: u64) -> usize
+    ensures { λ r. ⌜ r ≡ powerWord map ⌝ }
+{
+    if map == 9 {
+        return 2;
+    }
+    if map == 11 {
+        return 3;
+    }
+    if map == 13 {
+        return 3;
+    }
+    if map == 15 {
+        return 4;
+    }
+    0
 }
 
 // The number of the first test that fails, 7 where none does.
@@ -109,9 +121,10 @@ fn header_fault(image: &[u8], count: usize) -> usize
     let map = words::load(image, 0);
     let a = is_map(map);
     let b = is_count(words::load(image, 1), count);
-    let c = first_right(map, words::load(image, 2));
-    let d = second_right(map, words::load(image, 3));
-    let e = is_zero(words::load(image, 4));
+    let fields = field_count(map);
+    let c = field_right(fields, 1, words::load(image, 2));
+    let d = field_right(fields, 2, words::load(image, 3));
+    let e = field_right(fields, 3, words::load(image, 4));
     let f = is_zero(words::load(image, 5));
     let g = is_zero(words::load(image, 6));
     first_failing(a, b, c, d, e, f, g)
@@ -125,9 +138,9 @@ pub enum Stop {
 }
 
 // The log of an image of `count` chunks, chunk by chunk, up to the first entry that is wrong.
-fn read_log(image: &[u8], count: usize) -> Stop
+fn read_log(image: &[u8], count: usize, size: Size) -> Stop
     requires { ⌜ count ≤ 504 ⌝ }
-    ensures { λ r. ⌜ r ≡ stopBy 0 (readImage 12 count (wordsOf (now (image .entry)))) ⌝ }
+    ensures { λ r. ⌜ r ≡ stopBy 0 (readImage (powerOf size) count (wordsOf (now (image .entry)))) ⌝ }
 {
     let mut before: usize = 0;
     let mut chunk: usize = 0;
@@ -141,8 +154,8 @@ fn read_log(image: &[u8], count: usize) -> Stop
                     return Stop::Nowhere;
                 }
                 chunk += 1;
-                at = 512 * chunk;
-                let lines = directory::lines_of(image, chunk);
+                at = places::first_word(size, chunk);
+                let lines = directory::lines_of(image, chunk, size);
                 end = at + 8 * lines;
             }
             LogStep::Wrong => {
@@ -180,15 +193,15 @@ fn spot_fault(s: Spots) -> Fault
 }
 
 // 4 to 6, of an image of `count` chunks.
-fn log_fault(image: &[u8], count: usize) -> Fault
+fn log_fault(image: &[u8], count: usize, size: Size) -> Fault
     requires { ⌜ count ≤ 504 ⌝ }
-    ensures { λ r. ⌜ r ≡ logFault 12 count (wordsOf (now (image .entry))) (readImage 12 count (wordsOf (now (image .entry)))) ⌝ }
+    ensures { λ r. ⌜ r ≡ logFault (powerOf size) count (wordsOf (now (image .entry))) (readImage (powerOf size) count (wordsOf (now (image .entry)))) ⌝ }
 {
-    let stop = read_log(image, count);
+    let stop = read_log(image, count, size);
     match stop {
         Stop::At { word, before } => Fault::Entry { word, before },
         Stop::Nowhere => {
-            let s = top::find_spots(image, count);
+            let s = top::find_spots(image, count, size);
             spot_fault(s)
         }
     }
@@ -200,19 +213,25 @@ pub fn fault_of(image: &[u8]) -> Fault
 {
     let bytes = image.len();
     if opening::length_allowed(bytes) {
-        let count = bytes / 4096;
-        if opening::header_fits(image, count) {
-            let chunk = directory::directory_fault(image, count);
-            if chunk < 504 {
-                return Fault::Directory {
-                    chunk,
-                    word: 8 + chunk,
-                };
+        let power = opening::power_said(image);
+        if opening::power_fits(power, bytes) {
+            let size = places::size_by(power);
+            let count = places::chunks_in(size, bytes);
+            if opening::header_fits(image, count) {
+                let chunk = directory::directory_fault(image, count, size);
+                if chunk < 504 {
+                    return Fault::Directory {
+                        chunk,
+                        word: 8 + chunk,
+                    };
+                }
+                return log_fault(image, count, size);
             }
-            return log_fault(image, count);
+            let word = header_fault(image, count);
+            return Fault::Header(word);
         }
-        let word = header_fault(image, count);
-        return Fault::Header(word);
+        let said = power_word(words::load(image, 0));
+        return Fault::Header(said);
     }
     Fault::Length
 }
@@ -227,33 +246,33 @@ pub struct FaultPlace {
     pub before: u64,
 }
 
-fn place_at(refusal: u64, word: usize, before: usize) -> FaultPlace
-    ensures { λ r. ⌜ r ≡ placeAt refusal word before ⌝ }
+fn place_at(refusal: u64, word: usize, before: usize, size: Size) -> FaultPlace
+    ensures { λ r. ⌜ r ≡ placeAt size refusal word before ⌝ }
 {
     FaultPlace {
         refusal,
-        chunk: (word / 512) as u64,
+        chunk: places::chunk_of_word(size, word) as u64,
         word: word as u64,
         before: before as u64,
     }
 }
 
-fn numbers_of(fault: Fault) -> FaultPlace
-    ensures { λ r. ⌜ r ≡ numbersOf fault ⌝ }
+fn numbers_of(fault: Fault, size: Size) -> FaultPlace
+    ensures { λ r. ⌜ r ≡ numbersOf size fault ⌝ }
 {
     match fault {
-        Fault::Nothing => place_at(0, 0, 0),
-        Fault::Length => place_at(1, 0, 0),
-        Fault::Header(word) => place_at(2, word, 0),
+        Fault::Nothing => place_at(0, 0, 0, size),
+        Fault::Length => place_at(1, 0, 0, size),
+        Fault::Header(word) => place_at(2, word, 0, size),
         Fault::Directory { chunk, word } => FaultPlace {
             refusal: 3,
             chunk: chunk as u64,
             word: word as u64,
             before: 0,
         },
-        Fault::Entry { word, before } => place_at(4, word, before),
-        Fault::Block(word) => place_at(5, word, 0),
-        Fault::Tops(word) => place_at(6, word, 0),
+        Fault::Entry { word, before } => place_at(4, word, before, size),
+        Fault::Block(word) => place_at(5, word, 0, size),
+        Fault::Tops(word) => place_at(6, word, 0, size),
     }
 }
 
@@ -261,5 +280,6 @@ pub fn find_fault(image: &[u8]) -> FaultPlace
     ensures { λ r. ⌜ Told (now (image .entry)) r ⌝ }
 {
     let fault = fault_of(image);
-    numbers_of(fault)
+    let size = places::size_by(opening::power_said(image));
+    numbers_of(fault, size)
 }

@@ -4,7 +4,8 @@
 // the places found the least is kept.
 ghost use mathlib.Core.Path.{_≡_};
 ghost use Rattle.spec.specs.Words.{wordsOf};
-ghost use Rattle.faults.specs.Spots.{least, joined, ComparedIs, SharedIs, VisitedIs, SweptAs, Spotted};
+ghost use Rattle.spec.specs.declared.Size.the-variants as Z;
+ghost use Rattle.faults.specs.Spots.{least, joined, Unused, ComparedIs, SharedIs, VisitedIs, SweptAs, Spotted};
 use consistency::Head;
 use consistency::OWN_WORDS;
 use consistency::agreed;
@@ -19,6 +20,9 @@ use consistency::range_end;
 use consistency::top_of;
 use log::Cursor;
 use log::Next;
+use places::LARGE_UNITS;
+use places::SMALL_UNITS;
+use spec::Size;
 use words::lesser;
 use words::load;
 
@@ -50,9 +54,6 @@ fn compared(image: &[u8], tops: usize, e: Head, place: usize) -> usize
 }
 
 // 6: SHARING
-// An image has so many units at most.
-const UNITS: usize = 8064;
-
 // The user of a unit to which top entries of several keys point. It is no place: entries stand behind the directory.
 const SEVERAL: usize = 1;
 
@@ -120,13 +121,14 @@ fn visit(
     units: &mut [u64],
     so: Spots,
     e: Head,
+    size: Size,
 ) -> Spots
-    ensures { λ r. ⌜ VisitedIs count (wordsOf (now (image .entry))) (now (table .entry)) fits low high so e (now (units .entry)) (now (units .exit)) r ⌝ }
+    ensures { λ r. ⌜ VisitedIs size count (wordsOf (now (image .entry))) (now (table .entry)) fits low high so e (now (units .entry)) (now (units .exit)) r ⌝ }
 {
     if is_within(low, high, e.key) {
-        let top = top_of(image, count, table, fits, e.key);
+        let top = top_of(image, count, table, fits, e.key, size);
         if e.version == top.version {
-            if block_fine(image, count, e.op, e.placement, e.field) {
+            if block_fine(image, count, e.op, e.placement, e.field, size) {
                 let odd = compared(image, so.tops, e, top.place);
                 let tops = shared(image, units, odd, e);
                 return Spots {
@@ -153,8 +155,9 @@ fn sweep(
     high: u64,
     units: &mut [u64],
     so: Spots,
+    size: Size,
 ) -> Spots
-    ensures { λ r. ⌜ SweptAs count (wordsOf (now (image .entry))) (now (table .entry)) fits low high so (now (units .entry)) (now (units .exit)) r ⌝ }
+    ensures { λ r. ⌜ SweptAs size count (wordsOf (now (image .entry))) (now (table .entry)) fits low high so (now (units .entry)) (now (units .exit)) r ⌝ }
 {
     let mut s = so;
     let mut cursor = log::first_cursor();
@@ -162,7 +165,7 @@ fn sweep(
         let chunk = cursor.chunk;
         let end = cursor.end;
         let at = pass_over(image, cursor.at, end, false, &image[0..0], low, high);
-        let n = log::next_in_log(image, count, Cursor { chunk, at, end });
+        let n = log::next_in_log(image, count, Cursor { chunk, at, end }, size);
         match n {
             Next::Done => {
                 return s;
@@ -188,28 +191,29 @@ fn sweep(
                     key,
                     place,
                 };
-                s = visit(image, count, table, fits, low, high, units, s, e);
+                s = visit(image, count, table, fits, low, high, units, s, e, size);
                 cursor = behind;
             }
         }
     }
 }
 
-// The places in the log of an image of `count` chunks, one range of classes after the other. A range whose keys do not
-// fit the table of the call's own is halved; of one class alone whose keys do not fit, top entries are found by scans.
-pub fn find_spots(image: &[u8], count: usize) -> Spots
-    ensures { λ r. ⌜ Spotted count (wordsOf (now (image .entry))) r ⌝ }
+// The places in the log of an image of `count` chunks, one range of classes after the other, with a word for each unit.
+// A range whose keys do not fit the table of the call's own is halved; of one class alone whose keys do not fit, top
+// entries are found by scans.
+fn spots_with(image: &[u8], count: usize, units: &mut [u64], size: Size) -> Spots
+    requires { ⌜ Unused size (now units) ⌝ }
+    ensures { λ r. ⌜ Spotted size count (wordsOf (now (image .entry))) r ⌝ }
 {
     let mut own: [u64; OWN_WORDS] = [0; OWN_WORDS];
-    let mut units: [u64; UNITS] = [0; UNITS];
     let mut s = Spots { block: 0, tops: 0 };
     let mut low: u64 = 0;
     let mut width: u64 = 0x1_0000_0000;
     while low < 0x1_0000_0000 {
         let high = range_end(low, width);
-        let c = collect(image, count, &mut own, low, high);
+        let c = collect(image, count, &mut own, low, high, size);
         if is_enough(c.fits, width) {
-            s = sweep(image, count, &own, c.fits, low, high, &mut units, s);
+            s = sweep(image, count, &own, c.fits, low, high, units, s, size);
             low = high;
             width = next_width(width, c.keys);
         } else {
@@ -217,4 +221,28 @@ pub fn find_spots(image: &[u8], count: usize) -> Spots
         }
     }
     s
+}
+
+// The same with words of the call's own for the units: those of small chunks are few.
+fn small_spots(image: &[u8], count: usize) -> Spots
+    ensures { λ r. ⌜ Spotted Z.Small count (wordsOf (now (image .entry))) r ⌝ }
+{
+    let mut units: [u64; SMALL_UNITS] = [0; SMALL_UNITS];
+    spots_with(image, count, &mut units, Size::Small)
+}
+
+fn large_spots(image: &[u8], count: usize) -> Spots
+    ensures { λ r. ⌜ Spotted Z.Large count (wordsOf (now (image .entry))) r ⌝ }
+{
+    let mut units: [u64; LARGE_UNITS] = [0; LARGE_UNITS];
+    spots_with(image, count, &mut units, Size::Large)
+}
+
+pub fn find_spots(image: &[u8], count: usize, size: Size) -> Spots
+    ensures { λ r. ⌜ Spotted size count (wordsOf (now (image .entry))) r ⌝ }
+{
+    match size {
+        Size::Small => small_spots(image, count),
+        Size::Large => large_spots(image, count),
+    }
 }

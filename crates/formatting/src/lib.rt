@@ -1,6 +1,10 @@
 // The begin of a formatting.
 ghost use mathlib.Core.Path.{_≡_};
+ghost use lib.Dec.{eqb};
+ghost use Rattle.spec.specs.Basics.{both};
+ghost use Rattle.spec.specs.Places.{lengthAllowed};
 ghost use Rattle.spec.specs.Machine.{Format};
+ghost use Rattle.places.specs.Sizes.{powerOf};
 ghost use Rattle.formatting.specs.Begun.{given, numberIn, unfinishedAt, formattingAt};
 ghost use Rattle.session.specs.Promise.{Does, memoryOf};
 use buffer::Buffer;
@@ -10,6 +14,7 @@ use session::Setup;
 use spec::Given;
 use spec::Refusal;
 use spec::Report;
+use spec::Size;
 
 // FORMAT
 // The number given, 0 where none is.
@@ -39,21 +44,33 @@ fn formatting_phase(phase: u64) -> u64
     if phase == 1 { 5 } else { 4 }
 }
 
-// 1, 8, or a formatting with what it was told.
+// Whether the number is the power of this size, and the length is allowed for it.
+fn is_allowed(size: Size, power: u64, bytes: usize) -> bool
+    ensures { λ r. ⌜ r ≡ both (eqb (powerOf size) power) (lengthAllowed (powerOf size) bytes) ⌝ }
+{
+    if places::power_of(size) == power {
+        return places::length_allowed(size, bytes);
+    }
+    false
+}
+
+// 1, 8, or a formatting with what it was told: the chunk power, station and centre number.
 pub fn format_core(
     control: Control,
     setup: Setup,
     buffer: &Buffer,
     image: &[u8],
     table: &[u64],
+    power: u64,
     station: Given,
     centre: Given,
 ) -> Outcome
-    ensures { λ r. ⌜ Does (Format station centre) (memoryOf control setup (now (buffer .entry)) (now (image .entry)) (now (table .entry))) (memoryOf (r .control) (r .setup) (now (buffer .entry)) (now (image .entry)) (now (table .entry))) (r .report) ⌝ }
+    ensures { λ r. ⌜ Does (Format power station centre) (memoryOf control setup (now (buffer .entry)) (now (image .entry)) (now (table .entry))) (memoryOf (r .control) (r .setup) (now (buffer .entry)) (now (image .entry)) (now (table .entry))) (r .report) ⌝ }
 {
     let bytes = image.len();
     let words = table.len();
-    if opening::length_allowed(bytes) {
+    let size = places::size_by(power);
+    if is_allowed(size, power, bytes) {
         if is_unfinished(control.phase) {
             return Outcome {
                 control,
@@ -65,7 +82,8 @@ pub fn format_core(
         let told = session::format_setup(
             bytes,
             words,
-            codec::header_map(station, centre),
+            size,
+            codec::header_map(size, station, centre),
             number_in(station),
             number_in(centre),
         );
@@ -101,14 +119,15 @@ pub fn format_told(
     buffer: &Buffer,
     image: &[u8],
     table: &[u64],
+    power: u64,
     station_given: bool,
     station: u64,
     centre_given: bool,
     centre: u64,
 ) -> Outcome
-    ensures { λ r. ⌜ Does (Format (given «station_given» station) (given «centre_given» centre)) (memoryOf control setup (now (buffer .entry)) (now (image .entry)) (now (table .entry))) (memoryOf (r .control) (r .setup) (now (buffer .entry)) (now (image .entry)) (now (table .entry))) (r .report) ⌝ }
+    ensures { λ r. ⌜ Does (Format power (given «station_given» station) (given «centre_given» centre)) (memoryOf control setup (now (buffer .entry)) (now (image .entry)) (now (table .entry))) (memoryOf (r .control) (r .setup) (now (buffer .entry)) (now (image .entry)) (now (table .entry))) (r .report) ⌝ }
 {
     let a = given_setup(station_given, station);
     let b = given_setup(centre_given, centre);
-    format_core(control, setup, buffer, image, table, a, b)
+    format_core(control, setup, buffer, image, table, power, a, b)
 }

@@ -1,7 +1,7 @@
 -- A commit of items of which some are in blocks, looking forward from words at rest: with all its actions done, the
 -- image is accepted, and its entries are those before with the batch placed among them.
 -- Assumes nothing.
-use mathlib.Core.Path.{_≡_, refl, sym, _∙_, ap}
+use mathlib.Core.Path.{_≡_, refl, sym, _∙_, ap, subst}
 use mathlib.Core.Bool.{Bool, true, false}
 use mathlib.Core.Logic.{_⊎_, inl, inr}
 use mathlib.Core.Option.{some}
@@ -10,6 +10,8 @@ use Prim.Native.Nat.{ℕ, suc, _+_, _*_, _/_, _≤_, _<_}
 use native.Mathlib.Omega.{arith}
 use lib.Dec.{eqb}
 use lib.ListN.{length, getD, length-set}
+use Rattle.spec.specs.declared.Size.{Size}
+use Rattle.places.specs.Sizes.{powerOf, power-low, power-high}
 use Rattle.spec.specs.Basics.{both, distinct}
 use Rattle.spec.specs.Places.{basePower, chunkLines, base, directoryWord, chunksIn, maxChunks}
 use Rattle.spec.specs.Medium.{Cell, Action, Store, Flush, Fence, Medium, apply, run, latest, cellAt, settledAt}
@@ -31,16 +33,17 @@ use Rattle.theory_log.proofs.Clean.{mem-placed, placed-mem}
 use Rattle.theory_crash.specs.Accepted.{Ok}
 use Rattle.theory_crash.specs.Rest.{AtRest, Flushed, Cuts}
 use Rattle.theory_crash.specs.Batch.{entryWords, Place, Batch}
-use Rattle.theory_crash.proofs.Opening.{fits-keys, opens-ok, ok-opens}
+use Rattle.theory_crash.proofs.Opening.{fits-keys}
+use Rattle.session.proofs.OpensRight.{opens-right, right-opens}
 use Rattle.theory_crash.proofs.Rest.{settled-rest}
 use Rattle.theory_crash.proofs.Append.{padding, entries-length, append-is, some-lines}
 use Rattle.theory_crash.proofs.Effects as E
 use Rattle.theory_crash.proofs.Commit as C
 use Rattle.theory_plans.proofs.LogPlace.{log-place}
 use Rattle.buffer.specs.Areas.{batchRoom}
-use Rattle.session.specs.Fits.{keyList, ItemsFit, BlocksApart, Shown}
+use Rattle.session.specs.Fits.{Opens, keyList, ItemsFit, BlocksApart, Shown}
 use Rattle.theory_crash.proofs.View.{append-shy}
-use Rattle.forward.proofs.Shown.{lo, hi, begin-ok, shown-by}
+use Rattle.forward.proofs.Shown.{begin-ok, shown-by}
 use Rattle.forward.proofs.Staged.{run-settled}
 
 counts-placed : (es fs items : List Entry) (at : ℕ) → ((k : ℕ) → highest k es ≡ highest k fs) → CountsOn es items → CountsOn fs (placed at items)
@@ -48,9 +51,9 @@ counts-placed es fs [] at h c = tt
 counts-placed es fs (e ∷ items) at h c = (c .0 ∙ ap suc (h (e .key)), counts-placed (e ∷ es) (moved at e ∷ fs) items (at + (2 + length (e .value))) (λ k. rw (h k)) (c .1))
 
 -- ITEMS placed: their blocks are right, and no other key's.
-module _ (n : ℕ) (ws : List ℕ) (es items : List Entry) (fit : ItemsFit n ws es items) (at : ℕ) where
-  pub placed-right : (e : Entry) → Mem e (placed at items) → fine basePower n ws e ≡ true
-  placed-right e i = let o = mem-placed e at items i in ap (fine basePower n ws) (o .3) ∙ fit .blocks (o .0) (o .1)
+module _ (sz : Size) (n : ℕ) (ws : List ℕ) (es items : List Entry) (fit : ItemsFit (powerOf sz) n ws es items) (at : ℕ) where
+  pub placed-right : (e : Entry) → Mem e (placed at items) → fine (powerOf sz) n ws e ≡ true
+  placed-right e i = let o = mem-placed e at items i in ap (fine (powerOf sz) n ws) (o .3) ∙ fit .blocks (o .0) (o .1)
 
   pub placed-own : (e f : Entry) → Mem e (placed at items) → Mem f (placed at items) ⊎ Top es f → pointed e ≡ true → pointed f ≡ true → e .field ≡ f .field → e .key ≡ f .key
   placed-own e f i (inl j) p q z =
@@ -63,38 +66,37 @@ module _ (n : ℕ) (ws : List ℕ) (es items : List Entry) (fit : ItemsFit n ws 
       absurd (fit .dead (o .0) f (o .1) t (sym (ap pointed (o .3)) ∙ p) q (sym (ap (λ (g : Entry). g .field) (o .3)) ∙ z))
 
 -- what holds looking forward from words at rest, with the entries es, to an image with the items among them in chunk d
-pub record Forward (bytes table : ℕ) (ws : List ℕ) (es items : List Entry) (d old : ℕ) : Type 0 where
+pub record Forward (sz : Size) (bytes table : ℕ) (ws : List ℕ) (es items : List Entry) (d old : ℕ) : Type 0 where
   pub front : List Entry
   pub back : List Entry
   pub split : es ≡ front ++ back
   pub chunk : d ≤ 503
-  pub lines : linesOf basePower ws d ≤ 64
+  pub lines : linesOf (powerOf sz) ws d ≤ chunkLines (powerOf sz)
   pub agree : Agree es
   pub apart : BlocksApart es
-  pub fit : ItemsFit (chunksIn basePower bytes) (runWords (appendOf basePower d old (linesOf basePower ws d) (encodeAll items)) ws) es items
-  pub accepted : opening basePower bytes (runWords (appendOf basePower d old (linesOf basePower ws d) (encodeAll items)) ws) table
-      ≡ Accepted (front ++ (placed (base basePower d + 8 * linesOf basePower ws d) items ++ back))
-  pub shown : Shown bytes table (oldOf ws d ∷ []) es (appendOf basePower d old (linesOf basePower ws d) (encodeAll items)) ws
-  pub kept : (c : ℕ) → 1 ≤ c → c < chunksIn basePower bytes → (c ≡ d → ⊥) → getD (runWords (appendOf basePower d old (linesOf basePower ws d) (encodeAll items)) ws) (directoryWord c) 0 ≡ getD ws (directoryWord c) 0
+  pub fit : ItemsFit (powerOf sz) (chunksIn (powerOf sz) bytes) (runWords (appendOf (powerOf sz) d old (linesOf (powerOf sz) ws d) (encodeAll items)) ws) es items
+  pub accepted : Opens (powerOf sz) bytes (runWords (appendOf (powerOf sz) d old (linesOf (powerOf sz) ws d) (encodeAll items)) ws) table (front ++ (placed (base (powerOf sz) d + 8 * linesOf (powerOf sz) ws d) items ++ back))
+  pub shown : Shown (powerOf sz) bytes table (oldOf ws d ∷ []) es (appendOf (powerOf sz) d old (linesOf (powerOf sz) ws d) (encodeAll items)) ws
+  pub kept : (c : ℕ) → 1 ≤ c → c < chunksIn (powerOf sz) bytes → (c ≡ d → ⊥) → getD (runWords (appendOf (powerOf sz) d old (linesOf (powerOf sz) ws d) (encodeAll items)) ws) (directoryWord c) 0 ≡ getD ws (directoryWord c) 0
 
-module _ (bytes table : ℕ) (ws : List ℕ) (es : List Entry) (f : Entry) (fs : List Entry) (accepted : opening basePower bytes ws table ≡ Accepted es) (long : length ws ≡ bytes / 8)
-    (right : AllRight (f ∷ fs)) (counts : CountsOn es (f ∷ fs)) (fit : ItemsFit (chunksIn basePower bytes) ws es (f ∷ fs)) (small : length (encodeAll (f ∷ fs)) ≤ batchRoom)
+module _ (sz : Size) (bytes table : ℕ) (ws : List ℕ) (es : List Entry) (f : Entry) (fs : List Entry) (accepted : Opens (powerOf sz) bytes ws table es) (long : length ws ≡ bytes / 8)
+    (right : AllRight (f ∷ fs)) (counts : CountsOn es (f ∷ fs)) (fit : ItemsFit (powerOf sz) (chunksIn (powerOf sz) bytes) ws es (f ∷ fs)) (small : length (encodeAll (f ∷ fs)) ≤ batchRoom)
     (few : length (distinct (keyList (f ∷ fs) ++ keyList es)) ≤ capacity table) (d old needed : ℕ)
-    (found : logPlace basePower (chunksIn basePower bytes) ws (linesFor (length (encodeAll (f ∷ fs)))) 0 needed ≡ some d) where
+    (found : logPlace (powerOf sz) (chunksIn (powerOf sz) bytes) ws (linesFor (length (encodeAll (f ∷ fs)))) 0 needed ≡ some d) where
   abbrev n : ℕ
-  n = chunksIn basePower bytes
+  n = chunksIn (powerOf sz) bytes
 
   abbrev items : List Entry
   items = f ∷ fs
 
   abbrev l : ℕ
-  l = linesOf basePower ws d
+  l = linesOf (powerOf sz) ws d
 
   abbrev b : ℕ
   b = linesFor (length (encodeAll items))
 
   abbrev at′ : ℕ
-  at′ = base basePower d + 8 * l
+  at′ = base (powerOf sz) d + 8 * l
 
   abbrev m : Medium
   m = settledAt ws
@@ -105,19 +107,19 @@ module _ (bytes table : ℕ) (ws : List ℕ) (es : List Entry) (f : Entry) (fs :
   abbrev effect : (Entry → Held) → (ℕ → Held) → ℕ → Held
   effect mean c = done mean (placed at′ items) c
 
-  ok : Ok basePower n ws es
-  ok = opens-ok basePower lo hi bytes table ws es long accepted .0
+  ok : Ok (powerOf sz) n ws es
+  ok = opens-right (powerOf sz) bytes table ws es long accepted .0
 
-  size : bytes ≡ 8 * base basePower n
-  size = opens-ok basePower lo hi bytes table ws es long accepted .2
+  size : bytes ≡ 8 * base (powerOf sz) n
+  size = opens-right (powerOf sz) bytes table ws es long accepted .2
 
-  rest : AtRest basePower n ws es m
-  rest = settled-rest basePower n ws es ok
+  rest : AtRest (powerOf sz) n ws es m
+  rest = settled-rest (powerOf sz) n ws es ok
 
-  place : Place basePower n d b ws
-  place = log-place basePower n ws b 0 needed d (let a = lines-least basePower lo hi in omega arith) found .0
+  place : Place (powerOf sz) n d b ws
+  place = log-place (powerOf sz) n ws b 0 needed d (let a = lines-least (powerOf sz) (power-low sz) (power-high sz) in omega arith) found .0
 
-  bt : Batch basePower n d l b (padding items) ws es items effect
+  bt : Batch (powerOf sz) n d l b (padding items) ws es items effect
   bt = record {
     low = place .low;
     high = place .high;
@@ -128,8 +130,8 @@ module _ (bytes table : ℕ) (ws : List ℕ) (es : List Entry) (f : Entry) (fs :
     size = entries-length items;
     right = right;
     effect = E.items es (placed at′ items) (counts-placed es es items at′ (λ k. refl) counts);
-    staged = placed-right n ws es items fit at′;
-    own = placed-own n ws es items fit at′;
+    staged = placed-right sz n ws es items fit at′;
+    own = placed-own sz n ws es items fit at′;
   }
 
   keys : length (keysOf (items ++ es)) ≤ capacity table
@@ -139,24 +141,24 @@ module _ (bytes table : ℕ) (ws : List ℕ) (es : List Entry) (f : Entry) (fs :
   still k = ap (λ (c : Cell). c .newer) (W.cell-settled ws k)
 
   abbrev acts : List Action
-  acts = commitOf basePower d old l b (entryWords items (padding items))
+  acts = commitOf (powerOf sz) d old l b (entryWords items (padding items))
 
   abbrev Ended : Medium → Type 0
-  Ended = C.Ended basePower lo hi n d old l b (padding items) (capacity table) mean ws es items effect m rest (λ k. refl) bt keys (λ e i k need. still k)
+  Ended = C.Ended (powerOf sz) (power-low sz) (power-high sz) n d old l b (padding items) (capacity table) mean ws es items effect m rest (λ k. refl) bt keys (λ e i k need. still k)
 
   ended : Ended (run acts m)
   ended =
-      through-end (Cuts basePower n (capacity table) mean (effect (meaning ws) mean)) (λ m′. Ended m′ × Flushed basePower n m′) acts m
-      (C.commit-ends basePower lo hi n d old l b (padding items) (capacity table) mean ws es items effect m rest (λ k. refl) bt keys (λ e i k need. still k) (λ c x y z. still (directoryWord c))) .0
+      through-end (Cuts (powerOf sz) n (capacity table) mean (effect (meaning ws) mean)) (λ m′. Ended m′ × Flushed (powerOf sz) n m′) acts m
+      (C.commit-ends (powerOf sz) (power-low sz) (power-high sz) n d old l b (padding items) (capacity table) mean ws es items effect m rest (λ k. refl) bt keys (λ e i k need. still k) (λ c x y z. still (directoryWord c))) .0
 
-  image-is : ended .image ≡ runWords (appendOf basePower d old l (encodeAll items)) ws
-  image-is = sym (ended .rests .now) ∙ run-settled acts ws ∙ ap (λ (x : List Action). runWords x ws) (sym (append-is basePower d old l items))
+  image-is : ended .image ≡ runWords (appendOf (powerOf sz) d old l (encodeAll items)) ws
+  image-is = sym (ended .rests .now) ∙ run-settled acts ws ∙ ap (λ (x : List Action). runWords x ws) (sym (append-is (powerOf sz) d old l items))
 
-  most : l ≤ 64
+  most : l ≤ chunkLines (powerOf sz)
   unfolding chunkLines
-  most = lines-most basePower ws d
+  most = lines-most (powerOf sz) ws d
 
-  pub forward : Forward bytes table ws es items d old
+  pub forward : Forward sz bytes table ws es items d old
   forward = record {
     front = ended .before;
     back = ended .behind;
@@ -168,10 +170,11 @@ module _ (bytes table : ℕ) (ws : List ℕ) (es : List Entry) (f : Entry) (fs :
     fit = record { blocks = λ e m. rw (← image-is) (let q = placed-mem e at′ items m in ended .staged (moved (q .0) e) (q .1)); dead = fit .dead; own = fit .own };
     accepted =
         rw (← image-is)
-        (ok-opens basePower lo hi n bytes table (ended .image) (ended .entries) size (ended .rests .ok) (fits-keys table (ended .entries) (ended .few′)) ∙ ap Accepted (ended .joined));
+        (subst (Opens (powerOf sz) bytes (ended .image) table) (ended .joined)
+        (right-opens sz n bytes table (ended .image) (ended .entries) size (ended .rests .ok) (fits-keys table (ended .entries) (ended .few′))));
     shown =
         let low : d < maxChunks = (let a = place .high in let q = ok .most in omega arith) in
-        shown-by bytes table ws es accepted long (oldOf ws d ∷ []) (appendOf basePower d old l (encodeAll items)) (refl, tt)
-        (append-shy basePower lo hi n ws es (begin-ok bytes table ws es accepted long) (oldOf ws d ∷ []) (low, tt) d old (encodeAll items) place (inl refl));
+        shown-by sz bytes table ws es accepted long (oldOf ws d ∷ []) (appendOf (powerOf sz) d old l (encodeAll items)) (refl, tt)
+        (append-shy (powerOf sz) (power-low sz) (power-high sz) n ws es (begin-ok sz bytes table ws es accepted long) (oldOf ws d ∷ []) (low, tt) d old (encodeAll items) place (inl refl));
     kept = λ c l u o. rw (← image-is) (ended .chunks c l u o .1);
   }

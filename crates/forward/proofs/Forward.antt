@@ -5,6 +5,8 @@ use mathlib.Core.Logic.{_⊎_}
 use mathlib.Core.Bool.{true}
 use mathlib.Core.List.{List, _++_}
 use Prim.Native.Nat.{ℕ, _+_, _≤_, _<_}
+use Rattle.spec.specs.declared.Size.{Size}
+use Rattle.places.specs.Sizes.{powerOf}
 use Rattle.spec.specs.Basics.{negate, filter}
 use Rattle.spec.specs.Places.{base, chunkWords}
 use Rattle.spec.specs.Log.{Entry}
@@ -16,22 +18,22 @@ use Rattle.theory_log.proofs.Kept.{Parts, out-chunk, filter-others}
 use Rattle.session.specs.Cleaned.{copiesOf, after}
 
 -- `old` are the words at the begin, `image` those with the copies published, among `front` and `back`
-module _ (lo : 12 ≤ 12) (hi : 12 ≤ 16) (n s at : ℕ) (old image : List ℕ) (es front back xs mid ys : List Entry) (p : Parts 12 lo hi n s old es xs mid ys) (split : es ≡ front ++ back)
-    (aside : (e : Entry) → Mem e (copiesOf xs mid ys at) → (e .at < base 12 s) ⊎ (base 12 s + chunkWords 12 ≤ e .at)) where
+module _ (sz : Size) (lo : 12 ≤ (powerOf sz)) (hi : (powerOf sz) ≤ 16) (n s at : ℕ) (old image : List ℕ) (es front back xs mid ys : List Entry) (p : Parts (powerOf sz) lo hi n s old es xs mid ys) (split : es ≡ front ++ back)
+    (aside : (e : Entry) → Mem e (copiesOf xs mid ys at) → (e .at < base (powerOf sz) s) ⊎ (base (powerOf sz) s + chunkWords (powerOf sz) ≤ e .at)) where
   pub left-of : List Entry
-  left-of = filter (elsewhere 12 s) front
+  left-of = filter (elsewhere (powerOf sz) s) front
 
   pub right-of : List Entry
-  right-of = filter (elsewhere 12 s) back
+  right-of = filter (elsewhere (powerOf sz) s) back
 
   pub others-are : left-of ++ right-of ≡ xs ++ ys
   unfolding left-of right-of
-  others-are = sym (filter-append (elsewhere 12 s) front back) ∙ ap (filter (elsewhere 12 s)) (sym split) ∙ filter-others 12 lo hi n s old es xs mid ys p
+  others-are = sym (filter-append (elsewhere (powerOf sz) s) front back) ∙ ap (filter (elsewhere (powerOf sz) s)) (sym split) ∙ filter-others (powerOf sz) lo hi n s old es xs mid ys p
 
-  pub freed-entries : (entries xs′ mid′ ys′ : List Entry) → Parts 12 lo hi n s image entries xs′ mid′ ys′ → entries ≡ front ++ (copiesOf xs mid ys at ++ back) → xs′ ++ ys′ ≡ after xs mid ys left-of right-of at
+  pub freed-entries : (entries xs′ mid′ ys′ : List Entry) → Parts (powerOf sz) lo hi n s image entries xs′ mid′ ys′ → entries ≡ front ++ (copiesOf xs mid ys at ++ back) → xs′ ++ ys′ ≡ after xs mid ys left-of right-of at
   unfolding left-of right-of
   freed-entries entries xs′ mid′ ys′ q joined =
-      let kept : filter (elsewhere 12 s) (copiesOf xs mid ys at) ≡ copiesOf xs mid ys at =
-      filter-all (elsewhere 12 s) (copiesOf xs mid ys at) (in-all (elsewhere 12 s) (copiesOf xs mid ys at) (λ e m. ap negate (out-chunk 12 lo hi s e (aside e m)))) in
-      sym (filter-others 12 lo hi n s image entries xs′ mid′ ys′ q) ∙ ap (filter (elsewhere 12 s)) joined ∙ filter-append (elsewhere 12 s) front (copiesOf xs mid ys at ++ back)
-      ∙ ap (λ (l : List Entry). filter (elsewhere 12 s) front ++ l) (filter-append (elsewhere 12 s) (copiesOf xs mid ys at) back ∙ ap (λ (l : List Entry). l ++ filter (elsewhere 12 s) back) kept)
+      let kept : filter (elsewhere (powerOf sz) s) (copiesOf xs mid ys at) ≡ copiesOf xs mid ys at =
+      filter-all (elsewhere (powerOf sz) s) (copiesOf xs mid ys at) (in-all (elsewhere (powerOf sz) s) (copiesOf xs mid ys at) (λ e m. ap negate (out-chunk (powerOf sz) lo hi s e (aside e m)))) in
+      sym (filter-others (powerOf sz) lo hi n s image entries xs′ mid′ ys′ q) ∙ ap (filter (elsewhere (powerOf sz) s)) joined ∙ filter-append (elsewhere (powerOf sz) s) front (copiesOf xs mid ys at ++ back)
+      ∙ ap (λ (l : List Entry). filter (elsewhere (powerOf sz) s) front ++ l) (filter-append (elsewhere (powerOf sz) s) (copiesOf xs mid ys at) back ∙ ap (λ (l : List Entry). l ++ filter (elsewhere (powerOf sz) s) back) kept)

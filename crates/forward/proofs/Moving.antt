@@ -4,15 +4,19 @@ use mathlib.Core.Path.{_≡_, refl, sym, _∙_, ap}
 use mathlib.Core.Logic.{_⊎_, inl, inr}
 use mathlib.Core.Bool.{true, false}
 use mathlib.Core.List.{List, [], _∷_, _++_}
-use Prim.Native.Nat.{ℕ, _+_, _*_, _/_, _≤_, _<_}
+use Prim.Native.Nat.{ℕ, suc, _+_, _*_, _/_, _≤_, _<_}
 use native.Mathlib.Omega.{arith}
 use lib.ListN.{length, replicate, length-append}
 use borrow.Author.Tests.{eq-eqb, ne-eqb}
+use Rattle.spec.specs.declared.Size.{Size}
+use Rattle.places.specs.Sizes.{powerOf}
 use Rattle.spec.specs.Places.{base, chunkWords, wordChunk}
 use Rattle.spec.specs.Log.{Entry, encodeAll, placed}
 use Rattle.spec.specs.Contents.{inChunk}
+use Rattle.theory_base.proofs.Places.{words-least, words-most, base-next, chunk-of-word, word-place}
 use Rattle.theory_log.specs.Contents.{Mem}
 use Rattle.theory_log.proofs.Walk.{slice-long}
+use Rattle.volatile.proofs.Image.{base-most}
 use Rattle.session.specs.Cleaned.{keptOf, copiesOf, after, Moves}
 use Rattle.forward.specs.Freed.{Freed}
 use Rattle.forward.proofs.Freed.{outside}
@@ -28,7 +32,7 @@ placed-in c at (e ∷ es) (inr m) =
     let l = length-append (e .value) (encodeAll es) in
     (omega arith, omega arith)
 
-module _ (lo : 12 ≤ 12) (hi : 12 ≤ 16) (n s at b z : ℕ) (old ws : List ℕ) (es xs mid ys as′ bs : List Entry) (f : Freed lo hi n s at b z old ws es xs mid ys as′ bs) where
+module _ (sz : Size) (lo : 12 ≤ (powerOf sz)) (hi : (powerOf sz) ≤ 16) (n s at b z : ℕ) (old ws : List ℕ) (es xs mid ys as′ bs : List Entry) (f : Freed sz lo hi n s at b z old ws es xs mid ys as′ bs) where
   -- in no lines there are no words
   pub nothing-kept : b ≡ 0 → length (encodeAll (keptOf xs mid ys)) ≡ 0
   nothing-kept e =
@@ -36,26 +40,32 @@ module _ (lo : 12 ≤ 12) (hi : 12 ≤ 16) (n s at b z : ℕ) (old ws : List ℕ
       let l = slice-long at (at + 8 * b) ws in
       omega arith
 
-  in-source : (e : Entry) → Mem e mid → inChunk 12 s e ≡ true
-  unfolding wordChunk base chunkWords
-  in-source e m = let r = f .parts .inside e m in let low = r .0 in let high = r .1 in eq-eqb (e .at / 512) s (omega arith)
+  in-source : (e : Entry) → Mem e mid → inChunk (powerOf sz) s e ≡ true
+  in-source e m = let r = f .parts .inside e m in eq-eqb (wordChunk (powerOf sz) (e .at)) s (chunk-of-word (powerOf sz) lo hi s (e .at) (r .0) (r .1))
 
-  not-source : (e : Entry) → Mem e (after xs mid ys as′ bs at) → inChunk 12 s e ≡ false
-  unfolding wordChunk base chunkWords
-  not-source e m = ne-eqb (e .at / 512) s (λ q. go q (outside lo hi n s at b z old ws es xs mid ys as′ bs f e m))
+  not-source : (e : Entry) → Mem e (after xs mid ys as′ bs at) → inChunk (powerOf sz) s e ≡ false
+  not-source e m = ne-eqb (wordChunk (powerOf sz) (e .at)) s (λ q. go (rw q at (word-place (powerOf sz) lo hi (e .at))) (outside sz lo hi n s at b z old ws es xs mid ys as′ bs f e m))
     where
-      go : e .at / 512 ≡ s → (e .at < s * 512) ⊎ (s * 512 + 512 ≤ e .at) → ⊥
-      go q (inl l) = omega arith
-      go q (inr l) = omega arith
+      go : (base (powerOf sz) s ≤ e .at) × (e .at < base (powerOf sz) s + chunkWords (powerOf sz)) → (e .at < base (powerOf sz) s) ⊎ (base (powerOf sz) s + chunkWords (powerOf sz) ≤ e .at) → ⊥
+      go (a, c) (inl l) = omega arith
+      go (a, c) (inr l) = omega arith
 
-  pub moving : (words d lines : ℕ) → s ≤ 503 → d ≤ 503 → at ≡ base 12 d + 8 * lines → 8 * lines + words ≤ 512 → words ≡ length (encodeAll (keptOf xs mid ys)) → Moves s words xs mid ys as′ bs at
-  unfolding wordChunk base chunkWords
-  moving words d lines small-s small-d is-at fits keeps = record {
-    source = omega arith;
-    target = omega arith;
-    inside = in-source;
-    outside = not-source;
-    together = λ e m. let r = placed-in e at (keptOf xs mid ys) m in let low = r .0 in let high = r .1 in omega arith;
-    keeps = keeps;
-    few = omega arith;
-  }
+  pub moving : (words d lines : ℕ) → s ≤ 503 → d ≤ 503 → at ≡ base (powerOf sz) d + 8 * lines → 8 * lines + words ≤ chunkWords (powerOf sz) → words ≡ length (encodeAll (keptOf xs mid ys)) → Moves sz s words xs mid ys as′ bs at
+  moving words d lines small-s small-d is-at fits keeps =
+      let most = words-most (powerOf sz) lo hi in
+      let some-words = words-least (powerOf sz) lo hi in
+      let next = base-next (powerOf sz) lo hi d in
+      let top = base-most sz (suc d) (omega arith) .0 in
+      record {
+        source = omega arith;
+        target = omega arith;
+        inside = in-source;
+        outside = not-source;
+        together = λ e m.
+            let r = placed-in e at (keptOf xs mid ys) m in
+            let low = r .0 in
+            let high = r .1 in
+            chunk-of-word (powerOf sz) lo hi d (e .at) (omega arith) (omega arith) ∙ sym (chunk-of-word (powerOf sz) lo hi d at (omega arith) (omega arith));
+        keeps = keeps;
+        few = omega arith;
+      }

@@ -10,6 +10,7 @@ use native.Mathlib.Omega.{arith}
 use lib.Dec.{eqb, leb}
 use lib.ListN.{length, length-append}
 use borrow.Author.Tests.{eqb-true, eqb-false, eq-eqb, ne-eqb, le-leb}
+use Rattle.spec.specs.declared.Size.{Size}
 use Rattle.spec.specs.Basics.{pick, both, filter}
 use Rattle.spec.specs.Log.{Entry, moved, placed}
 use Rattle.spec.specs.Contents.{highest, isTopOf, tops, chosen}
@@ -169,6 +170,6 @@ count-placed k at (x ∷ xs) = go (eqb (x .key) k) (count-placed k (at + (2 + le
 
 -- ## A key of which the chunk has nothing
 
-pub info-without : (k : ℕ) (xs mid ys : List Entry) → ((e : Entry) → Mem e mid → e .key ≡ k → ⊥) → infoOf k (xs ++ (mid ++ ys)) ≡ infoOf k (xs ++ ys)
-info-without k xs [] ys h = refl
-info-without k xs (e ∷ es) ys h = info-other k xs (es ++ ys) e (h e (inl refl)) ∙ info-without k xs es ys (λ f m. h f (inr m))
+pub info-without : (sz : Size) → (k : ℕ) (xs mid ys : List Entry) → ((e : Entry) → Mem e mid → e .key ≡ k → ⊥) → infoOf sz k (xs ++ (mid ++ ys)) ≡ infoOf sz k (xs ++ ys)
+info-without sz k xs [] ys h = refl
+info-without sz k xs (e ∷ es) ys h = info-other sz k xs (es ++ ys) e (h e (inl refl)) ∙ info-without sz k xs es ys (λ f m. h f (inr m))

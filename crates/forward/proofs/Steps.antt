@@ -5,6 +5,7 @@ use mathlib.Core.List.{List, [], _∷_, _++_}
 use Prim.Native.Nat.{ℕ, _+_, _≤_, _<_}
 use native.Mathlib.Omega.{arith}
 use lib.ListN.{length, getD, drop}
+use Rattle.spec.specs.declared.Size.{Size}
 use Rattle.spec.specs.Basics.{distinct}
 use Rattle.spec.specs.Places.{basePower, chunksIn}
 use Rattle.spec.specs.Medium.{Action}
@@ -22,7 +23,7 @@ use Rattle.volatile.proofs.Sums.{summed-same}
 use Rattle.actions.specs.Nth.{nthReport}
 use Rattle.actions.proofs.Nth.{run-nth, drop-past}
 use Rattle.buffer.specs.Areas.{batchRoom, filterPlace}
-use Rattle.session.specs.State.{batchWords}
+use Rattle.session.specs.State.{sizeIn, batchWords}
 use Rattle.session.specs.Filter.{AllMarked}
 use Rattle.session.specs.Fits.{keyList, RestFits, StageFits}
 use Rattle.forward.specs.Ahead.{Ahead}
@@ -33,20 +34,20 @@ session c k b = record { control = c; setup = k; buffer = b }
 -- A STAGING BEGUN: the record has the new item behind the others, the value's place in its setup and the value in its
 -- buffer
 module _ (c c′ : Control) (k k′ : Setup) (b b′ ws table : List ℕ) (items : List Entry) (e : Entry) (acts : List Action) (f : RestFits (session c k b) ws table items)
-    (ahead : Ahead (k .image) (k .table) ws (f .entries) (items ++ (e ∷ [])) acts) (bytes : k′ .image ≡ k .image) (lent : k′ .table ≡ k .table) (first : k′ .first ≡ k .first) (least : k′ .least ≡ k .least)
-    (bits : (u : ℕ) → hasBit b′ u ≡ hasBit b u) (behind : (i : ℕ) → filterPlace < i → getD b′ i 0 ≡ getD b i 0) (known : c′ .keys ≡ c .keys) (room : c′ .words ≤ batchRoom) (written : batchWords c′ b′ ≡ encodeAll (items ++ (e ∷ [])))
+    (ahead : Ahead (sizeIn k) (k .image) (k .table) ws (f .entries) (items ++ (e ∷ [])) acts) (power : k′ .power ≡ k .power) (bytes : k′ .image ≡ k .image) (lent : k′ .table ≡ k .table) (first : k′ .first ≡ k .first) (least : k′ .least ≡ k .least)
+    (bits : (u : ℕ) → hasBit (sizeIn k) b′ u ≡ hasBit (sizeIn k) b u) (behind : (i : ℕ) → filterPlace < i → getD b′ i 0 ≡ getD b i 0) (known : c′ .keys ≡ c .keys) (room : c′ .words ≤ batchRoom) (written : batchWords c′ b′ ≡ encodeAll (items ++ (e ∷ [])))
     (count : c′ .items ≡ length (items ++ (e ∷ []))) (few : length (items ++ (e ∷ [])) ≤ maxItems) (right : AllRight (items ++ (e ∷ []))) (counts : CountsOn (f .entries) (items ++ (e ∷ []))) (marked : AllMarked (getD b′ filterPlace 0) (items ++ (e ∷ [])))
     (keys : c′ .keys + c′ .fresh ≡ length (distinct (keyList (items ++ (e ∷ [])) ++ keyList (f .entries)))) (space : c′ .keys + c′ .fresh ≤ capacity (k .table)) where
   pub stage-begun : StageFits (session c′ k′ b′) ws table (items ++ (e ∷ [])) acts
   stage-begun = record {
     entries = f .entries;
-    accepted = rw (bytes, lent) (ahead .accepted);
+    accepted = rw (power, bytes, lent) (ahead .accepted);
     long = rw bytes (ahead .long);
     lent = f .lent ∙ sym lent;
-    built = record { indexed = rw known (f .built .indexed); blocks = λ u. bits u ∙ f .built .blocks u; sums = summed-same b b′ (f .entries) (λ i l. behind i (omega arith)) (f .built .sums) };
-    batch = record { room = room; written = written; count = count; few = few; right = right; counts = counts; fit = rw bytes (ahead .placed); marked = marked; keys = keys };
+    built = rw power (record { indexed = rw known (f .built .indexed); blocks = λ u. bits u ∙ f .built .blocks u; sums = summed-same (sizeIn k) b b′ (f .entries) (λ i l. behind i (omega arith)) (f .built .sums) });
+    batch = record { room = room; written = written; count = count; few = few; right = right; counts = counts; fit = rw (power, bytes) (ahead .placed); marked = marked; keys = keys };
     table-room = rw lent space;
-    hint = rw (bytes, first, least) (ahead .hint (k .first) (k .least) (f .hint));
+    hint = rw (power, bytes, first, least) (ahead .hint (k .first) (k .least) (f .hint));
   }
 
 -- A STEP: the next action done on the words, another number of the next one in the record

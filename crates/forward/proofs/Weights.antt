@@ -11,6 +11,8 @@ use native.Mathlib.Omega.{arith}
 use lib.Dec.{eqb}
 use lib.ListN.{length, length-append}
 use borrow.Author.Tests.{eq-eqb}
+use Rattle.spec.specs.declared.Size.{Size}
+use Rattle.places.specs.Sizes.{powerOf}
 use Rattle.spec.specs.Basics.{pick, both, either, filter}
 use Rattle.spec.specs.Medium.{Mem as Among}
 use Rattle.spec.specs.Log.{Entry, encodeAll}
@@ -28,25 +30,25 @@ use Rattle.forward.proofs.Sole.{once-filter}
 
 -- ## What a key adds: to the chosen puts, the chosen deletes, those of them that are kept, and all that is kept
 
-abbrev pub putWords : ℕ → Option Entry → ℕ
-putWords c none = 0
-putWords c (some e) = pick (inChunk 12 c e) (pick (eqb (e .op) 1) (2 + length (e .value)) 0) 0
+abbrev pub putWords : (sz : Size) → ℕ → Option Entry → ℕ
+putWords sz c none = 0
+putWords sz c (some e) = pick (inChunk (powerOf sz) c e) (pick (eqb (e .op) 1) (2 + length (e .value)) 0) 0
 
-abbrev pub deleteWords : ℕ → Option Entry → ℕ
-deleteWords c none = 0
-deleteWords c (some e) = pick (inChunk 12 c e) (pick (eqb (e .op) 1) 0 (2 + length (e .value))) 0
+abbrev pub deleteWords : (sz : Size) → ℕ → Option Entry → ℕ
+deleteWords sz c none = 0
+deleteWords sz c (some e) = pick (inChunk (powerOf sz) c e) (pick (eqb (e .op) 1) 0 (2 + length (e .value))) 0
 
-abbrev pub copiedDeletes : ℕ → List Entry → Option Entry → ℕ
-copiedDeletes c others none = 0
-copiedDeletes c others (some e) = pick (inChunk 12 c e) (pick (eqb (e .op) 1) 0 (pick (known (e .key) others) (2 + length (e .value)) 0)) 0
+abbrev pub copiedDeletes : (sz : Size) → ℕ → List Entry → Option Entry → ℕ
+copiedDeletes sz c others none = 0
+copiedDeletes sz c others (some e) = pick (inChunk (powerOf sz) c e) (pick (eqb (e .op) 1) 0 (pick (known (e .key) others) (2 + length (e .value)) 0)) 0
 
-abbrev pub keptWords : ℕ → List Entry → Option Entry → ℕ
-keptWords c others none = 0
-keptWords c others (some e) = pick (inChunk 12 c e) (pick (either (eqb (e .op) 1) (known (e .key) others)) (2 + length (e .value)) 0) 0
+abbrev pub keptWords : (sz : Size) → ℕ → List Entry → Option Entry → ℕ
+keptWords sz c others none = 0
+keptWords sz c others (some e) = pick (inChunk (powerOf sz) c e) (pick (either (eqb (e .op) 1) (known (e .key) others)) (2 + length (e .value)) 0) 0
 
-share-parts : (c : ℕ) (o : Option Entry) → shareIn c o ≡ putWords c o + highHalf * deleteWords c o
-share-parts c none = refl
-share-parts c (some e) = go (inChunk 12 c e) (eqb (e .op) 1)
+share-parts : (sz : Size) → (c : ℕ) (o : Option Entry) → shareIn sz c o ≡ putWords sz c o + highHalf * deleteWords sz c o
+share-parts sz c none = refl
+share-parts sz c (some e) = go (inChunk (powerOf sz) c e) (eqb (e .op) 1)
   where
     n : ℕ
     n = 2 + length (e .value)
@@ -56,9 +58,9 @@ share-parts c (some e) = go (inChunk 12 c e) (eqb (e .op) 1)
     go true false = omega arith
     go false b = omega arith
 
-kept-parts : (c : ℕ) (others : List Entry) (o : Option Entry) → keptWords c others o ≡ putWords c o + copiedDeletes c others o
-kept-parts c others none = refl
-kept-parts c others (some e) = go (inChunk 12 c e) (eqb (e .op) 1) (known (e .key) others)
+kept-parts : (sz : Size) → (c : ℕ) (others : List Entry) (o : Option Entry) → keptWords sz c others o ≡ putWords sz c o + copiedDeletes sz c others o
+kept-parts sz c others none = refl
+kept-parts sz c others (some e) = go (inChunk (powerOf sz) c e) (eqb (e .op) 1) (known (e .key) others)
   where
     n : ℕ
     n = 2 + length (e .value)
@@ -69,9 +71,9 @@ kept-parts c others (some e) = go (inChunk 12 c e) (eqb (e .op) 1) (known (e .ke
     go true false false = omega arith
     go false b d = omega arith
 
-copied-fewer : (c : ℕ) (others : List Entry) (o : Option Entry) → copiedDeletes c others o ≤ deleteWords c o
-copied-fewer c others none = omega arith
-copied-fewer c others (some e) = go (inChunk 12 c e) (eqb (e .op) 1) (known (e .key) others)
+copied-fewer : (sz : Size) → (c : ℕ) (others : List Entry) (o : Option Entry) → copiedDeletes sz c others o ≤ deleteWords sz c o
+copied-fewer sz c others none = omega arith
+copied-fewer sz c others (some e) = go (inChunk (powerOf sz) c e) (eqb (e .op) 1) (known (e .key) others)
   where
     n : ℕ
     n = 2 + length (e .value)
@@ -93,16 +95,16 @@ sum-most f g [] h = omega arith
 sum-most f g (k ∷ ks) h = let a = h k in let b = sum-most f g ks h in omega arith
 
 -- the chunk's sum
-pub record Weights (c : ℕ) (es others kept : List Entry) : Type 0 where
+pub record Weights (sz : Size) (c : ℕ) (es others kept : List Entry) : Type 0 where
   pub puts : ℕ
   pub deletes : ℕ
   pub copied : ℕ
-  pub sum : chosenSum c es ≡ puts + highHalf * deletes
+  pub sum : chosenSum sz c es ≡ puts + highHalf * deletes
   pub words : length (encodeAll kept) ≡ puts + copied
   pub fewer : copied ≤ deletes
-  pub is-puts : puts ≡ sumOver (λ k. putWords c (chosen k es)) (keysOf es)
-  pub is-deletes : deletes ≡ sumOver (λ k. deleteWords c (chosen k es)) (keysOf es)
-  pub is-copied : copied ≡ sumOver (λ k. copiedDeletes c others (chosen k es)) (keysOf es)
+  pub is-puts : puts ≡ sumOver (λ k. putWords sz c (chosen k es)) (keysOf es)
+  pub is-deletes : deletes ≡ sumOver (λ k. deleteWords sz c (chosen k es)) (keysOf es)
+  pub is-copied : copied ≡ sumOver (λ k. copiedDeletes sz c others (chosen k es)) (keysOf es)
 
 -- entries of keys that differ
 once-keys : (es : List Entry) → OneEach es → Once (keyList es)
@@ -118,12 +120,12 @@ sum-entries f (e ∷ es) h =
     omega arith
 
 -- `mid` are the entries of chunk c
-module _ (c : ℕ) (es others mid : List Entry) (low high : ℕ) (rising : Rising low high mid) (apart : Apart es)
-    (inside : (e : Entry) → Mem e mid → Mem e es × (inChunk 12 c e ≡ true)) (all-in : (e : Entry) → Mem e es → inChunk 12 c e ≡ true → Mem e mid) where
+module _ (sz : Size) (c : ℕ) (es others mid : List Entry) (low high : ℕ) (rising : Rising low high mid) (apart : Apart es)
+    (inside : (e : Entry) → Mem e mid → Mem e es × (inChunk (powerOf sz) c e ≡ true)) (all-in : (e : Entry) → Mem e es → inChunk (powerOf sz) c e ≡ true → Mem e mid) where
   abbrev kept : List Entry
   kept = filter (isKept es others) mid
 
-  kept-is : (e : Entry) → Mem e kept → (inChunk 12 c e ≡ true) × (chosen (e .key) es ≡ some e) × (either (eqb (e .op) 1) (known (e .key) others) ≡ true)
+  kept-is : (e : Entry) → Mem e kept → (inChunk (powerOf sz) c e ≡ true) × (chosen (e .key) es ≡ some e) × (either (eqb (e .op) 1) (known (e .key) others) ≡ true)
   kept-is e m =
       let r = mem-filter (isKept es others) e mid m in
       let i = is-at (chosen (e .key) es) (e .at) (both-l _ (either (eqb (e .op) 1) (known (e .key) others)) (r .1)) in
@@ -140,15 +142,15 @@ module _ (c : ℕ) (es others mid : List Entry) (low high : ℕ) (rising : Risin
   once : Once (keyList kept)
   once = once-keys kept (once-filter (isKept es others) low high mid rising same-key)
 
-  words-of : (e : Entry) → Mem e kept → keptWords c others (chosen (e .key) es) ≡ 2 + length (e .value)
+  words-of : (e : Entry) → Mem e kept → keptWords sz c others (chosen (e .key) es) ≡ 2 + length (e .value)
   words-of e m = let i = kept-is e m in rw (i .1, i .0, i .2)
 
-  covered : Covers (keyList kept) (λ k. keptWords c others (chosen k es))
+  covered : Covers (keyList kept) (λ k. keptWords sz c others (chosen k es))
   covered k n = go (chosen k es) refl
     where
-      go : (o : Option Entry) → chosen k es ≡ o → keptWords c others o ≡ 0
+      go : (o : Option Entry) → chosen k es ≡ o → keptWords sz c others o ≡ 0
       go none h = refl
-      go (some e) h = two (inChunk 12 c e) refl (either (eqb (e .op) 1) (known (e .key) others)) refl
+      go (some e) h = two (inChunk (powerOf sz) c e) refl (either (eqb (e .op) 1) (known (e .key) others)) refl
         where
           q : e .key ≡ k
           q = chosen-is k es e h .of-key
@@ -156,7 +158,7 @@ module _ (c : ℕ) (es others mid : List Entry) (low high : ℕ) (rising : Risin
           own : chosen (e .key) es ≡ some e
           own = ap (λ (j : ℕ). chosen j es) q ∙ h
 
-          two : (a : Bool) → inChunk 12 c e ≡ a → (b : Bool) → either (eqb (e .op) 1) (known (e .key) others) ≡ b → pick a (pick b (2 + length (e .value)) 0) 0 ≡ 0
+          two : (a : Bool) → inChunk (powerOf sz) c e ≡ a → (b : Bool) → either (eqb (e .op) 1) (known (e .key) others) ≡ b → pick a (pick b (2 + length (e .value)) 0) 0 ≡ 0
           two false x b y = refl
           two true x false y = refl
           two true x true y =
@@ -172,18 +174,18 @@ module _ (c : ℕ) (es others mid : List Entry) (low high : ℕ) (rising : Risin
       go (some e) h = let i = chosen-is k es e h in absurd (n (isIn-mem k (keysOf es) (keys-known k es ∙ mem-known k es e (i .in-list) (i .of-key))))
 
   -- THE SUM AND WHAT IS KEPT
-  pub weights : Weights c es others kept
+  pub weights : Weights sz c es others kept
   unfolding chosenSum
   weights =
       let ks = keysOf es in
-      let p : (ℕ → ℕ) = λ k. putWords c (chosen k es) in
-      let d : (ℕ → ℕ) = λ k. deleteWords c (chosen k es) in
-      let x : (ℕ → ℕ) = λ k. copiedDeletes c others (chosen k es) in
-      let w : (ℕ → ℕ) = λ k. keptWords c others (chosen k es) in
-      let a = sum-plus p (λ k. highHalf * d k) (λ k. shareIn c (chosen k es)) ks (λ k. share-parts c (chosen k es)) in
+      let p : (ℕ → ℕ) = λ k. putWords sz c (chosen k es) in
+      let d : (ℕ → ℕ) = λ k. deleteWords sz c (chosen k es) in
+      let x : (ℕ → ℕ) = λ k. copiedDeletes sz c others (chosen k es) in
+      let w : (ℕ → ℕ) = λ k. keptWords sz c others (chosen k es) in
+      let a = sum-plus p (λ k. highHalf * d k) (λ k. shareIn sz c (chosen k es)) ks (λ k. share-parts sz c (chosen k es)) in
       let b = sum-times highHalf d ks in
-      let e = sum-plus p x w ks (λ k. kept-parts c others (chosen k es)) in
-      let g : sumOver w ks ≡ sumOver w (keyList kept) = sum-lists w ks (keyList kept) (keys-once es) once (cover-none (keptWords c others) refl) covered in
+      let e = sum-plus p x w ks (λ k. kept-parts sz c others (chosen k es)) in
+      let g : sumOver w ks ≡ sumOver w (keyList kept) = sum-lists w ks (keyList kept) (keys-once es) once (cover-none (keptWords sz c others) refl) covered in
       let h : sumOver w (keyList kept) ≡ length (encodeAll kept) = sum-entries w kept words-of in
       record {
         puts = sumOver p ks;
@@ -191,7 +193,7 @@ module _ (c : ℕ) (es others mid : List Entry) (low high : ℕ) (rising : Risin
         copied = sumOver x ks;
         sum = a ∙ ap (λ (y : ℕ). sumOver p ks + y) b;
         words = sym h ∙ sym g ∙ e;
-        fewer = sum-most x d ks (λ k. copied-fewer c others (chosen k es));
+        fewer = sum-most x d ks (λ k. copied-fewer sz c others (chosen k es));
         is-puts = refl;
         is-deletes = refl;
         is-copied = refl;

@@ -4,6 +4,8 @@ use mathlib.Core.Path.{_≡_}
 use mathlib.Core.List.{List, [], _++_}
 use Prim.Native.Nat.{ℕ, _+_, _/_, _≤_, _<_}
 use lib.ListN.{length}
+use Rattle.spec.specs.declared.Size.{Size}
+use Rattle.places.specs.Sizes.{powerOf}
 use Rattle.spec.specs.Basics.{distinct}
 use Rattle.spec.specs.Places.{basePower, chunksIn}
 use Rattle.spec.specs.Medium.{Action}
@@ -17,12 +19,12 @@ use Rattle.session.specs.declared.Session.{Session}
 use Rattle.theory_log.specs.Batch.{AllRight}
 use Rattle.theory_log.specs.Contents.{CountsOn}
 use Rattle.session.specs.State.{batchWords}
-use Rattle.session.specs.Fits.{keyList, ItemsFit, Built, Hint, Shown}
+use Rattle.session.specs.Fits.{Opens, keyList, ItemsFit, Built, Hint, Shown}
 
 -- what the actions of a staging do to words at rest with the entries es
-pub record Ahead (bytes table : ℕ) (ws : List ℕ) (es items : List Entry) (acts : List Action) : Type 0 where
-  pub accepted : opening basePower bytes (runWords acts ws) table ≡ Accepted es
-  pub shown : Shown bytes table [] es acts ws
-  pub placed : ItemsFit (chunksIn basePower bytes) (runWords acts ws) es items
+pub record Ahead (sz : Size) (bytes table : ℕ) (ws : List ℕ) (es items : List Entry) (acts : List Action) : Type 0 where
+  pub accepted : Opens (powerOf sz) bytes (runWords acts ws) table es
+  pub shown : Shown (powerOf sz) bytes table [] es acts ws
+  pub placed : ItemsFit (powerOf sz) (chunksIn (powerOf sz) bytes) (runWords acts ws) es items
   pub long : length (runWords acts ws) ≡ bytes / 8
-  pub hint : (first least : ℕ) → Hint (chunksIn basePower bytes) ws first least → Hint (chunksIn basePower bytes) (runWords acts ws) first least
+  pub hint : (first least : ℕ) → Hint (powerOf sz) (chunksIn (powerOf sz) bytes) ws first least → Hint (powerOf sz) (chunksIn (powerOf sz) bytes) (runWords acts ws) first least

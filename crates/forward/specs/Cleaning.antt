@@ -5,6 +5,9 @@ use mathlib.Core.Path.{_≡_}
 use mathlib.Core.List.{List}
 use Prim.Native.Nat.{ℕ, _≤_, _<_}
 use lib.ListN.{length, getD}
+use Rattle.spec.specs.declared.Size.{Size}
+use Rattle.places.specs.Sizes.{powerOf}
+use Rattle.session.specs.Fits.{Opens}
 use Rattle.spec.specs.Places.{directoryWord, chunksIn}
 use Rattle.spec.specs.Log.{Entry}
 use Rattle.spec.specs.Contents.{keptIn}
@@ -14,15 +17,15 @@ use Rattle.forward.specs.Freed.{Freed}
 
 -- chunk s is cleaned; what it keeps stands from word `at` on in b lines, of which the last z words are padding; below
 -- chunk d, but for chunk s, the directory is as it was
-pub record Ahead (lo : 12 ≤ 12) (hi : 12 ≤ 16) (bytes table s at b z d : ℕ) (ws vs : List ℕ) (es : List Entry) : Type 0 where
+pub record Ahead (sz : Size) (lo : 12 ≤ (powerOf sz)) (hi : (powerOf sz) ≤ 16) (bytes table s at b z d : ℕ) (ws vs : List ℕ) (es : List Entry) : Type 0 where
   pub xs : List Entry
   pub mid : List Entry
   pub ys : List Entry
   pub as′ : List Entry
   pub bs : List Entry
-  pub freed : Freed lo hi (chunksIn 12 bytes) s at b z ws vs es xs mid ys as′ bs
-  pub accepted : opening 12 bytes vs table ≡ Accepted (after xs mid ys as′ bs at)
-  pub kept : keptOf xs mid ys ≡ keptIn 12 s es
+  pub freed : Freed sz lo hi (chunksIn (powerOf sz) bytes) s at b z ws vs es xs mid ys as′ bs
+  pub accepted : Opens (powerOf sz) bytes vs table (after xs mid ys as′ bs at)
+  pub kept : keptOf xs mid ys ≡ keptIn (powerOf sz) s es
   pub long : length vs ≡ length ws
   pub chunks : (c : ℕ) → 1 ≤ c → c < d → (c ≡ s → ⊥) → getD vs (directoryWord c) 0 ≡ getD ws (directoryWord c) 0
   pub empty : getD vs (directoryWord s) 0 ≡ 0

@@ -5,15 +5,19 @@ use mathlib.Core.Logic.{inl, inr, by-cases}
 use mathlib.Core.Bool.{Bool, true, false}
 use mathlib.Core.Option.{Option, none, some}
 use mathlib.Core.List.{List, [], _∷_, _++_}
-use Prim.Native.Nat.{ℕ, suc, _+_, _%_, _≤_}
+use Prim.Native.Nat.{ℕ, suc, _+_, _*_, _%_, _≤_}
 use native.Mathlib.Omega.{arith}
 use native.Mathlib.Decide.{decLt, ℕ-discrete}
 use lib.Dec.{eqb, ltb}
-use lib.ListN.{length, replicate, length-replicate}
+use lib.ListN.{length, length-replicate}
 use lib.Seq.{slice}
 use borrow.Author.Tests.{eq-eqb, ne-eqb, lt-ltb, le-ltb}
+use Rattle.spec.specs.declared.Size.{Size}
+use Rattle.places.specs.Sizes.{powerOf, power-low, power-high}
+use Rattle.spec.specs.Places.{chunkWords}
 use Rattle.spec.specs.Log.{Entry}
 use Rattle.spec.specs.Contents.{chosen, known}
+use Rattle.theory_base.proofs.Places.{words-most}
 use Rattle.theory_base.proofs.Lists.{not-both}
 use Rattle.theory_log.specs.Contents.{Mem}
 use Rattle.theory_log.proofs.Contents.{mem-l, mem-r, none-of}
@@ -25,10 +29,10 @@ use Rattle.log.specs.declared.Next.{Next}
 use Rattle.log.specs.declared.Next.the-variants as N
 use Rattle.log.specs.Stands.{entryIn}
 use Rattle.log.specs.Cursor.{cursorAt, Advanced}
-use Rattle.index.specs.declared.Info.{Info}
+use Rattle.packing.specs.declared.Info.{Info}
 use Rattle.index.specs.Index.{get, insert, room, used, zeros, Probed}
 use Rattle.index.proofs.Laws.{has-room, insert-same, insert-length, insert-old, insert-new, insert-probed, insert-other, empty-get, empty-probed, empty-used}
-use Rattle.index.specs.Packed.{unpackOf}
+use Rattle.packing.specs.Packed.{unpackOf}
 use Rattle.volatile.specs.Known.{entryCount}
 use Rattle.volatile.proofs.Info.{said, info-says}
 use Rattle.session.specs.Cleaned.{before, Stand}
@@ -62,9 +66,9 @@ pub record CountsLeft (counts : List ℕ) (mid left : List Entry) : Type 0 where
   pub few : used counts + length left ≤ length mid
   pub each : (k : ℕ) → get counts k + entryCount k left ≡ entryCount k mid
 
-module _ (counts : List ℕ) (mid left : List Entry) (e : Entry) (so : CountsLeft counts mid (e ∷ left)) (size : length counts ≡ 1024) (most : length mid ≤ 512) (k more : ℕ) (own : e .key ≡ k) (is : more ≡ (get counts k + 1) % 0x1_0000_0000_0000_0000) where
+module _ (size : Size) (counts : List ℕ) (mid left : List Entry) (e : Entry) (so : CountsLeft counts mid (e ∷ left)) (sized : length counts ≡ 2 * chunkWords (powerOf size)) (most : length mid ≤ chunkWords (powerOf size)) (k more : ℕ) (own : e .key ≡ k) (is : more ≡ (get counts k + 1) % 0x1_0000_0000_0000_0000) where
   one-more : more ≡ get counts k + 1
-  one-more = let a = so .each k in let b = count-few k mid in omega arith
+  one-more = let a = so .each k in let b = count-few k mid in let w = words-most (powerOf size) (power-low size) (power-high size) in omega arith
 
   not-zero : more ≡ 0 → ⊥
   not-zero z = let a = one-more in omega arith
@@ -89,72 +93,72 @@ module _ (counts : List ℕ) (mid left : List Entry) (e : Entry) (so : CountsLef
       other : (j : ℕ) → (j ≡ k → ⊥) → get (insert counts k more) j + entryCount j left ≡ entryCount j mid
       other j n = let g = insert-other counts k more (so .probed) not-zero j n in let c = count-other j e left (λ q. n (sym q ∙ own)) in let h = so .each j in omega arith
 
-pub record CountsOn (ws : List ℕ) (at end : ℕ) (counts₀ counts : List ℕ) (c : Cursor) : Type 0 where
+pub record CountsOn (size : Size) (ws : List ℕ) (at end : ℕ) (counts₀ counts : List ℕ) (c : Cursor) : Type 0 where
   pub sized : length counts ≡ length counts₀
-  pub goes : length counts ≡ 1024 → (mid : List Entry) → Stand ws at end mid → end ≤ at + 512 → (left : List Entry) × Left ws c left × CountsLeft counts mid left
+  pub goes : length counts ≡ 2 * chunkWords (powerOf size) → (mid : List Entry) → Stand ws at end mid → end ≤ at + chunkWords (powerOf size) → (left : List Entry) × Left size ws c left × CountsLeft counts mid left
 
-pub counts-start : (ws : List ℕ) (at end : ℕ) (counts : List ℕ) (n : ℕ) → counts ≡ zeros n → CountsOn ws at end counts counts (cursorAt 0 at end)
-counts-start ws at end counts n e = record {
+pub counts-start : (size : Size) → (ws : List ℕ) (at end : ℕ) (counts : List ℕ) (n : ℕ) → counts ≡ zeros n → CountsOn size ws at end counts counts (cursorAt 0 at end)
+counts-start size ws at end counts n e = record {
   sized = refl;
-  goes = λ l mid s u. (mid, from-here ws at end ∙ s, rw e (record { probed = empty-probed n; few = let z = empty-used n in omega arith; each = λ k. let z = empty-get n k in omega arith }));
+  goes = λ l mid s u. (mid, from-here size ws at end ∙ s, rw e (record { probed = empty-probed n; few = let z = empty-used n in omega arith; each = λ k. let z = empty-get n k in omega arith }));
 }
 
-module _ (ws : List ℕ) (at end : ℕ) (counts₀ counts : List ℕ) (c : Cursor) (inv : CountsOn ws at end counts₀ counts c) (r : Next) (told : Advanced 0 ws c r) where
+module _ (size : Size) (ws : List ℕ) (at end : ℕ) (counts₀ counts : List ℕ) (c : Cursor) (inv : CountsOn size ws at end counts₀ counts c) (r : Next) (told : Advanced (powerOf size) 0 ws c r) where
   module _ (entry : List ℕ) (cleared : counts₀ ≡ zeros (length entry)) where
     same-size : length counts ≡ length entry
     same-size = inv .sized ∙ ap length cleared ∙ length-replicate (length entry) 0
 
-    pub counts-done : r ≡ N.Done → Counting ws at end entry counts
+    pub counts-done : r ≡ N.Done → Counting size ws at end entry counts
     counts-done d = record {
       sized = same-size;
       counted = λ l. record {
         says = λ mid s u k.
             let q = inv .goes (same-size ∙ l) mid s u in
-            let o : CountsLeft counts mid [] = rw (none-left ws c r told (q .0) (q .1) d) at (q .2) in
+            let o : CountsLeft counts mid [] = rw (none-left size ws c r told (q .0) (q .1) d) at (q .2) in
             let h = o .each k in
             omega arith;
       };
     }
 
-    pub counts-wrong : r ≡ N.Wrong → Counting ws at end entry counts
-    counts-wrong d = record { sized = same-size; counted = λ l. record { says = λ mid s u. let q = inv .goes (same-size ∙ l) mid s u in absurd (not-wrong ws c r told (q .0) (q .1) d) } }
+    pub counts-wrong : r ≡ N.Wrong → Counting size ws at end entry counts
+    counts-wrong d = record { sized = same-size; counted = λ l. record { says = λ mid s u. let q = inv .goes (same-size ∙ l) mid s u in absurd (not-wrong size ws c r told (q .0) (q .1) d) } }
 
   pub counts-next : (op pl v x k m a : ℕ) (behind : Cursor) → r ≡ N.Entry op pl v x k m a behind → (old more : ℕ) → old ≡ get counts k → more ≡ (old + 1) % 0x1_0000_0000_0000_0000
-      → (counts′ : List ℕ) → counts′ ≡ insert counts k more → CountsOn ws at end counts₀ counts′ behind
+      → (counts′ : List ℕ) → counts′ ≡ insert counts k more → CountsOn size ws at end counts₀ counts′ behind
   counts-next op pl v x k m a behind d old more io im counts′ is = record {
     sized = rw is (insert-length counts k more ∙ inv .sized);
     goes = λ l mid s u.
-        let z : length counts ≡ 1024 = sym (insert-length counts k more) ∙ sym (ap length is) ∙ l in
+        let z : length counts ≡ 2 * chunkWords (powerOf size) = sym (insert-length counts k more) ∙ sym (ap length is) ∙ l in
         let q = inv .goes z mid s u in
-        let o = one-left ws c r told (q .0) (q .1) op pl v x k m a behind d in
-        (o .0, o .1, subst (λ (t : List ℕ). CountsLeft t mid (o .0)) (sym is) (counts-more counts mid (o .0) (entryIn ws op pl v x k m a) (rw (o .2) at (q .2)) z (most mid s u) k more refl (im ∙ rw io)));
+        let o = one-left size ws c r told (q .0) (q .1) op pl v x k m a behind d in
+        (o .0, o .1, subst (λ (t : List ℕ). CountsLeft t mid (o .0)) (sym is) (counts-more size counts mid (o .0) (entryIn ws op pl v x k m a) (rw (o .2) at (q .2)) z (most mid s u) k more refl (im ∙ rw io)));
   }
     where
-      most : (mid : List Entry) → Stand ws at end mid → end ≤ at + 512 → length mid ≤ 512
+      most : (mid : List Entry) → Stand ws at end mid → end ≤ at + chunkWords (powerOf size) → length mid ≤ chunkWords (powerOf size)
       most mid s u = let b = parse-words (slice at end ws) 0 at mid s in let g = slice-long at end ws in let f = few-words mid in omega arith
 
 -- nothing is counted at first
-pub tells-start : (ws : List ℕ) (at end : ℕ) → Tells ws (replicate 1024 0) at end false
-tells-start ws at end = (length-replicate {A = ℕ} 1024 0, λ h. absurd (not-both false h refl))
+pub tells-start : (size : Size) → (ws counts : List ℕ) (at end : ℕ) → length counts ≡ 2 * chunkWords (powerOf size) → Tells size ws counts at end false
+tells-start size ws counts at end long = (long, λ h. absurd (not-both false h refl))
 
 -- asked for by an entry
-module _ (ws table : List ℕ) (at end : ℕ) (counts : List ℕ) (op key : ℕ) where
-  pub once-before : CountedOnce ws table at end counts counts op key true true
+module _ (size : Size) (ws table : List ℕ) (at end : ℕ) (counts : List ℕ) (op key : ℕ) where
+  pub once-before : CountedOnce size ws table at end counts counts op key true true
   once-before = record { tells = λ t. t; decides = λ t. inr (inr (t .1 refl)) }
 
-  pub once-put : op ≡ 1 → CountedOnce ws table at end counts counts op key false false
+  pub once-put : op ≡ 1 → CountedOnce size ws table at end counts counts op key false false
   once-put e = record { tells = λ t. t; decides = λ t. inl e }
 
-  pub once-sole : (word : ℕ) (info : Info) → word ≡ get table key → info ≡ unpackOf word → info .entries ≡ 1 → CountedOnce ws table at end counts counts op key false false
-  once-sole word info iw ii e = record { tells = λ t. t; decides = λ t. inr (inl (sym (ap (λ (i : Info). i .entries) (ii ∙ ap unpackOf iw)) ∙ e)) }
+  pub once-sole : (word : ℕ) (info : Info) → word ≡ get table key → info ≡ unpackOf size word → info .entries ≡ 1 → CountedOnce size ws table at end counts counts op key false false
+  once-sole word info iw ii e = record { tells = λ t. t; decides = λ t. inr (inl (sym (ap (λ (i : Info). i .entries) (ii ∙ ap (unpackOf size) iw)) ∙ e)) }
 
-  pub once-now : (counts′ : List ℕ) → Counting ws at end counts counts′ → CountedOnce ws table at end counts counts′ op key false true
+  pub once-now : (counts′ : List ℕ) → Counting size ws at end counts counts′ → CountedOnce size ws table at end counts counts′ op key false true
   once-now counts′ c = record { tells = λ t. (c .sized ∙ t .0, λ h. c .counted (t .0)); decides = λ t. inr (inr (c .counted (t .0))) }
 
 -- ## The test
 
-module _ (table counts : List ℕ) (op key place : ℕ) (word : ℕ) (info : Info) (is-word : word ≡ get table key) (is-info : info ≡ unpackOf word) where
-  module _ (ws : List ℕ) (at end keys : ℕ) (xs mid ys : List Entry) (e : Entry) (g : Gatherable ws table keys at end xs mid ys) (m : Mem e mid) (k : e .key ≡ key) where
+module _ (size : Size) (table counts : List ℕ) (op key place : ℕ) (word : ℕ) (info : Info) (is-word : word ≡ get table key) (is-info : info ≡ unpackOf size word) where
+  module _ (ws : List ℕ) (at end keys : ℕ) (xs mid ys : List Entry) (e : Entry) (g : Gatherable size ws table keys at end xs mid ys) (m : Mem e mid) (k : e .key ≡ key) where
     abbrev es : List Entry
     es = before xs mid ys
 
@@ -171,7 +175,7 @@ module _ (table counts : List ℕ) (op key place : ℕ) (word : ℕ) (info : Inf
         go : (o : Option Entry) → chosen (e .key) es ≡ o → Spoken
         go none h = absurd (none-of (e .key) es e h (mem-r e xs (mid ++ ys) (mem-l e mid ys m)) refl)
         go (some f) h =
-            let s : info ≡ said (e .key) es f = is-info ∙ ap unpackOf (is-word ∙ ap (get table) (sym k) ∙ g .indexed .info (e .key)) ∙ info-says (e .key) es (g .small) f h in
+            let s : info ≡ said size (e .key) es f = is-info ∙ ap (unpackOf size) (is-word ∙ ap (get table) (sym k) ∙ g .indexed .info (e .key)) ∙ info-says size (e .key) es (g .small) f h in
             record { entry = f; is = h; place-is = ap (λ (i : Info). i .place) s; entries-is = ap (λ (i : Info). i .entries) s }
 
     shared : entryCount (e .key) es ≡ entryCount (e .key) mid + entryCount (e .key) (xs ++ ys)
@@ -181,14 +185,14 @@ module _ (table counts : List ℕ) (op key place : ℕ) (word : ℕ) (info : Inf
         let c = count-append (e .key) xs ys in
         omega arith
 
-  pub test-other : (info .place ≡ place → ⊥) → KeptTest table counts op key place false
+  pub test-other : (info .place ≡ place → ⊥) → KeptTest size table counts op key place false
   test-other n = record {
     kept = λ ws at end keys xs mid ys e g d m o k a.
         let s = spoken ws at end keys xs mid ys e g m k in
         sym (rw (s .is, ne-eqb (s .entry .at) (e .at) (λ q. n (s .place-is ∙ q ∙ a))));
   }
 
-  pub test-put : info .place ≡ place → op ≡ 1 → KeptTest table counts op key place true
+  pub test-put : info .place ≡ place → op ≡ 1 → KeptTest size table counts op key place true
   test-put p one = record {
     kept = λ ws at end keys xs mid ys e g d m o k a.
         let s = spoken ws at end keys xs mid ys e g m k in
@@ -196,7 +200,7 @@ module _ (table counts : List ℕ) (op key place : ℕ) (word : ℕ) (info : Inf
   }
 
   -- a delete that is its key's only entry
-  pub test-sole : info .place ≡ place → (op ≡ 1 → ⊥) → info .entries ≡ 1 → KeptTest table counts op key place false
+  pub test-sole : info .place ≡ place → (op ≡ 1 → ⊥) → info .entries ≡ 1 → KeptTest size table counts op key place false
   test-sole p not-one sole = record {
     kept = λ ws at end keys xs mid ys e g d m o k a.
         let s = spoken ws at end keys xs mid ys e g m k in
@@ -207,7 +211,7 @@ module _ (table counts : List ℕ) (op key place : ℕ) (word : ℕ) (info : Inf
         sym (rw (s .is, eq-eqb (s .entry .at) (e .at) (sym (s .place-is) ∙ p ∙ sym a), ne-eqb (e .op) 1 (λ q. not-one (sym o ∙ q)), known-count (e .key) (xs ++ ys), u));
   }
 
-  pub test-delete : info .place ≡ place → (op ≡ 1 → ⊥) → (info .entries ≡ 1 → ⊥) → (n : ℕ) → n ≡ get counts key → (r : Bool) → r ≡ ltb n (info .entries) → KeptTest table counts op key place r
+  pub test-delete : info .place ≡ place → (op ≡ 1 → ⊥) → (info .entries ≡ 1 → ⊥) → (n : ℕ) → n ≡ get counts key → (r : Bool) → r ≡ ltb n (info .entries) → KeptTest size table counts op key place r
   test-delete p not-one not-sole n is-n r is-r = record {
     kept = λ ws at end keys xs mid ys e g d m o k a.
         let s = spoken ws at end keys xs mid ys e g m k in
@@ -218,9 +222,9 @@ module _ (table counts : List ℕ) (op key place : ℕ) (word : ℕ) (info : Inf
         sym (rw (s .is, eq-eqb (s .entry .at) (e .at) (sym (s .place-is) ∙ p ∙ sym a), ne-eqb (e .op) 1 (λ q. not-one (sym o ∙ q)), known-count (e .key) (xs ++ ys)) (sym (is-r ∙ ap (ltb n) u ∙ more-than n (entryCount (e .key) (xs ++ ys)))));
   }
     where
-      here : (ws : List ℕ) (at end : ℕ) (mid : List Entry) → Decided ws table counts at end op key → Stand ws at end mid → end ≤ at + 512 → get counts key ≡ entryCount key mid
+      here : (ws : List ℕ) (at end : ℕ) (mid : List Entry) → Decided size ws table counts at end op key → Stand ws at end mid → end ≤ at + chunkWords (powerOf size) → get counts key ≡ entryCount key mid
       here ws at end mid (inl e) s u = absurd (not-one e)
-      here ws at end mid (inr (inl e)) s u = absurd (not-sole (ap (λ (i : Info). i .entries) (is-info ∙ ap unpackOf is-word) ∙ e))
+      here ws at end mid (inr (inl e)) s u = absurd (not-sole (ap (λ (i : Info). i .entries) (is-info ∙ ap (unpackOf size) is-word) ∙ e))
       here ws at end mid (inr (inr c)) s u = c .says mid s u key
 
       more-than : (a b : ℕ) → ltb a (a + b) ≡ ltb 0 b

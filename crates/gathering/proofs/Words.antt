@@ -10,12 +10,16 @@ use native.Mathlib.Decide.{ℕ-discrete}
 use native.Mathlib.Omega.{arith}
 use lib.ListN.{length, getD, set, take, drop, length-append, length-set}
 use lib.Seq.{drop-cons, getD-set-same, getD-set-other}
+use Rattle.spec.specs.declared.Size.{Size}
+use Rattle.places.specs.Sizes.{powerOf, power-low, power-high}
+use Rattle.spec.specs.Places.{chunkWords}
 use Rattle.spec.specs.Basics.{filter}
 use Rattle.spec.specs.Log.{Entry, encode, encodeAll}
-use Rattle.buffer.specs.Areas.{batchRoom, secondStart, bufferWords}
+use Rattle.theory_base.proofs.Places.{words-most}
+use Rattle.buffer.specs.Areas.{secondStart, bufferWords}
 use Rattle.session.specs.State.{bufferPart}
 use Rattle.session.proofs.Part.{length-part, part-agree}
-use Rattle.gathering.specs.declared.size.Size.{Size}
+use Rattle.gathering.specs.declared.measure.Tally.{Tally}
 use Rattle.gathering.specs.Measuring.{Room, Measured}
 use Rattle.gathering.proofs.SizeWords.{few-words}
 use Rattle.gathering.specs.Gathering.{Copied, Gathered}
@@ -26,11 +30,11 @@ use Rattle.gathering.specs.Reading.{Owing, OneTaken, Collected}
 pub copied-start : (ws buffer : List ℕ) (from to : ℕ) → Copied ws buffer buffer from to 0
 copied-start ws buffer from to = record { long = refl; words = λ i l. absurd (omega arith); others = λ j o. refl }
 
-pub copied-next : (size : ℕ) (ws buffer now′ next′ : List ℕ) (from to i v : ℕ) → length buffer ≡ size → to + i < size → Copied ws buffer now′ from to i → v ≡ getD ws (from + i) 0 → next′ ≡ set now′ (to + i) v → Copied ws buffer next′ from to (i + 1)
-copied-next n ws buffer now′ next′ from to i v size low c is-v is = record {
+pub copied-next : (n : ℕ) (ws buffer now′ next′ : List ℕ) (from to i v : ℕ) → length buffer ≡ n → to + i < n → Copied ws buffer now′ from to i → v ≡ getD ws (from + i) 0 → next′ ≡ set now′ (to + i) v → Copied ws buffer next′ from to (i + 1)
+copied-next n ws buffer now′ next′ from to i v sized low c is-v is = record {
   long = rw (is, length-set) (c .long);
   words = λ j l. ap (λ (b : List ℕ). getD b (to + j) 0) is ∙ by-cases (ℕ-discrete j i)
-      (λ q. rw q (getD-set-same now′ (to + i) v 0 (rw (c .long, size) low) ∙ is-v))
+      (λ q. rw q (getD-set-same now′ (to + i) v 0 (rw (c .long, sized) low) ∙ is-v))
       (λ n. getD-set-other now′ (to + i) (to + j) v 0 (λ q. n (omega arith)) ∙ c .words j (omega arith));
   others = λ j o. ap (λ (b : List ℕ). getD b j 0) is ∙ getD-set-other now′ (to + i) j v 0 (λ q. outside j o q) ∙ c .others j (wider j o);
 }
@@ -69,7 +73,7 @@ part-words b ws i j (suc n) h l =
 
 -- ## One entry
 
-module _ (kept : List ℕ) (test : Entry → Bool) (mid todo : List Entry) (t : Size) (e : Entry) (o : Owing kept test mid t (e ∷ todo)) where
+module _ (size : Size) (kept : List ℕ) (test : Entry → Bool) (mid todo : List Entry) (t : Tally) (e : Entry) (o : Owing kept test mid t (e ∷ todo)) where
   -- it is not kept
   owing-skip : test e ≡ false → Owing kept test mid t todo
   owing-skip h = record {
@@ -98,7 +102,7 @@ module _ (kept : List ℕ) (test : Entry → Bool) (mid todo : List Entry) (t : 
           inside = λ f m. o .inside f (inr m);
         }
 
-    owing-room : length (encodeAll (filter test mid)) ≤ batchRoom → (t .words + (2 + length (e .value)) ≤ batchRoom) × (t .entries < batchRoom)
+    owing-room : length (encodeAll (filter test mid)) ≤ chunkWords (powerOf size) → (t .words + (2 + length (e .value)) ≤ chunkWords (powerOf size)) × (t .entries < chunkWords (powerOf size))
     owing-room l =
         let a = ap length owing-words in
         let b = length-append (bufferPart kept 0 (t .words)) (encode e ++ encodeAll (filter test todo)) in
@@ -110,30 +114,30 @@ module _ (kept : List ℕ) (test : Entry → Bool) (mid todo : List Entry) (t : 
 
 -- ## What the code shows of one entry
 
-module _ (ws kept : List ℕ) (t : Size) (place size : ℕ) (long : length kept ≡ batchRoom) where
-  pub take-not : OneTaken ws kept kept t false place size t
-  take-not = record { long = long; bound = λ l. l; adds = λ test mid todo e few low h ev es fits o. owing-skip kept test mid todo t e o (sym h) }
+module _ (size : Size) (ws kept : List ℕ) (t : Tally) (place value : ℕ) (long : length kept ≡ chunkWords (powerOf size)) where
+  pub take-not : OneTaken size ws kept kept t false place value t
+  take-not = record { long = long; bound = λ l. l; adds = λ test mid todo e few low h ev es fits o. owing-skip size kept test mid todo t e o (sym h) }
 
-  pub take-full : (words entries : ℕ) → words ≡ t .words → entries ≡ t .entries → Room words entries place size false → OneTaken ws kept kept t true place size t
+  pub take-full : (words entries : ℕ) → words ≡ t .words → entries ≡ t .entries → Room size words entries place value false → OneTaken size ws kept kept t true place value t
   take-full words entries iw ie r = record {
     long = long;
     bound = λ l. l;
     adds = λ test mid todo e few low h ev es fits o.
-        let f = owing-room kept test mid todo t e o (sym h) few in
+        let f = owing-room size kept test mid todo t e o (sym h) few in
         let x = f .0 in
         let y = f .1 in
         absurd (r .lacks refl (omega arith) (omega arith) low);
   }
 
-  pub take-kept : (words entries : ℕ) → words ≡ t .words → entries ≡ t .entries → Room words entries place size true → (kept′ : List ℕ) → Copied ws kept kept′ place words (2 + size)
-      → OneTaken ws kept kept′ t true place size (record { words = words + (2 + size); entries = entries + 1 })
+  pub take-kept : (words entries : ℕ) → words ≡ t .words → entries ≡ t .entries → Room size words entries place value true → (kept′ : List ℕ) → Copied ws kept kept′ place words (2 + value)
+      → OneTaken size ws kept kept′ t true place value (record { words = words + (2 + value); entries = entries + 1 })
   take-kept words entries iw ie r kept′ c = record {
     long = c .long ∙ long;
     bound = λ l. r .fits refl .0;
     adds = λ test mid todo e few low h ev es fits o.
         let same : bufferPart kept′ 0 (t .words) ≡ bufferPart kept 0 (t .words) = part-agree kept′ kept 0 (t .words) (λ j a b. c .others j (inl (omega arith))) in
-        let new : bufferPart kept′ (t .words) (2 + size) ≡ encode e = rw (← iw) (part-words kept′ ws words place (2 + size) (c .words) fits ∙ es) in
-        rw (iw, ie) (owing-take kept test mid todo t e o (sym h) kept′ (2 + size) (omega arith) same new);
+        let new : bufferPart kept′ (t .words) (2 + value) ≡ encode e = rw (← iw) (part-words kept′ ws words place (2 + value) (c .words) fits ∙ es) in
+        rw (iw, ie) (owing-take size kept test mid todo t e o (sym h) kept′ (2 + value) (omega arith) same new);
   }
 
 -- ## The words in the record's buffer
@@ -150,13 +154,13 @@ part-same b kept i j (suc n) h =
     rw (p, q) at x) in
     rw (first, rest)
 
-pub stored-gathered : (ws table kept b b′ : List ℕ) (at end n : ℕ) (t : Size) → Collected ws table kept at end t → n ≡ t .words → length b ≡ bufferWords → Copied kept b b′ 0 secondStart n → Gathered ws table b b′ at end t
-stored-gathered ws table kept b b′ at end n t g is size c = record {
+pub stored-gathered : (size : Size) → (ws table kept b b′ : List ℕ) (at end n : ℕ) (t : Tally) → Collected size ws table kept at end t → n ≡ t .words → length b ≡ bufferWords → Copied kept b b′ 0 secondStart n → Gathered size ws table b b′ at end t
+stored-gathered size ws table kept b b′ at end n t g is sized c = record {
   area = record {
-    size = size;
+    size = sized;
     long = c .long;
     below = λ j l. c .others j (inl l);
-    above = λ j l. let w = g .bound in c .others j (inr (omega arith));
+    above = λ j l. let w = g .bound in let m = words-most (powerOf size) (power-low size) (power-high size) in c .others j (inr (omega arith));
   };
   bound = g .bound;
   gathers = λ keys xs mid ys u.
@@ -165,8 +169,8 @@ stored-gathered ws table kept b b′ at end n t g is size c = record {
 }
 
 -- what is gathered is measured
-pub collected-measured : (ws table kept : List ℕ) (at end : ℕ) (t : Size) → Collected ws table kept at end t → Measured ws table at end t
-collected-measured ws table kept at end t g = record {
+pub collected-measured : (size : Size) → (ws table kept : List ℕ) (at end : ℕ) (t : Tally) → Collected size ws table kept at end t → Measured size ws table at end t
+collected-measured size ws table kept at end t g = record {
   bound = g .bound;
   measures = λ keys xs mid ys u. let p = g .gathers keys xs mid ys u in (sym (length-part kept 0 (t .words)) ∙ ap length (p .0), p .1);
 }

@@ -6,11 +6,14 @@ use mathlib.Core.Logic.{_⊎_}
 use mathlib.Core.List.{List}
 use Prim.Native.Nat.{ℕ, _+_, _≤_, _<_}
 use lib.ListN.{length, getD}
+use Rattle.spec.specs.declared.Size.{Size}
+use Rattle.places.specs.Sizes.{powerOf}
+use Rattle.spec.specs.Places.{chunkWords}
 use Rattle.spec.specs.Log.{Entry, encodeAll}
-use Rattle.buffer.specs.Areas.{batchRoom, secondStart, bitsStart, bufferWords}
+use Rattle.buffer.specs.Areas.{secondStart, bitsStart, bufferWords}
 use Rattle.session.specs.State.{bufferPart}
 use Rattle.session.specs.Cleaned.{keptOf}
-use Rattle.gathering.specs.declared.size.Size.{Size}
+use Rattle.gathering.specs.declared.measure.Tally.{Tally}
 use Rattle.gathering.specs.Measuring.{Gatherable}
 
 -- n words are copied from one list of words into another
@@ -28,8 +31,8 @@ pub record AreaWritten (buffer buffer′ : List ℕ) : Type 0 where
 
 -- THE GATHERING, with the words in the record's buffer: of any memory, and where the table is that of the image's
 -- entries
-pub record Gathered (ws table buffer buffer′ : List ℕ) (at end : ℕ) (t : Size) : Type 0 where
+pub record Gathered (size : Size) (ws table buffer buffer′ : List ℕ) (at end : ℕ) (t : Tally) : Type 0 where
   pub area : AreaWritten buffer buffer′
-  pub bound : t .words ≤ batchRoom
-  pub gathers : (keys : ℕ) (xs mid ys : List Entry) → Gatherable ws table keys at end xs mid ys
+  pub bound : t .words ≤ chunkWords (powerOf size)
+  pub gathers : (keys : ℕ) (xs mid ys : List Entry) → Gatherable size ws table keys at end xs mid ys
       → (bufferPart buffer′ secondStart (t .words) ≡ encodeAll (keptOf xs mid ys)) × (t .entries ≡ length (keptOf xs mid ys))

@@ -4,35 +4,26 @@
 use mathlib.Core.Path.{_≡_, _∙_}
 use mathlib.Core.List.{List}
 use Prim.Native.Nat.{ℕ}
-use Rattle.spec.specs.Words.{wordsOf}
 use Rattle.spec.specs.Reports.{number}
-use Rattle.spec.specs.Machine.{gate}
+use Rattle.spec.specs.Machine.{statePower, gate}
 use Rattle.spec.specs.Reopening.{Same}
 use Rattle.spec.specs.declared.Refusal.{Refusal}
 use Rattle.spec.specs.declared.Report.{Report}
 use Rattle.spec.specs.declared.Report.the-variants as R
 use Rattle.session.specs.declared.Session.{Session}
-use Rattle.session.specs.State.{stateOf, limit}
+use Rattle.session.specs.State.{stateOf}
 use Rattle.session.specs.Fits.{Proper, Fits}
-use Rattle.lookup.specs.Contract.{entriesOf}
 use Rattle.lookup.proofs.Alike.{gated-alike}
 use Rattle.inspect.specs.declared.ChunkRow.{ChunkRow}
-use Rattle.inspect.specs.Rows.{plainRow, rowOf, emptyChunk}
-use Rattle.inspect.specs.Contract.{countIn, reportOf, Described, Emptied}
+use Rattle.inspect.specs.Rows.{plainRow}
+use Rattle.inspect.specs.Contract.{rowIn, emptyIn, Described, Emptied}
 
-module _ (s t : Session) (image other table beside : List ℕ) (w : Same Proper stateOf Fits 12 limit s t image other table beside) where
-  -- by the image alone, which is the same
-  abbrev row : List ℕ → ℕ → ChunkRow
-  row bytes chunk = rowOf (wordsOf bytes) (entriesOf bytes) (countIn bytes) chunk
-
-  abbrev found : List ℕ → ℕ → Report
-  found bytes from = reportOf (emptyChunk (wordsOf bytes) (entriesOf bytes) (countIn bytes) from)
-
+module _ (s t : Session) (image other table beside : List ℕ) (w : Same Proper stateOf Fits s t image other table beside) where
   pub chunk-alike : (chunk : ℕ) (r q : ChunkRow) → Described s chunk image table r → Described t chunk other beside q → r ≡ q
   chunk-alike chunk r q x y =
-      gated-alike gate s t image other table beside w (λ (n : Refusal). plainRow (number n) 0) (row image chunk) r q (x .gated) (λ e. x .exact e (w .fits)) (y .gated)
-      (λ e. y .exact e (w .also) ∙ rw (w .bytes))
+      gated-alike gate s t image other table beside w (λ (n : Refusal). plainRow (number n) 0) (rowIn (statePower (stateOf s)) image chunk) r q (x .gated) (λ e. x .exact e (w .fits)) (y .gated)
+      (λ e. y .exact e (w .also) ∙ rw (w .state, w .bytes))
 
   pub empty-chunk-alike : (from : ℕ) (r q : Report) → Emptied s from image table r → Emptied t from other beside q → r ≡ q
   empty-chunk-alike from r q x y =
-      gated-alike gate s t image other table beside w R.Refused (found image from) r q (x .gated) (λ e. x .exact e (w .fits)) (y .gated) (λ e. y .exact e (w .also) ∙ rw (w .bytes))
+      gated-alike gate s t image other table beside w R.Refused (emptyIn (statePower (stateOf s)) image from) r q (x .gated) (λ e. x .exact e (w .fits)) (y .gated) (λ e. y .exact e (w .also) ∙ rw (w .state, w .bytes))

@@ -9,36 +9,34 @@ use lib.Dec.{eqb}
 use lib.ListN.{length}
 use borrow.Author.Tests.{eqb-true, ne-eqb}
 use Rattle.spec.specs.Basics.{pick, either}
-use Rattle.spec.specs.Places.{basePower}
 use Rattle.spec.specs.Medium.{Action}
 use Rattle.spec.specs.Log.{Entry, Parsed}
 use Rattle.spec.specs.Contents.{keysOf, listed}
-use Rattle.spec.specs.Opening.{Accepted, opening}
 use Rattle.spec.specs.Plans.{Task, Staging, Committing, Cleaning, Olds, oldsOf, putBack, readBy}
 use Rattle.spec.specs.Machine.{State, Closed, Rest, Busy, Formatting}
 use Rattle.session.specs.declared.Control.{Control}
 use Rattle.session.specs.declared.Setup.{Setup}
 use Rattle.session.specs.declared.Session.{Session}
-use Rattle.theory_crash.proofs.Opening.{opens-ok}
-use Rattle.session.specs.State.{stateAt}
-use Rattle.session.specs.Fits.{RestFits, TaskFits, Reads, FitsAt, Fits}
+use Rattle.theory_crash.proofs.Opening.{opens-at}
+use Rattle.session.specs.State.{powerIn, stateAt}
+use Rattle.session.specs.Fits.{Opens, RestFits, TaskFits, Reads, FitsAt, Fits}
 use Rattle.theory_base.proofs.PutBack.{length-back}
 use Rattle.inspect.specs.KnownKeys.{isCounted, keysIn, keyCount, knownKeys, KnownBy}
 
 -- the entries of an accepted image are those that its words say
-accepted-count : (bytes table : ℕ) (ws : List ℕ) (es : List Entry) → length ws ≡ bytes / 8 → opening basePower bytes ws table ≡ Accepted es → length (keysOf es) ≡ keyCount bytes ws
-accepted-count bytes table ws es long h = ap (λ (q : Parsed). length (keysOf (listed q))) (sym (opens-ok 12 (omega arith) (omega arith) bytes table ws es long h .0 .parsed))
+accepted-count : (p bytes table : ℕ) (ws : List ℕ) (es : List Entry) → length ws ≡ bytes / 8 → Opens p bytes ws table es → length (keysOf es) ≡ keyCount p bytes ws
+accepted-count p bytes table ws es long h = ap (λ (q : Parsed). length (keysOf (listed q))) (sym (opens-at p bytes table ws es (h .power) long (h .accepts) .0 .parsed))
 
 module _ (s : Session) (ws table : List ℕ) (items : List Entry) where
-  at-rest : RestFits s ws table items → s .control .keys ≡ keyCount (s .setup .image) ws
-  at-rest f = f .built .indexed .count ∙ accepted-count (s .setup .image) (s .setup .table) ws (f .entries) (f .long) (f .accepted)
+  at-rest : RestFits s ws table items → s .control .keys ≡ keyCount (powerIn (s .setup)) (s .setup .image) ws
+  at-rest f = f .built .indexed .count ∙ accepted-count (powerIn (s .setup)) (s .setup .image) (s .setup .table) ws (f .entries) (f .long) (f .accepted)
 
-  in-call : (task : Task) (rest : List Action) → TaskFits task s items rest ws table × Reads s (oldsOf task) rest ws table → s .control .keys ≡ keyCount (s .setup .image) (readBy task rest ws)
+  in-call : (task : Task) (rest : List Action) → TaskFits task s items rest ws table × Reads s (oldsOf task) rest ws table → s .control .keys ≡ keyCount (powerIn (s .setup)) (s .setup .image) (readBy task rest ws)
   in-call task (a ∷ rest) (f, r) =
-      r .built .indexed .count ∙ accepted-count (s .setup .image) (s .setup .table) (putBack (oldsOf task) ws) (r .entries) (length-back (oldsOf task) ws ∙ r .long) (r .shown .0)
+      r .built .indexed .count ∙ accepted-count (powerIn (s .setup)) (s .setup .image) (s .setup .table) (putBack (oldsOf task) ws) (r .entries) (length-back (oldsOf task) ws ∙ r .long) (r .shown .0)
   in-call Staging [] (f, r) = at-rest f
-  in-call (Committing olds) [] (f, r) = f .built .indexed .count ∙ accepted-count (s .setup .image) (s .setup .table) ws _ (f .long) (f .accepted)
-  in-call (Cleaning n olds) [] (f, r) = f .built .indexed .count ∙ accepted-count (s .setup .image) (s .setup .table) ws _ (f .long) (f .accepted)
+  in-call (Committing olds) [] (f, r) = f .built .indexed .count ∙ accepted-count (powerIn (s .setup)) (s .setup .image) (s .setup .table) ws _ (f .long) (f .accepted)
+  in-call (Cleaning n olds) [] (f, r) = f .built .indexed .count ∙ accepted-count (powerIn (s .setup)) (s .setup .image) (s .setup .table) ws _ (f .long) (f .accepted)
 
 -- phases 4 and 5 exclude 6
 apart : (c : Control) → (eqb (c .phase) 4 ≡ true → eqb (c .phase) 6 ≡ false) × (eqb (c .phase) 5 ≡ true → eqb (c .phase) 6 ≡ false)
@@ -57,8 +55,8 @@ known-at c k b ws table f = go (eqb (c .phase) 1) (eqb (c .phase) 2) (eqb (c .ph
 
     by : Bool → Bool → Bool → Bool → Bool → Bool → List Entry → ℕ → Olds → Olds → List Action → List Action → List Action → List Action → List Action → State
     by b1 b2 b3 b4 b5 b6 items m o3 o6 a2 a3 a4 a5 a6 =
-        pick b1 (Rest (k .image) (k .table) items) (pick b2 (Busy (k .image) (k .table) items Staging a2) (pick b3 (Busy (k .image) (k .table) items (Committing o3) a3)
-        (pick b4 (Formatting false (k .image) (k .table) a4) (pick b5 (Formatting true (k .image) (k .table) a5) (pick b6 (Busy (k .image) (k .table) [] (Cleaning m o6) a6) Closed)))))
+        pick b1 (Rest (powerIn k) (k .image) (k .table) items) (pick b2 (Busy (powerIn k) (k .image) (k .table) items Staging a2) (pick b3 (Busy (powerIn k) (k .image) (k .table) items (Committing o3) a3)
+        (pick b4 (Formatting false (k .image) (k .table) a4) (pick b5 (Formatting true (k .image) (k .table) a5) (pick b6 (Busy (powerIn k) (k .image) (k .table) [] (Cleaning m o6) a6) Closed)))))
 
     go : (b1 b2 b3 b4 b5 b6 : Bool) → (b4 ≡ true → b6 ≡ false) → (b5 ≡ true → b6 ≡ false) → (items : List Entry) (m : ℕ) (o3 o6 : Olds) (a2 a3 a4 a5 a6 : List Action)
         → FitsAt (by b1 b2 b3 b4 b5 b6 items m o3 o6 a2 a3 a4 a5 a6) s ws table → pick (either b1 (either b2 (either b3 b6))) (c .keys) 0 ≡ knownKeys (by b1 b2 b3 b4 b5 b6 items m o3 o6 a2 a3 a4 a5 a6) ws

@@ -1,6 +1,6 @@
 -- The pass over the log leaves the key's entries in the lent words, as far as they fit, and counts them all.
 -- Assumes nothing.
-use mathlib.Core.Path.{_≡_, refl, sym, _∙_, ap}
+use mathlib.Core.Path.{_≡_, refl, sym, _∙_, ap, subst}
 use mathlib.Core.Logic.{by-cases, inl, inr}
 use mathlib.Core.Bool.{Bool, true, false}
 use mathlib.Core.Option.{Option, none, some}
@@ -12,8 +12,11 @@ use lib.Dec.{eqb}
 use lib.ListN.{length, drop, set, length-append, length-drop, length-map}
 use lib.Seq.{sets, sets-eq, take-nil, take-at, drop-append-add, drop-drop}
 use borrow.Author.Tests.{ne-eqb, le-leb, lt-leb}
+use Rattle.spec.specs.declared.Size.{Size}
+use Rattle.spec.specs.declared.Size.the-variants as S
+use Rattle.places.specs.Sizes.{powerOf, power-low, power-high}
 use Rattle.spec.specs.Basics.{pick, filter}
-use Rattle.spec.specs.Places.{chunksIn, base}
+use Rattle.spec.specs.Places.{chunkBytes, chunkWords, chunksIn, base}
 use Rattle.spec.specs.Log.{Entry, Parsed, Wrong, Entries, imageEntries}
 use Rattle.spec.specs.Contents.{chosen, isAt, listed}
 use Rattle.theory_base.proofs.Lists.{filter-length}
@@ -23,12 +26,11 @@ use Rattle.theory_log.proofs.Contents.{none-of, chosen-is}
 use Rattle.theory_log.proofs.Places.{Rising, all-sound}
 use Rattle.log.specs.declared.Best.{Best}
 use Rattle.log.specs.Best.{bestIn, bestOf}
-use Rattle.log.proofs.Chunks.{base-is}
 use Rattle.log.proofs.Stands.{image-low}
 use Rattle.log.proofs.Scan.{best-chosen, best-wrong}
 use Rattle.inspect.specs.declared.history.KeyEntry.{KeyEntry}
 use Rattle.inspect.specs.History.{isFrom, entryWith, numbered}
-use Rattle.inspect.proofs.Numbers.{chunks-are}
+use Rattle.inspect.specs.Numbers.{sizeSaid, powerRead, chunksRead}
 use Rattle.inspect.specs.KeyEntries.{entriesFrom, entryWords, spelt, fitting, EntriesListed}
 use Rattle.inspect.specs.Filling.{put, Filling, filling, more, pass, Leaves}
 
@@ -136,26 +138,36 @@ none-left : (key from : ℕ) (es : List Entry) → ((f : Entry) → Mem f es →
 none-left key from [] h = refl
 none-left key from (e ∷ es) h = rw (ne-eqb (e .key) key (h e (inl refl))) (none-left key from es (λ f m. h f (inr m)))
 
-module _ (bytes : ℕ) (fits : bytes < 0x1_0000_0000_0000_0000) (ws : List ℕ) (key from : ℕ) (best : Best) (is : best ≡ bestIn 12 (bytes / 4096) ws key) where
+-- no more words before a chunk than a number has values
+base-few : (size : Size) (bytes : ℕ) → bytes < 0x1_0000_0000_0000_0000 → base (powerOf size) (1 + (chunksIn (powerOf size) bytes - 1)) < 0x1_0000_0000_0000_0000
+unfolding base chunkWords chunksIn chunkBytes
+base-few S.Small bytes fits = omega arith
+base-few S.Large bytes fits = omega arith
+
+-- the size is the one that the header says
+pub read-as : (size : Size) (bytes : ℕ) (ws : List ℕ) (key from : ℕ) (out out′ : List ℕ) (count : ℕ) → size ≡ sizeSaid ws
+    → EntriesListed (entriesFrom (powerOf size) (chunksIn (powerOf size) bytes) ws key from) out out′ count → EntriesListed (entriesFrom (powerRead ws) (chunksRead bytes ws) ws key from) out out′ count
+read-as size bytes ws key from out out′ count said = subst (λ (w : Size). EntriesListed (entriesFrom (powerOf w) (chunksIn (powerOf w) bytes) ws key from) out out′ count) said
+
+module _ (size : Size) (bytes : ℕ) (fits : bytes < 0x1_0000_0000_0000_0000) (ws : List ℕ) (key from : ℕ) (best : Best) (is : best ≡ bestIn (powerOf size) (chunksIn (powerOf size) bytes) ws key) where
   abbrev image : Parsed
-  image = imageEntries 12 (bytes / 4096) ws
+  image = imageEntries (powerOf size) (chunksIn (powerOf size) bytes) ws
 
   few : (es : List Entry) → image ≡ Entries es → length es < 0x1_0000_0000_0000_0000
   few es h =
-      let n = bytes / 4096 in
-      let s = all-sound 12 (omega arith) (omega arith) (n - 1) 1 ws es h in
-      let r = rising-few (base 12 1) (base 12 (1 + (n - 1))) es (s .rising) in
-      let a = base-is 1 in
-      let b = base-is (1 + (n - 1)) in
+      let n = chunksIn (powerOf size) bytes in
+      let s = all-sound (powerOf size) (power-low size) (power-high size) (n - 1) 1 ws es h in
+      let r = rising-few (base (powerOf size) 1) (base (powerOf size) (1 + (n - 1))) es (s .rising) in
+      let b = base-few size bytes fits in
       omega arith
 
   chosen-place : (es : List Entry) → image ≡ Entries es → best ≡ bestOf (chosen key es)
-  chosen-place es h = is ∙ best-chosen 12 (omega arith) (omega arith) (bytes / 4096) key ws es h
+  chosen-place es h = is ∙ best-chosen (powerOf size) (power-low size) (power-high size) (chunksIn (powerOf size) bytes) key ws es h
 
   -- the chosen entry stands behind chunk 0
-  pub none-listed : (out : List ℕ) → best .place ≡ 0 → EntriesListed (entriesFrom 12 (chunksIn 12 bytes) ws key from) out out 0
+  pub none-listed : (out : List ℕ) → best .place ≡ 0 → EntriesListed (entriesFrom (powerOf size) (chunksIn (powerOf size) bytes) ws key from) out out 0
   unfolding entriesFrom
-  none-listed out z = rw (chunks-are bytes) (go image refl)
+  none-listed out z = go image refl
     where
       go : (q : Parsed) → image ≡ q → EntriesListed (map (numbered key (listed q)) (filter (isFrom key from) (listed q))) out out 0
       go Wrong h = record { words = sym (over-none out); all = refl }
@@ -166,16 +178,16 @@ module _ (bytes : ℕ) (fits : bytes < 0x1_0000_0000_0000_0000) (ws : List ℕ) 
           by (some f) q =
               let c = chosen-place es h in
               let p : f .at ≡ best .place = sym (ap (λ (b : Best). b .place) (c ∙ ap bestOf q)) in
-              let l = image-low 12 (omega arith) (omega arith) (bytes / 4096) ws es h f (chosen-is key es f q .in-list) in
+              let l = image-low (powerOf size) (power-low size) (power-high size) (chunksIn (powerOf size) bytes) ws es h f (chosen-is key es f q .in-list) in
               absurd (omega arith)
 
   pub all-listed : (out out′ : List ℕ) (count : ℕ) → (best .place ≡ 0 → ⊥) → Leaves (foldP (pass key from (best .place)) (filling out 0) image) out′ count
-      → EntriesListed (entriesFrom 12 (chunksIn 12 bytes) ws key from) out out′ count
+      → EntriesListed (entriesFrom (powerOf size) (chunksIn (powerOf size) bytes) ws key from) out out′ count
   unfolding entriesFrom
-  all-listed out out′ count n left = rw (chunks-are bytes) (go image refl left)
+  all-listed out out′ count n left = go image refl left
     where
       go : (q : Parsed) → image ≡ q → Leaves (foldP (pass key from (best .place)) (filling out 0) q) out′ count → EntriesListed (map (numbered key (listed q)) (filter (isFrom key from) (listed q))) out out′ count
-      go Wrong h w = absurd (n (ap (λ (b : Best). b .place) (is ∙ best-wrong 12 (bytes / 4096) key ws h)))
+      go Wrong h w = absurd (n (ap (λ (b : Best). b .place) (is ∙ best-wrong (powerOf size) (chunksIn (powerOf size) bytes) key ws h)))
       go (Entries es) h w = by (chosen key es) refl
         where
           by : (q : Option Entry) → chosen key es ≡ q → EntriesListed (map (numbered key es) (filter (isFrom key from) es)) out out′ count

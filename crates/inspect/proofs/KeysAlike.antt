@@ -8,19 +8,19 @@ use Prim.Native.Nat.{ℕ}
 use Rattle.spec.specs.Words.{wordsOf}
 use Rattle.spec.specs.Reopening.{Same}
 use Rattle.session.specs.declared.Session.{Session}
-use Rattle.session.specs.State.{stateOf, limit}
+use Rattle.session.specs.State.{stateOf}
 use Rattle.session.specs.Fits.{Proper, Fits}
 use Rattle.session.specs.Promise.{Memory}
 use Rattle.inspect.specs.KnownKeys.{keysIn, Known}
 use Rattle.inspect.proofs.Counted.{known-keys-are}
 
-pub keys-alike : (s u : Session) (image other table beside : List ℕ) (n m : ℕ) → Same Proper stateOf Fits 12 limit s u image other table beside → Known s n → Known u m → n ≡ m
+pub keys-alike : (s u : Session) (image other table beside : List ℕ) (n m : ℕ) → Same Proper stateOf Fits s u image other table beside → Known s n → Known u m → n ≡ m
 keys-alike s u image other table beside n m w x y =
     x .1 (wordsOf image) table (w .fits) ∙ (rw (w .state, w .bytes)) ∙ sym (y .1 (wordsOf other) beside (w .also))
 
 -- THE COUNT that is answered, of two stations that are the same
 abbrev pub SameIn : (m l : Memory) → Type 0
-SameIn m l = Same Proper stateOf Fits 12 limit (m .session) (l .session) (m .image) (l .image) (m .table) (l .table)
+SameIn m l = Same Proper stateOf Fits (m .session) (l .session) (m .image) (l .image) (m .table) (l .table)
 
 abbrev pub countIn : Memory → ℕ
 countIn m = keysIn (m .session .control)

@@ -1,15 +1,17 @@
 -- The pass over the log finds the first entry of a key at or behind a word, and its place tells whether it is the
 -- chosen one.
 -- Assumes nothing.
-use mathlib.Core.Path.{_≡_, refl, sym, _∙_}
+use mathlib.Core.Path.{_≡_, refl, sym, _∙_, ap}
 use mathlib.Core.Logic.{inl}
 use mathlib.Core.Bool.{Bool, true, false}
 use mathlib.Core.Option.{Option, none, some}
 use mathlib.Core.List.{List, [], _∷_}
-use Prim.Native.Nat.{ℕ, _/_}
+use Prim.Native.Nat.{ℕ}
 use native.Mathlib.Omega.{arith}
 use lib.Dec.{eqb}
 use borrow.Author.Tests.{ne-eqb}
+use Rattle.spec.specs.declared.Size.{Size}
+use Rattle.places.specs.Sizes.{powerOf, power-low, power-high}
 use Rattle.spec.specs.Basics.{pick, filter, first}
 use Rattle.spec.specs.Places.{chunksIn}
 use Rattle.spec.specs.Log.{Entry, Parsed, Wrong, Entries, imageEntries}
@@ -23,14 +25,14 @@ use Rattle.log.proofs.Stands.{image-low}
 use Rattle.log.proofs.Scan.{best-chosen}
 use Rattle.inspect.specs.declared.history.KeyEntry.{KeyEntry}
 use Rattle.inspect.specs.History.{isFrom, nextOf, noEntry, entryWith, numbersOf, entryFrom, pass, firstIn, markOf}
-use Rattle.inspect.proofs.Numbers.{chunks-are}
+use Rattle.inspect.specs.Numbers.{sizeSaid, powerRead, chunksRead}
 
 -- the entry found, not yet marked
 abbrev bare : Option Entry → KeyEntry
 bare none = noEntry
 bare (some e) = entryWith 0 e
 
-module _ (key from : ℕ) where
+module _ (size : Size) (key from : ℕ) where
   -- what is found stays
   found-stays : (e : Entry) (es : List Entry) → foldE (pass key from) (entryWith 0 e) es ≡ entryWith 0 e
   found-stays e [] = refl
@@ -62,16 +64,18 @@ module _ (key from : ℕ) where
       go false = refl
 
   module _ (n : ℕ) (ws : List ℕ) where
-    whole : (q : Parsed) → imageEntries 12 n ws ≡ q → markOf (firstIn 12 n ws key from) (bestIn 12 n ws key) ≡ numbersOf key (listed q) (nextOf key from (listed q))
+    whole : (q : Parsed) → imageEntries (powerOf size) n ws ≡ q → markOf (firstIn (powerOf size) n ws key from) (bestIn (powerOf size) n ws key) ≡ numbersOf key (listed q) (nextOf key from (listed q))
     unfolding firstIn
     whole Wrong h = rw h
-    whole (Entries es) h = rw (h, finds-first es, best-chosen 12 (omega arith) (omega arith) n key ws es h) (go (nextOf key from es) refl)
+    whole (Entries es) h = rw (h, finds-first es, best-chosen (powerOf size) (power-low size) (power-high size) n key ws es h) (go (nextOf key from es) refl)
       where
         go : (q : Option Entry) → nextOf key from es ≡ q → markOf (bare q) (bestOf (chosen key es)) ≡ numbersOf key es q
         go none e = refl
-        go (some f) e = marks es f (chosen key es) (λ z. let l = image-low 12 (omega arith) (omega arith) n ws es h f (first-mem es f e) in omega arith)
+        go (some f) e = marks es f (chosen key es) (λ z. let l = image-low (powerOf size) (power-low size) (power-high size) n ws es h f (first-mem es f e) in omega arith)
 
-  pub entry-told : (bytes : ℕ) (ws : List ℕ) (a : KeyEntry) (b : Best) (r : KeyEntry) → a ≡ firstIn 12 (bytes / 4096) ws key from → b ≡ bestIn 12 (bytes / 4096) ws key → r ≡ markOf a b
-      → r ≡ entryFrom 12 (chunksIn 12 bytes) ws key from
+  pub entry-told : (bytes : ℕ) (ws : List ℕ) (n : ℕ) (a : KeyEntry) (b : Best) (r : KeyEntry) → size ≡ sizeSaid ws → n ≡ chunksIn (powerOf size) bytes → a ≡ firstIn (powerOf size) n ws key from
+      → b ≡ bestIn (powerOf size) n ws key → r ≡ markOf a b → r ≡ entryFrom (powerRead ws) (chunksRead bytes ws) ws key from
   unfolding entryFrom
-  entry-told bytes ws a b r x y z = z ∙ rw (x, y, chunks-are bytes) (whole (bytes / 4096) ws (imageEntries 12 (bytes / 4096) ws) refl)
+  entry-told bytes ws n a b r said en x y z =
+      let told : r ≡ entryFrom (powerOf size) n ws key from = z ∙ rw (x, y) (whole n ws (imageEntries (powerOf size) n ws) refl) in
+      told ∙ ap (λ (k : ℕ). entryFrom (powerOf size) k ws key from) en ∙ ap (λ (w : Size). entryFrom (powerOf w) (chunksIn (powerOf w) bytes) ws key from) said

@@ -4,6 +4,8 @@ use mathlib.Core.Bool.{Bool}
 use mathlib.Core.List.{List}
 use Prim.Native.Nat.{ℕ}
 use lib.Dec.{eqb, leb, ltb}
+use Rattle.spec.specs.declared.Size.{Size}
+use Rattle.places.specs.Sizes.{powerOf}
 use Rattle.spec.specs.Basics.{pick, both}
 use Rattle.spec.specs.Directory.{roleAt, isData}
 use Rattle.spec.specs.declared.Role.{Role}
@@ -15,17 +17,17 @@ use Rattle.inspect.specs.ChunkCounts.{tallyBy, blocksBy}
 use Rattle.inspect.specs.declared.ChunkRow.{ChunkRow}
 use Rattle.inspect.specs.Rows.{plainRow, logRow, dataRow}
 
-abbrev pub rowBy : (ws table : List ℕ) (n c : ℕ) → Role → ChunkRow
-rowBy ws table n c D.Free = plainRow 0 0
-rowBy ws table n c (D.Log lines) = logRow lines (tallyBy ws table c)
-rowBy ws table n c (D.Data size) = dataRow size (blocksBy ws table n c)
-rowBy ws table n c D.Wrong = plainRow 0 3
+abbrev pub rowBy : (size : Size) → (ws table : List ℕ) (n c : ℕ) → Role → ChunkRow
+rowBy size ws table n c D.Free = plainRow 0 0
+rowBy size ws table n c (D.Log lines) = logRow lines (tallyBy size ws table c)
+rowBy size ws table n c (D.Data units) = dataRow (powerOf size) units (blocksBy size ws table n c)
+rowBy size ws table n c D.Wrong = plainRow 0 3
 
-unfoldable pub rowAt : (ws table : List ℕ) (n c : ℕ) → ChunkRow
-rowAt ws table n c = pick (both (leb 1 c) (ltb c n)) (rowBy ws table n c (roleAt 12 ws c)) (plainRow 16 0)
+unfoldable pub rowAt : (size : Size) → (ws table : List ℕ) (n c : ℕ) → ChunkRow
+rowAt size ws table n c = pick (both (leb 1 c) (ltb c n)) (rowBy size ws table n c (roleAt (powerOf size) ws c)) (plainRow 16 0)
 
-abbrev pub emptyBy : (ws table : List ℕ) (n from c : ℕ) → Bool
-emptyBy ws table n from c = both (leb from c) (both (isData (roleAt 12 ws c)) (eqb (blocksBy ws table n c) 0))
+abbrev pub emptyBy : (size : Size) → (ws table : List ℕ) (n from c : ℕ) → Bool
+emptyBy size ws table n from c = both (leb from c) (both (isData (roleAt (powerOf size) ws c)) (eqb (blocksBy size ws table n c) 0))
 
 -- the report of a search that stopped at chunk c of n
 abbrev pub foundBy : (c n : ℕ) → Report

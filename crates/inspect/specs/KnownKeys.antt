@@ -7,7 +7,7 @@ use Prim.Native.Nat.{ℕ}
 use lib.Dec.{eqb}
 use lib.ListN.{length}
 use Rattle.spec.specs.Basics.{pick, either}
-use Rattle.spec.specs.Places.{basePower, chunksIn}
+use Rattle.spec.specs.Places.{chunksIn}
 use Rattle.spec.specs.Contents.{keysOf, entriesIn}
 use Rattle.spec.specs.Plans.{readBy}
 use Rattle.spec.specs.Machine.{State, Closed, Rest, Busy, Formatting}
@@ -17,15 +17,15 @@ use Rattle.session.specs.declared.Session.{Session}
 use Rattle.session.specs.State.{stateOf}
 use Rattle.session.specs.Fits.{Fits}
 
--- the known keys of an image of so many bytes whose words are ws: what refusal 7 counts
-abbrev pub keyCount : ℕ → List ℕ → ℕ
-keyCount bytes ws = length (keysOf (entriesIn basePower (chunksIn basePower bytes) ws))
+-- the known keys of an image of so many bytes in chunks of 2^p, whose words are ws: what refusal 7 counts
+abbrev pub keyCount : (p bytes : ℕ) → List ℕ → ℕ
+keyCount p bytes ws = length (keysOf (entriesIn p (chunksIn p bytes) ws))
 
 -- THE KNOWN KEYS, by the state: in an unfinished call those of the words that look-up reads
 abbrev pub knownKeys : State → List ℕ → ℕ
 knownKeys Closed ws = 0
-knownKeys (Rest b t items) ws = keyCount b ws
-knownKeys (Busy b t items task rest) ws = keyCount b (readBy task rest ws)
+knownKeys (Rest p b t items) ws = keyCount p b ws
+knownKeys (Busy p b t items task rest) ws = keyCount p b (readBy task rest ws)
 knownKeys (Formatting o b t rest) ws = 0
 
 -- the record's count, in the phases in which a register is open and not being formatted

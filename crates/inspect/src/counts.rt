@@ -7,6 +7,7 @@ ghost use Rattle.spec.specs.Words.{wordsOf};
 ghost use Rattle.inspect.specs.ChunkCounts.{chosenBy, more, pointsInto, countEntry, tallyBy, countBlock, blocksBy};
 use codec::Unit;
 use log::Next;
+use spec::Size;
 
 // ONE ENTRY
 fn both(a: bool, b: bool) -> bool
@@ -28,10 +29,10 @@ fn negate(a: bool) -> bool
 }
 
 // Whether the entry at this place is the chosen one of its key.
-fn is_chosen(table: &[u64], key: u64, place: usize) -> bool
-    ensures { λ r. ⌜ r ≡ chosenBy (now (table .entry)) key place ⌝ }
+fn is_chosen(table: &[u64], key: u64, place: usize, size: Size) -> bool
+    ensures { λ r. ⌜ r ≡ chosenBy size (now (table .entry)) key place ⌝ }
 {
-    let info = index::unpack(index::get(table, key));
+    let info = packing::unpack(size, index::get(table, key));
     info.place == place as u64
 }
 
@@ -42,12 +43,12 @@ fn is_put(op: u64) -> bool
 }
 
 // Whether an entry with these parts points to a block of the chunk.
-fn points_into(op: u64, placement: u64, field: u64, chunk: usize) -> bool
-    ensures { λ r. ⌜ r ≡ pointsInto op placement field chunk ⌝ }
+fn points_into(size: Size, op: u64, placement: u64, field: u64, chunk: usize) -> bool
+    ensures { λ r. ⌜ r ≡ pointsInto size op placement field chunk ⌝ }
 {
     if op == 1 {
         if placement == 1 {
-            return Unit(field).chunk() == chunk as u64;
+            return Unit(field).chunk(size) == chunk as u64;
         }
     }
     false
@@ -71,10 +72,10 @@ pub struct Tally {
 }
 
 // With one more entry.
-fn count_entry(table: &[u64], t: Tally, op: u64, key: u64, place: usize) -> Tally
-    ensures { λ r. ⌜ r ≡ countEntry (now (table .entry)) t op key place ⌝ }
+fn count_entry(table: &[u64], t: Tally, op: u64, key: u64, place: usize, size: Size) -> Tally
+    ensures { λ r. ⌜ r ≡ countEntry size (now (table .entry)) t op key place ⌝ }
 {
-    let chosen = is_chosen(table, key, place);
+    let chosen = is_chosen(table, key, place, size);
     let put = is_put(op);
     let live = count_if(t.live, both(chosen, put));
     let deletes = count_if(t.deletes, both(chosen, negate(put)));
@@ -87,17 +88,17 @@ fn count_entry(table: &[u64], t: Tally, op: u64, key: u64, place: usize) -> Tall
 }
 
 // Over the chunk's own entries; nothing where one is wrong.
-pub fn count_entries(image: &[u8], table: &[u64], chunk: usize) -> Tally
-    ensures { λ r. ⌜ r ≡ tallyBy (wordsOf (now (image .entry))) (now (table .entry)) chunk ⌝ }
+pub fn count_entries(image: &[u8], table: &[u64], chunk: usize, size: Size) -> Tally
+    ensures { λ r. ⌜ r ≡ tallyBy size (wordsOf (now (image .entry))) (now (table .entry)) chunk ⌝ }
 {
     let mut t = Tally {
         live: 0,
         deletes: 0,
         superseded: 0,
     };
-    let mut cursor = log::chunk_cursor(image, chunk);
+    let mut cursor = log::chunk_cursor(image, chunk, size);
     loop {
-        let n = log::next_in_log(image, 0, cursor);
+        let n = log::next_in_log(image, 0, cursor, size);
         match n {
             Next::Done => {
                 return t;
@@ -119,7 +120,7 @@ pub fn count_entries(image: &[u8], table: &[u64], chunk: usize) -> Tally
                 place,
                 cursor: after,
             } => {
-                t = count_entry(table, t, op, key, place);
+                t = count_entry(table, t, op, key, place, size);
                 cursor = after;
             }
         }
@@ -137,22 +138,23 @@ fn count_block(
     field: u64,
     key: u64,
     place: usize,
+    size: Size,
 ) -> u64
-    ensures { λ r. ⌜ r ≡ countBlock (now (table .entry)) chunk used op placement field key place ⌝ }
+    ensures { λ r. ⌜ r ≡ countBlock size (now (table .entry)) chunk used op placement field key place ⌝ }
 {
-    let chosen = is_chosen(table, key, place);
-    let into = points_into(op, placement, field, chunk);
+    let chosen = is_chosen(table, key, place, size);
+    let into = points_into(size, op, placement, field, chunk);
     count_if(used, both(chosen, into))
 }
 
 // Over all entries of the log of an image of `count` chunks; 0 where one is wrong.
-pub fn count_blocks(image: &[u8], table: &[u64], count: usize, chunk: usize) -> u64
-    ensures { λ r. ⌜ r ≡ blocksBy (wordsOf (now (image .entry))) (now (table .entry)) count chunk ⌝ }
+pub fn count_blocks(image: &[u8], table: &[u64], count: usize, chunk: usize, size: Size) -> u64
+    ensures { λ r. ⌜ r ≡ blocksBy size (wordsOf (now (image .entry))) (now (table .entry)) count chunk ⌝ }
 {
     let mut used = 0;
     let mut cursor = log::first_cursor();
     loop {
-        let n = log::next_in_log(image, count, cursor);
+        let n = log::next_in_log(image, count, cursor, size);
         match n {
             Next::Done => {
                 return used;
@@ -170,7 +172,7 @@ pub fn count_blocks(image: &[u8], table: &[u64], count: usize, chunk: usize) -> 
                 place,
                 cursor: after,
             } => {
-                used = count_block(table, chunk, used, op, placement, field, key, place);
+                used = count_block(table, chunk, used, op, placement, field, key, place, size);
                 cursor = after;
             }
         }

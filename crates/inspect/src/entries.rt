@@ -5,12 +5,14 @@ ghost use lib.Dec.{eqb};
 ghost use lib.ListN.{length};
 ghost use Rattle.spec.specs.Basics.{pick};
 ghost use Rattle.spec.specs.Words.{wordsOf};
-ghost use Rattle.spec.specs.Places.{chunksIn};
 ghost use Rattle.spec.specs.Log.{imageEntries};
+ghost use Rattle.places.specs.Sizes.{powerOf};
 ghost use Rattle.theory_log.specs.Fold.{foldP};
+ghost use Rattle.inspect.specs.Numbers.{powerRead, chunksRead};
 ghost use Rattle.inspect.specs.KeyEntries.{entriesFrom, EntriesListed};
 ghost use Rattle.inspect.specs.Filling.{filling, inNumbers, put, noteOf, pass, Leaves};
 use log::Next;
+use spec::Size;
 
 // The words of an entry: place, op, version, block, field and chosen, as in `crate::history::KeyEntry`.
 pub const ENTRY_WORDS: usize = 6;
@@ -78,13 +80,21 @@ fn take_entry(
 
 // All of them, by a pass over the log of an image of `chunks` chunks, where no entry is wrong; `best` is the place of
 // the entry that the register goes by.
-fn fill(image: &[u8], chunks: usize, key: u64, from: usize, best: usize, out: &mut [u64]) -> usize
-    ensures { λ r. ⌜ Leaves (foldP (pass key from best) (filling (now (out .entry)) 0) (imageEntries 12 chunks (wordsOf (now (image .entry))))) (now (out .exit)) r ⌝ }
+fn fill(
+    image: &[u8],
+    chunks: usize,
+    key: u64,
+    from: usize,
+    best: usize,
+    out: &mut [u64],
+    size: Size,
+) -> usize
+    ensures { λ r. ⌜ Leaves (foldP (pass key from best) (filling (now (out .entry)) 0) (imageEntries (powerOf size) chunks (wordsOf (now (image .entry))))) (now (out .exit)) r ⌝ }
 {
     let mut count: usize = 0;
     let mut cursor = log::first_cursor();
     loop {
-        let n = log::next_in_log(image, chunks, cursor);
+        let n = log::next_in_log(image, chunks, cursor, size);
         match n {
             Next::Done => {
                 return count;
@@ -125,12 +135,13 @@ fn fill(image: &[u8], chunks: usize, key: u64, from: usize, best: usize, out: &m
 // there are. None where an entry of the log is wrong. The first pass over the log finds the entry that the register
 // goes by; in a wrong log it finds none, so that nothing is written then.
 pub fn entries_from(image: &[u8], key: u64, from: usize, out: &mut [u64]) -> usize
-    ensures { λ r. ⌜ EntriesListed (entriesFrom 12 (chunksIn 12 (length (now (image .entry)))) (wordsOf (now (image .entry))) key from) (now (out .entry)) (now (out .exit)) r ⌝ }
+    ensures { λ r. ⌜ EntriesListed (entriesFrom (powerRead (wordsOf (now (image .entry)))) (chunksRead (length (now (image .entry))) (wordsOf (now (image .entry)))) (wordsOf (now (image .entry))) key from) (now (out .entry)) (now (out .exit)) r ⌝ }
 {
-    let chunks = image.len() / 4096;
-    let best = log::best_of(image, chunks, key);
+    let size = crate::header::size_said(image);
+    let chunks = places::chunks_in(size, image.len());
+    let best = log::best_of(image, chunks, key, size);
     if best.place == 0 {
         return 0;
     }
-    fill(image, chunks, key, from, best.place, out)
+    fill(image, chunks, key, from, best.place, out, size)
 }

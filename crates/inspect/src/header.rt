@@ -1,11 +1,43 @@
-// The station and the centre that the header of an image names, whether it is open or not. Nothing is changed, and
-// nothing is asked of the arguments.
+// The size of the chunks that the header of an image says, and the station and the centre that it names, whether it is
+// open or not. Nothing is changed, and nothing is asked of the arguments.
 ghost use mathlib.Core.Path.{_≡_};
 ghost use lib.ListN.{length};
 ghost use Rattle.spec.specs.Words.{wordsOf};
-ghost use Rattle.spec.specs.Places.{chunksIn};
-ghost use Rattle.inspect.specs.Numbers.{stationBy, centreBy, stationOf, centreOf, ToldAs};
+ghost use Rattle.spec.specs.Places.{isPower};
+ghost use Rattle.inspect.specs.Numbers.{sizeSaid, headerTaken, stationBy, centreBy, stationOf, centreOf, ToldAs};
 use spec::Given;
+use spec::Size;
+
+// THE SIZE
+// By the power that the header says: any but 16 is read as that of small chunks.
+pub fn size_said(image: &[u8]) -> Size
+    ensures { λ r. ⌜ r ≡ sizeSaid (wordsOf (now (image .entry))) ⌝ }
+{
+    places::size_by(opening::power_said(image))
+}
+
+// There are chunks of that power.
+fn is_power(power: u64) -> bool
+    ensures { λ r. ⌜ r ≡ isPower power ⌝ }
+{
+    if power == 12 {
+        return true;
+    }
+    power == 16
+}
+
+// The header is right, for an image of the lent length, and there are chunks of the power that it says.
+fn is_taken(image: &[u8]) -> bool
+    ensures { λ r. ⌜ r ≡ headerTaken (length (now (image .entry))) (wordsOf (now (image .entry))) ⌝ }
+{
+    let power = opening::power_said(image);
+    if is_power(power) {
+        let size = places::size_by(power);
+        let count = places::chunks_in(size, image.len());
+        return opening::header_fits(image, count);
+    }
+    false
+}
 
 // THE HEADER'S NUMBERS
 // By the bit map and the word behind the count.
@@ -18,6 +50,12 @@ fn station_by(map: u64, first: u64) -> Given
     if map == 7 {
         return Given::Number(first);
     }
+    if map == 11 {
+        return Given::Number(first);
+    }
+    if map == 15 {
+        return Given::Number(first);
+    }
     Given::Absent
 }
 
@@ -28,7 +66,13 @@ fn centre_by(map: u64, first: u64, second: u64) -> Given
     if map == 5 {
         return Given::Number(first);
     }
+    if map == 13 {
+        return Given::Number(first);
+    }
     if map == 7 {
+        return Given::Number(second);
+    }
+    if map == 15 {
         return Given::Number(second);
     }
     Given::Absent
@@ -36,10 +80,9 @@ fn centre_by(map: u64, first: u64, second: u64) -> Given
 
 // The station number that the header names; absent where it names none, or is not right.
 pub fn station(image: &[u8]) -> Given
-    ensures { λ r. ⌜ r ≡ stationOf (chunksIn 12 (length (now (image .entry)))) (wordsOf (now (image .entry))) ⌝ }
+    ensures { λ r. ⌜ r ≡ stationOf (length (now (image .entry))) (wordsOf (now (image .entry))) ⌝ }
 {
-    let count = image.len() / 4096;
-    if opening::header_fits(image, count) {
+    if is_taken(image) {
         let map = words::load(image, 0);
         let first = words::load(image, 2);
         return station_by(map, first);
@@ -49,10 +92,9 @@ pub fn station(image: &[u8]) -> Given
 
 // The centre number that the header names; absent where it names none, or is not right.
 pub fn centre(image: &[u8]) -> Given
-    ensures { λ r. ⌜ r ≡ centreOf (chunksIn 12 (length (now (image .entry)))) (wordsOf (now (image .entry))) ⌝ }
+    ensures { λ r. ⌜ r ≡ centreOf (length (now (image .entry))) (wordsOf (now (image .entry))) ⌝ }
 {
-    let count = image.len() / 4096;
-    if opening::header_fits(image, count) {
+    if is_taken(image) {
         let map = words::load(image, 0);
         let first = words::load(image, 2);
         let second = words::load(image, 3);
@@ -78,14 +120,14 @@ fn tell(given: Given, number: &mut u64) -> u64
 }
 
 pub fn tell_station(image: &[u8], number: &mut u64) -> u64
-    ensures { λ r. ⌜ ToldAs (stationOf (chunksIn 12 (length (now (image .entry)))) (wordsOf (now (image .entry)))) r (now (number .exit)) ⌝ }
+    ensures { λ r. ⌜ ToldAs (stationOf (length (now (image .entry))) (wordsOf (now (image .entry)))) r (now (number .exit)) ⌝ }
 {
     let given = station(image);
     tell(given, number)
 }
 
 pub fn tell_centre(image: &[u8], number: &mut u64) -> u64
-    ensures { λ r. ⌜ ToldAs (centreOf (chunksIn 12 (length (now (image .entry)))) (wordsOf (now (image .entry)))) r (now (number .exit)) ⌝ }
+    ensures { λ r. ⌜ ToldAs (centreOf (length (now (image .entry))) (wordsOf (now (image .entry)))) r (now (number .exit)) ⌝ }
 {
     let given = centre(image);
     tell(given, number)

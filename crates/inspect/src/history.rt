@@ -3,10 +3,12 @@
 ghost use mathlib.Core.Path.{_≡_};
 ghost use lib.ListN.{length};
 ghost use Rattle.spec.specs.Words.{wordsOf};
-ghost use Rattle.spec.specs.Places.{chunksIn};
+ghost use Rattle.places.specs.Sizes.{powerOf};
+ghost use Rattle.inspect.specs.Numbers.{powerRead, chunksRead};
 ghost use Rattle.inspect.specs.History.{noteOf, firstIn, markOf, entryFrom};
 use log::Best;
 use log::Next;
+use spec::Size;
 
 // THE ENTRIES OF A KEY
 // An entry in numbers: `found` is 1, or 0 with all others 0 where there is none; `place` is its first word, `block` 1
@@ -57,8 +59,8 @@ fn note(
 
 // The first entry of a key at or behind a word, by a pass over the log of an image of `count` chunks; none where an
 // entry of the log is wrong.
-fn first_in(image: &[u8], count: usize, key: u64, from: usize) -> KeyEntry
-    ensures { λ r. ⌜ r ≡ firstIn 12 count (wordsOf (now (image .entry))) key from ⌝ }
+fn first_in(image: &[u8], count: usize, key: u64, from: usize, size: Size) -> KeyEntry
+    ensures { λ r. ⌜ r ≡ firstIn (powerOf size) count (wordsOf (now (image .entry))) key from ⌝ }
 {
     let mut so = KeyEntry {
         found: 0,
@@ -71,7 +73,7 @@ fn first_in(image: &[u8], count: usize, key: u64, from: usize) -> KeyEntry
     };
     let mut cursor = log::first_cursor();
     loop {
-        let n = log::next_in_log(image, count, cursor);
+        let n = log::next_in_log(image, count, cursor, size);
         match n {
             Next::Done => {
                 return so;
@@ -127,10 +129,11 @@ fn mark(e: KeyEntry, best: Best) -> KeyEntry
 
 // The first entry of a key that stands at or behind a word of the image; none where an entry of the log is wrong.
 pub fn entry_from(image: &[u8], key: u64, from: usize) -> KeyEntry
-    ensures { λ r. ⌜ r ≡ entryFrom 12 (chunksIn 12 (length (now (image .entry)))) (wordsOf (now (image .entry))) key from ⌝ }
+    ensures { λ r. ⌜ r ≡ entryFrom (powerRead (wordsOf (now (image .entry)))) (chunksRead (length (now (image .entry))) (wordsOf (now (image .entry)))) (wordsOf (now (image .entry))) key from ⌝ }
 {
-    let count = image.len() / 4096;
-    let e = first_in(image, count, key, from);
-    let best = log::best_of(image, count, key);
+    let size = crate::header::size_said(image);
+    let count = places::chunks_in(size, image.len());
+    let e = first_in(image, count, key, from, size);
+    let best = log::best_of(image, count, key, size);
     mark(e, best)
 }

@@ -9,6 +9,7 @@ ghost use Rattle.inspect.specs.KnownKeys.{Known, KnownBy};
 ghost use lib.ListN.{length};
 ghost use Rattle.spec.specs.Words.{wordsOf};
 ghost use Rattle.spec.specs.Places.{chunksIn};
+ghost use Rattle.places.specs.Sizes.{powerOf};
 ghost use Rattle.directory.specs.Found.{Stops};
 ghost use Rattle.inspect.specs.Rows.{blocksFor, plainRow};
 ghost use Rattle.inspect.specs.ByTable.{rowBy, rowAt, emptyBy, foundBy};
@@ -26,6 +27,7 @@ use session::Setup;
 use spec::Refusal;
 use spec::Report;
 use spec::Role;
+use spec::Size;
 
 // A register open and at rest, in a staging, in a commit, or in a cleaning.
 fn is_counted(phase: u64) -> bool
@@ -61,13 +63,13 @@ pub fn keys(s: &Session) -> u64
 
 // THE ROW OF A CHUNK
 // How many blocks of so many units a chunk has.
-fn blocks_of(size: u64) -> u64
-    ensures { λ r. ⌜ r ≡ blocksFor size ⌝ }
+fn blocks_of(size: Size, units: u64) -> u64
+    ensures { λ r. ⌜ r ≡ blocksFor (powerOf size) units ⌝ }
 {
-    if size == 0 {
+    if units == 0 {
         return 0;
     }
-    16 / size
+    places::units(size) as u64 / units
 }
 
 // A row in numbers: `refused` is 0, or the refusal's number with all others 0.
@@ -100,13 +102,20 @@ fn plain_row(refused: u64, role: u64) -> ChunkRow
 }
 
 // By what the directory says of the chunk.
-fn row_for(image: &[u8], table: &[u64], count: usize, chunk: usize, role: Role) -> ChunkRow
-    ensures { λ r. ⌜ r ≡ rowBy (wordsOf (now (image .entry))) (now (table .entry)) count chunk role ⌝ }
+fn row_for(
+    image: &[u8],
+    table: &[u64],
+    count: usize,
+    chunk: usize,
+    role: Role,
+    size: Size,
+) -> ChunkRow
+    ensures { λ r. ⌜ r ≡ rowBy size (wordsOf (now (image .entry))) (now (table .entry)) count chunk role ⌝ }
 {
     match role {
         Role::Free => plain_row(0, 0),
         Role::Log(lines) => {
-            let t = counts::count_entries(image, table, chunk);
+            let t = counts::count_entries(image, table, chunk, size);
             ChunkRow {
                 refused: 0,
                 role: 1,
@@ -118,13 +127,13 @@ fn row_for(image: &[u8], table: &[u64], count: usize, chunk: usize, role: Role) 
                 used: 0,
             }
         }
-        Role::Data(size) => {
-            let blocks = blocks_of(size);
-            let used = counts::count_blocks(image, table, count, chunk);
+        Role::Data(units) => {
+            let blocks = blocks_of(size, units);
+            let used = counts::count_blocks(image, table, count, chunk, size);
             ChunkRow {
                 refused: 0,
                 role: 2,
-                size,
+                size: units,
                 live: 0,
                 deletes: 0,
                 superseded: 0,
@@ -137,14 +146,14 @@ fn row_for(image: &[u8], table: &[u64], count: usize, chunk: usize, role: Role) 
 }
 
 // The row of a chunk, 16 where the image has no such chunk.
-fn row_at(image: &[u8], table: &[u64], chunk: usize) -> ChunkRow
-    ensures { λ r. ⌜ r ≡ rowAt (wordsOf (now (image .entry))) (now (table .entry)) (chunksIn 12 (length (now (image .entry)))) chunk ⌝ }
+fn row_at(image: &[u8], table: &[u64], chunk: usize, size: Size) -> ChunkRow
+    ensures { λ r. ⌜ r ≡ rowAt size (wordsOf (now (image .entry))) (now (table .entry)) (chunksIn (powerOf size) (length (now (image .entry)))) chunk ⌝ }
 {
-    let count = image.len() / 4096;
+    let count = places::chunks_in(size, image.len());
     if 1 <= chunk {
         if chunk < count {
-            let role = directory::role_at(image, chunk);
-            return row_for(image, table, count, chunk, role);
+            let role = directory::role_at(image, chunk, size);
+            return row_for(image, table, count, chunk, role, size);
         }
     }
     plain_row(16, 0)
@@ -163,7 +172,7 @@ pub fn describe(
     let g = session::gate(control, setup, image.len(), table.len());
     match g {
         Gated::Refused(n) => plain_row(session::number(n), 0),
-        Gated::Open => row_at(image, table, chunk),
+        Gated::Open => row_at(image, table, chunk, places::size_by(setup.power)),
     }
 }
 
@@ -178,12 +187,19 @@ pub fn describe_chunk(s: &Session, image: &[u8], table: &[u64], chunk: usize) ->
 
 // A DATA CHUNK TO CLEAN
 // Whether a chunk is a data chunk none of whose blocks is live, and not below `from`.
-fn is_empty(image: &[u8], table: &[u64], count: usize, from: usize, chunk: usize) -> bool
-    ensures { λ r. ⌜ r ≡ emptyBy (wordsOf (now (image .entry))) (now (table .entry)) count from chunk ⌝ }
+fn is_empty(
+    image: &[u8],
+    table: &[u64],
+    count: usize,
+    from: usize,
+    chunk: usize,
+    size: Size,
+) -> bool
+    ensures { λ r. ⌜ r ≡ emptyBy size (wordsOf (now (image .entry))) (now (table .entry)) count from chunk ⌝ }
 {
     if from <= chunk {
-        if directory::is_data(directory::role_at(image, chunk)) {
-            let used = counts::count_blocks(image, table, count, chunk);
+        if directory::is_data(directory::role_at(image, chunk, size)) {
+            let used = counts::count_blocks(image, table, count, chunk, size);
             return used == 0;
         }
     }
@@ -191,12 +207,12 @@ fn is_empty(image: &[u8], table: &[u64], count: usize, from: usize, chunk: usize
 }
 
 // The first such chunk of an image of `count` chunks; where there is none, a number not below the count.
-fn next_empty(image: &[u8], table: &[u64], count: usize, from: usize) -> usize
-    ensures { λ r. ⌜ Stops (emptyBy (wordsOf (now (image .entry))) (now (table .entry)) count from) 1 count r ⌝ }
+fn next_empty(image: &[u8], table: &[u64], count: usize, from: usize, size: Size) -> usize
+    ensures { λ r. ⌜ Stops (emptyBy size (wordsOf (now (image .entry))) (now (table .entry)) count from) 1 count r ⌝ }
 {
     let mut c = 1;
     while c < count {
-        if is_empty(image, table, count, from, c) {
+        if is_empty(image, table, count, from, c, size) {
             return c;
         }
         c += 1;
@@ -229,8 +245,9 @@ pub fn find_empty(
     match g {
         Gated::Refused(n) => Report::Refused(n),
         Gated::Open => {
-            let count = image.len() / 4096;
-            let chunk = next_empty(image, table, count, from);
+            let size = places::size_by(setup.power);
+            let count = places::chunks_in(size, image.len());
+            let chunk = next_empty(image, table, count, from, size);
             report_of(chunk, count)
         }
     }

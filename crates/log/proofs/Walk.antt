@@ -39,33 +39,33 @@ pub remaining-start : (p n : ℕ) (ws : List ℕ) → remaining p n ws start ≡
 unfolding remaining
 remaining-start p n ws = refl
 
-pub remaining-chunk : (ws : List ℕ) (c n : ℕ) (r : Cursor) → n ≤ suc c → Opened ws c r → remaining 12 n ws r ≡ chunkEntries 12 ws c
+pub remaining-chunk : (p : ℕ) (ws : List ℕ) (c n : ℕ) (r : Cursor) → n ≤ suc c → Opened p ws c r → remaining p n ws r ≡ chunkEntries p ws c
 unfolding remaining
-remaining-chunk ws c n r h o = let e = o .chunk in let z : n - suc (r .chunk) ≡ 0 = omega arith in rw (z, o .entries) (join-none (chunkEntries 12 ws c))
+remaining-chunk p ws c n r h o = let e = o .chunk in let z : n - suc (r .chunk) ≡ 0 = omega arith in rw (z, o .entries) (join-none (chunkEntries p ws c))
 
 -- The steps, at a place of a chunk.
 
-module _ (n : ℕ) (ws : List ℕ) (chunk at end : ℕ) where
-  pub next-none : stepOf (slice at end ws) ≡ S.End → n ≤ suc chunk → remaining 12 n ws (cursorAt chunk at end) ≡ Entries []
+module _ (p n : ℕ) (ws : List ℕ) (chunk at end : ℕ) where
+  pub next-none : stepOf (slice at end ws) ≡ S.End → n ≤ suc chunk → remaining p n ws (cursorAt chunk at end) ≡ Entries []
   unfolding remaining
   next-none q h = let z : n - suc chunk ≡ 0 = omega arith in rw (parse-end (slice at end ws) at q, z)
 
-  pub next-wrong : stepOf (slice at end ws) ≡ S.Wrong → remaining 12 n ws (cursorAt chunk at end) ≡ Wrong
+  pub next-wrong : stepOf (slice at end ws) ≡ S.Wrong → remaining p n ws (cursorAt chunk at end) ≡ Wrong
   unfolding remaining
   next-wrong q = rw (parse-wrong (slice at end ws) at q)
 
-  pub next-chunk : (r : Cursor) → stepOf (slice at end ws) ≡ S.End → suc chunk < n → Opened ws (chunk + 1) r → remaining 12 n ws (cursorAt chunk at end) ≡ remaining 12 n ws r
+  pub next-chunk : (r : Cursor) → stepOf (slice at end ws) ≡ S.End → suc chunk < n → Opened p ws (chunk + 1) r → remaining p n ws (cursorAt chunk at end) ≡ remaining p n ws r
   unfolding remaining
   next-chunk r q h o =
       let s : chunk + 1 ≡ suc chunk = omega arith in
       let z : n - suc chunk ≡ suc (n - suc (suc chunk)) = omega arith in
       rw (parse-end (slice at end ws) at q, z, o .entries, o .chunk, s)
 
-  pub next-padding : stepOf (slice at end ws) ≡ S.Padding → remaining 12 n ws (cursorAt chunk at end) ≡ remaining 12 n ws (cursorAt chunk (at + 1) end)
+  pub next-padding : stepOf (slice at end ws) ≡ S.Padding → remaining p n ws (cursorAt chunk at end) ≡ remaining p n ws (cursorAt chunk (at + 1) end)
   unfolding remaining
   next-padding q = rw (parse-padding (slice at end ws) at q .1, slice-more at 1 end ws)
 
-  pub left-chunk : (r : Cursor) → suc chunk < n → Opened ws (chunk + 1) r → left n ws r < left n ws (cursorAt chunk at end)
+  pub left-chunk : (r : Cursor) → suc chunk < n → Opened p ws (chunk + 1) r → left n ws r < left n ws (cursorAt chunk at end)
   unfolding left
   left-chunk r h o =
       let e : r .chunk ≡ chunk + 1 = o .chunk in
@@ -77,7 +77,7 @@ module _ (n : ℕ) (ws : List ℕ) (chunk at end : ℕ) where
   left-padding q = let r = room-padding ws at end q in omega arith
 
   pub next-found : (op pl v x k m : ℕ) → stepOf (slice at end ws) ≡ S.Entry op pl v x k m
-      → Handed n ws (cursorAt chunk at end) op pl v x k m at (cursorAt chunk (at + (2 + m)) end)
+      → Handed p n ws (cursorAt chunk at end) op pl v x k m at (cursorAt chunk (at + (2 + m)) end)
   unfolding remaining left
   next-found op pl v x k m q =
       let r = room-entry ws at end op pl v x k m q in
@@ -93,31 +93,31 @@ module _ (n : ℕ) (ws : List ℕ) (chunk at end : ℕ) where
       }
 
 -- from an earlier cursor, from which the same remains
-pub handed-from : (n : ℕ) (ws : List ℕ) (c d : Cursor) (op pl v x k m a : ℕ) (behind : Cursor) → remaining 12 n ws c ≡ remaining 12 n ws d → left n ws d ≤ left n ws c
-    → Handed n ws d op pl v x k m a behind → Handed n ws c op pl v x k m a behind
-handed-from n ws c d op pl v x k m a behind same less h =
+pub handed-from : (p n : ℕ) (ws : List ℕ) (c d : Cursor) (op pl v x k m a : ℕ) (behind : Cursor) → remaining p n ws c ≡ remaining p n ws d → left n ws d ≤ left n ws c
+    → Handed p n ws d op pl v x k m a behind → Handed p n ws c op pl v x k m a behind
+handed-from p n ws c d op pl v x k m a behind same less h =
     let f = h .falls in
     record { whole = same ∙ h .whole; falls = omega arith; size = h .size; stands = h .stands }
 
 -- What the answer says, for a caller that goes by its case.
-module _ (n : ℕ) (ws : List ℕ) (c : Cursor) (r : Next) (told : Advanced n ws c r) where
-  pub handed : (op pl v x k m a : ℕ) (behind : Cursor) → r ≡ N.Entry op pl v x k m a behind → Handed n ws c op pl v x k m a behind
+module _ (p n : ℕ) (ws : List ℕ) (c : Cursor) (r : Next) (told : Advanced p n ws c r) where
+  pub handed : (op pl v x k m a : ℕ) (behind : Cursor) → r ≡ N.Entry op pl v x k m a behind → Handed p n ws c op pl v x k m a behind
   handed op pl v x k m a behind e = rw e at told
 
   -- one law for every pass over the log
   module _ {St : Type 0} (f : St → Entry → St) (s : St) where
-    pub fold-done : r ≡ N.Done → foldP f s (remaining 12 n ws c) ≡ some s
+    pub fold-done : r ≡ N.Done → foldP f s (remaining p n ws c) ≡ some s
     fold-done e = rw (rw e at told)
 
-    pub fold-wrong : r ≡ N.Wrong → foldP f s (remaining 12 n ws c) ≡ none
+    pub fold-wrong : r ≡ N.Wrong → foldP f s (remaining p n ws c) ≡ none
     fold-wrong e = rw (rw e at told)
 
     pub fold-entry : (op pl v x k m a : ℕ) (behind : Cursor) → r ≡ N.Entry op pl v x k m a behind
-        → foldP f s (remaining 12 n ws c) ≡ foldP f (f s (entryIn ws op pl v x k m a)) (remaining 12 n ws behind)
-    fold-entry op pl v x k m a behind e = rw (handed op pl v x k m a behind e .whole) (fold-cons f s (entryIn ws op pl v x k m a) (remaining 12 n ws behind))
+        → foldP f s (remaining p n ws c) ≡ foldP f (f s (entryIn ws op pl v x k m a)) (remaining p n ws behind)
+    fold-entry op pl v x k m a behind e = rw (handed op pl v x k m a behind e .whole) (fold-cons f s (entryIn ws op pl v x k m a) (remaining p n ws behind))
 
   -- the entries passed so far, for a caller that speaks of them
-  module _ (whole : Parsed) (xs : List Entry) (so-far : whole ≡ prepend xs (remaining 12 n ws c)) where
+  module _ (whole : Parsed) (xs : List Entry) (so-far : whole ≡ prepend xs (remaining p n ws c)) where
     pub passed-done : r ≡ N.Done → whole ≡ Entries xs
     passed-done e = so-far ∙ rw (rw e at told) (prepend-entries xs [] ∙ rw append-nil)
 
@@ -125,5 +125,5 @@ module _ (n : ℕ) (ws : List ℕ) (c : Cursor) (r : Next) (told : Advanced n ws
     passed-wrong e = so-far ∙ rw (rw e at told) (prepend-wrong xs)
 
     pub passed-entry : (op pl v x k m a : ℕ) (behind : Cursor) → r ≡ N.Entry op pl v x k m a behind
-        → whole ≡ prepend (xs ++ (entryIn ws op pl v x k m a ∷ [])) (remaining 12 n ws behind)
-    passed-entry op pl v x k m a behind e = so-far ∙ rw (handed op pl v x k m a behind e .whole) (sym (prepend-more xs (entryIn ws op pl v x k m a) (remaining 12 n ws behind)))
+        → whole ≡ prepend (xs ++ (entryIn ws op pl v x k m a ∷ [])) (remaining p n ws behind)
+    passed-entry op pl v x k m a behind e = so-far ∙ rw (handed op pl v x k m a behind e .whole) (sym (prepend-more xs (entryIn ws op pl v x k m a) (remaining p n ws behind)))

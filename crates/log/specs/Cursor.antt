@@ -29,19 +29,19 @@ unfoldable pub left : ℕ → List ℕ → Cursor → ℕ
 left n ws c = (n - c .chunk) * suc (length ws) + (min (c .end) (length ws) - c .at)
 
 -- a cursor at the beginning of chunk c
-pub record Opened (ws : List ℕ) (c : ℕ) (r : Cursor) : Type 0 where
+pub record Opened (p : ℕ) (ws : List ℕ) (c : ℕ) (r : Cursor) : Type 0 where
   pub chunk : r .chunk ≡ c
-  pub entries : parse (slice (r .at) (r .end) ws) 0 (r .at) ≡ chunkEntries 12 ws c
+  pub entries : parse (slice (r .at) (r .end) ws) 0 (r .at) ≡ chunkEntries p ws c
 
 -- what a step tells of an entry, with the cursor before it and behind it
-pub record Handed (n : ℕ) (ws : List ℕ) (before : Cursor) (op placement version field key words place : ℕ) (behind : Cursor) : Type 0 where
-  pub whole : remaining 12 n ws before ≡ cons (entryIn ws op placement version field key words place) (remaining 12 n ws behind)
+pub record Handed (p n : ℕ) (ws : List ℕ) (before : Cursor) (op placement version field key words place : ℕ) (behind : Cursor) : Type 0 where
+  pub whole : remaining p n ws before ≡ cons (entryIn ws op placement version field key words place) (remaining p n ws behind)
   pub falls : left n ws behind < left n ws before
   pub size : words ≡ wordsFor placement field
   pub stands : StandsIn ws (entryIn ws op placement version field key words place)
 
 -- a step of the walk, from a cursor, in an image of n chunks
-abbrev pub Advanced : ℕ → List ℕ → Cursor → Next → Type 0
-Advanced n ws c N.Done = remaining 12 n ws c ≡ Entries []
-Advanced n ws c N.Wrong = remaining 12 n ws c ≡ Wrong
-Advanced n ws c (N.Entry op placement version field key words place behind) = Handed n ws c op placement version field key words place behind
+abbrev pub Advanced : ℕ → ℕ → List ℕ → Cursor → Next → Type 0
+Advanced p n ws c N.Done = remaining p n ws c ≡ Entries []
+Advanced p n ws c N.Wrong = remaining p n ws c ≡ Wrong
+Advanced p n ws c (N.Entry op placement version field key words place behind) = Handed p n ws c op placement version field key words place behind

@@ -4,6 +4,7 @@ ghost use Prim.Native.Nat.{_+_, _*_, _/_, _≤_};
 ghost use lib.ListN.{length, drop};
 ghost use lib.Seq.{slice};
 ghost use Rattle.spec.specs.Words.{wordsOf};
+ghost use Rattle.places.specs.Sizes.{powerOf};
 ghost use Rattle.spec.specs.Log.{wordsFor, filled, stepOf};
 ghost use Rattle.log.specs.Cursor.{Opened, Advanced, start};
 ghost use Rattle.log.specs.Best.{raise, bestIn};
@@ -12,6 +13,7 @@ use codec::first_of;
 use directory::lines_of;
 use spec::FirstWord;
 use spec::LogStep;
+use spec::Size;
 use words::lesser;
 use words::load;
 
@@ -170,10 +172,10 @@ pub fn first_cursor() -> Cursor
 }
 
 // The beginning of chunk c; a chunk past the image has no words.
-pub fn chunk_cursor(img: &[u8], c: usize) -> Cursor
-    ensures { λ r. ⌜ Opened (wordsOf (now (img .entry))) c r ⌝ }
+pub fn chunk_cursor(img: &[u8], c: usize, size: Size) -> Cursor
+    ensures { λ r. ⌜ Opened (powerOf size) (wordsOf (now (img .entry))) c r ⌝ }
 {
-    let n = img.len() / 4096;
+    let n = places::chunks_in(size, img.len());
     if n < c {
         return Cursor {
             chunk: c,
@@ -181,8 +183,8 @@ pub fn chunk_cursor(img: &[u8], c: usize) -> Cursor
             end: 0,
         };
     }
-    let lines = lines_of(img, c);
-    let at = 512 * c;
+    let lines = lines_of(img, c, size);
+    let at = places::first_word(size, c);
     Cursor {
         chunk: c,
         at,
@@ -191,8 +193,8 @@ pub fn chunk_cursor(img: &[u8], c: usize) -> Cursor
 }
 
 // The next entry from a cursor, in the log of an image of `count` chunks: past padding, and on to the next chunks.
-pub fn next_in_log(img: &[u8], count: usize, cursor: Cursor) -> Next
-    ensures { λ r. ⌜ Advanced count (wordsOf (now (img .entry))) cursor r ⌝ }
+pub fn next_in_log(img: &[u8], count: usize, cursor: Cursor, size: Size) -> Next
+    ensures { λ r. ⌜ Advanced (powerOf size) count (wordsOf (now (img .entry))) cursor r ⌝ }
 {
     let mut chunk = cursor.chunk;
     let mut at = cursor.at;
@@ -207,7 +209,7 @@ pub fn next_in_log(img: &[u8], count: usize, cursor: Cursor) -> Next
                 if count - chunk == 1 {
                     return Next::Done;
                 }
-                let next = chunk_cursor(img, chunk + 1);
+                let next = chunk_cursor(img, chunk + 1, size);
                 chunk = next.chunk;
                 at = next.at;
                 end = next.end;
@@ -258,8 +260,8 @@ fn raised(best: Best, key: u64, k: u64, version: u64, place: usize) -> Best
 }
 
 // The chosen top entry of a key, by a scan of the log of an image of `count` chunks; none where an entry is wrong.
-pub fn best_of(img: &[u8], count: usize, key: u64) -> Best
-    ensures { λ r. ⌜ r ≡ bestIn 12 count (wordsOf (now (img .entry))) key ⌝ }
+pub fn best_of(img: &[u8], count: usize, key: u64, size: Size) -> Best
+    ensures { λ r. ⌜ r ≡ bestIn (powerOf size) count (wordsOf (now (img .entry))) key ⌝ }
 {
     let mut best = Best {
         version: 0,
@@ -267,7 +269,7 @@ pub fn best_of(img: &[u8], count: usize, key: u64) -> Best
     };
     let mut cursor = first_cursor();
     loop {
-        let n = next_in_log(img, count, cursor);
+        let n = next_in_log(img, count, cursor, size);
         match n {
             Next::Done => {
                 return best;

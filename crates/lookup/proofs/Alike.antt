@@ -10,11 +10,11 @@ use Rattle.spec.specs.Machine.{State}
 use Rattle.spec.specs.Reopening.{Same}
 use Rattle.spec.specs.declared.Refusal.{Refusal}
 use Rattle.session.specs.declared.Session.{Session}
-use Rattle.session.specs.State.{stateOf, limit}
+use Rattle.session.specs.State.{stateOf}
 use Rattle.session.specs.Fits.{Proper, Fits}
 
 -- a gate, look-up's or that of the other calls
-module _ (ask : State → ℕ → ℕ → Option Refusal) (s t : Session) (image other table beside : List ℕ) (w : Same Proper stateOf Fits 12 limit s t image other table beside) where
+module _ (ask : State → ℕ → ℕ → Option Refusal) (s t : Session) (image other table beside : List ℕ) (w : Same Proper stateOf Fits s t image other table beside) where
   pub gates : ask (stateOf t) (length other) (length beside) ≡ ask (stateOf s) (length image) (length table)
   gates = rw (w .state, w .bytes, w .lengths)
 

@@ -10,23 +10,26 @@ use lib.Dec.{eqb, ltb}
 use lib.ListN.{length, getD}
 use Rattle.spec.specs.Basics.{pick, filter}
 use Rattle.spec.specs.Words.{wordsOf}
-use Rattle.spec.specs.Places.{basePower, unitWord, chunksIn}
+use Rattle.spec.specs.Places.{unitWord, chunksIn}
 use Rattle.spec.specs.Log.{Entry, Entries, imageEntries}
 use Rattle.spec.specs.Contents.{listed, keysOf, capacity, entriesIn}
 use Rattle.theory_base.proofs.Lists.{filter-length}
 use Rattle.theory_base.proofs.PutBack.{Past, past-flip}
-use Rattle.spec.specs.Machine.{readGate}
+use Rattle.spec.specs.Machine.{statePower, readGate}
 use Rattle.session.specs.declared.Control.{Control}
 use Rattle.session.specs.declared.Setup.{Setup}
+use Rattle.spec.specs.declared.Size.{Size}
 use Rattle.spec.specs.declared.Refusal.{Refusal}
 use Rattle.spec.specs.declared.Refusal.the-variants as N
+use Rattle.places.specs.Sizes.{powerOf}
 use Rattle.theory_crash.specs.Accepted.{Ok}
-use Rattle.theory_crash.proofs.Opening.{opens-ok}
+use Rattle.theory_crash.proofs.Opening.{opens-at}
+use Rattle.packing.specs.Packed.{unpackOf}
 use Rattle.index.specs.Index.{get}
 use Rattle.volatile.specs.Known.{Indexed}
 use Rattle.order.specs.Order.{Taking}
 use Rattle.order.proofs.Rising.{order-length}
-use Rattle.session.specs.State.{stateAt}
+use Rattle.session.specs.State.{sizeIn, powerIn, stateAt}
 use Rattle.session.specs.Fits.{Fits}
 use Rattle.session.specs.declared.Gated.{Gated}
 use Rattle.session.specs.declared.Gated.the-variants as G
@@ -38,20 +41,21 @@ use Rattle.lookup.specs.declared.Listed.the-variants as L
 use Rattle.lookup.specs.declared.Counted.the-variants as C
 use Rattle.lookup.specs.Listing.{present, presentKeys, byWord, isPresent}
 use Rattle.lookup.specs.Contract.{Taken, Gathering, wordsRead, ListingKeys, AbsentOr, ListingKey}
+use Rattle.lookup.proofs.Looks.{read-power}
 use Rattle.lookup.proofs.Entries.{word-listed}
 use Rattle.lookup.proofs.Slots.{present-listed}
 
 -- ## A slot
 
-module _ (ws : List ℕ) (key word kept : ℕ) (out : List ℕ) (r : Listed) (is : r ≡ byWord ws word) where
-  pub taken-none : (n : Refusal) → r ≡ L.Refused n → Taken ws key word out out kept kept 0
+module _ (size : Size) (ws : List ℕ) (key word kept : ℕ) (out : List ℕ) (r : Listed) (is : r ≡ byWord size ws word) where
+  pub taken-none : (n : Refusal) → r ≡ L.Refused n → Taken size ws key word out out kept kept 0
   taken-none n e =
-      let h : isPresent (byWord ws word) ≡ false = ap isPresent (sym is ∙ e) in
+      let h : isPresent (byWord size ws word) ≡ false = ap isPresent (sym is ∙ e) in
       record { sized = refl; counts = rw h; grows = omega arith; fits = λ l. (omega arith, l); behind = λ i l. refl; takes = λ ks q new. rw h q }
 
-  pub taken-some : (v n : ℕ) (b : Bool) (out′ : List ℕ) (kept′ : ℕ) → r ≡ L.Present v n b → Taking out out′ kept key kept′ → Taken ws key word out out′ kept kept′ 1
+  pub taken-some : (v n : ℕ) (b : Bool) (out′ : List ℕ) (kept′ : ℕ) → r ≡ L.Present v n b → Taking out out′ kept key kept′ → Taken size ws key word out out′ kept kept′ 1
   taken-some v n b out′ kept′ e t =
-      let h : isPresent (byWord ws word) ≡ true = ap isPresent (sym is ∙ e) in
+      let h : isPresent (byWord size ws word) ≡ true = ap isPresent (sym is ∙ e) in
       record {
         sized = t .sized;
         counts = rw h;
@@ -65,30 +69,38 @@ module _ (ws : List ℕ) (key word kept : ℕ) (out : List ℕ) (r : Listed) (is
 
 -- the words of an open register that look-up reads, which are the image's past the directory, and the table of their
 -- entries
-pub record Register (ws vs : List ℕ) (bytes : ℕ) (table : List ℕ) : Type 0 where
+pub record Register (size : Size) (ws vs : List ℕ) (bytes : ℕ) (table : List ℕ) : Type 0 where
   pub chunks : ℕ
   pub keys : ℕ
   pub entries : List Entry
-  pub ok : Ok 12 chunks vs entries
+  pub ok : Ok (powerOf size) chunks vs entries
   pub sees : Past ws vs
-  pub indexed : Indexed table keys entries
-  pub same : entriesIn basePower (chunksIn basePower bytes) vs ≡ entries
+  pub indexed : Indexed size table keys entries
+  pub same : entriesIn (powerOf size) (chunksIn (powerOf size) bytes) vs ≡ entries
 
 pub register : (c : Control) (k : Setup) (b bytes table : List ℕ) → readGate (stateAt c k b) (length bytes) (length table) ≡ none → Fits (sessionOf c k b) (wordsOf bytes) table
-    → Register (wordsOf bytes) (wordsRead c k b bytes) (length bytes) table
+    → Register (sizeIn k) (wordsOf bytes) (wordsRead c k b bytes) (length bytes) table
 register c k b bytes table g f =
     let a = read-at (sessionOf c k b) (length bytes) (length table) (wordsOf bytes) table g f in
     let vs : List ℕ = wordsRead c k b bytes in
-    let o = opens-ok 12 (omega arith) (omega arith) (k .image) (k .table) vs (a .entries) (a .past .long ∙ a .long) (a .accepted) in
-    let n : chunksIn 12 (k .image) ≡ chunksIn 12 (length bytes) = ap (chunksIn 12) (a .same-bytes) in
-    let p : imageEntries 12 (chunksIn 12 (length bytes)) vs ≡ Entries (a .entries) = rw n at (o .0 .parsed) in
-    record { chunks = chunksIn 12 (k .image); keys = c .keys; entries = a .entries; ok = o .0; sees = past-flip vs (wordsOf bytes) (a .past); indexed = a .built .indexed; same = ap listed p }
+    let o = opens-at (powerIn k) (k .image) (k .table) vs (a .entries) (a .accepted .power) (a .past .long ∙ a .long) (a .accepted .accepts) in
+    let n : chunksIn (powerIn k) (k .image) ≡ chunksIn (powerIn k) (length bytes) = ap (chunksIn (powerIn k)) (a .same-bytes) in
+    let p : imageEntries (powerIn k) (chunksIn (powerIn k) (length bytes)) vs ≡ Entries (a .entries) = rw n at (o .0 .parsed) in
+    record {
+      chunks = chunksIn (powerIn k) (k .image);
+      keys = c .keys;
+      entries = a .entries;
+      ok = o .0;
+      sees = past-flip vs (wordsOf bytes) (a .past);
+      indexed = a .built .indexed;
+      same = ap listed p;
+    }
 
 -- it has no more keys than the table holds
-pub present-fit : (ws vs : List ℕ) (bytes : ℕ) (table : List ℕ) → Register ws vs bytes table → length (presentKeys vs (entriesIn basePower (chunksIn basePower bytes) vs)) ≤ capacity (length table)
+pub present-fit : (size : Size) (ws vs : List ℕ) (bytes : ℕ) (table : List ℕ) → Register size ws vs bytes table → length (presentKeys vs (entriesIn (powerOf size) (chunksIn (powerOf size) bytes) vs)) ≤ capacity (length table)
 unfolding presentKeys
-present-fit ws vs bytes table r =
-    let es : List Entry = entriesIn basePower (chunksIn basePower bytes) vs in
+present-fit size ws vs bytes table r =
+    let es : List Entry = entriesIn (powerOf size) (chunksIn (powerOf size) bytes) vs in
     let a = order-length (filter (present vs es) (keysOf es)) in
     let b = filter-length (present vs es) (keysOf es) in
     let c : r .keys ≡ length (keysOf es) = rw (r .same) (r .indexed .count) in
@@ -96,17 +108,17 @@ present-fit ws vs bytes table r =
     omega arith
 
 -- 11 alone is refused of a word
-word-absent : (ws : List ℕ) (word : ℕ) → AbsentOr (byWord ws word)
+word-absent : (size : Size) (ws : List ℕ) (word : ℕ) → AbsentOr (byWord size ws word)
 unfolding byWord
-word-absent ws word = go (eqb word 0) (ltb 0 (word % 0x100)) (eqb (w % 16) 1) (eqb (w % 16) 5)
+word-absent size ws word = go (eqb word 0) (ltb 0 (unpackOf size word .extent)) (eqb (w % 16) 1) (eqb (w % 16) 5)
   where
     w : ℕ
-    w = getD ws (word / 0x100 % 0x4_0000) 0
+    w = getD ws (unpackOf size word .place) 0
 
     v : ℕ
-    v = word / 0x400_0000 % 0x10_0000
+    v = unpackOf size word .version
 
-    go : (b1 b2 b3 b4 : Bool) → AbsentOr (pick b1 (L.Refused N.KeyAbsent) (pick b2 (L.Present v (word % 0x100 + 1) false)
+    go : (b1 b2 b3 b4 : Bool) → AbsentOr (pick b1 (L.Refused N.KeyAbsent) (pick b2 (L.Present v (unpackOf size word .extent + 1) false)
         (pick b3 (L.Present v (w / 16777216) false) (pick b4 (L.Present v (getD ws (unitWord (w / 16777216)) 0) true) (L.Refused N.KeyAbsent)))))
     go true b2 b3 b4 = refl
     go false true b3 b4 = tt
@@ -126,7 +138,7 @@ module _ (c : Control) (k : Setup) (bytes table : List ℕ) (g : Gated) (asks : 
   pub keys-refused : (out : List ℕ) (n : Refusal) → g ≡ G.Refused n → ListingKeys c k bytes table out out (C.Refused n)
   keys-refused out n e = record { sized = refl; answered = (is-refused n e, refl) }
 
-  pub keys-open : (out out′ : List ℕ) (count : ℕ) → g ≡ G.Open → Gathering (wordsOf bytes) table out out′ count → ListingKeys c k bytes table out out′ (C.Keys count)
+  pub keys-open : (out out′ : List ℕ) (count : ℕ) → g ≡ G.Open → Gathering (sizeIn k) (wordsOf bytes) table out out′ count → ListingKeys c k bytes table out out′ (C.Keys count)
   keys-open out out′ count e h = record {
     sized = h .sized;
     answered = (
@@ -135,7 +147,7 @@ module _ (c : Control) (k : Setup) (bytes table : List ℕ) (g : Gated) (asks : 
       h .behind,
       λ b f.
           let r = register c k b bytes table (is-open e b) f in
-          rw (r .same) (present-listed (r .chunks) (wordsOf bytes) (wordsRead c k b bytes) (r .entries) (r .ok) (r .sees) table (r .keys) (r .indexed) out out′ count h),
+          rw (read-power (sessionOf c k b) (length bytes) (length table) (is-open e b), r .same) (present-listed (sizeIn k) (r .chunks) (wordsOf bytes) (wordsRead c k b bytes) (r .entries) (r .ok) (r .sees) table (r .keys) (r .indexed) out out′ count h),
     );
   }
 
@@ -148,11 +160,11 @@ module _ (c : Control) (k : Setup) (bytes table : List ℕ) (g : Gated) (asks : 
     listed = λ b h f. absurd (let q = is-refused n e b in let z : _≡_ {A = ℕ} 0 1 = cc in omega arith);
   }
 
-  pub key-open : (key word : ℕ) (r : Listed) → g ≡ G.Open → word ≡ get table key → r ≡ byWord (wordsOf bytes) word → ListingKey c k key bytes table r
+  pub key-open : (key word : ℕ) (r : Listed) → g ≡ G.Open → word ≡ get table key → r ≡ byWord (sizeIn k) (wordsOf bytes) word → ListingKey c k key bytes table r
   key-open key word r e w h = record {
     gated = λ b n q. absurd (let o = is-open e b in let z : _≡_ {A = ℕ} 0 1 = cc in omega arith);
-    behind = λ b q. rw h (word-absent (wordsOf bytes) word);
+    behind = λ b q. rw h (word-absent (sizeIn k) (wordsOf bytes) word);
     listed = λ b q f.
         let s = register c k b bytes table (is-open e b) f in
-        h ∙ ap (byWord (wordsOf bytes)) w ∙ rw (s .same) (word-listed (s .chunks) (wordsOf bytes) (wordsRead c k b bytes) (s .entries) (s .ok) (s .sees) table (s .keys) (s .indexed) key);
+        h ∙ ap (byWord (sizeIn k) (wordsOf bytes)) w ∙ rw (read-power (sessionOf c k b) (length bytes) (length table) (is-open e b), s .same) (word-listed (sizeIn k) (s .chunks) (wordsOf bytes) (wordsRead c k b bytes) (s .entries) (s .ok) (s .sees) table (s .keys) (s .indexed) key);
   }

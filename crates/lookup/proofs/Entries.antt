@@ -19,6 +19,8 @@ use Rattle.spec.specs.Words.{valueBytes}
 use Rattle.spec.specs.Contents.{Absent, Value, chosen, meaning, held}
 use Rattle.spec.specs.Plans.{lookUp, partOr}
 use Rattle.spec.specs.declared.Report.the-variants as R
+use Rattle.spec.specs.declared.Size.{Size}
+use Rattle.spec.specs.declared.Size.the-variants as S
 use Rattle.spec.specs.declared.Refusal.the-variants as N
 use Rattle.theory_log.specs.Batch.{Kind, put, block, delete}
 use Rattle.theory_log.proofs.Contents.{chosen-is}
@@ -28,9 +30,10 @@ use Rattle.theory_log.proofs.Tops.{chosen-top}
 use Rattle.theory_crash.specs.Accepted.{Ok}
 use Rattle.theory_crash.proofs.Far.{entry-far, block-far}
 use Rattle.log.proofs.Stands.{image-stands}
-use Rattle.index.specs.declared.Info.{Info}
+use Rattle.places.specs.Sizes.{powerOf, power-low, power-high}
+use Rattle.packing.specs.declared.Info.{Info}
+use Rattle.packing.specs.Packed.{unpackOf}
 use Rattle.index.specs.Index.{get}
-use Rattle.index.specs.Packed.{unpackOf}
 use Rattle.volatile.specs.Known.{extentOf, Bounded, Indexed}
 use Rattle.volatile.proofs.Image.{image-bounded}
 use Rattle.volatile.proofs.Grow.{found-none, found-chosen}
@@ -41,32 +44,35 @@ use Rattle.lookup.specs.Listing.{isValue, present, valueLength, listedOr
 -- ## An entry
 
 -- the entry's own words say what is listed; vs and ws have the same length word of a block
-kind-listed : (ws vs : List ℕ) (w op pl v x : ℕ) → Kind op pl x → w % 16 ≡ op + 4 * pl → w / 16777216 ≡ x → (both (eqb op 1) (eqb pl 1) ≡ true → getD ws (unitWord x) 0 ≡ getD vs (unitWord x) 0)
-    → pick (ltb 0 (extentOf pl x)) (L.Present v (extentOf pl x + 1) false) (byEntry ws v w)
+kind-listed : (size : Size) (ws vs : List ℕ) (w op pl v x : ℕ) → Kind op pl x → w % 16 ≡ op + 4 * pl → w / 16777216 ≡ x → (both (eqb op 1) (eqb pl 1) ≡ true → getD ws (unitWord x) 0 ≡ getD vs (unitWord x) 0)
+    → pick (ltb 0 (extentOf size pl x)) (L.Present v (extentOf size pl x + 1) false) (byEntry ws v w)
     ≡ pick (eqb op 1) (L.Present v (pick (both (eqb op 1) (eqb pl 1)) (getD vs (unitWord x) 0) x) (both (eqb op 1) (eqb pl 1))) (L.Refused N.KeyAbsent)
-kind-listed ws vs w op pl v x (put l) a b same =
+kind-listed S.Small ws vs w op pl v x (put l) a b same =
     by-cases (decLt 1 x)
-    (λ m. rw (lt-ltb 0 (extentOf 0 x) (omega arith)) (let e : extentOf 0 x + 1 ≡ x = omega arith in rw e))
-    (λ m. rw (le-ltb 0 (extentOf 0 x) (omega arith), a, b))
-kind-listed ws vs w op pl v x block a b same = rw (a, b, same refl)
-kind-listed ws vs w op pl v x delete a b same = rw a
+    (λ m. rw (lt-ltb 0 (extentOf S.Small 0 x) (omega arith)) (let e : extentOf S.Small 0 x + 1 ≡ x = omega arith in rw e))
+    (λ m. rw (le-ltb 0 (extentOf S.Small 0 x) (omega arith), a, b))
+kind-listed S.Small ws vs w op pl v x block a b same = rw (a, b, same refl)
+kind-listed S.Small ws vs w op pl v x delete a b same = rw a
+kind-listed S.Large ws vs w op pl v x (put l) a b same = rw (a, b)
+kind-listed S.Large ws vs w op pl v x block a b same = rw (a, b, same refl)
+kind-listed S.Large ws vs w op pl v x delete a b same = rw a
 
 -- by the words ws, which are vs past the directory
-entry-listed : (n : ℕ) (ws vs : List ℕ) (es : List Entry) → Ok 12 n vs es → Past ws vs → (k : ℕ) (e : Entry) → chosen k es ≡ some e
-    → byParts ws (extentOf (e .placement) (e .field)) (e .at) (e .version) ≡ listedOr vs (some e)
-entry-listed n ws vs es ok sees k e c =
+entry-listed : (size : Size) (n : ℕ) (ws vs : List ℕ) (es : List Entry) → Ok (powerOf size) n vs es → Past ws vs → (k : ℕ) (e : Entry) → chosen k es ≡ some e
+    → byParts ws (extentOf size (e .placement) (e .field)) (e .at) (e .version) ≡ listedOr vs (some e)
+entry-listed size n ws vs es ok sees k e c =
     let i = chosen-is k es e c .in-list in
-    let stands = image-stands 12 (omega arith) (omega arith) n vs es (ok .parsed) e i in
+    let stands = image-stands (powerOf size) (power-low size) (power-high size) n vs es (ok .parsed) e i in
     let w = getD vs (e .at) 0 in
     let h = head-first w (e .op) (e .placement) (e .version) (e .field) (stands .first) in
     let l = kind-small (e .op) (e .placement) (e .field) (stands .right .kind) in
     let v = stands .right .high in
     let a : w % 16 ≡ e .op + 4 * e .placement = omega arith in
     let b : w / 16777216 ≡ e .field = omega arith in
-    let same : getD ws (e .at) 0 ≡ w = sees .same (e .at) (entry-far 12 (omega arith) (omega arith) n vs es ok e i) in
-    ap (λ (x : ℕ). pick (ltb 0 (extentOf (e .placement) (e .field))) (L.Present (e .version) (extentOf (e .placement) (e .field) + 1) false) (byEntry ws (e .version) x)) same
-    ∙ kind-listed ws vs w (e .op) (e .placement) (e .version) (e .field) (stands .right .kind) a b
-    (λ g. sees .same (unitWord (e .field)) (block-far 12 (omega arith) (omega arith) n vs es ok e (chosen-top k es e c) g))
+    let same : getD ws (e .at) 0 ≡ w = sees .same (e .at) (entry-far (powerOf size) (power-low size) (power-high size) n vs es ok e i) in
+    ap (λ (x : ℕ). pick (ltb 0 (extentOf size (e .placement) (e .field))) (L.Present (e .version) (extentOf size (e .placement) (e .field) + 1) false) (byEntry ws (e .version) x)) same
+    ∙ kind-listed size ws vs w (e .op) (e .placement) (e .version) (e .field) (stands .right .kind) a b
+    (λ g. sees .same (unitWord (e .field)) (block-far (powerOf size) (power-low size) (power-high size) n vs es ok e (chosen-top k es e c) g))
   where
     kind-small : (op pl x : ℕ) → Kind op pl x → op + 4 * pl < 16
     kind-small op pl x (put l) = omega arith
@@ -84,41 +90,41 @@ module _ (ws : List ℕ) (version word : ℕ) where
   pub by-none : (word % 16 ≡ 1 → ⊥) → (word % 16 ≡ 5 → ⊥) → L.Refused N.KeyAbsent ≡ byEntry ws version word
   by-none a b = sym (rw (ne-eqb (word % 16) 1 a, ne-eqb (word % 16) 5 b))
 
-module _ (ws : List ℕ) (word : ℕ) where
-  pub by-empty : word ≡ 0 → L.Refused N.KeyAbsent ≡ byWord ws word
+module _ (size : Size) (ws : List ℕ) (word : ℕ) where
+  pub by-empty : word ≡ 0 → L.Refused N.KeyAbsent ≡ byWord size ws word
   unfolding byWord
   by-empty z = sym (rw (eq-eqb word 0 z))
 
-  module _ (info : Info) (nz : word ≡ 0 → ⊥) (is : info ≡ unpackOf word) where
-    parts : byWord ws word ≡ byParts ws (info .extent) (info .place) (info .version)
+  module _ (info : Info) (nz : word ≡ 0 → ⊥) (is : info ≡ unpackOf size word) where
+    parts : byWord size ws word ≡ byParts ws (info .extent) (info .place) (info .version)
     unfolding byWord
     parts = rw (ne-eqb word 0 nz, is)
 
-    pub by-extent : 0 < info .extent → L.Present (info .version) (info .extent + 1) false ≡ byWord ws word
+    pub by-extent : 0 < info .extent → L.Present (info .version) (info .extent + 1) false ≡ byWord size ws word
     by-extent l = sym (parts ∙ rw (lt-ltb 0 (info .extent) l))
 
-    pub by-place : (r : Listed) (w : ℕ) → info .extent ≤ 0 → w ≡ getD ws (info .place) 0 → r ≡ byEntry ws (info .version) w → r ≡ byWord ws word
+    pub by-place : (r : Listed) (w : ℕ) → info .extent ≤ 0 → w ≡ getD ws (info .place) 0 → r ≡ byEntry ws (info .version) w → r ≡ byWord size ws word
     by-place r w l e h = h ∙ sym (parts ∙ rw (le-ltb 0 (info .extent) l, ← e))
 
 -- ## The table's word
 
 -- the table of an accepted image with the words vs, which ws are past the directory
-module _ (n : ℕ) (ws vs : List ℕ) (es : List Entry) (ok : Ok 12 n vs es) (sees : Past ws vs) (table : List ℕ) (keys : ℕ) (inv : Indexed table keys es) where
-  small : Bounded es
-  small = image-bounded n vs es (ok .parsed) (ok .most)
+module _ (size : Size) (n : ℕ) (ws vs : List ℕ) (es : List Entry) (ok : Ok (powerOf size) n vs es) (sees : Past ws vs) (table : List ℕ) (keys : ℕ) (inv : Indexed size table keys es) where
+  small : Bounded size es
+  small = image-bounded size n vs es (ok .parsed) (ok .most)
 
-  pub word-listed : (k : ℕ) → byWord ws (get table k) ≡ listedOf vs es k
+  pub word-listed : (k : ℕ) → byWord size ws (get table k) ≡ listedOf vs es k
   unfolding byWord listedOf
   word-listed k =
       by-cases (ℕ-discrete (get table k) 0)
-      (λ z. rw (eq-eqb (get table k) 0 z, found-none table keys es inv small k (get table k) refl z))
+      (λ z. rw (eq-eqb (get table k) 0 z, found-none size table keys es inv small k (get table k) refl z))
       (λ nz.
-      let f = found-chosen table keys es inv small k (get table k) refl nz in
+      let f = found-chosen size table keys es inv small k (get table k) refl nz in
       let e = f .0 in
-      let x : unpackOf (get table k) .extent ≡ extentOf (e .placement) (e .field) = ap (λ (j : Info). j .extent) (f .2) in
-      let p : unpackOf (get table k) .place ≡ e .at = ap (λ (j : Info). j .place) (f .2) in
-      let v : unpackOf (get table k) .version ≡ e .version = ap (λ (j : Info). j .version) (f .2) in
-      rw (ne-eqb (get table k) 0 nz, x, p, v, f .1) (entry-listed n ws vs es ok sees k e (f .1)))
+      let x : unpackOf size (get table k) .extent ≡ extentOf size (e .placement) (e .field) = ap (λ (j : Info). j .extent) (f .2) in
+      let p : unpackOf size (get table k) .place ≡ e .at = ap (λ (j : Info). j .place) (f .2) in
+      let v : unpackOf size (get table k) .version ≡ e .version = ap (λ (j : Info). j .version) (f .2) in
+      rw (ne-eqb (get table k) 0 nz, x, p, v, f .1) (entry-listed size n ws vs es ok sees k e (f .1)))
 
 -- ## The register
 

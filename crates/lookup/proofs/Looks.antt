@@ -1,11 +1,12 @@
 -- What the code shows of a look-up: the part of the entry that the table names is the definition's answer.
 -- Assumes nothing.
 use mathlib.Core.Path.{_≡_, refl, sym, _∙_, ap}
-use mathlib.Core.Logic.{inl, inr}
+use mathlib.Core.Logic.{inl, inr, by-cases}
 use mathlib.Core.Bool.{Bool, true, false}
 use mathlib.Core.Option.{none, some}
 use mathlib.Core.List.{List, []}
 use Prim.Native.Nat.{ℕ, _+_, _-_, _*_, _/_, _%_, _^_, _≤_, _<_, min}
+use native.Mathlib.Decide.{ℕ-discrete}
 use native.Mathlib.Omega.{arith}
 use lib.Dec.{eqb, leb}
 use lib.ListN.{length, getD, take, drop}
@@ -18,15 +19,19 @@ use Rattle.spec.specs.Log.{Entry, Entries, wordsFor, imageEntries}
 use Rattle.spec.specs.Blocks.{pointed}
 use Rattle.spec.specs.Contents.{chosen}
 use Rattle.spec.specs.Reports.{isRefused, number}
-use Rattle.spec.specs.Plans.{maxVersion, partOr, lookUp}
-use Rattle.spec.specs.Machine.{LookUp, State, readGate, readWords, answer, next}
+use Rattle.spec.specs.Medium.{Action}
+use Rattle.spec.specs.Plans.{Staging, Committing, Cleaning, Olds, maxVersion, partOr, lookUp}
+use Rattle.spec.specs.Machine.{LookUp, State, Closed, Rest, Busy, Formatting, statePower, readGate, readWords, answer, next}
 use Rattle.spec.specs.Contract.{Changed, Anyway, Outcome}
 use Rattle.session.specs.declared.Control.{Control}
 use Rattle.session.specs.declared.Setup.{Setup}
 use Rattle.session.specs.declared.Session.{Session}
+use Rattle.spec.specs.declared.Size.{Size}
+use Rattle.spec.specs.declared.Size.the-variants as S
 use Rattle.spec.specs.declared.Refusal.{Refusal}
 use Rattle.spec.specs.declared.Refusal.the-variants as N
 use Rattle.spec.specs.declared.Report.the-variants as R
+use Rattle.places.specs.Sizes.{powerOf, power-low, power-high}
 use Rattle.words.specs.Image.{length-wordsOf}
 use Rattle.theory_base.proofs.Lists.{pick-e, pick-same}
 use Rattle.theory_base.proofs.Places.{base-apart, unit-place, units-words}
@@ -37,17 +42,17 @@ use Rattle.theory_log.proofs.Tops.{chosen-top}
 use Rattle.theory_crash.proofs.Far.{entry-far, block-far}
 use Rattle.theory_log.proofs.Stands.{head-first}
 use Rattle.theory_crash.specs.Accepted.{Ok}
-use Rattle.theory_crash.proofs.Opening.{opens-ok}
+use Rattle.theory_crash.proofs.Opening.{opens-at}
 use Rattle.theory_crash.proofs.Blocks as Blocks
 use Rattle.log.specs.Stands.{StandsIn}
 use Rattle.log.proofs.Stands.{take-drop, image-stands}
-use Rattle.index.specs.declared.Info.{Info}
+use Rattle.packing.specs.declared.Info.{Info}
+use Rattle.packing.specs.Packed.{unpackOf, unpack-few}
 use Rattle.index.specs.Index.{get}
-use Rattle.index.specs.Packed.{unpackOf}
-use Rattle.volatile.specs.Known.{extentOf, Bounded}
+use Rattle.volatile.specs.Known.{extentOf, Bounded, Indexed}
 use Rattle.volatile.proofs.Image.{image-bounded}
 use Rattle.volatile.proofs.Grow.{found-none, found-chosen}
-use Rattle.session.specs.State.{stateOf, limit}
+use Rattle.session.specs.State.{sizeIn, powerIn, stateAt, stateOf}
 use Rattle.session.specs.Fits.{Fits}
 use Rattle.lookup.specs.declared.Located.{Located}
 use Rattle.lookup.specs.declared.Located.the-variants as L
@@ -117,10 +122,11 @@ entry-part bytes ws e stands has blocks logs =
     go true false x y = rw (le-leb _ _ (y refl refl))
 
 -- an extent is that of a put with its value in the log, of more than one byte
-extent-kind : (op pl x : ℕ) → Kind op pl x → 0 < extentOf pl x → (eqb op 1 ≡ true) × (eqb pl 1 ≡ false) × (extentOf pl x + 1 ≡ x)
-extent-kind op pl x (put l) m = (refl, refl, omega arith)
-extent-kind op pl x block m = absurd (omega arith)
-extent-kind op pl x delete m = absurd (omega arith)
+extent-kind : (size : Size) (op pl x : ℕ) → Kind op pl x → 0 < extentOf size pl x → (eqb op 1 ≡ true) × (eqb pl 1 ≡ false) × (extentOf size pl x + 1 ≡ x)
+extent-kind S.Small op pl x (put l) m = (refl, refl, omega arith)
+extent-kind S.Small op pl x block m = absurd (omega arith)
+extent-kind S.Small op pl x delete m = absurd (omega arith)
+extent-kind S.Large op pl x kind m = absurd (omega arith)
 
 log-words : (op pl x : ℕ) → Kind op pl x → eqb pl 1 ≡ false → x ≤ 8 * wordsFor pl x
 log-words op pl x (put l) h = omega arith
@@ -148,9 +154,9 @@ part-moves vn bytes ws vs place w h = go (eqb (w % 16) 5) (eqb-true (w % 16) 5)
     go true f = ap (λ (x : ℕ). pick (eqb (w % 16) 1) (within vn bytes (8 * (place + 2)) (w / 16777216)) (within vn bytes (8 * (unitWord (w / 16777216) + 1)) x)) (h (f refl))
     go false f = refl
 
-module _ (n : ℕ) (bytes ws : List ℕ) (es : List Entry) (ok : Ok 12 n ws es) (sees : Past (wordsOf bytes) ws) where
-  small : Bounded es
-  small = image-bounded n ws es (ok .parsed) (ok .most)
+module _ (size : Size) (n : ℕ) (bytes ws : List ℕ) (es : List Entry) (ok : Ok (powerOf size) n ws es) (sees : Past (wordsOf bytes) ws) where
+  small : Bounded size es
+  small = image-bounded size n ws es (ok .parsed) (ok .most)
 
   -- the words of the image lie in its bytes
   long : 8 * length ws ≤ length bytes
@@ -158,7 +164,7 @@ module _ (n : ℕ) (bytes ws : List ℕ) (es : List Entry) (ok : Ok 12 n ws es) 
 
   module _ (k : ℕ) (e : Entry) (h : chosen k es ≡ some e) where
     stands : StandsIn ws e
-    stands = image-stands 12 (omega arith) (omega arith) n ws es (ok .parsed) e (chosen-is k es e h .in-list)
+    stands = image-stands (powerOf size) (power-low size) (power-high size) n ws es (ok .parsed) e (chosen-is k es e h .in-list)
 
     in-log : eqb (e .op) 1 ≡ true → eqb (e .placement) 1 ≡ false → 8 * (e .at + 2) + e .field ≤ length bytes
     in-log o l =
@@ -168,16 +174,16 @@ module _ (n : ℕ) (bytes ws : List ℕ) (es : List Entry) (ok : Ok 12 n ws es) 
         omega arith
 
     -- the part of a value whose extent the table holds
-    chosen-extent : 0 < extentOf (e .placement) (e .field) → reportOf (within (e .version) (length bytes) (8 * (e .at + 2)) (extentOf (e .placement) (e .field) + 1)) ≡ lookUp ws es k
+    chosen-extent : 0 < extentOf size (e .placement) (e .field) → reportOf (within (e .version) (length bytes) (8 * (e .at + 2)) (extentOf size (e .placement) (e .field) + 1)) ≡ lookUp ws es k
     unfolding lookUp
     chosen-extent m =
-        let q = extent-kind (e .op) (e .placement) (e .field) (stands .right .kind) m in
+        let q = extent-kind size (e .op) (e .placement) (e .field) (stands .right .kind) m in
         rw (h, q .2, q .0, q .1, le-leb _ _ (in-log (q .0) (q .1)))
 
   -- the bytes say the same of a chosen entry
   part-seen : (k : ℕ) (e : Entry) → chosen k es ≡ some e → partAt (e .version) (length bytes) (wordsOf bytes) (e .at) ≡ partAt (e .version) (length bytes) ws (e .at)
   part-seen k e h =
-      let far = entry-far 12 (omega arith) (omega arith) n ws es ok e (chosen-is k es e h .in-list) in
+      let far = entry-far (powerOf size) (power-low size) (power-high size) n ws es ok e (chosen-is k es e h .in-list) in
       let f : firstWord (length bytes) (wordsOf bytes) (e .at) ≡ firstWord (length bytes) ws (e .at) = ap (λ (x : ℕ). pick (leb (8 * (e .at + 2)) (length bytes)) x 0) (sees .same (e .at) far) in
       ap (partBy (e .version) (length bytes) (wordsOf bytes) (e .at)) f ∙ part-moves (e .version) (length bytes) (wordsOf bytes) ws (e .at) (firstWord (length bytes) ws (e .at)) in-block
     where
@@ -194,7 +200,7 @@ module _ (n : ℕ) (bytes ws : List ℕ) (es : List Entry) (ok : Ok 12 n ws es) 
           let a : w % 16 ≡ e .op + 4 * e .placement = omega arith in
           let b : firstWord (length bytes) ws (e .at) / 16777216 ≡ e .field = ap (λ (x : ℕ). x / 16777216) first-is ∙ omega arith in
           let p : pointed e ≡ true = kind-block (e .op) (e .placement) (e .field) (stands k e h .right .kind) (sym a ∙ sym (ap (λ (x : ℕ). x % 16) first-is) ∙ five) in
-          rw b (sees .same (unitWord (e .field)) (block-far 12 (omega arith) (omega arith) n ws es ok e (chosen-top k es e h) p))
+          rw b (sees .same (unitWord (e .field)) (block-far (powerOf size) (power-low size) (power-high size) n ws es ok e (chosen-top k es e h) p))
 
   chosen-part : (k : ℕ) (e : Entry) → chosen k es ≡ some e → reportOf (partAt (e .version) (length bytes) ws (e .at)) ≡ lookUp ws es k
   unfolding lookUp
@@ -202,12 +208,12 @@ module _ (n : ℕ) (bytes ws : List ℕ) (es : List Entry) (ok : Ok 12 n ws es) 
     where
       in-block : pointed e ≡ true → 8 * (unitWord (e .field) + 1) + getD ws (unitWord (e .field)) 0 ≤ length bytes
       in-block q =
-          let f = Blocks.block-fits 12 n (e .field) (sizeOf 12 ws (unitChunk 12 (e .field))) (getD ws (unitWord (e .field)) 0) _ (pick-e (pointed e) _ (ok .blocks e (chosen-top k es e h)) q) in
+          let f = Blocks.block-fits (powerOf size) n (e .field) (sizeOf (powerOf size) ws (unitChunk (powerOf size) (e .field))) (getD ws (unitWord (e .field)) 0) _ (pick-e (pointed e) _ (ok .blocks e (chosen-top k es e h)) q) in
           let a = f .ends in
           let r = f .room in
-          let u = unit-place 12 (omega arith) (omega arith) (e .field) in
-          let b = base-apart 12 (omega arith) (omega arith) (unitChunk 12 (e .field)) n (f .high) in
-          let w = units-words 12 (omega arith) (omega arith) in
+          let u = unit-place (powerOf size) (power-low size) (power-high size) (e .field) in
+          let b = base-apart (powerOf size) (power-low size) (power-high size) (unitChunk (powerOf size) (e .field)) n (f .high) in
+          let w = units-words (powerOf size) (power-low size) (power-high size) in
           let l = ok .long in
           let c = long in
           omega arith
@@ -252,55 +258,102 @@ module _ (vn bytes : ℕ) (ws : List ℕ) (place word : ℕ) (is-word : word ≡
   pub part-none : (word % 16 ≡ 1 → ⊥) → (word % 16 ≡ 5 → ⊥) → L.Refused N.KeyAbsent ≡ partAt vn bytes ws place
   part-none a b = rw (← is-word, ne-eqb (word % 16) 1 a, ne-eqb (word % 16) 5 b)
 
-module _ (key : ℕ) (bytes table : List ℕ) (word : ℕ) (is : word ≡ get table key) where
-  pub looking-none : word ≡ 0 → Looking key bytes table (L.Refused N.KeyAbsent)
-  unfolding lookUp
-  looking-none z = record { inside = refl; exact = λ n keys vs es ok sees ix. sym (rw (found-none table keys es ix (small n bytes vs es ok sees) key word is z)) }
+-- an empty word has no extent and no place
+empty-extent : (size : Size) → unpackOf size 0 .extent ≡ 0
+empty-extent S.Small = refl
+empty-extent S.Large = refl
 
-  module _ (info : Info) (i : info ≡ unpackOf word) where
+empty-place : (size : Size) → unpackOf size 0 .place ≡ 0
+empty-place S.Small = refl
+empty-place S.Large = refl
+
+module _ (size : Size) (key : ℕ) (bytes table : List ℕ) (word : ℕ) (is : word ≡ get table key) where
+  module _ (info : Info) (i : info ≡ unpackOf size word) where
+    -- no entry stands at word 0
+    pub looking-none : info .place ≡ 0 → Looking size key bytes table (L.Refused N.KeyAbsent)
+    unfolding lookUp
+    looking-none z = record { inside = refl; exact = λ n keys vs es ok sees ix. sym (rw (found-none size table keys es ix (small size n bytes vs es ok sees) key word is (empty n keys vs es ok sees ix))) }
+      where
+        empty : (n keys : ℕ) (vs : List ℕ) (es : List Entry) → Ok (powerOf size) n vs es → Past (wordsOf bytes) vs → Indexed size table keys es → word ≡ 0
+        empty n keys vs es ok sees ix =
+            by-cases (ℕ-discrete word 0) (λ e. e)
+            (λ nz.
+            let b = small size n bytes vs es ok sees in
+            let f = found-chosen size table keys es ix b key word is nz in
+            let place : info .place ≡ f .0 .at = ap (λ (j : Info). j .place) (i ∙ f .2) in
+            absurd (omega (arith, b .each (f .0) (chosen-is key es (f .0) (f .1) .in-list) .place-low)))
+
     narrow : info .version ≤ maxVersion
-    narrow = rw i (omega arith)
+    narrow = let f = unpack-few size word in rw i (omega (arith, f .1))
 
     -- the entry itself is read
-    pub looking-part : (r : Located) → (word ≡ 0 → ⊥) → r ≡ partAt (info .version) (length bytes) (wordsOf bytes) (info .place) → Looking key bytes table r
-    looking-part r nz e = record {
+    pub looking-part : (r : Located) → (info .place ≡ 0 → ⊥) → r ≡ partAt (info .version) (length bytes) (wordsOf bytes) (info .place) → Looking size key bytes table r
+    looking-part r stands e = record {
       inside = rw e (part-in (info .version) (length bytes) (wordsOf bytes) (info .place) (firstWord (length bytes) (wordsOf bytes) (info .place)) narrow);
       exact = λ n keys vs es ok sees ix.
-          let f = found-chosen table keys es ix (small n bytes vs es ok sees) key word is nz in
+          let f = found-chosen size table keys es ix (small size n bytes vs es ok sees) key word is (λ z. stands (ap (λ (j : Info). j .place) (i ∙ ap (unpackOf size) z) ∙ empty-place size)) in
           let place : info .place ≡ f .0 .at = ap (λ (j : Info). j .place) (i ∙ f .2) in
           let version : info .version ≡ f .0 .version = ap (λ (j : Info). j .version) (i ∙ f .2) in
-          ap reportOf (e ∙ ap (λ (x : ℕ). partAt x (length bytes) (wordsOf bytes) (info .place)) version ∙ ap (partAt (f .0 .version) (length bytes) (wordsOf bytes)) place ∙ part-seen n bytes vs es ok sees key (f .0) (f .1)) ∙ chosen-part n bytes vs es ok sees key (f .0) (f .1);
+          ap reportOf (e ∙ ap (λ (x : ℕ). partAt x (length bytes) (wordsOf bytes) (info .place)) version ∙ ap (partAt (f .0 .version) (length bytes) (wordsOf bytes)) place ∙ part-seen size n bytes vs es ok sees key (f .0) (f .1)) ∙ chosen-part size n bytes vs es ok sees key (f .0) (f .1);
     }
 
     -- the table's word says enough
-    pub looking-extent : (r : Located) → 0 < info .extent → r ≡ within (info .version) (length bytes) (8 * (info .place + 2)) (info .extent + 1) → Looking key bytes table r
+    pub looking-extent : (r : Located) → 0 < info .extent → r ≡ within (info .version) (length bytes) (8 * (info .place + 2)) (info .extent + 1) → Looking size key bytes table r
     looking-extent r more e = record {
       inside = rw e (within-in (info .version) (length bytes) (8 * (info .place + 2)) (info .extent + 1) narrow);
       exact = λ n keys vs es ok sees ix.
-          let f = found-chosen table keys es ix (small n bytes vs es ok sees) key word is some-word in
+          let f = found-chosen size table keys es ix (small size n bytes vs es ok sees) key word is some-word in
           let place : info .place ≡ f .0 .at = ap (λ (j : Info). j .place) (i ∙ f .2) in
           let version : info .version ≡ f .0 .version = ap (λ (j : Info). j .version) (i ∙ f .2) in
-          let extent : info .extent ≡ extentOf (f .0 .placement) (f .0 .field) = ap (λ (j : Info). j .extent) (i ∙ f .2) in
+          let extent : info .extent ≡ extentOf size (f .0 .placement) (f .0 .field) = ap (λ (j : Info). j .extent) (i ∙ f .2) in
           ap reportOf (e ∙ ap (λ (x : ℕ). within x (length bytes) (8 * (info .place + 2)) (info .extent + 1)) version ∙ ap (λ (x : ℕ). within (f .0 .version) (length bytes) (8 * (x + 2)) (info .extent + 1)) place ∙ ap (λ (x : ℕ). within (f .0 .version) (length bytes) (8 * (f .0 .at + 2)) (x + 1)) extent)
-          ∙ chosen-extent n bytes vs es ok sees key (f .0) (f .1) (rw extent at more);
+          ∙ chosen-extent size n bytes vs es ok sees key (f .0) (f .1) (rw extent at more);
     }
       where
         some-word : word ≡ 0 → ⊥
-        some-word z = let x : info .extent ≡ 0 = ap (λ (j : Info). j .extent) (i ∙ ap unpackOf z) in omega arith
+        some-word z = let x : info .extent ≡ 0 = ap (λ (j : Info). j .extent) (i ∙ ap (unpackOf size) z) ∙ empty-extent size in omega arith
 
 -- ## The call
 
+-- behind the gate the state has the record's chunk power
+pub read-power : (s : Session) (bytes words : ℕ) → readGate (stateOf s) bytes words ≡ none → statePower (stateOf s) ≡ powerIn (s .setup)
+unfolding stateAt
+read-power s bytes words = go (eqb phase 1) (eqb phase 2) (eqb phase 3) (eqb phase 4) (eqb phase 5) (eqb phase 6) _ _ _ _ _ _ _ _ _
+  where
+    phase : ℕ
+    phase = s .control .phase
+
+    k : Setup
+    k = s .setup
+
+    unfinished : (b : Bool) → pick b (some N.Unfinished) (some N.ImageLength) ≡ none → ⊥
+    unfinished true h = let z : _≡_ {A = ℕ} 0 1 = cc in omega arith
+    unfinished false h = let z : _≡_ {A = ℕ} 0 1 = cc in omega arith
+
+    go : (b1 b2 b3 b4 b5 b6 : Bool) (items : List Entry) (m : ℕ) (o3 o6 : Olds) (a2 a3 a4 a5 a6 : List Action)
+        → readGate (pick b1 (Rest (powerIn k) (k .image) (k .table) items) (pick b2 (Busy (powerIn k) (k .image) (k .table) items Staging a2) (pick b3 (Busy (powerIn k) (k .image) (k .table) items (Committing o3) a3)
+        (pick b4 (Formatting false (k .image) (k .table) a4) (pick b5 (Formatting true (k .image) (k .table) a5) (pick b6 (Busy (powerIn k) (k .image) (k .table) [] (Cleaning m o6) a6) Closed)))))) bytes words ≡ none
+        → statePower (pick b1 (Rest (powerIn k) (k .image) (k .table) items) (pick b2 (Busy (powerIn k) (k .image) (k .table) items Staging a2) (pick b3 (Busy (powerIn k) (k .image) (k .table) items (Committing o3) a3)
+        (pick b4 (Formatting false (k .image) (k .table) a4) (pick b5 (Formatting true (k .image) (k .table) a5) (pick b6 (Busy (powerIn k) (k .image) (k .table) [] (Cleaning m o6) a6) Closed)))))) ≡ powerIn k
+    go true b2 b3 b4 b5 b6 items m o3 o6 a2 a3 a4 a5 a6 q = refl
+    go false true b3 b4 b5 b6 items m o3 o6 a2 a3 a4 a5 a6 q = refl
+    go false false true b4 b5 b6 items m o3 o6 a2 a3 a4 a5 a6 q = refl
+    go false false false true b5 b6 items m o3 o6 a2 a3 a4 a5 a6 q = absurd (let z : _≡_ {A = ℕ} 0 1 = cc in omega arith)
+    go false false false false true b6 items m o3 o6 a2 a3 a4 a5 a6 q = absurd (unfinished (both (eqb (k .image) bytes) (eqb (k .table) words)) q)
+    go false false false false false true items m o3 o6 a2 a3 a4 a5 a6 q = refl
+    go false false false false false false items m o3 o6 a2 a3 a4 a5 a6 q = absurd (let z : _≡_ {A = ℕ} 0 1 = cc in omega arith)
+
 -- a look-up leaves the state as it was
-next-same : (σ : State) (key : ℕ) (ws : List ℕ) (bytes words : ℕ) → σ ≡ next 12 limit (LookUp key) σ ws bytes words
+next-same : (σ : State) (key : ℕ) (ws : List ℕ) (bytes words : ℕ) → σ ≡ next (LookUp key) σ ws bytes words
 unfolding next
-next-same σ key ws bytes words = sym (pick-same (both (isRefused (answer 12 limit (LookUp key) σ ws bytes words)) true) σ)
+next-same σ key ws bytes words = sym (pick-same (both (isRefused (answer (LookUp key) σ ws bytes words)) true) σ)
 
 module _ (s : Session) (key : ℕ) (bytes table : List ℕ) where
-  outcome : (r : Located) → PartIn (length bytes) r → Outcome Proper stateOf Fits 12 limit (LookUp key) s s table table (reportOf r)
+  outcome : (r : Located) → PartIn (length bytes) r → Outcome Proper stateOf Fits (LookUp key) s s table table (reportOf r)
   outcome (L.Refused n) h = (inr (inr (inr (inl h))), (refl, refl))
   outcome (L.Part a n v) h = (refl, refl)
 
-  anyway : (r : Located) → PartIn (length bytes) r → Anyway 12 limit (LookUp key) (stateOf s) (stateOf s) (wordsOf bytes) (length bytes) (length table) (reportOf r)
+  anyway : (r : Located) → PartIn (length bytes) r → Anyway (LookUp key) (stateOf s) (stateOf s) (wordsOf bytes) (length bytes) (length table) (reportOf r)
   anyway (L.Refused n) h = inl (n, refl)
   anyway (L.Part a n v) h = inr (a, (n, (v, (refl, h))))
 
@@ -308,7 +361,7 @@ module _ (s : Session) (key : ℕ) (bytes table : List ℕ) where
   unchanged (L.Refused n) = refl
   unchanged (L.Part a n v) = refl
 
-  looked : (r : Located) → readGate (stateOf s) (length bytes) (length table) ≡ none → Looking key bytes table r → Does (LookUp key) (memory s bytes table) (memory s bytes table) (reportOf r)
+  looked : (r : Located) → readGate (stateOf s) (length bytes) (length table) ≡ none → Looking (sizeIn (s .setup)) key bytes table r → Does (LookUp key) (memory s bytes table) (memory s bytes table) (reportOf r)
   looked r g l = record {
     exact = λ f. record { answered = exact f; became = next-same (stateOf s) key (wordsOf bytes) (length bytes) (length table); fits = f };
     first = λ r′ h. absurd (let q : none ≡ some r′ = rw g at h in let z : _≡_ {A = ℕ} 0 1 = cc in omega arith);
@@ -318,21 +371,22 @@ module _ (s : Session) (key : ℕ) (bytes table : List ℕ) where
     anyway = anyway r (l .inside);
   }
     where
-      exact : Fits s (wordsOf bytes) table → reportOf r ≡ answer 12 limit (LookUp key) (stateOf s) (wordsOf bytes) (length bytes) (length table)
+      exact : Fits s (wordsOf bytes) table → reportOf r ≡ answer (LookUp key) (stateOf s) (wordsOf bytes) (length bytes) (length table)
       exact f =
           let a = read-at s (length bytes) (length table) (wordsOf bytes) table g f in
           let vs : List ℕ = readWords (stateOf s) (wordsOf bytes) in
           let v = a .past in
-          let o = opens-ok 12 (omega arith) (omega arith) (s .setup .image) (s .setup .table) vs (a .entries) (v .long ∙ a .long) (a .accepted) in
-          let n : chunksIn 12 (s .setup .image) ≡ chunksIn 12 (length bytes) = ap (chunksIn 12) (a .same-bytes) in
-          let p : imageEntries 12 (chunksIn 12 (length bytes)) vs ≡ Entries (a .entries) = rw n at (o .0 .parsed) in
-          rw (g, p) (l .exact (chunksIn 12 (s .setup .image)) (s .control .keys) vs (a .entries) (o .0) (past-flip vs (wordsOf bytes) v) (a .built .indexed))
+          let k : Setup = s .setup in
+          let o = opens-at (powerIn k) (k .image) (k .table) vs (a .entries) (a .accepted .power) (v .long ∙ a .long) (a .accepted .accepts) in
+          let n : chunksIn (powerIn k) (k .image) ≡ chunksIn (powerIn k) (length bytes) = ap (chunksIn (powerIn k)) (a .same-bytes) in
+          let p : imageEntries (powerIn k) (chunksIn (powerIn k) (length bytes)) vs ≡ Entries (a .entries) = rw n at (o .0 .parsed) in
+          rw (g, read-power s (length bytes) (length table) g, p) (l .exact (chunksIn (powerIn k) (k .image)) (s .control .keys) vs (a .entries) (o .0) (past-flip vs (wordsOf bytes) v) (a .built .indexed))
 
 module _ (c : Control) (k : Setup) (key : ℕ) (bytes table : List ℕ) (g : Gated) (asks : ReadAsking c k (length bytes) (length table) g) where
   pub locate-refused : (n : Refusal) → g ≡ G.Refused n → Locating c k key bytes table (L.Refused n)
-  locate-refused n e = record { called = λ b. read-refused 12 limit (sessionOf c k b) bytes table n (asks .asked b ∙ ap gateOf e) key; inside = tt }
+  locate-refused n e = record { called = λ b. read-refused (sessionOf c k b) bytes table n (asks .asked b ∙ ap gateOf e) key; inside = tt }
 
-  pub locate-open : (r : Located) → g ≡ G.Open → Looking key bytes table r → Locating c k key bytes table r
+  pub locate-open : (r : Located) → g ≡ G.Open → Looking (sizeIn k) key bytes table r → Locating c k key bytes table r
   locate-open r e l = record { called = λ b. looked (sessionOf c k b) key bytes table r (asks .asked b ∙ ap gateOf e) l; inside = in-image (length bytes) r (l .inside) }
 
 -- the part itself

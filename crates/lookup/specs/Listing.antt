@@ -11,7 +11,9 @@ use Rattle.spec.specs.Places.{unitWord}
 use Rattle.spec.specs.Log.{Entry}
 use Rattle.spec.specs.Blocks.{pointed}
 use Rattle.spec.specs.Contents.{Held, Absent, Value, keysOf, chosen, meaning, contentsBy}
+use Rattle.spec.specs.declared.Size.{Size}
 use Rattle.spec.specs.declared.Refusal.the-variants as N
+use Rattle.packing.specs.Packed.{unpackOf}
 use Rattle.index.specs.Index.{keyAt, infoAt}
 use Rattle.order.specs.Order.{inOrder}
 use Rattle.lookup.specs.declared.Listed.{Listed}
@@ -55,14 +57,14 @@ byEntry ws version word =
 abbrev pub byParts : List ℕ → (extent place version : ℕ) → Listed
 byParts ws extent place version = pick (ltb 0 extent) (L.Present version (extent + 1) false) (byEntry ws version (getD ws place 0))
 
-unfoldable pub byWord : List ℕ → ℕ → Listed
-byWord ws held = pick (eqb held 0) (L.Refused N.KeyAbsent) (byParts ws (held % 0x100) (held / 0x100 % 0x4_0000) (held / 0x400_0000 % 0x10_0000))
+unfoldable pub byWord : Size → List ℕ → ℕ → Listed
+byWord size ws held = pick (eqb held 0) (L.Refused N.KeyAbsent) (byParts ws (unpackOf size held .extent) (unpackOf size held .place) (unpackOf size held .version))
 
 abbrev pub isPresent : Listed → Bool
 isPresent (L.Refused n) = false
 isPresent (L.Present version bytes block) = true
 
 -- the present keys of the first slots of a table
-abbrev pub slotKeys : List ℕ → List ℕ → ℕ → List ℕ
-slotKeys ws table zero = []
-slotKeys ws table (suc s) = pick (isPresent (byWord ws (infoAt table s))) (keyAt table s ∷ slotKeys ws table s) (slotKeys ws table s)
+abbrev pub slotKeys : Size → List ℕ → List ℕ → ℕ → List ℕ
+slotKeys size ws table zero = []
+slotKeys size ws table (suc s) = pick (isPresent (byWord size ws (infoAt table s))) (keyAt table s ∷ slotKeys size ws table s) (slotKeys size ws table s)

@@ -16,9 +16,11 @@ use Rattle.spec.specs.Contract.{partBytes}
 use Rattle.session.specs.declared.Control.{Control}
 use Rattle.session.specs.declared.Setup.{Setup}
 use Rattle.session.specs.declared.Session.{Session}
+use Rattle.spec.specs.declared.Size.{Size}
 use Rattle.spec.specs.declared.Refusal.the-variants as N
 use Rattle.spec.specs.declared.Report.{Report}
 use Rattle.spec.specs.declared.Report.the-variants as R
+use Rattle.places.specs.Sizes.{powerOf}
 use Rattle.theory_base.proofs.PutBack.{Past}
 use Rattle.theory_crash.specs.Accepted.{Ok}
 use Rattle.volatile.specs.Known.{Indexed}
@@ -59,9 +61,9 @@ PartIn bytes (L.Part a n v) = (a + n ≤ bytes) × (v ≤ maxVersion)
 
 -- behind the gate: for any memory, and with the table of an accepted image, whose words the image's bytes have but for
 -- the directory
-pub record Looking (key : ℕ) (bytes table : List ℕ) (r : Located) : Type 0 where
+pub record Looking (size : Size) (key : ℕ) (bytes table : List ℕ) (r : Located) : Type 0 where
   pub inside : PartIn (length bytes) r
-  pub exact : (n keys : ℕ) (vs : List ℕ) (es : List Entry) → Ok 12 n vs es → Past (wordsOf bytes) vs → Indexed table keys es → reportOf r ≡ lookUp vs es key
+  pub exact : (n keys : ℕ) (vs : List ℕ) (es : List Entry) → Ok (powerOf size) n vs es → Past (wordsOf bytes) vs → Indexed size table keys es → reportOf r ≡ lookUp vs es key
 
 -- a part that is answered lies in the image
 abbrev pub InImage : ℕ → Located → Type 0

@@ -13,6 +13,7 @@ use session::Gated;
 use session::Setup;
 use spec::Refusal;
 use spec::Report;
+use spec::Size;
 
 // What a look-up finds: a refusal, or the part of the image that holds the value, and its version.
 pub enum Located {
@@ -67,7 +68,7 @@ fn block_part(image: &[u8], unit: Unit, version: u64) -> Located
 
 // The part that holds a value in the log of an entry at word `place`.
 fn log_part(bytes: usize, place: usize, length: u64, version: u64) -> Located
-    requires { ⌜ (place < 0x4_0000) × (length < 2 ^ 40) ⌝ }
+    requires { ⌜ (place < 0x40_0000) × (length < 2 ^ 40) ⌝ }
     ensures { λ r. ⌜ r ≡ within version bytes (8 * (place + 2)) length ⌝ }
 {
     let start = 8 * (place + 2);
@@ -92,7 +93,7 @@ fn first_word(image: &[u8], place: usize) -> u64
 // The part that holds the value of the entry at word `place`: a put with its value in the log, or one with its value in
 // a block; its version is as the key table has it.
 fn part_at(image: &[u8], place: usize, version: u64) -> Located
-    requires { ⌜ place < 0x4_0000 ⌝ }
+    requires { ⌜ place < 0x40_0000 ⌝ }
     ensures { λ r. ⌜ r ≡ partAt version (length (now (image .entry))) (wordsOf (now (image .entry))) place ⌝ }
 {
     let word = first_word(image, place);
@@ -107,20 +108,20 @@ fn part_at(image: &[u8], place: usize, version: u64) -> Located
     Located::Refused(Refusal::KeyAbsent)
 }
 
-// The value of a key, by one probe of the table, which tells the extent of a short value in the log; else the entry is
-// read.
-fn value_of(image: &[u8], table: &[u64], key: u64) -> Located
-    ensures { λ r. ⌜ Looking key (now (image .entry)) (now (table .entry)) r ⌝ }
+// The value of a key, by one probe of the table, which in small chunks tells the extent of a short value in the log;
+// else the entry is read. No entry stands at word 0: a place 0 is that of a key that the table does not have.
+fn value_of(image: &[u8], table: &[u64], key: u64, size: Size) -> Located
+    ensures { λ r. ⌜ Looking size key (now (image .entry)) (now (table .entry)) r ⌝ }
 {
     let held = index::get(table, key);
-    let info = index::unpack(held);
+    let info = packing::unpack(size, held);
     let extent = info.extent;
     let version = info.version;
     let place = info.place as usize;
     if 0 < extent {
         return log_part(image.len(), place, extent + 1, version);
     }
-    if held == 0 {
+    if place == 0 {
         return Located::Refused(Refusal::KeyAbsent);
     }
     part_at(image, place, version)
@@ -134,7 +135,7 @@ pub fn locate(control: Control, setup: Setup, image: &[u8], table: &[u64], key: 
     let g = session::read_gate(control, setup, image.len(), table.len());
     match g {
         Gated::Refused(n) => Located::Refused(n),
-        Gated::Open => value_of(image, table, key),
+        Gated::Open => value_of(image, table, key, places::size_by(setup.power)),
     }
 }
 
@@ -224,14 +225,14 @@ fn by_entry(image: &[u8], version: u64, word: u64) -> Listed
     Listed::Refused(Refusal::KeyAbsent)
 }
 
-// By what the key table holds of a key: the extent of a short value in the log; else the entry is read.
-fn by_word(image: &[u8], held: u64) -> Listed
-    ensures { λ r. ⌜ r ≡ byWord (wordsOf (now (image .entry))) held ⌝ }
+// By what the key table holds of a key: in small chunks the extent of a short value in the log; else the entry is read.
+fn by_word(image: &[u8], held: u64, size: Size) -> Listed
+    ensures { λ r. ⌜ r ≡ byWord size (wordsOf (now (image .entry))) held ⌝ }
 {
     if held == 0 {
         return Listed::Refused(Refusal::KeyAbsent);
     }
-    let info = index::unpack(held);
+    let info = packing::unpack(size, held);
     let version = info.version;
     let extent = info.extent;
     if 0 < extent {
@@ -252,10 +253,10 @@ struct Kept {
 }
 
 // A slot's key is taken in, if it is present.
-fn take_slot(image: &[u8], key: u64, held: u64, out: &mut [u64], kept: usize) -> Kept
-    ensures { λ r. ⌜ Taken (wordsOf (now (image .entry))) key held (now (out .entry)) (now (out .exit)) kept (r .kept) (r .more) ⌝ }
+fn take_slot(image: &[u8], key: u64, held: u64, out: &mut [u64], kept: usize, size: Size) -> Kept
+    ensures { λ r. ⌜ Taken size (wordsOf (now (image .entry))) key held (now (out .entry)) (now (out .exit)) kept (r .kept) (r .more) ⌝ }
 {
-    let listed = by_word(image, held);
+    let listed = by_word(image, held, size);
     match listed {
         Listed::Refused(_) => Kept { kept, more: 0 },
         Listed::Present {
@@ -270,15 +271,15 @@ fn take_slot(image: &[u8], key: u64, held: u64, out: &mut [u64], kept: usize) ->
 }
 
 // The present keys of a key table, rising, as far as `out` reaches; how many there are.
-pub fn present_keys(image: &[u8], table: &[u64], out: &mut [u64]) -> usize
-    ensures { λ r. ⌜ Gathering (wordsOf (now (image .entry))) (now (table .entry)) (now (out .entry)) (now (out .exit)) r ⌝ }
+pub fn present_keys(image: &[u8], table: &[u64], out: &mut [u64], size: Size) -> usize
+    ensures { λ r. ⌜ Gathering size (wordsOf (now (image .entry))) (now (table .entry)) (now (out .entry)) (now (out .exit)) r ⌝ }
 {
     let slots = table.len() / 2;
     let mut kept: usize = 0;
     let mut count: usize = 0;
     let mut slot: usize = 0;
     while slot < slots {
-        let taken = take_slot(image, table[2 * slot], table[2 * slot + 1], out, kept);
+        let taken = take_slot(image, table[2 * slot], table[2 * slot + 1], out, kept, size);
         kept = taken.kept;
         count += taken.more;
         slot += 1;
@@ -308,7 +309,8 @@ pub fn list_keys(
     match g {
         Gated::Refused(n) => Counted::Refused(n),
         Gated::Open => {
-            let count = present_keys(image, table, out);
+            let size = places::size_by(setup.power);
+            let count = present_keys(image, table, out, size);
             Counted::Keys(count)
         }
     }
@@ -321,6 +323,6 @@ pub fn list_key(control: Control, setup: Setup, image: &[u8], table: &[u64], key
     let g = session::read_gate(control, setup, image.len(), table.len());
     match g {
         Gated::Refused(n) => Listed::Refused(n),
-        Gated::Open => { by_word(image, index::get(table, key)) }
+        Gated::Open => { by_word(image, index::get(table, key), places::size_by(setup.power)) }
     }
 }

@@ -9,6 +9,8 @@ use native.Mathlib.Omega.{arith}
 use lib.Dec.{eqb, ltb}
 use lib.ListN.{length, length-replicate}
 use borrow.Author.Tests.{ltb-true}
+use Rattle.spec.specs.declared.Size.{Size}
+use Rattle.places.specs.Sizes.{powerOf, power-low, power-high}
 use Rattle.spec.specs.Basics.{pick, both}
 use Rattle.spec.specs.Log.{Entry, Parsed, Wrong, Entries, prepend, imageEntries}
 use Rattle.spec.specs.Blocks.{pointed}
@@ -40,98 +42,98 @@ use Rattle.opening.specs.Pass.{Entering, AgainIs, EnteredIs, Owing, Pass
 use Rattle.opening.proofs.Sums.{owing-none, owing-summed, owing-turned, owing-paid}
 
 -- One more entry, of a key whose probing stops at `slot`, where the table holds `old`.
-module _ (table : List ℕ) (keys : ℕ) (fits single : Bool) (key own slot old : ℕ) (is-slot : slot ≡ stopOf table key) (is-word : old ≡ infoAt table slot) (so : fits ≡ true) where
+module _ (size : Size) (table : List ℕ) (keys : ℕ) (fits single : Bool) (key own slot old : ℕ) (is-slot : slot ≡ stopOf table key) (is-word : old ≡ infoAt table slot) (so : fits ≡ true) where
   is-old : old ≡ get table key
   is-old = is-word ∙ look-in table key slot is-slot
 
-  pub enter-full : old ≡ 0 → tableRoom (length table) ≤ keys → Entering table table keys fits single key own keys false false
+  pub enter-full : old ≡ 0 → tableRoom (length table) ≤ keys → Entering size table table keys fits single key own keys false false
   enter-full z c = rw so (record {
     sized = refl;
-    enters = λ xs e k o b inv. fill-full (length table) xs e table table keys old 0 inv b (rw k is-old) z (rw (capacity-same (length table)) c);
+    enters = λ xs e k o b inv. fill-full size (length table) xs e table table keys old 0 inv b (rw k is-old) z (rw (capacity-same (length table)) c);
     singly = λ f. absurd (not-both true refl (sym f));
   })
 
-  module _ (table′ : List ℕ) (info : ℕ) (is-info : info ≡ noted old own) (is-put : table′ ≡ putAt table slot key info) (single′ : Bool) (is-single : single′ ≡ both single (ltb info 0x8000_0000_0000_0000)) where
+  module _ (table′ : List ℕ) (info : ℕ) (is-info : info ≡ noted size old own) (is-put : table′ ≡ putAt table slot key info) (single′ : Bool) (is-single : single′ ≡ both single (ltb info 0x8000_0000_0000_0000)) where
     is-table : table′ ≡ insert table key info
     is-table = is-put ∙ put-insert table key slot is-slot info
 
     long : length table′ ≡ length table
     long = ap length is-table ∙ insert-length table key info
 
-    low : single′ ≡ true → (single ≡ true) × (fits ≡ true) × (true ≡ true) × (noted (get table key) own < 0x8000_0000_0000_0000)
+    low : single′ ≡ true → (single ≡ true) × (fits ≡ true) × (true ≡ true) × (noted size (get table key) own < 0x8000_0000_0000_0000)
     low t =
         let q : both single (ltb info 0x8000_0000_0000_0000) ≡ true = sym is-single ∙ t in
         let l : info < 0x8000_0000_0000_0000 = ltb-true info 0x8000_0000_0000_0000 (both-r single _ q) in
         (both-l single _ q, so, refl, rw (← is-old, ← is-info) l)
 
-    pub enter-new : old ≡ 0 → keys < tableRoom (length table) → Entering table table′ keys fits single key own (keys + 1) true single′
+    pub enter-new : old ≡ 0 → keys < tableRoom (length table) → Entering size table table′ keys fits single key own (keys + 1) true single′
     enter-new z c = record {
       sized = long;
-      enters = rw so (λ xs e k o b inv. fill-new (length table) xs e table table′ keys old info inv b (rw k is-old) (rw o is-info) (rw k is-table) z (rw (capacity-same (length table)) c));
+      enters = rw so (λ xs e k o b inv. fill-new size (length table) xs e table table′ keys old info inv b (rw k is-old) (rw o is-info) (rw k is-table) z (rw (capacity-same (length table)) c));
       singly = low;
     }
 
-    pub enter-old : (old ≡ 0 → ⊥) → Entering table table′ keys fits single key own keys true single′
+    pub enter-old : (old ≡ 0 → ⊥) → Entering size table table′ keys fits single key own keys true single′
     enter-old n = record {
       sized = long;
-      enters = rw so (λ xs e k o b inv. fill-old (length table) xs e table table′ keys old info inv b (rw k is-old) (rw o is-info) (rw k is-table) n);
+      enters = rw so (λ xs e k o b inv. fill-old size (length table) xs e table table′ keys old info inv b (rw k is-old) (rw o is-info) (rw k is-table) n);
       singly = low;
     }
 
-pub enter-over : (table : List ℕ) (keys : ℕ) (fits single : Bool) (key own : ℕ) → fits ≡ false → Entering table table keys fits single key own keys false false
-enter-over table keys fits single key own so =
-    record { sized = refl; enters = rw so (λ xs e k o b inv. fill-over (length table) xs e table keys inv); singly = λ f. absurd (not-both true refl (sym f)) }
+pub enter-over : (size : Size) → (table : List ℕ) (keys : ℕ) (fits single : Bool) (key own : ℕ) → fits ≡ false → Entering size table table keys fits single key own keys false false
+enter-over size table keys fits single key own so =
+    record { sized = refl; enters = rw so (λ xs e k o b inv. fill-over size (length table) xs e table keys inv); singly = λ f. absurd (not-both true refl (sym f)) }
 
 -- one more entry of a key that the table has
-pub again-is : (ws buffer buffer′ table table′ : List ℕ) (single : Bool) (slot old key own w : ℕ) (single′ : Bool) (info : ℕ) → info ≡ noted old own → table′ ≡ putAt table slot key info
-    → single′ ≡ both single (ltb info 0x8000_0000_0000_0000) → Renewed ws buffer buffer′ old own w → AgainIs ws buffer buffer′ table table′ single slot old key own w single′
-again-is ws buffer buffer′ table table′ single slot old key own w single′ info is-info is-put is-single r =
+pub again-is : (size : Size) → (ws buffer buffer′ table table′ : List ℕ) (single : Bool) (slot old key own w : ℕ) (single′ : Bool) (info : ℕ) → info ≡ noted size old own → table′ ≡ putAt table slot key info
+    → single′ ≡ both single (ltb info 0x8000_0000_0000_0000) → Renewed size ws buffer buffer′ old own w → AgainIs size ws buffer buffer′ table table′ single slot old key own w single′
+again-is size ws buffer buffer′ table table′ single slot old key own w single′ info is-info is-put is-single r =
     record { put = is-put ∙ ap (putAt table slot key) is-info; low = is-single ∙ ap (λ (i : ℕ). both single (ltb i 0x8000_0000_0000_0000)) is-info; renewed = r }
 
 -- with the sums
-module _ (ws buffer buffer′ table table′ : List ℕ) (keys : ℕ) (fits single : Bool) (key own w keys′ : ℕ) (single′ : Bool) where
+module _ (size : Size) (ws buffer buffer′ table table′ : List ℕ) (keys : ℕ) (fits single : Bool) (key own w keys′ : ℕ) (single′ : Bool) where
   -- they are renewed
-  pub entered-renewed : (slot old : ℕ) → slot ≡ stopOf table key → old ≡ infoAt table slot → fits ≡ true → Renewed ws buffer buffer′ old own w
-      → Entering table table′ keys fits single key own keys′ true single′ → EnteredIs ws buffer buffer′ table table′ keys fits single key own w keys′ true single′
+  pub entered-renewed : (slot old : ℕ) → slot ≡ stopOf table key → old ≡ infoAt table slot → fits ≡ true → Renewed size ws buffer buffer′ old own w
+      → Entering size table table′ keys fits single key own keys′ true single′ → EnteredIs size ws buffer buffer′ table table′ keys fits single key own w keys′ true single′
   entered-renewed slot old is-slot is-word so r e =
       let q : old ≡ get table key = is-word ∙ look-in table key slot is-slot in
       record { entered = e; kept = r .kept; renewed = λ t. (so, rw q at r) }
 
   -- or the keys do not fit
-  pub entered-over : SumsAlone buffer buffer′ → Entering table table′ keys fits single key own keys′ false single′ → EnteredIs ws buffer buffer′ table table′ keys fits single key own w keys′ false single′
+  pub entered-over : SumsAlone buffer buffer′ → Entering size table table′ keys fits single key own keys′ false single′ → EnteredIs size ws buffer buffer′ table table′ keys fits single key own w keys′ false single′
   entered-over k e = record { entered = e; kept = k; renewed = λ t. absurd (not-both true refl (sym t)) }
 
 -- THE PASS: its steps.
-pub pass-start : (n : ℕ) (ws : List ℕ) (words : ℕ) (table : List ℕ) → table ≡ zeros words → (before buffer : List ℕ) → Cleared before buffer → Passing n ws (length table) table 0 true true true buffer 0 0 start
-pass-start n ws words table e before buffer cleared = record {
+pub pass-start : (size : Size) → (n : ℕ) (ws : List ℕ) (words : ℕ) (table : List ℕ) → table ≡ zeros words → (before buffer : List ℕ) → Cleared before buffer → Passing size n ws (length table) table 0 true true true buffer 0 0 start
+pass-start size n ws words table e before buffer cleared = record {
   sized = refl;
   passed = [];
-  so-far = sym (remaining-start 12 n ws);
-  holds = λ m es h. (rw (e, length-replicate {A = ℕ} words 0) (fill-start words), plain-start, λ t. owing-none buffer 0 [] (cleared-summed before buffer cleared));
+  so-far = sym (remaining-start (powerOf size) n ws);
+  holds = λ m es h. (rw (e, length-replicate {A = ℕ} words 0) (fill-start size words), plain-start size, λ t. owing-none size buffer 0 [] (cleared-summed size before buffer cleared));
 }
 
 -- past padding, or on to the next chunk
-pub pass-on : (n : ℕ) (ws : List ℕ) (words : ℕ) (table : List ℕ) (keys : ℕ) (fits single direct : Bool) (buffer : List ℕ) (place owed : ℕ) (c d : Cursor) → Passing n ws words table keys fits single direct buffer place owed c
-    → remaining 12 n ws c ≡ remaining 12 n ws d → Passing n ws words table keys fits single direct buffer place owed d
-pass-on n ws words table keys fits single direct buffer place owed c d inv same = record { sized = inv .sized; passed = inv .passed; so-far = inv .so-far ∙ ap (prepend (inv .passed)) same; holds = inv .holds }
+pub pass-on : (size : Size) → (n : ℕ) (ws : List ℕ) (words : ℕ) (table : List ℕ) (keys : ℕ) (fits single direct : Bool) (buffer : List ℕ) (place owed : ℕ) (c d : Cursor) → Passing size n ws words table keys fits single direct buffer place owed c
+    → remaining (powerOf size) n ws c ≡ remaining (powerOf size) n ws d → Passing size n ws words table keys fits single direct buffer place owed d
+pass-on size n ws words table keys fits single direct buffer place owed c d inv same = record { sized = inv .sized; passed = inv .passed; so-far = inv .so-far ∙ ap (prepend (inv .passed)) same; holds = inv .holds }
 
 -- what is owed to the sums is paid, or nothing is owed
-pub pass-paid : (n : ℕ) (ws : List ℕ) (words : ℕ) (table : List ℕ) (keys : ℕ) (fits single direct : Bool) (buffer buffer′ : List ℕ) (place owed : ℕ) (c : Cursor) → Passing n ws words table keys fits single direct buffer place owed c
-    → Changed buffer buffer′ (only place owed) nothing → Passing n ws words table keys fits single direct buffer′ 0 0 c
-pass-paid n ws words table keys fits single direct buffer buffer′ place owed c inv k = record {
+pub pass-paid : (size : Size) → (n : ℕ) (ws : List ℕ) (words : ℕ) (table : List ℕ) (keys : ℕ) (fits single direct : Bool) (buffer buffer′ : List ℕ) (place owed : ℕ) (c : Cursor) → Passing size n ws words table keys fits single direct buffer place owed c
+    → Changed buffer buffer′ (only size place owed) nothing → Passing size n ws words table keys fits single direct buffer′ 0 0 c
+pass-paid size n ws words table keys fits single direct buffer buffer′ place owed c inv k = record {
   sized = inv .sized;
   passed = inv .passed;
   so-far = inv .so-far;
-  holds = λ m es h. let p = inv .holds m es h in (p .0, p .1, λ t. owing-none buffer′ 0 (inv .passed) (owing-paid buffer buffer′ place owed (inv .passed) (p .2 t) k));
+  holds = λ m es h. let p = inv .holds m es h in (p .0, p .1, λ t. owing-none size buffer′ 0 (inv .passed) (owing-paid size buffer buffer′ place owed (inv .passed) (p .2 t) k));
 }
 
-pub pass-turned : (n : ℕ) (ws : List ℕ) (words : ℕ) (table : List ℕ) (keys : ℕ) (fits single direct : Bool) (buffer : List ℕ) (place other : ℕ) (c : Cursor) → Passing n ws words table keys fits single direct buffer place 0 c
-    → Passing n ws words table keys fits single direct buffer other 0 c
-pass-turned n ws words table keys fits single direct buffer place other c inv = record {
+pub pass-turned : (size : Size) → (n : ℕ) (ws : List ℕ) (words : ℕ) (table : List ℕ) (keys : ℕ) (fits single direct : Bool) (buffer : List ℕ) (place other : ℕ) (c : Cursor) → Passing size n ws words table keys fits single direct buffer place 0 c
+    → Passing size n ws words table keys fits single direct buffer other 0 c
+pass-turned size n ws words table keys fits single direct buffer place other c inv = record {
   sized = inv .sized;
   passed = inv .passed;
   so-far = inv .so-far;
-  holds = λ m es h. let p = inv .holds m es h in (p .0, p .1, λ t. owing-turned buffer place other (inv .passed) (p .2 t));
+  holds = λ m es h. let p = inv .holds m es h in (p .0, p .1, λ t. owing-turned size buffer place other (inv .passed) (p .2 t));
 }
 
 -- what is passed is a front part of all
@@ -152,51 +154,51 @@ no-pointer op pl direct h = go (eqb pl 1) h (eqb op 1)
     go false q false = (q, refl)
 
 -- what becomes of the sums with one more entry e behind xs, in an image with the entries es
-abbrev pub Summing : (words : ℕ) (table : List ℕ) (keys : ℕ) (fits fits′ : Bool) (buffer : List ℕ) (place owed : ℕ) (buffer′ : List ℕ) (place′ owed′ : ℕ) (xs es : List Entry) (e : Entry) → Type 0
-Summing words table keys fits fits′ buffer place owed buffer′ place′ owed′ xs es e = ((f : Entry) → Mem f (xs ++ e ∷ []) → Mem f es) → Bounded (xs ++ e ∷ []) → FillInv words xs table keys fits → (fits ≡ true → Owing buffer place owed xs)
-    → fits′ ≡ true → Owing buffer′ place′ owed′ (xs ++ e ∷ [])
+abbrev pub Summing : (size : Size) → (words : ℕ) (table : List ℕ) (keys : ℕ) (fits fits′ : Bool) (buffer : List ℕ) (place owed : ℕ) (buffer′ : List ℕ) (place′ owed′ : ℕ) (xs es : List Entry) (e : Entry) → Type 0
+Summing size words table keys fits fits′ buffer place owed buffer′ place′ owed′ xs es e = ((f : Entry) → Mem f (xs ++ e ∷ []) → Mem f es) → Bounded size (xs ++ e ∷ []) → FillInv size words xs table keys fits → (fits ≡ true → Owing size buffer place owed xs)
+    → fits′ ≡ true → Owing size buffer′ place′ owed′ (xs ++ e ∷ [])
 
-module _ (n : ℕ) (ws : List ℕ) (words : ℕ) (table : List ℕ) (keys : ℕ) (fits single direct : Bool) (buffer : List ℕ) (place owed : ℕ) (c : Cursor) (inv : Passing n ws words table keys fits single direct buffer place owed c) where
-  pub pass-entry : (op pl v x k m a : ℕ) (behind : Cursor) → Handed n ws c op pl v x k m a behind → (direct′ : Bool) → direct′ ≡ pick (eqb pl 1) false direct
-      → (own : ℕ) → own ≡ alone (extentOf pl x) a v → (table′ : List ℕ) (keys′ : ℕ) (fits′ single′ : Bool) → Entering table table′ keys fits single k own keys′ fits′ single′
-      → (buffer′ : List ℕ) (place′ owed′ : ℕ) → ((es : List Entry) → imageEntries 12 n ws ≡ Entries es → Summing words table keys fits fits′ buffer place owed buffer′ place′ owed′ (inv .passed) es (entryIn ws op pl v x k m a))
-      → Passing n ws words table′ keys′ fits′ single′ direct′ buffer′ place′ owed′ behind
+module _ (size : Size) (n : ℕ) (ws : List ℕ) (words : ℕ) (table : List ℕ) (keys : ℕ) (fits single direct : Bool) (buffer : List ℕ) (place owed : ℕ) (c : Cursor) (inv : Passing size n ws words table keys fits single direct buffer place owed c) where
+  pub pass-entry : (op pl v x k m a : ℕ) (behind : Cursor) → Handed (powerOf size) n ws c op pl v x k m a behind → (direct′ : Bool) → direct′ ≡ pick (eqb pl 1) false direct
+      → (own : ℕ) → own ≡ alone size (extentOf size pl x) a v → (table′ : List ℕ) (keys′ : ℕ) (fits′ single′ : Bool) → Entering size table table′ keys fits single k own keys′ fits′ single′
+      → (buffer′ : List ℕ) (place′ owed′ : ℕ) → ((es : List Entry) → imageEntries (powerOf size) n ws ≡ Entries es → Summing size words table keys fits fits′ buffer place owed buffer′ place′ owed′ (inv .passed) es (entryIn ws op pl v x k m a))
+      → Passing size n ws words table′ keys′ fits′ single′ direct′ buffer′ place′ owed′ behind
   pass-entry op pl v x k m a behind told direct′ is-direct own is-own table′ keys′ fits′ single′ entered buffer′ place′ owed′ summing = record {
     sized = entered .sized ∙ inv .sized;
     passed = inv .passed ++ f ∷ [];
     so-far = more;
     holds = λ most es h.
-        let front = prepend-front (inv .passed ++ f ∷ []) (remaining 12 n ws behind) es (sym more ∙ h) in
-        let small = bounded-front (inv .passed ++ f ∷ []) (front .0) (rw (front .1) at (image-bounded n ws es h most)) in
+        let front = prepend-front (inv .passed ++ f ∷ []) (remaining (powerOf size) n ws behind) es (sym more ∙ h) in
+        let small = bounded-front size (inv .passed ++ f ∷ []) (front .0) (rw (front .1) at (image-bounded size n ws es h most)) in
         let held = inv .holds most es h in
-        (rw (inv .sized) at (entered .enters (inv .passed) f refl (sym is-own) small (rw (inv .sized) (held .0))), plain-next (inv .passed) f single direct fits single′ direct′ fits′ small (held .1) (singler (held .0)) (λ t. no-pointer op pl direct (sym is-direct ∙ t)), summing es h (λ g i. rw (front .1) (mem-l g (inv .passed ++ f ∷ []) (front .0) i)) small (held .0) (held .2));
+        (rw (inv .sized) at (entered .enters (inv .passed) f refl (sym is-own) small (rw (inv .sized) (held .0))), plain-next size (inv .passed) f single direct fits single′ direct′ fits′ small (held .1) (singler (held .0)) (λ t. no-pointer op pl direct (sym is-direct ∙ t)), summing es h (λ g i. rw (front .1) (mem-l g (inv .passed ++ f ∷ []) (front .0) i)) small (held .0) (held .2));
   }
     where
       f : Entry
       f = entryIn ws op pl v x k m a
 
-      more : imageEntries 12 n ws ≡ prepend (inv .passed ++ f ∷ []) (remaining 12 n ws behind)
-      more = passed-entry n ws c (N.Entry op pl v x k m a behind) told (imageEntries 12 n ws) (inv .passed) (inv .so-far) op pl v x k m a behind refl
+      more : imageEntries (powerOf size) n ws ≡ prepend (inv .passed ++ f ∷ []) (remaining (powerOf size) n ws behind)
+      more = passed-entry (powerOf size) n ws c (N.Entry op pl v x k m a behind) told (imageEntries (powerOf size) n ws) (inv .passed) (inv .so-far) op pl v x k m a behind refl
 
-      singler : FillInv words (inv .passed) table keys fits → single′ ≡ true → (single ≡ true) × (fits′ ≡ true) × (noted (infoOf k (inv .passed)) (ownOf f) < 0x8000_0000_0000_0000)
+      singler : FillInv size words (inv .passed) table keys fits → single′ ≡ true → (single ≡ true) × (fits′ ≡ true) × (noted size (infoOf size k (inv .passed)) (ownOf size f) < 0x8000_0000_0000_0000)
       singler held t = let p = entered .singly t in (p .0, p .2, rw (held .whole (p .1) .0 k, is-own) at (p .3))
 
 -- an entry that is entered
-module _ (n : ℕ) (ws : List ℕ) (words : ℕ) (table : List ℕ) (keys : ℕ) (fits single direct : Bool) (buffer : List ℕ) (c : Cursor) (inv : Passing n ws words table keys fits single direct buffer 0 0 c) where
-  pub pass-entered : (op pl v x k m a : ℕ) (behind : Cursor) → Handed n ws c op pl v x k m a behind → (direct′ : Bool) → direct′ ≡ pick (eqb pl 1) false direct
-      → (own : ℕ) → own ≡ alone (extentOf pl x) a v → (w : ℕ) → Weighed op m w → (table′ buffer′ : List ℕ) (keys′ : ℕ) (fits′ single′ : Bool) → EnteredIs ws buffer buffer′ table table′ keys fits single k own w keys′ fits′ single′
-      → Passing n ws words table′ keys′ fits′ single′ direct′ buffer′ 0 0 behind
+module _ (size : Size) (n : ℕ) (ws : List ℕ) (words : ℕ) (table : List ℕ) (keys : ℕ) (fits single direct : Bool) (buffer : List ℕ) (c : Cursor) (inv : Passing size n ws words table keys fits single direct buffer 0 0 c) where
+  pub pass-entered : (op pl v x k m a : ℕ) (behind : Cursor) → Handed (powerOf size) n ws c op pl v x k m a behind → (direct′ : Bool) → direct′ ≡ pick (eqb pl 1) false direct
+      → (own : ℕ) → own ≡ alone size (extentOf size pl x) a v → (w : ℕ) → Weighed op m w → (table′ buffer′ : List ℕ) (keys′ : ℕ) (fits′ single′ : Bool) → EnteredIs size ws buffer buffer′ table table′ keys fits single k own w keys′ fits′ single′
+      → Passing size n ws words table′ keys′ fits′ single′ direct′ buffer′ 0 0 behind
   pass-entered op pl v x k m a behind told direct′ is-direct own is-own w weighed table′ buffer′ keys′ fits′ single′ all =
-      pass-entry n ws words table keys fits single direct buffer 0 0 c inv op pl v x k m a behind told direct′ is-direct own is-own table′ keys′ fits′ single′ (all .entered) buffer′ 0 0
+      pass-entry size n ws words table keys fits single direct buffer 0 0 c inv op pl v x k m a behind told direct′ is-direct own is-own table′ keys′ fits′ single′ (all .entered) buffer′ 0 0
       (λ es h inside small held owing t.
       let r = all .renewed t in
       let full = held .whole (r .0) in
       let xs = inv .passed in
-      owing-none buffer′ 0 (xs ++ e ∷ [])
+      owing-none size buffer′ 0 (xs ++ e ∷ [])
       (r .1 .renews xs (xs ++ e ∷ []) e
-      (joins-behind ws (get table k) own w xs e (full .0 k) is-own is-weight (bounded-front xs (e ∷ []) small) (small .each e (mem-r e xs (e ∷ []) (inl refl)))
-      (λ f q. image-stands 12 (omega arith) (omega arith) n ws es h f (inside f (mem-l f xs (e ∷ []) (chosen-is k xs f q .in-list)))))
-      (owing-summed buffer 0 xs (owing (r .0)))))
+      (joins-behind size ws (get table k) own w xs e (full .0 k) is-own is-weight (bounded-front size xs (e ∷ []) small) (small .each e (mem-r e xs (e ∷ []) (inl refl)))
+      (λ f q. image-stands (powerOf size) (power-low size) (power-high size) n ws es h f (inside f (mem-l f xs (e ∷ []) (chosen-is k xs f q .in-list)))))
+      (owing-summed size buffer 0 xs (owing (r .0)))))
     where
       e : Entry
       e = entryIn ws op pl v x k m a
@@ -212,22 +214,22 @@ module _ (n : ℕ) (ws : List ℕ) (words : ℕ) (table : List ℕ) (keys : ℕ)
     same : words ≡ length before
     same = cleared ∙ length-replicate (length before) 0
 
-    pub pass-done : remaining 12 n ws c ≡ Entries [] → Filling n ws before table start-buffer buffer true fits single direct keys
+    pub pass-done : remaining (powerOf size) n ws c ≡ Entries [] → Filling size n ws before table start-buffer buffer true fits single direct keys
     pass-done told =
-        let all : imageEntries 12 n ws ≡ Entries (inv .passed) = passed-done n ws c N.Done told (imageEntries 12 n ws) (inv .passed) (inv .so-far) refl in
+        let all : imageEntries (powerOf size) n ws ≡ Entries (inv .passed) = passed-done (powerOf size) n ws c N.Done told (imageEntries (powerOf size) n ws) (inv .passed) (inv .so-far) refl in
         record {
           sized = inv .sized ∙ same;
           kept = kept;
-          summed = λ most es h t. let q : inv .passed ≡ es = cc in rw (← q) (owing-summed buffer 0 (inv .passed) (inv .holds most es h .2 t));
+          summed = λ most es h t. let q : inv .passed ≡ es = cc in rw (← q) (owing-summed size buffer 0 (inv .passed) (inv .holds most es h .2 t));
           wrong = λ w. absurd (let z : _≡_ {A = ℕ} 0 1 = cc in omega arith);
           entries = λ most es h. (refl, let q : inv .passed ≡ es = cc in rw (← q, ← same) (inv .holds most es h .0));
-          singly = λ most es h t. let q : inv .passed ≡ es = cc in rw (← q) (single-end (inv .passed) single direct fits (inv .holds most es h .1) t);
-          directly = λ most es h t. let q : inv .passed ≡ es = cc in rw (← q) (direct-end (inv .passed) single direct fits (inv .holds most es h .1) t);
+          singly = λ most es h t. let q : inv .passed ≡ es = cc in rw (← q) (single-end size (inv .passed) single direct fits (inv .holds most es h .1) t);
+          directly = λ most es h t. let q : inv .passed ≡ es = cc in rw (← q) (direct-end size (inv .passed) single direct fits (inv .holds most es h .1) t);
         }
 
-    pub pass-wrong : remaining 12 n ws c ≡ Wrong → Filling n ws before table start-buffer buffer false fits single direct keys
+    pub pass-wrong : remaining (powerOf size) n ws c ≡ Wrong → Filling size n ws before table start-buffer buffer false fits single direct keys
     pass-wrong told =
-        let all : imageEntries 12 n ws ≡ Wrong = passed-wrong n ws c N.Wrong told (imageEntries 12 n ws) (inv .passed) (inv .so-far) refl in
+        let all : imageEntries (powerOf size) n ws ≡ Wrong = passed-wrong (powerOf size) n ws c N.Wrong told (imageEntries (powerOf size) n ws) (inv .passed) (inv .so-far) refl in
         record {
           sized = inv .sized ∙ same;
           kept = kept;

@@ -11,12 +11,12 @@ use Rattle.opening.specs.Pass.{Skipped}
 
 module _ (ws : List ℕ) (end at : ℕ) where
   pub skip-start : Skipped ws end at at
-  skip-start = record { nearer = λ n c. omega arith; same = λ n c. refl }
+  skip-start = record { nearer = λ n c. omega arith; same = λ p n c. refl }
 
   pub skip-more : (at′ : ℕ) → Skipped ws end at at′ → at′ < end → at′ < length ws → 0 ≡ getD ws at′ 0 → Skipped ws end at (at′ + 1)
   skip-more at′ so-far h l z =
       let q = padding-stands ws at′ end h l z in
       record {
-        nearer = λ n c. let f = left-padding n ws c at′ end q in let g = so-far .nearer n c in omega arith;
-        same = λ n c. so-far .same n c ∙ next-padding n ws c at′ end q;
+        nearer = λ n c. let f = left-padding 0 n ws c at′ end q in let g = so-far .nearer n c in omega arith;
+        same = λ p n c. so-far .same p n c ∙ next-padding p n ws c at′ end q;
       }

@@ -3,12 +3,16 @@
 ghost use mathlib.Core.Path.{_≡_};
 ghost use mathlib.Core.Bool.{false};
 ghost use lib.Dec.{eqb, ltb};
+ghost use Prim.Native.Nat.{_-_};
 ghost use Rattle.spec.specs.Basics.{pick, both};
 ghost use Rattle.spec.specs.Words.{wordsOf};
+ghost use Rattle.spec.specs.Places.{wordChunk};
+ghost use Rattle.places.specs.Sizes.{powerOf};
 ghost use Rattle.opening.specs.Pass.{AgainIs, EnteredIs, Hastened, Skipped, Filling};
 use buffer::Buffer;
 use log::Short;
 use spec::LogStep;
+use spec::Size;
 
 // ONE ENTRY
 // Whether each key still has a single top entry: a word of the table without the bit of several.
@@ -44,11 +48,12 @@ fn enter_known(
     key: u64,
     own: u64,
     weight: u64,
+    size: Size,
 ) -> bool
-    ensures { λ r. ⌜ AgainIs (wordsOf (now (image .entry))) (now (buffer .entry)) (now (buffer .exit)) (now (table .entry)) (now (table .exit)) single slot old key own weight r ⌝ }
+    ensures { λ r. ⌜ AgainIs size (wordsOf (now (image .entry))) (now (buffer .entry)) (now (buffer .exit)) (now (table .entry)) (now (table .exit)) single slot old key own weight r ⌝ }
 {
-    volatile::chunk_sums::renew(image, buffer, old, own, weight);
-    let info = volatile::with_entry(old, own);
+    volatile::chunk_sums::renew(image, buffer, old, own, weight, size);
+    let info = volatile::with_entry(size, old, own);
     index::set_slot(table, slot, key, info);
     is_single(single, info)
 }
@@ -72,15 +77,16 @@ fn enter(
     key: u64,
     own: u64,
     weight: u64,
+    size: Size,
 ) -> Entered
-    ensures { λ r. ⌜ EnteredIs (wordsOf (now (image .entry))) (now (buffer .entry)) (now (buffer .exit)) (now (table .entry)) (now (table .exit)) keys fits single key own weight (r .keys) (r .fits) (r .single) ⌝ }
+    ensures { λ r. ⌜ EnteredIs size (wordsOf (now (image .entry))) (now (buffer .entry)) (now (buffer .exit)) (now (table .entry)) (now (table .exit)) keys fits single key own weight (r .keys) (r .fits) (r .single) ⌝ }
 {
     buffer::buffer_length(buffer);
     if fits {
         let slot = index::slot_of(table, key);
         let old = index::word_at(table, slot);
         if old == 0 {
-            volatile::chunk_sums::renew(image, buffer, old, own, weight);
+            volatile::chunk_sums::renew(image, buffer, old, own, weight, size);
             if keys < index::capacity(table.len()) {
                 index::set_slot(table, slot, key, own);
                 return Entered {
@@ -95,7 +101,18 @@ fn enter(
                 single: false,
             };
         }
-        let lonely = enter_known(image, buffer, table, single, slot, old, key, own, weight);
+        let lonely = enter_known(
+            image,
+            buffer,
+            table,
+            single,
+            slot,
+            old,
+            key,
+            own,
+            weight,
+            size,
+        );
         return Entered {
             keys,
             fits: true,
@@ -110,6 +127,14 @@ fn enter(
 }
 
 // RUNS
+// Whether the words from word `at` on and before word `end` lie in several chunks.
+fn is_wide(at: usize, end: usize, size: Size) -> bool
+    ensures { λ r. ⌜ r ≡ ltb (wordChunk (powerOf size) at) (wordChunk (powerOf size) (end - 1)) ⌝ }
+{
+    let last = end - words::lesser(end, 1);
+    places::chunk_of_word(size, at) < places::chunk_of_word(size, last)
+}
+
 // A run of the pass: how many keys the table has then, whether each has a single top entry, and how far it came. What
 // it passed from word `from` on is new and not yet in the sum of the chunk.
 struct PutsEntered {
@@ -131,11 +156,12 @@ fn enter_puts(
     keys: usize,
     fits: bool,
     single: bool,
+    size: Size,
 ) -> PutsEntered
-    ensures { λ r. ⌜ Hastened (wordsOf (now (image .entry))) end fits (now (table .entry)) keys single (now (buffer .entry)) at (now (table .exit)) (r .keys) (r .single) (now (buffer .exit)) (r .from) (r .at) ⌝ }
+    ensures { λ r. ⌜ Hastened size (wordsOf (now (image .entry))) end fits (now (table .entry)) keys single (now (buffer .entry)) at (now (table .exit)) (r .keys) (r .single) (now (buffer .exit)) (r .from) (r .at) ⌝ }
 {
     buffer::buffer_length(buffer);
-    if at / 512 + 1 < end / 512 + (end % 512 + 511) / 512 {
+    if is_wide(at, end, size) {
         return PutsEntered {
             keys,
             single,
@@ -169,9 +195,10 @@ fn enter_puts(
                 let old = index::word_at(table, slot);
                 if old != 0 {
                     let passed = place - from;
-                    volatile::chunk_sums::add(buffer, from, passed as u64);
+                    volatile::chunk_sums::add(buffer, from, passed as u64, size);
                     let this = volatile::single_entry(
-                        volatile::extent_of(0, field),
+                        size,
+                        volatile::extent_of(size, 0, field),
                         place,
                         version,
                     );
@@ -186,6 +213,7 @@ fn enter_puts(
                         key,
                         this,
                         weight,
+                        size,
                     );
                     from = place + (2 + words);
                     place = from;
@@ -198,7 +226,8 @@ fn enter_puts(
                             at: place,
                         };
                     }
-                    let own = volatile::single_entry(volatile::extent_of(0, field), place, version);
+                    let extent = volatile::extent_of(size, 0, field);
+                    let own = volatile::single_entry(size, extent, place, version);
                     index::set_slot(table, slot, key, own);
                     count += 1;
                     place += 2 + words;
@@ -243,8 +272,14 @@ pub struct Filled {
 
 // The pass over the log of an image of `count` chunks, from an empty table and sums of 0. It walks as
 // `log::next_in_log` does, the common entries by a run first.
-pub fn fill(image: &[u8], count: usize, table: &mut [u64], buffer: &mut Buffer) -> Filled
-    ensures { λ r. ⌜ Filling count (wordsOf (now (image .entry))) (now (table .entry)) (now (table .exit)) (now (buffer .entry)) (now (buffer .exit)) (r .right) (r .fits) (r .single) (r .direct) (r .keys) ⌝ }
+pub fn fill(
+    image: &[u8],
+    count: usize,
+    table: &mut [u64],
+    buffer: &mut Buffer,
+    size: Size,
+) -> Filled
+    ensures { λ r. ⌜ Filling size count (wordsOf (now (image .entry))) (now (table .entry)) (now (table .exit)) (now (buffer .entry)) (now (buffer .exit)) (r .right) (r .fits) (r .single) (r .direct) (r .keys) ⌝ }
 {
     index::clear(table);
     volatile::chunk_sums::clear(buffer);
@@ -257,9 +292,9 @@ pub fn fill(image: &[u8], count: usize, table: &mut [u64], buffer: &mut Buffer) 
     let mut end: usize = 0;
     loop {
         at = skip_padding(image, at, end);
-        let r = enter_puts(image, at, end, table, buffer, keys, fits, single);
+        let r = enter_puts(image, at, end, table, buffer, keys, fits, single, size);
         let passed = r.at - r.from;
-        volatile::chunk_sums::add(buffer, r.from, passed as u64);
+        volatile::chunk_sums::add(buffer, r.from, passed as u64, size);
         keys = r.keys;
         single = r.single;
         at = r.at;
@@ -284,7 +319,7 @@ pub fn fill(image: &[u8], count: usize, table: &mut [u64], buffer: &mut Buffer) 
                         keys,
                     };
                 }
-                let next = consistency::partition::onward(image, count, chunk + 1);
+                let next = consistency::partition::onward(image, count, chunk + 1, size);
                 chunk = next.chunk;
                 at = next.at;
                 end = next.end;
@@ -311,12 +346,24 @@ pub fn fill(image: &[u8], count: usize, table: &mut [u64], buffer: &mut Buffer) 
             } => {
                 direct = is_direct(direct, placement);
                 let own = volatile::single_entry(
-                    volatile::extent_of(placement, field),
+                    size,
+                    volatile::extent_of(size, placement, field),
                     at,
                     version,
                 );
                 let weight = volatile::chunk_sums::weigh(op, words);
-                let e = enter(image, buffer, table, keys, fits, single, key, own, weight);
+                let e = enter(
+                    image,
+                    buffer,
+                    table,
+                    keys,
+                    fits,
+                    single,
+                    key,
+                    own,
+                    weight,
+                    size,
+                );
                 keys = e.keys;
                 fits = e.fits;
                 single = e.single;

@@ -4,8 +4,8 @@ ghost use mathlib.Core.Path.{_≡_};
 ghost use lib.ListN.{length};
 ghost use Rattle.spec.specs.Basics.{both};
 ghost use Rattle.spec.specs.Words.{wordsOf};
-ghost use Rattle.spec.specs.Places.{lengthAllowed};
-ghost use Rattle.spec.specs.Header.{headerRight};
+ghost use Rattle.spec.specs.Places.{anyAllowed, sizeAllowed};
+ghost use Rattle.spec.specs.Header.{headerRight, headerPower};
 ghost use Rattle.spec.specs.Machine.{Open};
 ghost use Rattle.index.specs.Index.{zeros};
 ghost use Rattle.opening.specs.Judged.{firstRefusal, JudgingLog, Judging};
@@ -19,17 +19,40 @@ use session::Outcome;
 use session::Setup;
 use spec::Refusal;
 use spec::Report;
+use spec::Size;
 
 // THE TESTS OF AN IMAGE
-// 1: the length is that of 4 to 504 whole chunks.
+// 1: the length is that of 4 to 504 whole chunks of a size that there is.
 pub fn length_allowed(bytes: usize) -> bool
-    ensures { λ r. ⌜ r ≡ lengthAllowed 12 bytes ⌝ }
+    ensures { λ r. ⌜ r ≡ anyAllowed bytes ⌝ }
 {
-    if bytes % 4096 == 0 {
-        let n = bytes / 4096;
-        if 4 <= n {
-            return n <= 504;
-        }
+    if places::length_allowed(Size::Small, bytes) {
+        return true;
+    }
+    places::length_allowed(Size::Large, bytes)
+}
+
+// The chunk power that the header says.
+pub fn power_said(image: &[u8]) -> u64
+    ensures { λ r. ⌜ r ≡ headerPower (wordsOf (now (image .entry))) ⌝ }
+{
+    codec::header_power(
+        words::load(image, 0),
+        words::load(image, 2),
+        words::load(image, 3),
+        words::load(image, 4),
+    )
+}
+
+// 2: there are chunks of that power, and the length is that of 4 to 504 whole ones.
+pub fn power_fits(power: u64, bytes: usize) -> bool
+    ensures { λ r. ⌜ r ≡ sizeAllowed power bytes ⌝ }
+{
+    if power == 12 {
+        return places::length_allowed(Size::Small, bytes);
+    }
+    if power == 16 {
+        return places::length_allowed(Size::Large, bytes);
     }
     false
 }
@@ -81,10 +104,16 @@ fn first_refusal(first: bool, a: Refusal, second: bool, b: Refusal, keys: usize)
 }
 
 // 4 to 7, of an image of `count` chunks: key table, block bits and sums are built anew.
-pub fn check_log(image: &[u8], count: usize, table: &mut [u64], buffer: &mut Buffer) -> CheckedImage
-    ensures { λ r. ⌜ JudgingLog count (wordsOf (now (image .entry))) (now (table .entry)) (now (table .exit)) (now (buffer .entry)) (now (buffer .exit)) r ⌝ }
+pub fn check_log(
+    image: &[u8],
+    count: usize,
+    table: &mut [u64],
+    buffer: &mut Buffer,
+    size: Size,
+) -> CheckedImage
+    ensures { λ r. ⌜ JudgingLog size count (wordsOf (now (image .entry))) (now (table .entry)) (now (table .exit)) (now (buffer .entry)) (now (buffer .exit)) r ⌝ }
 {
-    let filled = fill::fill(image, count, table, buffer);
+    let filled = fill::fill(image, count, table, buffer, size);
     if filled.right {
         let checked = consistency::examine(
             image,
@@ -94,6 +123,7 @@ pub fn check_log(image: &[u8], count: usize, table: &mut [u64], buffer: &mut Buf
             filled.single,
             filled.direct,
             buffer,
+            size,
         );
         if checked.blocks {
             let agreed = both(checked.agreeing, checked.apart);
@@ -118,12 +148,17 @@ fn check_image(image: &[u8], table: &mut [u64], buffer: &mut Buffer) -> CheckedI
 {
     let bytes = image.len();
     if length_allowed(bytes) {
-        let count = bytes / 4096;
-        if header_fits(image, count) {
-            if directory::directory_fits(image, count) {
-                return check_log(image, count, table, buffer);
+        let power = power_said(image);
+        if power_fits(power, bytes) {
+            let size = places::size_by(power);
+            let count = places::chunks_in(size, bytes);
+            if header_fits(image, count) {
+                if directory::directory_fits(image, count, size) {
+                    return check_log(image, count, table, buffer, size);
+                }
+                return CheckedImage::Refused(Refusal::DirectoryWrong);
             }
-            return CheckedImage::Refused(Refusal::DirectoryWrong);
+            return CheckedImage::Refused(Refusal::NotOpen);
         }
         return CheckedImage::Refused(Refusal::NotOpen);
     }
@@ -161,7 +196,7 @@ pub fn open_core(
         }
         CheckedImage::Accepted(keys) => Outcome {
             control: session::opened(keys),
-            setup: session::opened_setup(bytes, words),
+            setup: session::opened_setup(bytes, words, places::size_by(power_said(image))),
             report: Report::Opened,
         },
     }

@@ -13,21 +13,21 @@ use Rattle.placing.specs.declared.lines.Place.{Place}
 use Rattle.placing.specs.Found.{placeOf}
 
 -- a place by its field `found`
-pub record PlacedAt (ws : List ℕ) (q : Option ℕ) (r : Place) : Type 0 where
+pub record PlacedAt (p : ℕ) (ws : List ℕ) (q : Option ℕ) (r : Place) : Type 0 where
   pub chunk : q ≡ some (r .chunk)
-  pub committed : r .committed ≡ linesOf 12 ws (r .chunk)
+  pub committed : r .committed ≡ linesOf p ws (r .chunk)
   pub old : r .old ≡ getD ws (directoryWord (r .chunk)) 0
 
-pub placed-at : (ws : List ℕ) (q : Option ℕ) (r : Place) → r ≡ placeOf ws q → r .found ≡ true → PlacedAt ws q r
-placed-at ws none r e h = absurd (let f : false ≡ true = sym (ap (λ (x : Place). x .found) e) ∙ h in let z : _≡_ {A = ℕ} 0 1 = cc in omega arith)
-placed-at ws (some c) r e h =
+pub placed-at : (p : ℕ) (ws : List ℕ) (q : Option ℕ) (r : Place) → r ≡ placeOf p ws q → r .found ≡ true → PlacedAt p ws q r
+placed-at p ws none r e h = absurd (let f : false ≡ true = sym (ap (λ (x : Place). x .found) e) ∙ h in let z : _≡_ {A = ℕ} 0 1 = cc in omega arith)
+placed-at p ws (some c) r e h =
     let k : r .chunk ≡ c = ap (λ (x : Place). x .chunk) e in
     record {
       chunk = ap some (sym k);
-      committed = ap (λ (x : Place). x .committed) e ∙ ap (linesOf 12 ws) (sym k);
+      committed = ap (λ (x : Place). x .committed) e ∙ ap (linesOf p ws) (sym k);
       old = ap (λ (x : Place). x .old) e ∙ ap (λ (d : ℕ). getD ws (directoryWord d) 0) (sym k);
     }
 
-pub placed-nowhere : (ws : List ℕ) (q : Option ℕ) (r : Place) → r ≡ placeOf ws q → r .found ≡ false → q ≡ none
-placed-nowhere ws none r e h = refl
-placed-nowhere ws (some c) r e h = absurd (let f : true ≡ false = sym (ap (λ (x : Place). x .found) e) ∙ h in let z : _≡_ {A = ℕ} 0 1 = cc in omega arith)
+pub placed-nowhere : (p : ℕ) (ws : List ℕ) (q : Option ℕ) (r : Place) → r ≡ placeOf p ws q → r .found ≡ false → q ≡ none
+placed-nowhere p ws none r e h = refl
+placed-nowhere p ws (some c) r e h = absurd (let f : true ≡ false = sym (ap (λ (x : Place). x .found) e) ∙ h in let z : _≡_ {A = ℕ} 0 1 = cc in omega arith)

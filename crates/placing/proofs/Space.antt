@@ -16,27 +16,26 @@ use Rattle.spec.specs.Plans.{hasSpace}
 use Rattle.directory.proofs.Roles.{log-lines}
 
 -- what the code shows
-module _ (ws : List ℕ) (b c : ℕ) where
-  pub no-lines : linesOf 12 ws c ≡ 0 → hasSpace 12 ws b 0 c ≡ false
-  no-lines h = rw (log-lines 12 ws c, h)
+module _ (p : ℕ) (ws : List ℕ) (b c : ℕ) where
+  pub no-lines : linesOf p ws c ≡ 0 → hasSpace p ws b 0 c ≡ false
+  no-lines h = rw (log-lines p ws c, h)
 
-  pub space-left : (n : ℕ) → n ≡ linesOf 12 ws c → 1 ≤ n → 1 ≤ c → hasSpace 12 ws b 0 c ≡ leb (n + b) 64
-  unfolding chunkLines
-  space-left n h l u = rw (log-lines 12 ws c, ← h, le-leb 1 n l, ne-eqb c 0 (λ e. omega arith))
+  pub space-left : (n : ℕ) → n ≡ linesOf p ws c → 1 ≤ n → 1 ≤ c → hasSpace p ws b 0 c ≡ leb (n + b) (chunkLines p)
+  space-left n h l u = rw (log-lines p ws c, ← h, le-leb 1 n l, ne-eqb c 0 (λ e. omega arith))
 
   -- of another chunk than x
-  not-there : (x : ℕ) → c ≡ x → hasSpace 12 ws b x c ≡ false
-  not-there x e = rw (eq-eqb c x e) (go (isLog (roleAt 12 ws c)))
+  not-there : (x : ℕ) → c ≡ x → hasSpace p ws b x c ≡ false
+  not-there x e = rw (eq-eqb c x e) (go (isLog (roleAt p ws c)))
     where
       go : (t : Bool) → both t false ≡ false
       go true = refl
       go false = refl
 
-  another : (x : ℕ) → (c ≡ x → ⊥) → 1 ≤ c → hasSpace 12 ws b x c ≡ hasSpace 12 ws b 0 c
+  another : (x : ℕ) → (c ≡ x → ⊥) → 1 ≤ c → hasSpace p ws b x c ≡ hasSpace p ws b 0 c
   another x ne l = rw (ne-eqb c x ne, ne-eqb c 0 (λ e. omega arith))
 
-  pub there : (x : ℕ) → 1 ≤ c → hasSpace 12 ws b 0 c ≡ true → not (eqb c x) ≡ hasSpace 12 ws b x c
+  pub there : (x : ℕ) → 1 ≤ c → hasSpace p ws b 0 c ≡ true → not (eqb c x) ≡ hasSpace p ws b x c
   there x l h = by-cases (ℕ-discrete c x) (λ e. ap not (eq-eqb c x e) ∙ sym (not-there x e)) (λ ne. ap not (ne-eqb c x ne) ∙ sym (another x ne l ∙ h))
 
-  pub nowhere-else : (x : ℕ) → 1 ≤ c → hasSpace 12 ws b 0 c ≡ false → hasSpace 12 ws b x c ≡ false
+  pub nowhere-else : (x : ℕ) → 1 ≤ c → hasSpace p ws b 0 c ≡ false → hasSpace p ws b x c ≡ false
   nowhere-else x l h = by-cases (ℕ-discrete c x) (not-there x) (λ ne. another x ne l ∙ h)

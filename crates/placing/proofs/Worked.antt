@@ -49,3 +49,12 @@ again = refl
 nowhere : slotFor 12 4 (words 514) live staged 3 ≡ Nowhere
 unfolding slotFor sizeOf roleOf isSize sizeFor chunkUnits chunkLines firstUnit
 nowhere = refl
+
+-- large chunks: a data chunk of blocks of 51 units, which begins at unit 256
+large-lowest : slotFor 16 4 (words 13058) [] [] 51 ≡ InData 256
+unfolding slotFor sizeOf roleOf isSize sizeFor chunkUnits chunkLines firstUnit
+large-lowest = refl
+
+large-behind : slotFor 16 4 (words 13058) (entry 1 1 1 256 7 [] ∷ []) [] 51 ≡ InData 307
+unfolding slotFor sizeOf roleOf isSize sizeFor chunkUnits chunkLines firstUnit
+large-behind = refl

@@ -11,7 +11,7 @@ use lib.Dec.{eqb}
 use lib.ListN.{length, getD}
 use Rattle.spec.specs.Basics.{pick, both, negate, filter, first, isIn, upFrom}
 use Rattle.spec.specs.Words.{wordsOf}
-use Rattle.spec.specs.Places.{firstUnit, unitChunk, unitWord, directoryWord}
+use Rattle.spec.specs.Places.{chunkUnits, firstUnit, unitChunk, unitWord, directoryWord, chunksIn}
 use Rattle.spec.specs.Directory.{sizeOf, roleAt, isFree}
 use Rattle.spec.specs.Log.{Entry, wordsFor}
 use Rattle.spec.specs.Contents.{pointers, liveBlocks}
@@ -19,6 +19,8 @@ use Rattle.spec.specs.Plans.{blocksFrom, InData, InFree, slotFor}
 use Rattle.spec.specs.Plans as K
 use Rattle.spec.specs.declared.FirstWord.{FirstWord}
 use Rattle.spec.specs.declared.FirstWord.the-variants as F
+use Rattle.spec.specs.declared.Size.{Size}
+use Rattle.places.specs.Sizes.{powerOf}
 use Rattle.codec.specs.declared.Unit.{Unit as UnitNumber}
 use Rattle.buffer.specs.Bits.{hasBit}
 use Rattle.batch.specs.Items.{StagedIn}
@@ -39,34 +41,41 @@ abbrev pub StagedBlock : List ℕ → ℕ → ℕ → Bool → Type 0
 StagedBlock buffer words u r = (items : List Entry) → StagedIn buffer words items → r ≡ isIn u (pointers items)
 
 -- the bits are those of the entries, the staged words those of the items
-pub record Says (buffer : List ℕ) (words : ℕ) (es items : List Entry) : Type 0 where
-  pub blocks : (u : ℕ) → hasBit buffer u ≡ isIn u (liveBlocks es)
+pub record Says (size : Size) (buffer : List ℕ) (words : ℕ) (es items : List Entry) : Type 0 where
+  pub blocks : (u : ℕ) → hasBit size buffer u ≡ isIn u (liveBlocks es)
   pub staged : StagedIn buffer words items
 
 -- the block is neither live nor staged
 abbrev pub spare : List Entry → List Entry → ℕ → Bool
 spare es items u = negate (isIn u (liveBlocks es ++ pointers items))
 
-abbrev pub Spare : List ℕ → ℕ → ℕ → Bool → Type 0
-Spare buffer words u r = (es items : List Entry) → Says buffer words es items → r ≡ spare es items u
+abbrev pub Spare : Size → List ℕ → ℕ → ℕ → Bool → Type 0
+Spare size buffer words u r = (es items : List Entry) → Says size buffer words es items → r ≡ spare es items u
 
 -- the first block of size s in n chunks that is neither live nor staged
-abbrev pub firstSpare : ℕ → List ℕ → List Entry → List Entry → ℕ → Option ℕ
-firstSpare n ws es items s = first (filter (λ u. negate (isIn u (liveBlocks es ++ pointers items))) (blocksFrom 12 ws s (upFrom 1 (n - 1))))
+abbrev pub firstSpare : ℕ → ℕ → List ℕ → List Entry → List Entry → ℕ → Option ℕ
+firstSpare p n ws es items s = first (filter (λ u. negate (isIn u (liveBlocks es ++ pointers items))) (blocksFrom p ws s (upFrom 1 (n - 1))))
 
--- in these bits of a chunk each block of s units is in use, unless they are more than a chunk has
-pub record EachUsed (s full : ℕ) : Type 0 where
-  pub used : full < 2 ^ 16 → (j : ℕ) → j < 16 / s → full / 2 ^ (s * j) % 2 ≡ 1
+-- bit i of these words
+abbrev pub bitIn : List ℕ → ℕ → ℕ
+bitIn bits i = getD bits (i / 64) 0 / 2 ^ (i % 64) % 2
 
--- the bits of chunk c
-pub record ChunkBits (buffer : List ℕ) (c bits : ℕ) : Type 0 where
-  pub few : bits < 2 ^ 16
-  pub each : (i : ℕ) → i < 16 → hasBit buffer (firstUnit 12 c + i) ≡ eqb (bits / 2 ^ i % 2) 1
+-- in these bits of a chunk each block of s units is in use
+pub record EachUsed (size : Size) (s : ℕ) (full : List ℕ) : Type 0 where
+  pub used : (j : ℕ) → j < chunkUnits (powerOf size) / s → bitIn full (s * j) ≡ 1
+
+-- the bits of chunk c are these
+pub record ChunkBits (size : Size) (buffer : List ℕ) (c : ℕ) (bits : List ℕ) : Type 0 where
+  pub each : (i : ℕ) → i < chunkUnits (powerOf size) → hasBit size buffer (firstUnit (powerOf size) c + i) ≡ eqb (bitIn bits i) 1
+
+-- they are, if so told
+pub record HasBits (size : Size) (buffer : List ℕ) (c : ℕ) (bits : List ℕ) (r : Bool) : Type 0 where
+  pub same : r ≡ true → ChunkBits size buffer c bits
 
 -- so many blocks of chunk c are to be looked at: those of a chunk with that directory word, or none where its bits are
 -- these
-abbrev pub ToLookAt : (ws buffer : List ℕ) → (c word blocks full : ℕ) → ℕ → Type 0
-ToLookAt ws buffer c word blocks full r = (r ≡ pick (eqb (getD ws (directoryWord c) 0) word) blocks 0) ⊎ ((r ≡ 0) × ChunkBits buffer c full)
+abbrev pub ToLookAt : (size : Size) (ws buffer : List ℕ) (c word blocks : ℕ) (full : List ℕ) → ℕ → Type 0
+ToLookAt size ws buffer c word blocks full r = (r ≡ pick (eqb (getD ws (directoryWord c) 0) word) blocks 0) ⊎ ((r ≡ 0) × ChunkBits size buffer c full)
 
 abbrev pub unit : ℕ → UnitNumber
 unit u = record { 0 = u }
@@ -76,23 +85,23 @@ blockBy none = B.Nothing
 blockBy (some u) = B.At (unit u)
 
 -- unit u starts s units within the image, in a data chunk of blocks of s units, below chunk n
-pub record InImage (image : List ℕ) (n s u : ℕ) : Type 0 where
+pub record InImage (p : ℕ) (image : List ℕ) (n s u : ℕ) : Type 0 where
   pub some′ : 1 ≤ s
-  pub low : 1 ≤ unitChunk 12 u
-  pub high : unitChunk 12 u < n
+  pub low : 1 ≤ unitChunk p u
+  pub high : unitChunk p u < n
   pub ends : 8 * unitWord (u + s) ≤ length image
-  pub size : sizeOf 12 (wordsOf image) (unitChunk 12 u) ≡ s
+  pub size : sizeOf p (wordsOf image) (unitChunk p u) ≡ s
 
-pub record BlockFound (image : List ℕ) (count size : ℕ) (buffer : List ℕ) (words : ℕ) (r : Block) : Type 0 where
-  pub exact : count ≤ length image / 4096 → (es items : List Entry) → Says buffer words es items → r ≡ blockBy (firstSpare count (wordsOf image) es items size)
-  pub anyway : (u : UnitNumber) → r ≡ B.At u → InImage image count size (u .0)
+pub record BlockFound (size : Size) (image : List ℕ) (count s : ℕ) (buffer : List ℕ) (words : ℕ) (r : Block) : Type 0 where
+  pub exact : count ≤ chunksIn (powerOf size) (length image) → (es items : List Entry) → Says size buffer words es items → r ≡ blockBy (firstSpare (powerOf size) count (wordsOf image) es items s)
+  pub anyway : (u : UnitNumber) → r ≡ B.At u → InImage (powerOf size) image count s (u .0)
 
 abbrev pub slotBy : K.Slot → Slot
 slotBy (InData u) = S.Data (unit u)
 slotBy (InFree c) = S.Free c
 slotBy K.Nowhere = S.Nowhere
 
-pub record SlotFound (image : List ℕ) (count size : ℕ) (buffer : List ℕ) (words : ℕ) (r : Slot) : Type 0 where
-  pub exact : count ≤ length image / 4096 → (es items : List Entry) → Says buffer words es items → r ≡ slotBy (slotFor 12 count (wordsOf image) es items size)
-  pub data′ : (u : UnitNumber) → r ≡ S.Data u → InImage image count size (u .0)
-  pub free : (c : ℕ) → r ≡ S.Free c → (1 ≤ c) × (c < count) × (isFree (roleAt 12 (wordsOf image) c) ≡ true)
+pub record SlotFound (size : Size) (image : List ℕ) (count s : ℕ) (buffer : List ℕ) (words : ℕ) (r : Slot) : Type 0 where
+  pub exact : count ≤ chunksIn (powerOf size) (length image) → (es items : List Entry) → Says size buffer words es items → r ≡ slotBy (slotFor (powerOf size) count (wordsOf image) es items s)
+  pub data′ : (u : UnitNumber) → r ≡ S.Data u → InImage (powerOf size) image count s (u .0)
+  pub free : (c : ℕ) → r ≡ S.Free c → (1 ≤ c) × (c < count) × (isFree (roleAt (powerOf size) (wordsOf image) c) ≡ true)

@@ -17,14 +17,14 @@ use Rattle.placing.specs.declared.lines.Placed.{Placed}
 use Rattle.placing.specs.declared.lines.Start.{Start}
 
 -- the chunk found, its committed lines and its directory word
-abbrev pub placeOf : List ℕ → Option ℕ → Place
-placeOf ws none = record { found = false; chunk = 0; committed = 0; old = 0 }
-placeOf ws (some c) = record { found = true; chunk = c; committed = linesOf 12 ws c; old = getD ws (directoryWord c) 0 }
+abbrev pub placeOf : ℕ → List ℕ → Option ℕ → Place
+placeOf p ws none = record { found = false; chunk = 0; committed = 0; old = 0 }
+placeOf p ws (some c) = record { found = true; chunk = c; committed = linesOf p ws c; old = getD ws (directoryWord c) 0 }
 
 -- a search for a log chunk with space; where `sole` is told, there is none behind `from`
-pub record Near (ws : List ℕ) (from count lines : ℕ) (sole : Bool) (r : ℕ) : Type 0 where
+pub record Near (p : ℕ) (ws : List ℕ) (from count lines : ℕ) (sole : Bool) (r : ℕ) : Type 0 where
   pub behind : from ≤ r
-  pub stops : (sole ≡ true → NoneAbove count ws from lines) → Stops (hasSpace 12 ws lines 0) from count r
+  pub stops : (sole ≡ true → NoneAbove p count ws from lines) → Stops (hasSpace p ws lines 0) from count r
 
 -- the start of a search by a hint: a hint holds for no fewer lines than it speaks of; chunk 0 is no log chunk
 pub record Started (first least lines : ℕ) (r : Start) : Type 0 where
@@ -42,12 +42,12 @@ pub record Hinted (chunk : ℕ) (sole : Bool) (r : ℕ) : Type 0 where
   pub marked : soleMark ≤ r → (sole ≡ true) × (r % soleMark ≡ chunk)
 
 -- the place is the definition's, and the next hint holds of the image, and also once lines were added to the place
-pub record Searched (ws : List ℕ) (count lines needed : ℕ) (r : Placed) : Type 0 where
-  pub place : r .place ≡ placeOf ws (logPlace 12 count ws lines 0 needed)
-  pub hint : Hint count ws (r .first) (r .least)
+pub record Searched (p : ℕ) (ws : List ℕ) (count lines needed : ℕ) (r : Placed) : Type 0 where
+  pub place : r .place ≡ placeOf p ws (logPlace p count ws lines 0 needed)
+  pub hint : Hint p count ws (r .first) (r .least)
   pub low : r .place .found ≡ true → r .first % soleMark ≤ r .place .chunk
   pub sole : r .place .found ≡ true → soleMark ≤ r .first → r .place .chunk ≡ r .first % soleMark
 
 -- so it is where the hint given holds
-abbrev pub Searching : (ws : List ℕ) (count lines needed first least : ℕ) → Placed → Type 0
-Searching ws count lines needed first least r = Hint count ws first least → Searched ws count lines needed r
+abbrev pub Searching : (p : ℕ) (ws : List ℕ) (count lines needed first least : ℕ) → Placed → Type 0
+Searching p ws count lines needed first least r = Hint p count ws first least → Searched p ws count lines needed r

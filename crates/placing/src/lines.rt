@@ -4,12 +4,14 @@ ghost use Prim.Native.Nat.{_≤_};
 ghost use mathlib.Core.Option.{some};
 ghost use Rattle.spec.specs.Words.{wordsOf};
 ghost use Rattle.spec.specs.Plans.{hasSpace};
+ghost use Rattle.places.specs.Sizes.{powerOf};
 ghost use Rattle.directory.specs.Found.{Stops};
 ghost use Rattle.placing.specs.Found.{placeOf, Near, Started, FreeStart, Hinted, Searching};
 use directory::Found;
 use directory::directory_word;
 use directory::free_from;
 use directory::lines_of;
+use spec::Size;
 
 // Where the lines go: `committed` is the chunk's committed lines, `old` its directory word; all 0 where nothing was
 // found.
@@ -28,39 +30,47 @@ pub struct Placed {
 }
 
 // Whether c is a log chunk with space for so many lines behind its committed ones.
-fn has_space(image: &[u8], c: usize, lines: usize) -> bool
+fn has_space(image: &[u8], c: usize, lines: usize, size: Size) -> bool
     requires { ⌜ 1 ≤ c ⌝ }
-    ensures { λ r. ⌜ r ≡ hasSpace 12 (wordsOf (now (image .entry))) lines 0 c ⌝ }
+    ensures { λ r. ⌜ r ≡ hasSpace (powerOf size) (wordsOf (now (image .entry))) lines 0 c ⌝ }
 {
-    let committed = lines_of(image, c);
+    let committed = lines_of(image, c, size);
     if committed == 0 {
         return false;
     }
-    if 64 < lines {
+    let most = places::lines(size);
+    if most < lines {
         return false;
     }
-    committed + lines <= 64
+    committed + lines <= most
 }
 
 // The same of a chunk other than x.
-fn has_other_space(image: &[u8], c: usize, lines: usize, x: usize) -> bool
+fn has_other_space(image: &[u8], c: usize, lines: usize, x: usize, size: Size) -> bool
     requires { ⌜ 1 ≤ c ⌝ }
-    ensures { λ r. ⌜ r ≡ hasSpace 12 (wordsOf (now (image .entry))) lines x c ⌝ }
+    ensures { λ r. ⌜ r ≡ hasSpace (powerOf size) (wordsOf (now (image .entry))) lines x c ⌝ }
 {
-    if has_space(image, c, lines) {
+    if has_space(image, c, lines, size) {
         return c != x;
     }
     false
 }
 
 // The first log chunk other than x with space, from chunk `from` on; where there is none, a number not below the count.
-pub fn next_chunk(image: &[u8], from: usize, count: usize, lines: usize, x: usize) -> usize
+pub fn next_chunk(
+    image: &[u8],
+    from: usize,
+    count: usize,
+    lines: usize,
+    x: usize,
+    size: Size,
+) -> usize
     requires { ⌜ 1 ≤ from ⌝ }
-    ensures { λ r. ⌜ Stops (hasSpace 12 (wordsOf (now (image .entry))) lines x) from count r ⌝ }
+    ensures { λ r. ⌜ Stops (hasSpace (powerOf size) (wordsOf (now (image .entry))) lines x) from count r ⌝ }
 {
     let mut c = from;
     while c < count {
-        if has_other_space(image, c, lines, x) {
+        if has_other_space(image, c, lines, x, size) {
             return c;
         }
         c += 1;
@@ -70,40 +80,54 @@ pub fn next_chunk(image: &[u8], from: usize, count: usize, lines: usize, x: usiz
 
 // The same with any chunk to be found, where told whether no log chunk behind `from` has space: then it is the only one
 // to be looked at.
-fn near_chunk(image: &[u8], from: usize, count: usize, lines: usize, sole: bool) -> usize
+fn near_chunk(
+    image: &[u8],
+    from: usize,
+    count: usize,
+    lines: usize,
+    sole: bool,
+    size: Size,
+) -> usize
     requires { ⌜ 1 ≤ from ⌝ }
-    ensures { λ r. ⌜ Near (wordsOf (now (image .entry))) from count lines sole r ⌝ }
+    ensures { λ r. ⌜ Near (powerOf size) (wordsOf (now (image .entry))) from count lines sole r ⌝ }
 {
     if sole {
         if from < count {
-            if has_space(image, from, lines) {
+            if has_space(image, from, lines, size) {
                 return from;
             }
             return count;
         }
         return from;
     }
-    next_chunk(image, from, count, lines, 0)
+    next_chunk(image, from, count, lines, 0, size)
 }
 
 // The same for more lines, behind a search for `least`.
-fn wider_chunk(image: &[u8], from: usize, count: usize, least: usize, lines: usize) -> usize
+fn wider_chunk(
+    image: &[u8],
+    from: usize,
+    count: usize,
+    least: usize,
+    lines: usize,
+    size: Size,
+) -> usize
     requires { ⌜ (1 ≤ from) × (least ≤ lines) ⌝ }
-    ensures { λ r. ⌜ (Stops (hasSpace 12 (wordsOf (now (image .entry))) least 0) from count from → Stops (hasSpace 12 (wordsOf (now (image .entry))) lines 0) from count r) ⌝ }
+    ensures { λ r. ⌜ (Stops (hasSpace (powerOf size) (wordsOf (now (image .entry))) least 0) from count from → Stops (hasSpace (powerOf size) (wordsOf (now (image .entry))) lines 0) from count r) ⌝ }
 {
     if least < lines {
-        return next_chunk(image, from, count, lines, 0);
+        return next_chunk(image, from, count, lines, 0, size);
     }
     from
 }
 
-pub fn place_at(image: &[u8], c: usize) -> Place
-    ensures { λ r. ⌜ r ≡ placeOf (wordsOf (now (image .entry))) (some c) ⌝ }
+pub fn place_at(image: &[u8], c: usize, size: Size) -> Place
+    ensures { λ r. ⌜ r ≡ placeOf (powerOf size) (wordsOf (now (image .entry))) (some c) ⌝ }
 {
     Place {
         found: true,
         chunk: c,
-        committed: lines_of(image, c),
+        committed: lines_of(image, c, size),
         old: directory_word(image, c),
     }
 }
@@ -172,15 +196,16 @@ pub fn log_place(
     needed: usize,
     first: usize,
     least: usize,
+    size: Size,
 ) -> Placed
-    ensures { λ r. ⌜ Searching (wordsOf (now (image .entry))) count lines needed first least r ⌝ }
+    ensures { λ r. ⌜ Searching (powerOf size) (wordsOf (now (image .entry))) count lines needed first least r ⌝ }
 {
     let start = start_of(first, least, lines);
     let room = words::lesser(least, lines);
-    let next = near_chunk(image, start.from, count, room, start.sole);
-    let at = wider_chunk(image, next, count, room, lines);
+    let next = near_chunk(image, start.from, count, room, start.sole, size);
+    let at = wider_chunk(image, next, count, room, lines, size);
     if at < count {
-        let place = place_at(image, at);
+        let place = place_at(image, at, size);
         return Placed {
             place,
             first: hint_of(next, start.sole),
@@ -188,10 +213,10 @@ pub fn log_place(
         };
     }
     let low = free_start(start, count);
-    let free = free_from(image, low, count, needed);
+    let free = free_from(image, low, count, needed, size);
     match free {
         Found::At(c) => {
-            let place = place_at(image, c);
+            let place = place_at(image, c, size);
             let full = count <= next;
             Placed {
                 place,

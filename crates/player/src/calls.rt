@@ -48,7 +48,7 @@ fn put_part(
     staging::put_core(c, s, buffer, image, table, key, value, named)
 }
 
-// A put of so many bytes, counted up from one; at most 4,096.
+// A put of so many bytes, counted up from one; at most 65,536.
 fn put_counted(
     c: Control,
     s: Setup,
@@ -60,7 +60,7 @@ fn put_counted(
     first: Token,
     named: Given,
 ) -> Outcome {
-    let mut value: [u8; 4096] = [0; 4096];
+    let mut value: [u8; 65536] = [0; 65536];
     crate::memory::count_up(&mut value, (first.value % 256) as u8);
     put_part(
         c,
@@ -133,10 +133,28 @@ fn delete(
     )
 }
 
+// The power of the chunks stands behind station and centre; 12 where there is none.
+fn power_of(t: Token) -> u64 {
+    if t.given {
+        return t.value;
+    }
+    12
+}
+
 fn format(c: Control, s: Setup, buffer: &Buffer, image: &[u8], table: &[u64], l: Line) -> Outcome {
     let station = l.first;
     let centre = l.second;
-    formatting::format_core(c, s, buffer, image, table, given(station), given(centre))
+    let power = power_of(l.third);
+    formatting::format_core(
+        c,
+        s,
+        buffer,
+        image,
+        table,
+        power,
+        given(station),
+        given(centre),
+    )
 }
 
 // Choosing leaves the record as it was.

@@ -35,14 +35,14 @@ pub fn bad() {
     crate::output::text(b"bad\n");
 }
 
-// An image of so many bytes, all zero; 65,536 at most.
+// An image of so many bytes, all zero; 327,680 at most.
 fn lend_image(state: State, image: &mut [u8], bytes: u64) -> State {
     crate::memory::zero_bytes(image);
     let mut s = state;
-    s.bytes = if bytes <= 65536 {
+    s.bytes = if bytes <= 327680 {
         bytes as usize
     } else {
-        65536
+        327680
     };
     s
 }
@@ -55,7 +55,7 @@ fn lend_table(state: State, words: u64) -> State {
 }
 
 fn image_line(state: State, image: &mut [u8], bytes: Token) -> State {
-    if 65536 < bytes.value {
+    if 327680 < bytes.value {
         bad();
         return state;
     }

@@ -113,7 +113,7 @@ fn call(
     l: Line,
 ) -> State {
     let old_buffer = *buffer;
-    let mut old_image: [u8; 65536] = [0; 65536];
+    let mut old_image: [u8; 327680] = [0; 327680];
     let mut old_table: [u64; 8192] = [0; 8192];
     memory::copy_bytes(image, &mut old_image);
     memory::copy_words(table, &mut old_table);
@@ -208,7 +208,7 @@ fn play_lines(text: &[u8], buffer: &mut Buffer, image: &mut [u8], table: &mut [u
 
 // Plays a script.
 pub fn play(text: &[u8]) {
-    let mut image: [u8; 65536] = [0; 65536];
+    let mut image: [u8; 327680] = [0; 327680];
     let mut table: [u64; 8192] = [0; 8192];
     let mut buffer: Buffer = [0; BUFFER_WORDS];
     play_lines(text, &mut buffer, &mut image, &mut table);

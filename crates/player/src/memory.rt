@@ -120,6 +120,9 @@ pub fn same_setup(a: Setup, b: Setup) -> bool {
     if a.table != b.table {
         return false;
     }
+    if a.power != b.power {
+        return false;
+    }
     if a.chunk != b.chunk {
         return false;
     }

@@ -15,7 +15,9 @@ use borrow.Author.Tests.{ne-eqb}
 use Rattle.spec.specs.Basics.{pick, both}
 use Rattle.spec.specs.Words.{wordsOf}
 use Rattle.spec.specs.Medium.{Mem}
-use Rattle.spec.specs.Places.{basePower, unitWord, unitChunk, chunksIn}
+use Rattle.theory_base.proofs.Places.{power-bounds}
+use Rattle.spec.specs.Header.{headerPower}
+use Rattle.spec.specs.Places.{unitWord, unitChunk, chunksIn}
 use Rattle.spec.specs.Directory.{sizeOf}
 use Rattle.spec.specs.Log.{Entry}
 use Rattle.spec.specs.Blocks.{blockRight, pointed}
@@ -192,7 +194,7 @@ module _ (p : ℕ) (lo : 12 ≤ p) (hi : p ≤ 16) (n : ℕ) (ws : List ℕ) (es
 
 -- ## The sheet
 
-module _ (bytes : List ℕ) (words : ℕ) (es : List Entry) (accepted : opening basePower (length bytes) (wordsOf bytes) words ≡ Accepted es) where
+module _ (bytes : List ℕ) (words : ℕ) (es : List Entry) (accepted : opening (length bytes) (wordsOf bytes) words ≡ Accepted es) where
   abbrev ws : List ℕ
   ws = wordsOf bytes
 
@@ -207,4 +209,6 @@ module _ (bytes : List ℕ) (words : ℕ) (es : List Entry) (accepted : opening 
   -- EACH ROW has 36 columns and a newline
   pub sheet-columns : (k : ℕ) → Mem k (presentKeys ws es) → length (rowOf k (listedOf ws es k)) ≡ suc rowColumns
   sheet-columns k m =
-      row-columns basePower (omega arith) (omega arith) (chunksIn basePower (length bytes)) ws es (opens-ok basePower (omega arith) (omega arith) (length bytes) words ws es (length-wordsOf bytes) accepted .0) k (listed k m)
+      let o = opens-ok (length bytes) words ws es (length-wordsOf bytes) accepted in
+      let b = power-bounds (headerPower ws) (o .3) in
+      row-columns (headerPower ws) (b .0) (b .1) (chunksIn (headerPower ws) (length bytes)) ws es (o .0) k (listed k m)

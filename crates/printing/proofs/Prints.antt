@@ -15,12 +15,13 @@ use denote.Enum.Declared.{tagOf}
 use borrow.Author.Tests.{eq-eqb}
 use Rattle.io.specs.Counts.{Counts}
 use Rattle.spec.specs.Words.{wordsOf}
-use Rattle.spec.specs.Places.{basePower, chunkBytes, chunksIn, lengthAllowed}
+use Rattle.spec.specs.Places.{chunkBytes, chunksIn, lengthAllowed, anyAllowed}
+use Rattle.spec.specs.Header.{headerPower}
 use Rattle.spec.specs.Log.{Entry}
 use Rattle.spec.specs.Contents.{listed, capacity, entriesIn}
 use Rattle.spec.specs.Opening.{Opening, Refused, Accepted, opening}
 use Rattle.spec.specs.Reports.{number}
-use Rattle.spec.specs.Machine.{Open, gate, opened, next}
+use Rattle.spec.specs.Machine.{statePower, Open, gate, opened, next}
 use Rattle.session.specs.declared.Control.{Control}
 use Rattle.session.specs.declared.Setup.{Setup}
 use Rattle.spec.specs.declared.Refusal.{Refusal}
@@ -29,9 +30,9 @@ use Rattle.spec.specs.declared.Report.{Report}
 use Rattle.spec.specs.declared.Report.the-variants as R
 use Rattle.spec.proofs.Report as type
 use Rattle.words.specs.Image.{length-wordsOf}
-use Rattle.theory_crash.proofs.Opening.{opens-ok}
+use Rattle.theory_crash.proofs.Opening.{opens-at}
 use Rattle.buffer.specs.Areas.{bufferWords}
-use Rattle.session.specs.State.{stateAt, stateOf, limit}
+use Rattle.session.specs.State.{stateAt, stateOf, sizeIn, powerIn}
 use Rattle.session.specs.Fits.{Fits}
 use Rattle.lookup.specs.Look.{sessionOf}
 use Rattle.text.specs.Text.{Writes}
@@ -42,19 +43,25 @@ use Rattle.lookup.specs.declared.Counted.the-variants as C
 use Rattle.lookup.specs.Listing.{presentKeys, listedOf}
 use Rattle.lookup.specs.Contract.{Lists, entriesOf, wordsRead, ListingKeys, ListingKey}
 use Rattle.lookup.proofs.Answers.{Register as Register′, register, present-fit}
-use Rattle.session.proofs.Gates.{rest-reads}
+use Rattle.session.proofs.Gates.{gate-passed, rest-reads}
 use Rattle.printing.specs.Lines.{refusedText, headText, entryText, entryMost}
 use Rattle.printing.proofs.Pieces.{entry-length, head-length, number-length}
 use Rattle.printing.specs.Print.{listedText, linesText, registerText, openedText, imageText, mostText, readMost, tableWords, textBytes, Opened, Key, Keys, Register, Image}
 use Rattle.session.specs.Promise.{Does, memory}
 
+-- the power of a register that is open and at rest is the record's
+open-power : (c : Control) (k : Setup) (bytes table : List ℕ) (o : Opened c k bytes table) → statePower (stateAt c k (o .0)) ≡ powerIn k
+open-power c k bytes table o = ap statePower (gate-passed (sessionOf c k (o .0)) (length bytes) (length table) (o .1) .state)
+
 -- ## A key
 
 module _ (c : Control) (k : Setup) (key : ℕ) (paged : Bool) (row : ℕ) (bytes table out : List ℕ) (at : ℕ) (found : Listed) (h : ListingKey c k key bytes table found) where
-  same : Opened c k bytes table → found ≡ listedOf (wordsOf bytes) (entriesOf bytes) key
+  same : Opened c k bytes table → found ≡ listedOf (wordsOf bytes) (entriesOf (powerIn k) bytes) key
   same o =
       let r = rest-reads (stateAt c k (o .0)) (length bytes) (length table) (wordsOf bytes) (o .1) in
-      h .listed (o .0) (r .0) (o .2) ∙ ap (λ (ws : List ℕ). listedOf ws (entriesIn basePower (chunksIn basePower (length bytes)) ws) key) (r .1)
+      h .listed (o .0) (r .0) (o .2)
+      ∙ ap (λ (ws : List ℕ). listedOf ws (entriesIn (statePower (stateAt c k (o .0))) (chunksIn (statePower (stateAt c k (o .0))) (length bytes)) ws) key) (r .1)
+      ∙ ap (λ (p : ℕ). listedOf (wordsOf bytes) (entriesIn p (chunksIn p (length bytes)) (wordsOf bytes)) key) (open-power c k bytes table o)
 
   pub key-none : (n : Refusal) → found ≡ L.Refused n → Key c k key paged row bytes table out out at at
   key-none n e = record { sized = refl; inside = λ l. l; line = λ o. rw (sym (same o) ∙ e) (writes-none out at) }
@@ -77,7 +84,7 @@ module _ (c : Control) (k : Setup) (bytes table keys : List ℕ) (count : ℕ) (
     pub sized : length out′ ≡ length out
     pub upto : i ≤ count
     pub inside : at ≤ length out → r ≤ length out
-    pub lines : Opened c k bytes table → Writes out out′ at r (linesText paged (wordsOf bytes) (entriesOf bytes) 0 (take i keys))
+    pub lines : Opened c k bytes table → Writes out out′ at r (linesText paged (wordsOf bytes) (entriesOf (powerIn k) bytes) 0 (take i keys))
 
   pub lining-start : Lining out at 0
   lining-start = record { sized = refl; upto = omega arith; inside = λ l. l; lines = λ o. writes-none out at }
@@ -90,7 +97,7 @@ module _ (c : Control) (k : Setup) (bytes table keys : List ℕ) (count : ℕ) (
     lines = λ o.
         let w = writes-on out out′ out″ at r s _ _ (h .lines o) (q .line o) in
         let n : 0 + length (take i keys) ≡ i = (let t = length-take i keys in omega arith) in
-        rw (add-one i, take-suc keys i 0 l, lines-append paged (wordsOf bytes) (entriesOf bytes) 0 (take i keys) (getD keys i 0 ∷ []), n, append-nil) w;
+        rw (add-one i, take-suc keys i 0 l, lines-append paged (wordsOf bytes) (entriesOf (powerIn k) bytes) 0 (take i keys) (getD keys i 0 ∷ []), n, append-nil) w;
   }
 
   pub lined-count : (out′ : List ℕ) (r i : ℕ) → Lining out′ r i → count ≤ i → Keys c k bytes table keys count paged out out′ at r
@@ -119,11 +126,12 @@ module _ (c : Control) (k : Setup) (paged : Bool) (bytes table keys keys′ out 
     inside = let z = w .sized in let a = w .inside (omega arith) in let b = q .inside (omega arith) in omega arith;
     prints = λ o m.
         let same : wordsRead c k (o .0) bytes ≡ wordsOf bytes = rest-reads (stateAt c k (o .0)) (length bytes) (length table) (wordsOf bytes) (o .1) .1 in
-        let s : Lists (presentKeys (wordsOf bytes) (entriesOf bytes)) keys keys′ count =
-        subst (λ (ws : List ℕ). Lists (presentKeys ws (entriesIn basePower (chunksIn basePower (length bytes)) ws)) keys keys′ count) same (h .answered .3 (o .0) (o .2)) in
-        let e : take count keys′ ≡ presentKeys (wordsOf bytes) (entriesOf bytes) = s .rising ∙ take-all (length keys) (presentKeys (wordsOf bytes) (entriesOf bytes)) m in
-        let x : Writes out out′ 0 a (headText paged (length (presentKeys (wordsOf bytes) (entriesOf bytes)))) = rw (s .all) at w in
-        let y : Writes out′ out″ a r (linesText paged (wordsOf bytes) (entriesOf bytes) 0 (presentKeys (wordsOf bytes) (entriesOf bytes))) = rw e at (q .lines o) in
+        let s : Lists (presentKeys (wordsOf bytes) (entriesOf (powerIn k) bytes)) keys keys′ count =
+        subst (λ (p : ℕ). Lists (presentKeys (wordsOf bytes) (entriesIn p (chunksIn p (length bytes)) (wordsOf bytes))) keys keys′ count) (open-power c k bytes table o)
+        (subst (λ (ws : List ℕ). Lists (presentKeys ws (entriesIn (statePower (stateAt c k (o .0))) (chunksIn (statePower (stateAt c k (o .0))) (length bytes)) ws)) keys keys′ count) same (h .answered .3 (o .0) (o .2))) in
+        let e : take count keys′ ≡ presentKeys (wordsOf bytes) (entriesOf (powerIn k) bytes) = s .rising ∙ take-all (length keys) (presentKeys (wordsOf bytes) (entriesOf (powerIn k) bytes)) m in
+        let x : Writes out out′ 0 a (headText paged (length (presentKeys (wordsOf bytes) (entriesOf (powerIn k) bytes)))) = rw (s .all) at w in
+        let y : Writes out′ out″ a r (linesText paged (wordsOf bytes) (entriesOf (powerIn k) bytes) 0 (presentKeys (wordsOf bytes) (entriesOf (powerIn k) bytes))) = rw e at (q .lines o) in
         writes-on out out′ out″ 0 a r _ _ x y;
   }
 
@@ -168,7 +176,7 @@ not-refused (R.Part a m v) n k e = let z : _≡_ {A = ℕ} 0 1 = cc in omega ari
 module _ (paged : Bool) (c₀ : Control) (k₀ : Setup) (c : Control) (k : Setup) (bytes table table′ buffer buffer′ keys out out′ : List ℕ) (report : Report)
     (h : Does Open (memory (sessionOf c₀ k₀ buffer) bytes table) (memory (sessionOf c k buffer′) bytes table′) report) (r : ℕ) where
   abbrev verdict : Opening
-  verdict = opening 12 (length bytes) (wordsOf bytes) (length table)
+  verdict = opening (length bytes) (wordsOf bytes) (length table)
 
   pub image-refused : (n : Refusal) → report ≡ R.Refused n → Writes out out′ 0 r (refusedText n) → Image paged bytes table buffer keys out out′ r
   unfolding imageText
@@ -190,23 +198,24 @@ module _ (paged : Bool) (c₀ : Control) (k₀ : Setup) (c : Control) (k : Setup
     prints = λ proper room long. let x = h .exact proper in go verdict refl (x .answered) (x .became) (x .fits) room long;
   }
     where
-      go : (o : Opening) → verdict ≡ o → report ≡ opened o → stateOf (sessionOf c k buffer′) ≡ next 12 limit Open (stateOf (sessionOf c₀ k₀ buffer)) (wordsOf bytes) (length bytes) (length table)
+      go : (o : Opening) → verdict ≡ o → report ≡ opened o → stateOf (sessionOf c k buffer′) ≡ next Open (stateOf (sessionOf c₀ k₀ buffer)) (wordsOf bytes) (length bytes) (length table)
           → Fits (sessionOf c k buffer′) (wordsOf bytes) table′ → capacity (length table) ≤ length keys → mostText paged (capacity (length table)) ≤ length out
           → take r out′ ≡ openedText paged (wordsOf bytes) o
       go (Refused n) v a b f room long = absurd (not-refused report n tag a)
       go (Accepted es) v a b f room long =
           let g : gate (stateAt c k buffer′) (length bytes) (length table′) ≡ none = rw (b, v, h .sized, eq-eqb (length bytes) (length bytes) refl, eq-eqb (length table) (length table) refl) in
           let o : Opened c k bytes table′ = (buffer′, g, f) in
-          let e : entriesOf bytes ≡ es = ap listed (opens-ok 12 (omega arith) (omega arith) (length bytes) (length table) (wordsOf bytes) es (length-wordsOf bytes) v .0 .parsed) in
+          let said : headerPower (wordsOf bytes) ≡ powerIn k = sym (ap statePower (rw v at b)) ∙ open-power c k bytes table′ o in
+          let e : entriesOf (powerIn k) bytes ≡ es = ap listed (opens-at (powerIn k) (length bytes) (length table) (wordsOf bytes) es said (length-wordsOf bytes) v .0 .parsed) in
           let q = rest-reads (stateAt c k buffer′) (length bytes) (length table′) (wordsOf bytes) g in
-          let n : length (presentKeys (wordsOf bytes) (entriesOf bytes)) ≤ capacity (length table′) =
-          present-fit (wordsOf bytes) (wordsOf bytes) (length bytes) table′ (subst (λ (ws : List ℕ). Register′ (wordsOf bytes) ws (length bytes) table′) (q .1) (register c k buffer′ bytes table′ (q .0) f)) in
+          let n : length (presentKeys (wordsOf bytes) (entriesOf (powerIn k) bytes)) ≤ capacity (length table′) =
+          present-fit (sizeIn k) (wordsOf bytes) (wordsOf bytes) (length bytes) table′ (subst (λ (ws : List ℕ). Register′ (sizeIn k) (wordsOf bytes) ws (length bytes) table′) (q .1) (register c k buffer′ bytes table′ (q .0) f)) in
           let s : capacity (length table′) ≡ capacity (length table) = ap capacity (h .sized) in
-          let d = lines-length paged (wordsOf bytes) (entriesOf bytes) 0 (presentKeys (wordsOf bytes) (entriesOf bytes)) in
-          let m = head-length paged (length (presentKeys (wordsOf bytes) (entriesOf bytes))) in
-          let r′ : entryMost paged * length (presentKeys (wordsOf bytes) (entriesOf bytes)) ≤ entryMost paged * capacity (length table) = mul-le-mul-left (entryMost paged) (omega arith) in
-          let t = length-append (headText paged (length (presentKeys (wordsOf bytes) (entriesOf bytes)))) (linesText paged (wordsOf bytes) (entriesOf bytes) 0 (presentKeys (wordsOf bytes) (entriesOf bytes))) in
-          from-start out out′ r (registerText paged (wordsOf bytes) (entriesOf bytes)) (w .prints o (omega arith)) (omega arith) ∙ ap (registerText paged (wordsOf bytes)) e
+          let d = lines-length paged (wordsOf bytes) (entriesOf (powerIn k) bytes) 0 (presentKeys (wordsOf bytes) (entriesOf (powerIn k) bytes)) in
+          let m = head-length paged (length (presentKeys (wordsOf bytes) (entriesOf (powerIn k) bytes))) in
+          let r′ : entryMost paged * length (presentKeys (wordsOf bytes) (entriesOf (powerIn k) bytes)) ≤ entryMost paged * capacity (length table) = mul-le-mul-left (entryMost paged) (omega arith) in
+          let t = length-append (headText paged (length (presentKeys (wordsOf bytes) (entriesOf (powerIn k) bytes)))) (linesText paged (wordsOf bytes) (entriesOf (powerIn k) bytes) 0 (presentKeys (wordsOf bytes) (entriesOf (powerIn k) bytes))) in
+          from-start out out′ r (registerText paged (wordsOf bytes) (entriesOf (powerIn k) bytes)) (w .prints o (omega arith)) (omega arith) ∙ ap (registerText paged (wordsOf bytes)) e
 
 -- ## The programs
 
@@ -229,5 +238,5 @@ program-text paged bytes table buffer keys out out′ r h t b k m =
 
 -- an image that is longer than what is read has no allowed length
 pub longer-refused : (paged : Bool) (bytes : List ℕ) (words : ℕ) → length bytes ≡ suc readMost → imageText paged bytes words ≡ refusedText N.ImageLength
-unfolding imageText opening lengthAllowed chunkBytes
+unfolding imageText opening anyAllowed lengthAllowed chunksIn chunkBytes
 longer-refused paged bytes words l = rw l

@@ -8,7 +8,6 @@ use mathlib.Core.List.{List, [], _∷_, _++_}
 use Prim.Native.Nat.{ℕ, suc, _+_, _*_, _≤_}
 use lib.ListN.{length, take}
 use Rattle.spec.specs.Words.{wordsOf}
-use Rattle.spec.specs.Places.{basePower}
 use Rattle.spec.specs.Log.{Entry}
 use Rattle.spec.specs.Contents.{capacity}
 use Rattle.spec.specs.Opening.{Opening, Refused, Accepted, opening}
@@ -16,7 +15,7 @@ use Rattle.spec.specs.Machine.{gate}
 use Rattle.buffer.specs.Areas.{bufferWords}
 use Rattle.session.specs.declared.Control.{Control}
 use Rattle.session.specs.declared.Setup.{Setup}
-use Rattle.session.specs.State.{stateAt}
+use Rattle.session.specs.State.{powerIn, stateAt}
 use Rattle.session.specs.Fits.{Fits}
 use Rattle.lookup.specs.Look.{sessionOf}
 use Rattle.lookup.specs.declared.Listed.{Listed}
@@ -45,7 +44,7 @@ openedText paged ws (Refused n) = refusedText n
 openedText paged ws (Accepted es) = registerText paged ws es
 
 unfoldable pub imageText : Bool → List ℕ → ℕ → List ℕ
-imageText paged bytes words = openedText paged (wordsOf bytes) (opening basePower (length bytes) (wordsOf bytes) words)
+imageText paged bytes words = openedText paged (wordsOf bytes) (opening (length bytes) (wordsOf bytes) words)
 
 -- the most bytes of a text with so many keys
 abbrev pub mostText : Bool → ℕ → ℕ
@@ -72,17 +71,17 @@ Opened c k bytes table = (b : List ℕ) × (gate (stateAt c k b) (length bytes) 
 pub record Key (c : Control) (k : Setup) (key : ℕ) (paged : Bool) (row : ℕ) (bytes table out out′ : List ℕ) (at r : ℕ) : Type 0 where
   pub sized : length out′ ≡ length out
   pub inside : at ≤ length out → r ≤ length out
-  pub line : Opened c k bytes table → Writes out out′ at r (listedText paged row key (listedOf (wordsOf bytes) (entriesOf bytes) key))
+  pub line : Opened c k bytes table → Writes out out′ at r (listedText paged row key (listedOf (wordsOf bytes) (entriesOf (powerIn k) bytes) key))
 
 pub record Keys (c : Control) (k : Setup) (bytes table keys : List ℕ) (count : ℕ) (paged : Bool) (out out′ : List ℕ) (at r : ℕ) : Type 0 where
   pub sized : length out′ ≡ length out
   pub inside : at ≤ length out → r ≤ length out
-  pub lines : Opened c k bytes table → Writes out out′ at r (linesText paged (wordsOf bytes) (entriesOf bytes) 0 (take count keys))
+  pub lines : Opened c k bytes table → Writes out out′ at r (linesText paged (wordsOf bytes) (entriesOf (powerIn k) bytes) 0 (take count keys))
 
 pub record Register (c : Control) (k : Setup) (paged : Bool) (bytes table keys out out′ : List ℕ) (r : ℕ) : Type 0 where
   pub sized : length out′ ≡ length out
   pub inside : r ≤ length out
-  pub prints : Opened c k bytes table → length (presentKeys (wordsOf bytes) (entriesOf bytes)) ≤ length keys → Writes out out′ 0 r (registerText paged (wordsOf bytes) (entriesOf bytes))
+  pub prints : Opened c k bytes table → length (presentKeys (wordsOf bytes) (entriesOf (powerIn k) bytes)) ≤ length keys → Writes out out′ 0 r (registerText paged (wordsOf bytes) (entriesOf (powerIn k) bytes))
 
 -- with room for as many keys as the table holds, the first r bytes are the image's text; the buffer is the record's
 pub record Image (paged : Bool) (bytes table buffer keys out out′ : List ℕ) (r : ℕ) : Type 0 where

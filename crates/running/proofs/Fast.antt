@@ -8,6 +8,9 @@ use Prim.Native.Nat.{ℕ, zero, suc, _+_, _-_, _*_, _/_, _≤_, _<_, min}
 use native.Mathlib.Omega.{arith}
 use native.Mathlib.Decide.{decLt, ℕ-discrete}
 use lib.ListN.{length, getD}
+use Rattle.spec.specs.Places.{base, firstLine}
+use Rattle.spec.specs.declared.Size.{Size}
+use Rattle.places.specs.Sizes.{powerOf}
 use Rattle.spec.specs.Medium.{Action}
 use Rattle.spec.specs.Actions.{linesFor, padded}
 use Rattle.spec.specs.Directory.{logWord}
@@ -21,7 +24,7 @@ use Rattle.spec.specs.declared.Report.{Report}
 use Rattle.spec.specs.declared.Report.the-variants as R
 use Rattle.words.specs.Image.{Saved}
 use Rattle.buffer.specs.Areas.{batchRoom}
-use Rattle.session.specs.State.{bufferPart, batchWords, chunkIn, linesIn, commitActions}
+use Rattle.session.specs.State.{sizeIn, powerIn, bufferPart, batchWords, chunkIn, linesIn, commitActions}
 use Rattle.actions.specs.Nth.{nthReport, commitCount}
 use Rattle.session.proofs.Part.{staged-length}
 use Rattle.actions.proofs.Appending.{word-inside, word-behind, shows-flush, shows-fence, shows-seal, shows-seal-flush}
@@ -48,7 +51,7 @@ module _ (c : Control) (k : Setup) (b bytes bytes′ table : List ℕ) (h : Fast
   pub fast-acts : (r : Report) → r ≡ nthReport (commitActions c k b) (c .next) → Changed r bytes bytes′ → Stepping r (atAction (c .next + 1) c)
   fast-acts r e changed = subst (Stepping r) (counted c (h .0)) (commit-acts c k b bytes table (h .1 .0) (h .1 .1 .0) (h .0) bytes′ r e changed (h .1 .1 .1))
 
-  pub fast-stores : (w v : ℕ) → c .next < 8 * linesFor (min (c .words) batchRoom) → w ≡ 512 * chunkIn k + 8 * linesIn k + c .next
+  pub fast-stores : (w v : ℕ) → c .next < 8 * linesFor (min (c .words) batchRoom) → w ≡ base (powerIn k) (chunkIn k) + 8 * linesIn k + c .next
       → v ≡ getD (padded (bufferPart b 0 (min (c .words) batchRoom))) (c .next) 0 → Saved bytes bytes′ w v → Stepping (R.Store w v) (atAction (c .next + 1) c)
   fast-stores w v l ew ev saved = subst (Stepping (R.Store w v)) (counted c (h .0)) (commit-stores c k b bytes table (h .1 .0) (h .1 .1 .0) (h .0) bytes′ w v l ew ev saved)
 
@@ -81,7 +84,7 @@ module _ (c : Control) (k : Setup) (b bytes : List ℕ) where
     still table h = (h .0, (h .1 .0 ∙ sym (so-far .made .sized), (h .1 .1 .0, so-far .before-last (h .1 .1 .1))))
 
     -- one more
-    pub one-more : (bytes₂ : List ℕ) (start v : ℕ) → n < 8 * linesFor (min (c .words) batchRoom) → start ≡ 512 * chunkIn k + 8 * linesIn k
+    pub one-more : (bytes₂ : List ℕ) (start v : ℕ) → n < 8 * linesFor (min (c .words) batchRoom) → start ≡ base (powerIn k) (chunkIn k) + 8 * linesIn k
         → v ≡ getD (padded (bufferPart b 0 (min (c .words) batchRoom))) n 0 → Saved bytes₁ bytes₂ (start + n) v → StoresTo c k b bytes bytes₂ (n + 1)
     one-more bytes₂ start v l es ev saved = record {
       made = record {
@@ -93,7 +96,7 @@ module _ (c : Control) (k : Setup) (b bytes : List ℕ) where
     }
 
     -- a staged word, or a zero behind them
-    module _ (bytes₂ : List ℕ) (start staged v : ℕ) (es : staged ≡ min (c .words) batchRoom) (eb : start ≡ 512 * chunkIn k + 8 * linesIn k) (saved : Saved bytes₁ bytes₂ (start + n) v) where
+    module _ (bytes₂ : List ℕ) (start staged v : ℕ) (es : staged ≡ min (c .words) batchRoom) (eb : start ≡ base (powerIn k) (chunkIn k) + 8 * linesIn k) (saved : Saved bytes₁ bytes₂ (start + n) v) where
       pub one-word : n < staged → v ≡ getD b n 0 → StoresTo c k b bytes bytes₂ (n + 1)
       one-word l ev = one-more bytes₂ start v (omega arith) eb (ev ∙ word-inside b 0 (min (c .words) batchRoom) n n (omega arith) (omega arith)) saved
 
@@ -152,8 +155,8 @@ module _ (c : Control) (k : Setup) (b bytes : List ℕ) (lines : ℕ) (es : line
   run-seal-flush line e eq = run-acts c k b bytes bytes (c .next) (no-stores c k b bytes) (omega arith) (λ q. omega arith) bytes table (R.Flush line) (shows-seal-flush k (batchWords c b) (c .next) lines sized line e eq) refl h
 
   -- the batch's words, and the line that is flushed next
-  pub run-batch : (bytes′ : List ℕ) (n line : ℕ) → Stores c k b bytes bytes′ n → c .next < 9 * lines → line ≡ 64 * chunkIn k + linesIn k + (n - 8 * lines) → Running (n + 1) bytes′ (R.Flush line)
+  pub run-batch : (size : Size) → size ≡ sizeIn k → (bytes′ : List ℕ) (n line : ℕ) → Stores c k b bytes bytes′ n → c .next < 9 * lines → line ≡ firstLine (powerOf size) (chunkIn k) + linesIn k + (n - 8 * lines) → Running (n + 1) bytes′ (R.Flush line)
   unfolding commitActions
-  run-batch bytes′ n line s l el =
+  run-batch size z bytes′ n line s l el =
       let m = s .1 in
-      run-acts c k b bytes bytes′ n (s .0) (omega arith) (λ q. omega arith) bytes′ table (R.Flush line) (shows-flush k (batchWords c b) n lines sized line (omega arith) (omega arith) el) refl h
+      run-acts c k b bytes bytes′ n (s .0) (omega arith) (λ q. omega arith) bytes′ table (R.Flush line) (shows-flush k (batchWords c b) n lines sized size z line (omega arith) (omega arith) el) refl h

@@ -9,12 +9,13 @@ use Prim.Native.Nat.{ℕ, zero, suc, _+_, _-_, _*_, _≤_, _<_, min}
 use native.Mathlib.Omega.{arith}
 use native.Mathlib.Decide.{ℕ-discrete}
 use lib.ListN.{length}
+use Rattle.spec.specs.Places.{base}
 use Rattle.spec.specs.Medium.{Action}
 use Rattle.spec.specs.Actions.{linesFor}
 use Rattle.spec.specs.Reports.{asReport}
 use Rattle.spec.specs.Machine.{Step, stepsLeft}
 use Rattle.spec.specs.Contract.{Changed}
-use Rattle.buffer.specs.Areas.{batchRoom, secondStart}
+use Rattle.buffer.specs.Areas.{secondStart, secondRoom}
 use Rattle.session.specs.declared.Control.{Control}
 use Rattle.session.specs.declared.Setup.{Setup}
 use Rattle.session.specs.declared.Session.{Session}
@@ -22,7 +23,7 @@ use Rattle.spec.specs.declared.Report.{Report}
 use Rattle.spec.specs.declared.Report.the-variants as R
 use Rattle.theory_base.proofs.Lists.{not-both}
 use Rattle.words.specs.Image.{Saved}
-use Rattle.session.specs.State.{bufferPart, chunkIn, linesIn, cleanActions, stateOf}
+use Rattle.session.specs.State.{sizeIn, powerIn, bufferPart, chunkIn, linesIn, cleanActions, stateOf}
 use Rattle.actions.specs.Nth.{nthReport}
 use Rattle.actions.proofs.Appending.{lines-of, word-inside, shows-store}
 use Rattle.actions.proofs.Performed.{changed-length, changed-store}
@@ -113,15 +114,15 @@ module _ (c : Control) (k : Setup) (b bytes : List ℕ) where
   kept-none = record { made = before-none Copying c k b bytes; before-last = λ h. h }
 
   -- action number j stores word j of those kept
-  kept-store : (j w : ℕ) → j < min (k .source .words) batchRoom → w ≡ 512 * chunkIn k + 8 * linesIn k + j → R.Store w (areaWord b j) ≡ nthReport (cleanActions k (k .source) b) j
+  kept-store : (j w : ℕ) → j < min (k .source .words) secondRoom → w ≡ base (powerIn k) (chunkIn k) + 8 * linesIn k + j → R.Store w (areaWord b j) ≡ nthReport (cleanActions k (k .source) b) j
   kept-store j w l e =
-      let kept : ℕ = min (k .source .words) batchRoom in
+      let kept : ℕ = min (k .source .words) secondRoom in
       let some : k .source .words ≡ 0 → ⊥ = λ z. omega arith in
       let n = count-some (k .source .words) some in
       shows-copy k (k .source) b (R.Store w (areaWord b j)) j (copyCount (k .source .words)) refl (omega arith)
-      (shows-store k (bufferPart b secondStart kept) j (linesFor kept) (lines-of b secondStart kept _ refl) w (areaWord b j) (omega arith) e (word-inside b secondStart kept j (secondStart + j) l refl))
+      (shows-store k (bufferPart b secondStart kept) j (linesFor kept) (lines-of b secondStart kept _ refl) (sizeIn k) refl w (areaWord b j) (omega arith) e (word-inside b secondStart kept j (secondStart + j) l refl))
 
-  module _ (start kept : ℕ) (es : start ≡ 512 * chunkIn k + 8 * linesIn k) (ek : kept ≡ min (k .source .words) batchRoom) (l : c .next < kept) where
+  module _ (start kept : ℕ) (es : start ≡ base (powerIn k) (chunkIn k) + 8 * linesIn k) (ek : kept ≡ min (k .source .words) secondRoom) (l : c .next < kept) where
     inside : (j : ℕ) → j < kept → j + 1 < cleanCount (k .source .words)
     inside j h = let some : k .source .words ≡ 0 → ⊥ = λ z. omega arith in let n = count-some (k .source .words) some in omega arith
 

@@ -45,20 +45,20 @@ take-two k n = rw (ne-eqb (k .fields) 0 n)
 
 module _ (k : Setup) (b : List ℕ) where
   -- action number takeCount + i is action number i of those that fill the block
-  fills : (r : Report) (n i : ℕ) → n ≡ takeCount k + i → r ≡ nthReport (blockOf (unitOf k) (heldWords b)) i → r ≡ nthReport (blockActions k b) n
+  fills : (r : Report) (n i : ℕ) → n ≡ takeCount k + i → r ≡ nthReport (blockOf (unitOf k) (heldWords k b)) i → r ≡ nthReport (blockActions k b) n
   fills r n i e q = by-cases (ℕ-discrete (k .fields) 0)
-      (λ z. let t = take-none k z in let w : n ≡ i = omega arith in B.whole-plain k b r (unitOf k) n z refl (q ∙ ap (nthReport (blockOf (unitOf k) (heldWords b))) (sym w)))
+      (λ z. let t = take-none k z in let w : n ≡ i = omega arith in B.whole-plain k b r (unitOf k) n z refl (q ∙ ap (nthReport (blockOf (unitOf k) (heldWords k b))) (sym w)))
       (λ z. let t = take-two k z in B.whole-fill k b r (unitOf k) n i z (omega arith) refl q)
 
   -- a store of word i of those held
-  fills-store : (n i w : ℕ) → n ≡ takeCount k + i → i < heldCount b → w ≡ unitWord (unitOf k) + i → R.Store w (getD b (secondStart + i) 0) ≡ nthReport (blockActions k b) n
-  fills-store n i w e l ew = fills _ n i e (B.shows-store (unitOf k) b (heldCount b) i refl w l ew)
+  fills-store : (n i w : ℕ) → n ≡ takeCount k + i → i < heldCount k b → w ≡ unitWord (unitOf k) + i → R.Store w (getD b (secondStart + i) 0) ≡ nthReport (blockActions k b) n
+  fills-store n i w e l ew = fills _ n i e (B.shows-store k (unitOf k) b (heldCount k b) i refl w l ew)
 
   -- behind them no action is a store
-  pub no-store : (n : ℕ) → takeCount k + heldCount b ≤ n → isStore (nthReport (blockActions k b) n) ≡ false
-  no-store n l = by-cases (decLt (n - takeCount k) (heldCount b + linesFor (heldCount b)))
-      (λ h. ap isStore (sym (fills _ n (n - takeCount k) (omega arith) (B.shows-flush (unitOf k) b (heldCount b) (n - takeCount k) refl _ (omega arith) h refl))))
-      (λ h. ap isStore (sym (fills _ n (n - takeCount k) (omega arith) (B.shows-past (unitOf k) b (heldCount b) (n - takeCount k) refl (omega arith)))))
+  pub no-store : (n : ℕ) → takeCount k + heldCount k b ≤ n → isStore (nthReport (blockActions k b) n) ≡ false
+  no-store n l = by-cases (decLt (n - takeCount k) (heldCount k b + linesFor (heldCount k b)))
+      (λ h. ap isStore (sym (fills _ n (n - takeCount k) (omega arith) (B.shows-flush k (unitOf k) b (heldCount k b) (n - takeCount k) refl _ (omega arith) h refl))))
+      (λ h. ap isStore (sym (fills _ n (n - takeCount k) (omega arith) (B.shows-past k (unitOf k) b (heldCount k b) (n - takeCount k) refl (omega arith)))))
 
   -- the chunk's directory word is a store, its line is none
   takes-store : (k .fields ≡ 0 → ⊥) → (w : ℕ) × ((v : ℕ) × (nthReport (blockActions k b) 0 ≡ R.Store w v))
@@ -89,7 +89,7 @@ module _ (c : Control) (k : Setup) (b bytes : List ℕ) where
   pub none-stored : isStore (nthReport (blockActions k b) (c .next)) ≡ false → BlockStores c k b bytes bytes (c .next)
   none-stored e = record { made = before-none InStaging c k b bytes; behind = e }
 
-  pub behind-all : (first held : ℕ) → first ≡ takeCount k → held ≡ heldCount b → first + held ≤ c .next → BlockStores c k b bytes bytes (c .next)
+  pub behind-all : (first held : ℕ) → first ≡ takeCount k → held ≡ heldCount k b → first + held ≤ c .next → BlockStores c k b bytes bytes (c .next)
   behind-all first held ef eh l = none-stored (no-store k b (c .next) (omega arith))
 
   -- the flush of the directory word's line
@@ -108,13 +108,13 @@ module _ (c : Control) (k : Setup) (b bytes : List ℕ) where
           run = λ table h s′ bytes″ table″ r′ q.
               stored-first
               (rw er at (subst (λ (n : ℕ). Does Step (memoryOf c k b bytes table) (memoryOf (atAction n c) k b bytes′ table) r) one
-              (acts-once c k b bytes bytes′ table h r (let q = B.count-taking k b (heldCount b) refl (taken k b (c .next) (omega arith)) in omega arith) (e ∙ ap (nthReport (blockActions k b)) (sym z)) changed))) q;
+              (acts-once c k b bytes bytes′ table h r (let q = B.count-taking k b (heldCount k b) refl (taken k b (c .next) (omega arith)) in omega arith) (e ∙ ap (nthReport (blockActions k b)) (sym z)) changed))) q;
         };
         behind = takes-flush k b (taken k b (c .next) (omega arith));
       }
 
   -- the words held, from the next one on
-  module _ (first held start from : ℕ) (ef : first ≡ takeCount k) (eh : held ≡ heldCount b) (es : start ≡ unitWord (unitOf k)) (em : c .next ≡ first + from) where
+  module _ (first held start from : ℕ) (ef : first ≡ takeCount k) (eh : held ≡ heldCount k b) (es : start ≡ unitWord (unitOf k)) (em : c .next ≡ first + from) where
     stepped : (table : List ℕ) → InStaging c k (length bytes) (length table) → (j : ℕ) → j < held → (bytes₁ bytes₂ : List ℕ) → length bytes₁ ≡ length bytes → Saved bytes₁ bytes₂ (start + j) (areaWord b j)
         → Does Step (memoryOf (atAction (first + j) c) k b bytes₁ table) (memoryOf (atAction (first + suc j) c) k b bytes₂ table) (R.Store (start + j) (areaWord b j))
     stepped table h j l bytes₁ bytes₂ el saved =
@@ -123,7 +123,7 @@ module _ (c : Control) (k : Setup) (b bytes : List ℕ) where
         subst (λ (x : ℕ). Does Step (memoryOf (atAction (first + j) c) k b bytes₁ table) (memoryOf (atAction x c) k b bytes₂ table) (R.Store (start + j) (areaWord b j))) n
         (acts-once (atAction (first + j) c) k b bytes₁ bytes₂ table (h .0, (h .1 .0 ∙ sym el, h .1 .1)) _ (inside first held ef eh (first + j) (omega arith)) e (changed-store _ bytes₁ bytes₂ _ _ refl saved))
       where
-        inside : (first held : ℕ) → first ≡ takeCount k → held ≡ heldCount b → (n : ℕ) → n < first + held → n < length (blockActions k b)
+        inside : (first held : ℕ) → first ≡ takeCount k → held ≡ heldCount k b → (n : ℕ) → n < first + held → n < length (blockActions k b)
         inside first held ef eh n l = by-cases (ℕ-discrete (k .fields) 0)
             (λ z. let t = take-none k z in let q = B.count-plain k b held eh z in omega arith)
             (λ z. let t = take-two k z in let q = B.count-taking k b held eh z in omega arith)
@@ -161,7 +161,7 @@ module _ (c : Control) (k : Setup) (b bytes : List ℕ) where
     store-ends c′ r ec er l = record { sized = so-far .made .sized; runs = λ table h. rw (ec, er) (run-ends table h l) }
 
   -- A FLUSH, or the end, where all words are stored
-  module _ (first held : ℕ) (ef : first ≡ takeCount k) (eh : held ≡ heldCount b) (past : first + held ≤ c .next) (table : List ℕ) (h : InStaging c k (length bytes) (length table)) where
+  module _ (first held : ℕ) (ef : first ≡ takeCount k) (eh : held ≡ heldCount k b) (past : first + held ≤ c .next) (table : List ℕ) (h : InStaging c k (length bytes) (length table)) where
     all : acts ≡ first + held + linesFor held
     all = by-cases (ℕ-discrete (k .fields) 0)
         (λ z. let t = take-none k z in let q = B.count-plain k b held eh z in omega arith)
@@ -172,7 +172,7 @@ module _ (c : Control) (k : Setup) (b bytes : List ℕ) where
     flush-acts line l el =
         let a = all in
         run-acts bytes (c .next) (behind-all first held ef eh past) table h (R.Flush line) (omega arith)
-        (fills k b (R.Flush line) (c .next) (c .next - first) (omega arith) (B.shows-flush (unitOf k) b held (c .next - first) eh line (omega arith) (omega arith) (omega arith)))
+        (fills k b (R.Flush line) (c .next) (c .next - first) (omega arith) (B.shows-flush k (unitOf k) b held (c .next - first) eh line (omega arith) (omega arith) (omega arith)))
 
     pub flush-ends : (c′ : Control) (r : Report) → c′ ≡ ended c → r ≡ R.End 0 → first + held + linesFor held ≤ c .next
         → RunsOn (memoryOf c k b bytes table) (memoryOf c′ k b bytes table) r

@@ -99,7 +99,7 @@ pub fn fast_run(
     if is_fast_step(control, setup, image.len(), table.len()) {
         let lines = actions::append::batch_lines(control.words);
         let chunk = setup.chunk % 512;
-        let committed = setup.lines % 128;
+        let committed = setup.lines % 2048;
         let fence = 9 * lines;
         if at == fence {
             let next = at + 1;
@@ -126,7 +126,8 @@ pub fn fast_run(
             };
         }
         let behind = store_batch(control, setup, buffer, image);
-        let line = 64 * chunk + committed + (behind - 8 * lines);
+        let size = places::size_by(setup.power);
+        let line = places::first_line(size, chunk) + committed + (behind - 8 * lines);
         let next = behind + 1;
         return Advanced {
             next,
@@ -170,8 +171,17 @@ pub fn finish_step(
         if actions::append::commit_count(control.words) <= control.next {
             return stepping::ended(control);
         }
+        let size = places::size_by(setup.power);
         let place = actions::append::batch_start(setup);
-        let keys = apply::join::join(place, control.words, control.keys, buffer, image, table);
+        let keys = apply::join::join(
+            place,
+            control.words,
+            control.keys,
+            buffer,
+            image,
+            table,
+            size,
+        );
         return stepping::fenced(control, control.next + 1, keys);
     }
     Stepped {

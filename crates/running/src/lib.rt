@@ -10,8 +10,8 @@ pub mod commit;
 pub mod stage;
 
 use crate::commit::Advanced;
-use buffer::BATCH_WORDS;
 use buffer::Buffer;
+use buffer::SECOND_WORDS;
 use session::Control;
 use session::Setup;
 use session::Stepped;
@@ -86,7 +86,7 @@ fn store_kept(control: Control, setup: Setup, buffer: &Buffer, image: &mut [u8])
     ensures { λ r. ⌜ KeptStores control setup (now (buffer .entry)) (now (image .entry)) (now (image .exit)) r ⌝ }
 {
     let source = setup.source;
-    let kept = words::lesser(source.words, BATCH_WORDS);
+    let kept = words::lesser(source.words, SECOND_WORDS);
     let at = control.next;
     if kept <= at {
         return at;

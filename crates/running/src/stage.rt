@@ -75,7 +75,7 @@ fn store_block(control: Control, setup: Setup, buffer: &Buffer, image: &mut [u8]
 {
     let at = control.next;
     let first = take_count(setup);
-    let held = actions::block::held_words(buffer);
+    let held = actions::block::held_words(setup, buffer);
     let behind = first + held;
     if behind <= at {
         return at;
@@ -136,10 +136,10 @@ pub fn staging_run(
 {
     if is_staging(control, setup, image.len(), table.len()) {
         let at = control.next;
-        if 1024 <= at {
+        if 16384 <= at {
             return staged(control);
         }
-        let held = actions::block::held_words(buffer);
+        let held = actions::block::held_words(setup, buffer);
         let behind = take_count(setup) + held;
         if at < behind {
             return store_run(control, setup, buffer, image);

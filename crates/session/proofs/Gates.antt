@@ -29,8 +29,8 @@ use Rattle.spec.specs.declared.Refusal.the-variants as N
 use Rattle.spec.specs.declared.Report.{Report}
 use Rattle.spec.specs.declared.Report.the-variants as R
 use Rattle.theory_base.proofs.Lists.{both-l, both-r, either-no}
-use Rattle.session.specs.State.{batchItems, stateAt, stateOf}
-use Rattle.session.specs.Fits.{RestFits, Built, TaskFits, Reads, FitsAt, Fits}
+use Rattle.session.specs.State.{sizeIn, powerIn, batchItems, stateAt, stateOf}
+use Rattle.session.specs.Fits.{Opens, RestFits, Built, TaskFits, Reads, FitsAt, Fits}
 use Rattle.session.specs.Asks.{begunAt, readAt, gateFor, readFor, closedOr, sameLengths}
 use Rattle.session.specs.Fits.{Proper}
 use Rattle.theory_base.proofs.PutBack.{Past, past-own, past-back}
@@ -45,8 +45,8 @@ gate-state c k b bytes words = go (eqb (c .phase) 1) (eqb (c .phase) 2) (eqb (c 
     apart h = let e = eqb-true (c .phase) 4 h in (ne-eqb (c .phase) 5 (λ q. omega arith), ne-eqb (c .phase) 6 (λ q. omega arith))
 
     go : (b1 b2 b3 b4 b5 b6 : Bool) → (b4 ≡ true → (b5 ≡ false) × (b6 ≡ false)) → (items : List Entry) (m : ℕ) (o3 o6 : Olds) (a2 a3 a4 a5 a6 : List Action)
-        → gate (pick b1 (Rest (k .image) (k .table) items) (pick b2 (Busy (k .image) (k .table) items Staging a2) (pick b3 (Busy (k .image) (k .table) items (Committing o3) a3)
-        (pick b4 (Formatting false (k .image) (k .table) a4) (pick b5 (Formatting true (k .image) (k .table) a5) (pick b6 (Busy (k .image) (k .table) [] (Cleaning m o6) a6) Closed)))))) bytes words
+        → gate (pick b1 (Rest (powerIn k) (k .image) (k .table) items) (pick b2 (Busy (powerIn k) (k .image) (k .table) items Staging a2) (pick b3 (Busy (powerIn k) (k .image) (k .table) items (Committing o3) a3)
+        (pick b4 (Formatting false (k .image) (k .table) a4) (pick b5 (Formatting true (k .image) (k .table) a5) (pick b6 (Busy (powerIn k) (k .image) (k .table) [] (Cleaning m o6) a6) Closed)))))) bytes words
         ≡ pick b1 (pick (sameLengths k bytes words) none (some N.ImageLength))
         (pick (either b2 (either b3 (either b5 b6))) (pick (sameLengths k bytes words) (some N.Unfinished) (some N.ImageLength)) (some N.NotOpen))
     go true b2 b3 b4 b5 b6 h items m o3 o6 a2 a3 a4 a5 a6 = refl
@@ -68,8 +68,8 @@ read-state c k b bytes words = go (eqb (c .phase) 1) (eqb (c .phase) 2) (eqb (c 
     apart5 h = let e = eqb-true (c .phase) 5 h in ne-eqb (c .phase) 6 (λ q. omega arith)
 
     go : (b1 b2 b3 b4 b5 b6 : Bool) → (b4 ≡ true → (b5 ≡ false) × (b6 ≡ false)) → (b5 ≡ true → b6 ≡ false) → (items : List Entry) (m : ℕ) (o3 o6 : Olds) (a2 a3 a4 a5 a6 : List Action)
-        → readGate (pick b1 (Rest (k .image) (k .table) items) (pick b2 (Busy (k .image) (k .table) items Staging a2) (pick b3 (Busy (k .image) (k .table) items (Committing o3) a3)
-        (pick b4 (Formatting false (k .image) (k .table) a4) (pick b5 (Formatting true (k .image) (k .table) a5) (pick b6 (Busy (k .image) (k .table) [] (Cleaning m o6) a6) Closed)))))) bytes words
+        → readGate (pick b1 (Rest (powerIn k) (k .image) (k .table) items) (pick b2 (Busy (powerIn k) (k .image) (k .table) items Staging a2) (pick b3 (Busy (powerIn k) (k .image) (k .table) items (Committing o3) a3)
+        (pick b4 (Formatting false (k .image) (k .table) a4) (pick b5 (Formatting true (k .image) (k .table) a5) (pick b6 (Busy (powerIn k) (k .image) (k .table) [] (Cleaning m o6) a6) Closed)))))) bytes words
         ≡ pick (either b1 (either b2 (either b3 b6))) (pick (sameLengths k bytes words) none (some N.ImageLength))
         (pick b5 (pick (sameLengths k bytes words) (some N.Unfinished) (some N.ImageLength)) (some N.NotOpen))
     go true b2 b3 b4 b5 b6 h g items m o3 o6 a2 a3 a4 a5 a6 = refl
@@ -184,22 +184,22 @@ late n false h = inr (inl cc)
 
 gate-number : {A : Type 0} (σ : State) (bytes words : ℕ) (n : Refusal) → gate σ bytes words ≡ some n → Early n A
 gate-number Closed bytes words n h = inl cc
-gate-number {A} (Rest b t items) bytes words n h = go (both (eqb b bytes) (eqb t words)) h
+gate-number {A} (Rest p b t items) bytes words n h = go (both (eqb b bytes) (eqb t words)) h
   where
     go : (s : Bool) → pick s none (some N.ImageLength) ≡ some n → Early n A
     go true q = absurd (let z : _≡_ {A = ℕ} 0 1 = cc in omega arith)
     go false q = inr (inl cc)
-gate-number (Busy b t items task acts) bytes words n h = late n (both (eqb b bytes) (eqb t words)) h
+gate-number (Busy p b t items task acts) bytes words n h = late n (both (eqb b bytes) (eqb t words)) h
 gate-number (Formatting false b t acts) bytes words n h = inl cc
 gate-number (Formatting true b t acts) bytes words n h = late n (both (eqb b bytes) (eqb t words)) h
 
-module _ (p limit : ℕ) (s : Session) (bytes table : List ℕ) (n : Refusal) where
+module _ (s : Session) (bytes table : List ℕ) (n : Refusal) where
   -- a refused call that leaves all as it was
-  pub refused : (k : Call) → isOpening (kindOf k) ≡ false → (Ready Proper stateOf Fits p limit k s (wordsOf bytes) table → Again k (R.Refused n) (Fits s (wordsOf bytes) table))
-      → (Ready Proper stateOf Fits p limit k s (wordsOf bytes) table → R.Refused n ≡ answer p limit k (stateOf s) (wordsOf bytes) (length bytes) (length table))
-      → Barred Proper stateOf Fits p limit k s bytes table (R.Refused n) → MemRefusal n (refusals k) → Kept Proper stateOf Fits p limit k s s table table
-      → Anyway p limit k (stateOf s) (stateOf s) (wordsOf bytes) (length bytes) (length table) (R.Refused n)
-      → Called Proper stateOf Fits p limit k s s bytes bytes table table (R.Refused n)
+  pub refused : (k : Call) → isOpening (kindOf k) ≡ false → (Ready Proper stateOf Fits k s (wordsOf bytes) table → Again k (R.Refused n) (Fits s (wordsOf bytes) table))
+      → (Ready Proper stateOf Fits k s (wordsOf bytes) table → R.Refused n ≡ answer k (stateOf s) (wordsOf bytes) (length bytes) (length table))
+      → Barred Proper stateOf Fits k s bytes table (R.Refused n) → MemRefusal n (refusals k) → Kept Proper stateOf Fits k s s table table
+      → Anyway k (stateOf s) (stateOf s) (wordsOf bytes) (length bytes) (length table) (R.Refused n)
+      → Called Proper stateOf Fits k s s bytes bytes table table (R.Refused n)
   unfolding next
   refused k o f a b m kept any = record {
     exact = λ r. record { answered = a r; became = sym (rw (sym (a r), o)); fits = f r };
@@ -212,7 +212,7 @@ module _ (p limit : ℕ) (s : Session) (bytes table : List ℕ) (n : Refusal) wh
 
 -- the calls that ask at the gate
 abbrev pub Gating : Call → Type 0
-Gating (Format a b) = ⊥
+Gating (Format q a b) = ⊥
 Gating Open = ⊥
 Gating (Put x k v) = Unit {0}
 Gating (Delete x k) = Unit {0}
@@ -223,35 +223,35 @@ Gating Choose = Unit {0}
 Gating (Clean c) = Unit {0}
 Gating Step = ⊥
 
-module _ (p limit : ℕ) (s : Session) (bytes table : List ℕ) (n : Refusal) (g : gate (stateOf s) (length bytes) (length table) ≡ some n) where
+module _ (s : Session) (bytes table : List ℕ) (n : Refusal) (g : gate (stateOf s) (length bytes) (length table) ≡ some n) where
   only : (r : Report) → refusedBy (gate (stateOf s) (length bytes) (length table)) ≡ some r → R.Refused n ≡ r
   only r h = let q : some (R.Refused n) ≡ some r = rw g at h in cc
 
   member : {A : Type 0} → Early n A
   member = gate-number (stateOf s) (length bytes) (length table) n g
 
-  pub turned-down : (k : Call) → Gating k → Called Proper stateOf Fits p limit k s s bytes bytes table table (R.Refused n)
+  pub turned-down : (k : Call) → Gating k → Called Proper stateOf Fits k s s bytes bytes table table (R.Refused n)
   unfolding next
-  turned-down (Format a b) t = absurd t
+  turned-down (Format q a b) t = absurd t
   turned-down Open t = absurd t
-  turned-down (Put x k v) t = refused p limit s bytes table n (Put x k v) refl (λ f. f) (λ f. sym (rw g)) only member (refl, refl) (inl (n, refl))
-  turned-down (Delete x k) t = refused p limit s bytes table n (Delete x k) refl (λ f. f) (λ f. sym (rw g)) only member (refl, refl) (inl (n, refl))
-  turned-down Commit t = refused p limit s bytes table n Commit refl (λ f. f) (λ f. sym (rw g)) only member (refl, refl) (inl (n, refl))
-  turned-down Abandon t = refused p limit s bytes table n Abandon refl (λ f. f) (λ f. sym (rw g)) only member (refl, refl) (sym (rw g), sym (rw g))
+  turned-down (Put x k v) t = refused s bytes table n (Put x k v) refl (λ f. f) (λ f. sym (rw g)) only member (refl, refl) (inl (n, refl))
+  turned-down (Delete x k) t = refused s bytes table n (Delete x k) refl (λ f. f) (λ f. sym (rw g)) only member (refl, refl) (inl (n, refl))
+  turned-down Commit t = refused s bytes table n Commit refl (λ f. f) (λ f. sym (rw g)) only member (refl, refl) (inl (n, refl))
+  turned-down Abandon t = refused s bytes table n Abandon refl (λ f. f) (λ f. sym (rw g)) only member (refl, refl) (sym (rw g), sym (rw g))
   turned-down (LookUp k) t = absurd t
-  turned-down Choose t = refused p limit s bytes table n Choose refl (λ f. f) (λ f. sym (rw g)) only member (refl, refl) (inl (n, refl))
-  turned-down (Clean c) t = refused p limit s bytes table n (Clean c) refl (λ f. f) (λ f. sym (rw g)) only member (refl, refl) (inl (n, refl))
+  turned-down Choose t = refused s bytes table n Choose refl (λ f. f) (λ f. sym (rw g)) only member (refl, refl) (inl (n, refl))
+  turned-down (Clean c) t = refused s bytes table n (Clean c) refl (λ f. f) (λ f. sym (rw g)) only member (refl, refl) (inl (n, refl))
   turned-down Step t = absurd t
 
 -- look-up turned down
 read-number : {A : Type 0} (σ : State) (bytes words : ℕ) (n : Refusal) → readGate σ bytes words ≡ some n → Early n A
 read-number Closed bytes words n h = inl cc
-read-number {A} (Rest b t items) bytes words n h = go (both (eqb b bytes) (eqb t words)) h
+read-number {A} (Rest p b t items) bytes words n h = go (both (eqb b bytes) (eqb t words)) h
   where
     go : (s : Bool) → pick s none (some N.ImageLength) ≡ some n → Early n A
     go true q = absurd (let z : _≡_ {A = ℕ} 0 1 = cc in omega arith)
     go false q = inr (inl cc)
-read-number {A} (Busy b t items task acts) bytes words n h = go (both (eqb b bytes) (eqb t words)) h
+read-number {A} (Busy p b t items task acts) bytes words n h = go (both (eqb b bytes) (eqb t words)) h
   where
     go : (s : Bool) → pick s none (some N.ImageLength) ≡ some n → Early n A
     go true q = absurd (let z : _≡_ {A = ℕ} 0 1 = cc in omega arith)
@@ -259,18 +259,18 @@ read-number {A} (Busy b t items task acts) bytes words n h = go (both (eqb b byt
 read-number (Formatting false b t acts) bytes words n h = inl cc
 read-number (Formatting true b t acts) bytes words n h = late n (both (eqb b bytes) (eqb t words)) h
 
-pub read-refused : (p limit : ℕ) (s : Session) (bytes table : List ℕ) (n : Refusal) → readGate (stateOf s) (length bytes) (length table) ≡ some n
-    → (k : ℕ) → Called Proper stateOf Fits p limit (LookUp k) s s bytes bytes table table (R.Refused n)
+pub read-refused : (s : Session) (bytes table : List ℕ) (n : Refusal) → readGate (stateOf s) (length bytes) (length table) ≡ some n
+    → (k : ℕ) → Called Proper stateOf Fits (LookUp k) s s bytes bytes table table (R.Refused n)
 unfolding next
-read-refused p limit s bytes table n g k =
-    refused p limit s bytes table n (LookUp k) refl (λ f. f) (λ f. sym (rw g)) (λ r h. let q : some (R.Refused n) ≡ some r = rw g at h in cc)
+read-refused s bytes table n g k =
+    refused s bytes table n (LookUp k) refl (λ f. f) (λ f. sym (rw g)) (λ r h. let q : some (R.Refused n) ≡ some r = rw g at h in cc)
     (read-number (stateOf s) (length bytes) (length table) n g) (refl, refl) (inl (n, refl))
 
 -- ## Behind the gate
 
 -- of any memory: the record is at rest with the lent lengths, and its items are those that its words say
 pub record Passed (s : Session) (bytes words : ℕ) : Type 0 where
-  pub state : stateOf s ≡ Rest bytes words (batchItems (s .control) (s .buffer))
+  pub state : stateOf s ≡ Rest (powerIn (s .setup)) bytes words (batchItems (s .control) (s .buffer))
   pub same-bytes : s .setup .image ≡ bytes
   pub same-words : s .setup .table ≡ words
 
@@ -278,7 +278,7 @@ unfinished : (b : Bool) → pick b (some N.Unfinished) (some N.ImageLength) ≡ 
 unfinished true h = let z : _≡_ {A = ℕ} 0 1 = cc in omega arith
 unfinished false h = let z : _≡_ {A = ℕ} 0 1 = cc in omega arith
 
-rest-state : (s : Session) → s .control .phase ≡ 1 → stateOf s ≡ Rest (s .setup .image) (s .setup .table) (batchItems (s .control) (s .buffer))
+rest-state : (s : Session) → s .control .phase ≡ 1 → stateOf s ≡ Rest (powerIn (s .setup)) (s .setup .image) (s .setup .table) (batchItems (s .control) (s .buffer))
 unfolding stateAt
 rest-state s e = rw e
 
@@ -292,7 +292,7 @@ gate-passed s bytes words g = go (ℕ-discrete (s .control .phase) 1) (rw (gate-
     by e true h p =
         let x : k .image ≡ bytes = eqb-true (k .image) bytes (both-l (eqb (k .image) bytes) (eqb (k .table) words) h) in
         let y : k .table ≡ words = eqb-true (k .table) words (both-r (eqb (k .image) bytes) (eqb (k .table) words) h) in
-        record { state = rest-state s e ∙ ap (λ (i : ℕ). Rest i (k .table) (batchItems (s .control) (s .buffer))) x ∙ ap (λ (i : ℕ). Rest bytes i (batchItems (s .control) (s .buffer))) y; same-bytes = x; same-words = y }
+        record { state = rest-state s e ∙ ap (λ (i : ℕ). Rest (powerIn k) i (k .table) (batchItems (s .control) (s .buffer))) x ∙ ap (λ (i : ℕ). Rest (powerIn k) bytes i (batchItems (s .control) (s .buffer))) y; same-bytes = x; same-words = y }
     by e false h p = absurd (let z : _≡_ {A = ℕ} 0 1 = cc in omega arith)
 
     other : (t : Bool) → pick t (pick (sameLengths k bytes words) (some N.Unfinished) (some N.ImageLength)) (some N.NotOpen) ≡ none → ⊥
@@ -306,7 +306,7 @@ gate-passed s bytes words g = go (ℕ-discrete (s .control .phase) 1) (rw (gate-
 -- a register is open and at rest, with the lent lengths
 pub record AtRest (s : Session) (bytes words : ℕ) (ws table : List ℕ) : Type 0 where
   pub items : List Entry
-  pub state : stateOf s ≡ Rest (s .setup .image) (s .setup .table) items
+  pub state : stateOf s ≡ Rest (powerIn (s .setup)) (s .setup .image) (s .setup .table) items
   pub fits : RestFits s ws table items
   pub same-bytes : s .setup .image ≡ bytes
   pub same-words : s .setup .table ≡ words
@@ -322,12 +322,12 @@ at-rest s bytes words ws table g f = go (eqb phase 1) (eqb phase 2) (eqb phase 3
     k = s .setup
 
     go : (b1 b2 b3 b4 b5 b6 : Bool) (items : List Entry) (m : ℕ) (o3 o6 : Olds) (a2 a3 a4 a5 a6 : List Action)
-        → stateOf s ≡ pick b1 (Rest (k .image) (k .table) items) (pick b2 (Busy (k .image) (k .table) items Staging a2) (pick b3 (Busy (k .image) (k .table) items (Committing o3) a3)
-        (pick b4 (Formatting false (k .image) (k .table) a4) (pick b5 (Formatting true (k .image) (k .table) a5) (pick b6 (Busy (k .image) (k .table) [] (Cleaning m o6) a6) Closed)))))
-        → gate (pick b1 (Rest (k .image) (k .table) items) (pick b2 (Busy (k .image) (k .table) items Staging a2) (pick b3 (Busy (k .image) (k .table) items (Committing o3) a3)
-        (pick b4 (Formatting false (k .image) (k .table) a4) (pick b5 (Formatting true (k .image) (k .table) a5) (pick b6 (Busy (k .image) (k .table) [] (Cleaning m o6) a6) Closed)))))) bytes words ≡ none
-        → FitsAt (pick b1 (Rest (k .image) (k .table) items) (pick b2 (Busy (k .image) (k .table) items Staging a2) (pick b3 (Busy (k .image) (k .table) items (Committing o3) a3)
-        (pick b4 (Formatting false (k .image) (k .table) a4) (pick b5 (Formatting true (k .image) (k .table) a5) (pick b6 (Busy (k .image) (k .table) [] (Cleaning m o6) a6) Closed)))))) s ws table
+        → stateOf s ≡ pick b1 (Rest (powerIn k) (k .image) (k .table) items) (pick b2 (Busy (powerIn k) (k .image) (k .table) items Staging a2) (pick b3 (Busy (powerIn k) (k .image) (k .table) items (Committing o3) a3)
+        (pick b4 (Formatting false (k .image) (k .table) a4) (pick b5 (Formatting true (k .image) (k .table) a5) (pick b6 (Busy (powerIn k) (k .image) (k .table) [] (Cleaning m o6) a6) Closed)))))
+        → gate (pick b1 (Rest (powerIn k) (k .image) (k .table) items) (pick b2 (Busy (powerIn k) (k .image) (k .table) items Staging a2) (pick b3 (Busy (powerIn k) (k .image) (k .table) items (Committing o3) a3)
+        (pick b4 (Formatting false (k .image) (k .table) a4) (pick b5 (Formatting true (k .image) (k .table) a5) (pick b6 (Busy (powerIn k) (k .image) (k .table) [] (Cleaning m o6) a6) Closed)))))) bytes words ≡ none
+        → FitsAt (pick b1 (Rest (powerIn k) (k .image) (k .table) items) (pick b2 (Busy (powerIn k) (k .image) (k .table) items Staging a2) (pick b3 (Busy (powerIn k) (k .image) (k .table) items (Committing o3) a3)
+        (pick b4 (Formatting false (k .image) (k .table) a4) (pick b5 (Formatting true (k .image) (k .table) a5) (pick b6 (Busy (powerIn k) (k .image) (k .table) [] (Cleaning m o6) a6) Closed)))))) s ws table
         → AtRest s bytes words ws table
     go true b2 b3 b4 b5 b6 items m o3 o6 a2 a3 a4 a5 a6 e q r = rest (sameLengths k bytes words) refl q
       where
@@ -347,17 +347,17 @@ at-rest s bytes words ws table g f = go (eqb phase 1) (eqb phase 2) (eqb phase 3
 -- behind the gate, at rest, look-up's gate is open too, and it reads the words as they stand
 pub rest-reads : (σ : State) (bytes words : ℕ) (ws : List ℕ) → gate σ bytes words ≡ none → (readGate σ bytes words ≡ none) × (readWords σ ws ≡ ws)
 rest-reads Closed bytes words ws g = absurd (let z : _≡_ {A = ℕ} 0 1 = cc in omega arith)
-rest-reads (Rest b t items) bytes words ws g = (g, refl)
-rest-reads (Busy b t items task rest) bytes words ws g = absurd (unfinished (both (eqb b bytes) (eqb t words)) g)
+rest-reads (Rest p b t items) bytes words ws g = (g, refl)
+rest-reads (Busy p b t items task rest) bytes words ws g = absurd (unfinished (both (eqb b bytes) (eqb t words)) g)
 rest-reads (Formatting false b t rest) bytes words ws g = absurd (let z : _≡_ {A = ℕ} 0 1 = cc in omega arith)
 rest-reads (Formatting true b t rest) bytes words ws g = absurd (unfinished (both (eqb b bytes) (eqb t words)) g)
 
 -- LOOK-UP BEHIND ITS GATE: the words that it reads are accepted, and table and bits are those of their entries
 pub record ReadAt (s : Session) (bytes words : ℕ) (ws table : List ℕ) : Type 0 where
   pub entries : List Entry
-  pub accepted : opening basePower (s .setup .image) (readWords (stateOf s) ws) (s .setup .table) ≡ Accepted entries
+  pub accepted : Opens (powerIn (s .setup)) (s .setup .image) (readWords (stateOf s) ws) (s .setup .table) entries
   pub long : length ws ≡ s .setup .image / 8
-  pub built : Built (s .control) (s .buffer) table entries
+  pub built : Built (s .control) (sizeIn (s .setup)) (s .buffer) table entries
   pub same-bytes : s .setup .image ≡ bytes
   pub same-words : s .setup .table ≡ words
   pub past : Past (readWords (stateOf s) ws) ws
@@ -373,30 +373,30 @@ read-at s bytes words ws table g f = go (eqb phase 1) (eqb phase 2) (eqb phase 3
     k = s .setup
 
     -- what is read in a state with these lengths
-    made : (σ : State) → stateOf s ≡ σ → (es : List Entry) → opening basePower (k .image) (readWords σ ws) (k .table) ≡ Accepted es → length ws ≡ k .image / 8 → Built (s .control) (s .buffer) table es → Past (readWords σ ws) ws
+    made : (σ : State) → stateOf s ≡ σ → (es : List Entry) → Opens (powerIn k) (k .image) (readWords σ ws) (k .table) es → length ws ≡ k .image / 8 → Built (s .control) (sizeIn (s .setup)) (s .buffer) table es → Past (readWords σ ws) ws
         → (t : Bool) → sameLengths k bytes words ≡ t → pick t none (some N.ImageLength) ≡ none → ReadAt s bytes words ws table
     made σ e es acc long built past true h p =
         let x : k .image ≡ bytes = eqb-true (k .image) bytes (both-l (eqb (k .image) bytes) (eqb (k .table) words) h) in
         let y : k .table ≡ words = eqb-true (k .table) words (both-r (eqb (k .image) bytes) (eqb (k .table) words) h) in
-        record { entries = es; accepted = ap (λ (τ : State). opening basePower (k .image) (readWords τ ws) (k .table)) e ∙ acc; long = long; built = built; same-bytes = x; same-words = y; past = rw e past }
+        record { entries = es; accepted = rw e acc; long = long; built = built; same-bytes = x; same-words = y; past = rw e past }
     made σ e es acc long built past false h p = absurd (let z : _≡_ {A = ℕ} 0 1 = cc in omega arith)
 
-    busy : (task : Task) (items : List Entry) (acts : List Action) → stateOf s ≡ Busy (k .image) (k .table) items task acts → pick (sameLengths k bytes words) none (some N.ImageLength) ≡ none
+    busy : (task : Task) (items : List Entry) (acts : List Action) → stateOf s ≡ Busy (powerIn k) (k .image) (k .table) items task acts → pick (sameLengths k bytes words) none (some N.ImageLength) ≡ none
         → TaskFits task s items acts ws table × Reads s (oldsOf task) acts ws table → ReadAt s bytes words ws table
-    busy task items (a ∷ rest) e q (f, r) = made (Busy (k .image) (k .table) items task (a ∷ rest)) e (r .entries) (r .shown .0) (r .long) (r .built) (past-back (oldsOf task) ws (r .low)) (sameLengths k bytes words) refl q
-    busy Staging items [] e q (f, r) = made (Busy (k .image) (k .table) items Staging []) e (f .entries) (f .accepted) (f .long) (f .built) (past-own ws) (sameLengths k bytes words) refl q
-    busy (Committing olds) items [] e q (f, r) = made (Busy (k .image) (k .table) items (Committing olds) []) e _ (f .accepted) (f .long) (f .built) (past-own ws) (sameLengths k bytes words) refl q
-    busy (Cleaning n olds) items [] e q (f, r) = made (Busy (k .image) (k .table) items (Cleaning n olds) []) e _ (f .accepted) (f .long) (f .built) (past-own ws) (sameLengths k bytes words) refl q
+    busy task items (a ∷ rest) e q (f, r) = made (Busy (powerIn k) (k .image) (k .table) items task (a ∷ rest)) e (r .entries) (r .shown .0) (r .long) (r .built) (past-back (oldsOf task) ws (r .low)) (sameLengths k bytes words) refl q
+    busy Staging items [] e q (f, r) = made (Busy (powerIn k) (k .image) (k .table) items Staging []) e (f .entries) (f .accepted) (f .long) (f .built) (past-own ws) (sameLengths k bytes words) refl q
+    busy (Committing olds) items [] e q (f, r) = made (Busy (powerIn k) (k .image) (k .table) items (Committing olds) []) e _ (f .accepted) (f .long) (f .built) (past-own ws) (sameLengths k bytes words) refl q
+    busy (Cleaning n olds) items [] e q (f, r) = made (Busy (powerIn k) (k .image) (k .table) items (Cleaning n olds) []) e _ (f .accepted) (f .long) (f .built) (past-own ws) (sameLengths k bytes words) refl q
 
     go : (b1 b2 b3 b4 b5 b6 : Bool) (items : List Entry) (m : ℕ) (o3 o6 : Olds) (a2 a3 a4 a5 a6 : List Action)
-        → stateOf s ≡ pick b1 (Rest (k .image) (k .table) items) (pick b2 (Busy (k .image) (k .table) items Staging a2) (pick b3 (Busy (k .image) (k .table) items (Committing o3) a3)
-        (pick b4 (Formatting false (k .image) (k .table) a4) (pick b5 (Formatting true (k .image) (k .table) a5) (pick b6 (Busy (k .image) (k .table) [] (Cleaning m o6) a6) Closed)))))
-        → readGate (pick b1 (Rest (k .image) (k .table) items) (pick b2 (Busy (k .image) (k .table) items Staging a2) (pick b3 (Busy (k .image) (k .table) items (Committing o3) a3)
-        (pick b4 (Formatting false (k .image) (k .table) a4) (pick b5 (Formatting true (k .image) (k .table) a5) (pick b6 (Busy (k .image) (k .table) [] (Cleaning m o6) a6) Closed)))))) bytes words ≡ none
-        → FitsAt (pick b1 (Rest (k .image) (k .table) items) (pick b2 (Busy (k .image) (k .table) items Staging a2) (pick b3 (Busy (k .image) (k .table) items (Committing o3) a3)
-        (pick b4 (Formatting false (k .image) (k .table) a4) (pick b5 (Formatting true (k .image) (k .table) a5) (pick b6 (Busy (k .image) (k .table) [] (Cleaning m o6) a6) Closed)))))) s ws table
+        → stateOf s ≡ pick b1 (Rest (powerIn k) (k .image) (k .table) items) (pick b2 (Busy (powerIn k) (k .image) (k .table) items Staging a2) (pick b3 (Busy (powerIn k) (k .image) (k .table) items (Committing o3) a3)
+        (pick b4 (Formatting false (k .image) (k .table) a4) (pick b5 (Formatting true (k .image) (k .table) a5) (pick b6 (Busy (powerIn k) (k .image) (k .table) [] (Cleaning m o6) a6) Closed)))))
+        → readGate (pick b1 (Rest (powerIn k) (k .image) (k .table) items) (pick b2 (Busy (powerIn k) (k .image) (k .table) items Staging a2) (pick b3 (Busy (powerIn k) (k .image) (k .table) items (Committing o3) a3)
+        (pick b4 (Formatting false (k .image) (k .table) a4) (pick b5 (Formatting true (k .image) (k .table) a5) (pick b6 (Busy (powerIn k) (k .image) (k .table) [] (Cleaning m o6) a6) Closed)))))) bytes words ≡ none
+        → FitsAt (pick b1 (Rest (powerIn k) (k .image) (k .table) items) (pick b2 (Busy (powerIn k) (k .image) (k .table) items Staging a2) (pick b3 (Busy (powerIn k) (k .image) (k .table) items (Committing o3) a3)
+        (pick b4 (Formatting false (k .image) (k .table) a4) (pick b5 (Formatting true (k .image) (k .table) a5) (pick b6 (Busy (powerIn k) (k .image) (k .table) [] (Cleaning m o6) a6) Closed)))))) s ws table
         → ReadAt s bytes words ws table
-    go true b2 b3 b4 b5 b6 items m o3 o6 a2 a3 a4 a5 a6 e q r = made (Rest (k .image) (k .table) items) e (r .entries) (r .accepted) (r .long) (r .built) (past-own ws) (sameLengths k bytes words) refl q
+    go true b2 b3 b4 b5 b6 items m o3 o6 a2 a3 a4 a5 a6 e q r = made (Rest (powerIn k) (k .image) (k .table) items) e (r .entries) (r .accepted) (r .long) (r .built) (past-own ws) (sameLengths k bytes words) refl q
     go false true b3 b4 b5 b6 items m o3 o6 a2 a3 a4 a5 a6 e q r = busy Staging items a2 e q r
     go false false true b4 b5 b6 items m o3 o6 a2 a3 a4 a5 a6 e q r = busy (Committing o3) items a3 e q r
     go false false false true b5 b6 items m o3 o6 a2 a3 a4 a5 a6 e q r = absurd (let z : _≡_ {A = ℕ} 0 1 = cc in omega arith)

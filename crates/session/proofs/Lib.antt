@@ -3,3 +3,4 @@ pub mod Part
 pub mod Kept
 pub mod Phases
 pub mod Zeroed
+pub mod OpensRight

@@ -3,15 +3,19 @@
 -- Assumes nothing.
 use mathlib.Core.Path.{_≡_, refl, sym, _∙_, ap}
 use mathlib.Core.List.{List}
-use Prim.Native.Nat.{ℕ, zero, suc, _+_, _≤_, _<_, min}
+use Prim.Native.Nat.{ℕ, zero, suc, _+_, _%_, _≤_, _<_, min}
 use native.Mathlib.Nat.{le-of-suc-le-suc, not-suc-le-zero}
 use native.Mathlib.Omega.{arith}
 use lib.ListN.{length, getD}
 use Rattle.spec.specs.Log.{Entry, encodeAll}
+use Rattle.spec.specs.Places.{chunkLines}
+use Rattle.spec.specs.declared.Size.{Size}
+use Rattle.spec.specs.declared.Size.the-variants as S
+use Rattle.places.specs.Sizes.{powerOf}
 use Rattle.session.specs.declared.Control.{Control}
 use Rattle.session.specs.declared.Setup.{Setup}
 use Rattle.buffer.specs.Areas.{batchRoom}
-use Rattle.session.specs.State.{bufferPart, batchWords, chunkIn, linesIn}
+use Rattle.session.specs.State.{sizeIn, powerIn, bufferPart, batchWords, chunkIn, linesIn}
 use Rattle.session.specs.Fits.{BatchFits}
 
 -- A PART OF THE BUFFER
@@ -43,12 +47,17 @@ unfolding batchWords
 words-within c b l = let m : min (c .words) batchRoom ≡ c .words = omega arith in ap (bufferPart b 0) m
 
 -- the record counts the words of its items
-pub words-counted : (c : Control) (b : List ℕ) (n : ℕ) (ws : List ℕ) (es items : List Entry) → BatchFits c b n ws es items → c .words ≡ length (encodeAll items)
-words-counted c b n ws es items fits = sym (length-part b 0 (c .words)) ∙ ap length (sym (words-within c b (fits .room)) ∙ fits .written)
+pub words-counted : (c : Control) (b : List ℕ) (p n : ℕ) (ws : List ℕ) (es items : List Entry) → BatchFits c b p n ws es items → c .words ≡ length (encodeAll items)
+words-counted c b p n ws es items fits = sym (length-part b 0 (c .words)) ∙ ap length (sym (words-within c b (fits .room)) ∙ fits .written)
 
 -- CHUNK AND LINES, where they are in range
 pub chunk-in : (k : Setup) → k .chunk ≤ 503 → chunkIn k ≡ k .chunk
 chunk-in k h = omega arith
 
-pub lines-in : (k : Setup) → k .lines ≤ 64 → linesIn k ≡ k .lines
-lines-in k h = omega arith
+lines-few : (size : Size) (n : ℕ) → n ≤ chunkLines (powerOf size) → n % 2048 ≡ n
+unfolding chunkLines
+lines-few S.Small n l = omega arith
+lines-few S.Large n l = omega arith
+
+pub lines-in : (k : Setup) → k .lines ≤ chunkLines (powerIn k) → linesIn k ≡ k .lines
+lines-in k h = lines-few (sizeIn k) (k .lines) h

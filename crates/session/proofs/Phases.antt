@@ -18,7 +18,7 @@ use Rattle.session.specs.declared.Setup.{Setup}
 use Rattle.session.specs.declared.Phase.{Phase}
 use Rattle.session.specs.declared.Phase.the-variants as P
 use Rattle.session.specs.Asks.{phaseOf, readAt}
-use Rattle.session.specs.State.{batchItems, stateBy, stateAt}
+use Rattle.session.specs.State.{powerIn, batchItems, stateBy, stateAt}
 
 -- the numbers of a phase
 abbrev pub NumberOf : Phase → ℕ → Type 0
@@ -51,13 +51,13 @@ decoded n p q e f = let z : phaseOf n ≡ q = sym e ∙ f in rw z at (number-of 
 
 module _ (c : Control) (k : Setup) (b : List ℕ) where
   -- a record at rest has the items that its words say
-  pub rest-items : (i t : ℕ) (items : List Entry) → stateAt c k b ≡ Rest i t items → batchItems c b ≡ items
+  pub rest-items : (p i t : ℕ) (items : List Entry) → stateAt c k b ≡ Rest p i t items → batchItems c b ≡ items
   unfolding stateAt
-  rest-items i t items e = go (eqb (c .phase) 1) (eqb (c .phase) 2) (eqb (c .phase) 3) (eqb (c .phase) 4) (eqb (c .phase) 5) (eqb (c .phase) 6) _ _ _ _ _ _ _ _ _ e
+  rest-items p i t items e = go (eqb (c .phase) 1) (eqb (c .phase) 2) (eqb (c .phase) 3) (eqb (c .phase) 4) (eqb (c .phase) 5) (eqb (c .phase) 6) _ _ _ _ _ _ _ _ _ e
     where
       go : (b1 b2 b3 b4 b5 b6 : Bool) (found : List Entry) (m : ℕ) (o3 o6 : Olds) (a2 a3 a4 a5 a6 : List Action)
-          → pick b1 (Rest (k .image) (k .table) found) (pick b2 (Busy (k .image) (k .table) found Staging a2) (pick b3 (Busy (k .image) (k .table) found (Committing o3) a3)
-          (pick b4 (Formatting false (k .image) (k .table) a4) (pick b5 (Formatting true (k .image) (k .table) a5) (pick b6 (Busy (k .image) (k .table) [] (Cleaning m o6) a6) Closed))))) ≡ Rest i t items
+          → pick b1 (Rest (powerIn k) (k .image) (k .table) found) (pick b2 (Busy (powerIn k) (k .image) (k .table) found Staging a2) (pick b3 (Busy (powerIn k) (k .image) (k .table) found (Committing o3) a3)
+          (pick b4 (Formatting false (k .image) (k .table) a4) (pick b5 (Formatting true (k .image) (k .table) a5) (pick b6 (Busy (powerIn k) (k .image) (k .table) [] (Cleaning m o6) a6) Closed))))) ≡ Rest p i t items
           → found ≡ items
       go true b2 b3 b4 b5 b6 found m o3 o6 a2 a3 a4 a5 a6 q = cc
       go false true b3 b4 b5 b6 found m o3 o6 a2 a3 a4 a5 a6 q = absurd (let z : _≡_ {A = ℕ} 0 1 = cc in omega arith)

@@ -15,7 +15,7 @@ use Rattle.session.specs.Numbers.{closed}
 abbrev pub zeroed : Session
 zeroed = record {
   control = closed;
-  setup = record { image = 0; table = 0; chunk = 0; old = 0; lines = 0; first = 0; least = 0; fields = 0; station = 0; centre = 0; source = noSource };
+  setup = record { image = 0; table = 0; power = 0; chunk = 0; old = 0; lines = 0; first = 0; least = 0; fields = 0; station = 0; centre = 0; source = noSource };
   buffer = replicate bufferWords 0;
 }
 

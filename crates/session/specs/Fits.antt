@@ -8,7 +8,8 @@ use Prim.Native.Nat.{ℕ, _+_, _*_, _/_, _%_, _≤_, _<_}
 use lib.Dec.{eqb}
 use lib.ListN.{length, getD}
 use Rattle.spec.specs.Basics.{isIn, distinct}
-use Rattle.spec.specs.Places.{basePower, base, chunksIn}
+use Rattle.spec.specs.Places.{base, chunkLines, chunksIn}
+use Rattle.spec.specs.Header.{headerPower}
 use Rattle.spec.specs.Medium.{Action}
 use Rattle.spec.specs.Directory.{roleAt, isFree}
 use Rattle.spec.specs.Log.{Entry, encodeAll, placed}
@@ -19,6 +20,7 @@ use Rattle.spec.specs.Actions.{linesFor}
 use Rattle.spec.specs.Reports.{asReport, wordsAfter, runWords}
 use Rattle.spec.specs.Plans.{Task, Staging, Committing, Cleaning, Olds, oldsOf, putBack, maxItems, hasSpace}
 use Rattle.spec.specs.Machine.{State, Closed, Rest, Busy, Formatting}
+use Rattle.spec.specs.declared.Size.{Size}
 use Rattle.session.specs.declared.Control.{Control}
 use Rattle.session.specs.declared.Setup.{Setup}
 use Rattle.session.specs.declared.Source.{Source}
@@ -26,11 +28,11 @@ use Rattle.session.specs.declared.Session.{Session}
 use Rattle.theory_base.proofs.PutBack.{AreLow}
 use Rattle.theory_log.specs.Batch.{AllRight}
 use Rattle.theory_log.specs.Contents.{CountsOn, Mem, Top, Agree}
-use Rattle.buffer.specs.Areas.{batchRoom, filterPlace, bufferWords}
+use Rattle.buffer.specs.Areas.{batchRoom, secondRoom, filterPlace, bufferWords}
 use Rattle.buffer.specs.Bits.{hasBit}
 use Rattle.volatile.specs.Known.{Indexed}
 use Rattle.volatile.specs.Sums.{Summed}
-use Rattle.session.specs.State.{batchWords, stateOf}
+use Rattle.session.specs.State.{sizeIn, powerIn, batchWords, stateOf}
 use Rattle.session.specs.Filter.{AllMarked}
 use Rattle.session.specs.Cleaned.{before, copiesOf, after, Cleaned, Moves, Stand}
 
@@ -44,43 +46,43 @@ keyList es = map (λ (e : Entry). e .key) es
 
 -- the blocks of staged items among the entries es, in an image of n chunks: each is right in the words, no top put
 -- points to it, and no other item does
-pub record ItemsFit (n : ℕ) (ws : List ℕ) (es items : List Entry) : Type 0 where
-  pub blocks : (e : Entry) → Mem e items → fine basePower n ws e ≡ true
+pub record ItemsFit (p n : ℕ) (ws : List ℕ) (es items : List Entry) : Type 0 where
+  pub blocks : (e : Entry) → Mem e items → fine p n ws e ≡ true
   pub dead : (e f : Entry) → Mem e items → Top es f → pointed e ≡ true → pointed f ≡ true → e .field ≡ f .field → ⊥
   pub own : (e f : Entry) → Mem e items → Mem f items → pointed e ≡ true → pointed f ≡ true → e .field ≡ f .field → e ≡ f
 
 -- the staged items among the entries es, in an image of n chunks with the words ws: the staged words are theirs,
 -- versions count on, their blocks are right, the filter has their keys, and the staged keys that are not known are
 -- counted
-pub record BatchFits (c : Control) (buffer : List ℕ) (n : ℕ) (ws : List ℕ) (es items : List Entry) : Type 0 where
+pub record BatchFits (c : Control) (buffer : List ℕ) (p n : ℕ) (ws : List ℕ) (es items : List Entry) : Type 0 where
   pub room : c .words ≤ batchRoom
   pub written : batchWords c buffer ≡ encodeAll items
   pub count : c .items ≡ length items
   pub few : length items ≤ maxItems
   pub right : AllRight items
   pub counts : CountsOn es items
-  pub fit : ItemsFit n ws es items
+  pub fit : ItemsFit p n ws es items
   pub marked : AllMarked (getD buffer filterPlace 0) items
   pub keys : c .keys + c .fresh ≡ length (distinct (keyList items ++ keyList es))
 
 -- the table, the block bits and the chunks' sums are those of the entries es
-pub record Built (c : Control) (buffer table : List ℕ) (es : List Entry) : Type 0 where
-  pub indexed : Indexed table (c .keys) es
-  pub blocks : (u : ℕ) → hasBit buffer u ≡ isIn u (liveBlocks es)
-  pub sums : Summed buffer es
+pub record Built (c : Control) (size : Size) (buffer table : List ℕ) (es : List Entry) : Type 0 where
+  pub indexed : Indexed size table (c .keys) es
+  pub blocks : (u : ℕ) → hasBit size buffer u ≡ isIn u (liveBlocks es)
+  pub sums : Summed size buffer es
 
 -- no log chunk below `first` has space for `least` lines behind its committed ones, in an image of n chunks: the word
 -- of a chunk past the directory would be a word of some block
-abbrev pub NoneBelow : (n : ℕ) (ws : List ℕ) (first least : ℕ) → Type 0
-NoneBelow n ws first least = (c : ℕ) → 1 ≤ c → c < first → c < n → hasSpace basePower ws least 0 c ≡ false
+abbrev pub NoneBelow : (p n : ℕ) (ws : List ℕ) (first least : ℕ) → Type 0
+NoneBelow p n ws first least = (c : ℕ) → 1 ≤ c → c < first → c < n → hasSpace p ws least 0 c ≡ false
 
 -- no log chunk behind chunk `at` has space for `least` lines
-abbrev pub NoneAbove : (n : ℕ) (ws : List ℕ) (at least : ℕ) → Type 0
-NoneAbove n ws at least = (c : ℕ) → at < c → c < n → hasSpace basePower ws least 0 c ≡ false
+abbrev pub NoneAbove : (p n : ℕ) (ws : List ℕ) (at least : ℕ) → Type 0
+NoneAbove p n ws at least = (c : ℕ) → at < c → c < n → hasSpace p ws least 0 c ≡ false
 
 -- no chunk below chunk `at` is free
-abbrev pub NoneFree : (n : ℕ) (ws : List ℕ) (at : ℕ) → Type 0
-NoneFree n ws at = (c : ℕ) → 1 ≤ c → c < at → c < n → isFree (roleAt basePower ws c) ≡ false
+abbrev pub NoneFree : (p n : ℕ) (ws : List ℕ) (at : ℕ) → Type 0
+NoneFree p n ws at = (c : ℕ) → 1 ≤ c → c < at → c < n → isFree (roleAt p ws c) ≡ false
 
 -- THE HINT where the next commit looks for space: a chunk below which no log chunk has space for `least` lines. Where
 -- `first` is that chunk's number and 512 more, no log chunk behind it has either, and no chunk below it is free: then a
@@ -88,21 +90,26 @@ NoneFree n ws at = (c : ℕ) → 1 ≤ c → c < at → c < n → isFree (roleAt
 abbrev pub soleMark : ℕ
 soleMark = 512
 
-pub record Hint (n : ℕ) (ws : List ℕ) (first least : ℕ) : Type 0 where
-  pub below : NoneBelow n ws (first % soleMark) least
-  pub above : soleMark ≤ first → NoneAbove n ws (first % soleMark) least
-  pub taken : soleMark ≤ first → NoneFree n ws (first % soleMark)
+pub record Hint (p n : ℕ) (ws : List ℕ) (first least : ℕ) : Type 0 where
+  pub below : NoneBelow p n ws (first % soleMark) least
+  pub above : soleMark ≤ first → NoneAbove p n ws (first % soleMark) least
+  pub taken : soleMark ≤ first → NoneFree p n ws (first % soleMark)
+
+-- an opening accepts the words, whose header says the chunk power p, with these entries
+pub record Opens (p bytes : ℕ) (ws : List ℕ) (table : ℕ) (es : List Entry) : Type 0 where
+  pub accepts : opening bytes ws table ≡ Accepted es
+  pub power : headerPower ws ≡ p
 
 -- at rest
 pub record RestFits (s : Session) (ws table : List ℕ) (items : List Entry) : Type 0 where
   pub entries : List Entry
-  pub accepted : opening basePower (s .setup .image) ws (s .setup .table) ≡ Accepted entries
+  pub accepted : Opens (powerIn (s .setup)) (s .setup .image) ws (s .setup .table) entries
   pub long : length ws ≡ s .setup .image / 8
   pub lent : length table ≡ s .setup .table
-  pub built : Built (s .control) (s .buffer) table entries
-  pub batch : BatchFits (s .control) (s .buffer) (chunksIn basePower (s .setup .image)) ws entries items
+  pub built : Built (s .control) (sizeIn (s .setup)) (s .buffer) table entries
+  pub batch : BatchFits (s .control) (s .buffer) (powerIn (s .setup)) (chunksIn (powerIn (s .setup)) (s .setup .image)) ws entries items
   pub table-room : s .control .keys + s .control .fresh ≤ capacity (s .setup .table)
-  pub hint : Hint (chunksIn basePower (s .setup .image)) ws (s .setup .first) (s .setup .least)
+  pub hint : Hint (powerIn (s .setup)) (chunksIn (powerIn (s .setup)) (s .setup .image)) ws (s .setup .first) (s .setup .least)
 
 -- In a staging, looking forward: with the actions still to come done on these words, memory is at rest with the new
 -- item among the staged ones. Entries, key table and bits are those before. Nothing is said of the block's words in
@@ -114,30 +121,30 @@ StageFits s ws table items rest = RestFits s (runWords rest ws) table items
 -- entries are those before (front and back) with the batch placed between. Until the last fence table and bits are
 -- those of the entries before.
 abbrev pub BuiltBy : List Action → Session → List ℕ → List Entry → List Entry → Type 0
-BuiltBy [] s table before after = Built (s .control) (s .buffer) table after
-BuiltBy (a ∷ rest) s table before after = Built (s .control) (s .buffer) table before
+BuiltBy [] s table before after = Built (s .control) (sizeIn (s .setup)) (s .buffer) table after
+BuiltBy (a ∷ rest) s table before after = Built (s .control) (sizeIn (s .setup)) (s .buffer) table before
 
 -- no two keys' top puts share a block
 abbrev pub BlocksApart : List Entry → Type 0
 BlocksApart es = (e f : Entry) → Top es e → Top es f → pointed e ≡ true → pointed f ≡ true → e .field ≡ f .field → e .key ≡ f .key
 
 abbrev pub batchPlace : Setup → ℕ
-batchPlace k = base basePower (k .chunk) + 8 * k .lines
+batchPlace k = base (powerIn k) (k .chunk) + 8 * k .lines
 
 pub record CommitFits (s : Session) (ws table : List ℕ) (items : List Entry) (rest : List Action) : Type 0 where
   pub front : List Entry
   pub back : List Entry
   pub chunk : s .setup .chunk ≤ 503
-  pub lines : s .setup .lines ≤ 64
-  pub accepted : opening basePower (s .setup .image) (runWords rest ws) (s .setup .table) ≡ Accepted (front ++ (placed (batchPlace (s .setup)) items ++ back))
+  pub lines : s .setup .lines ≤ chunkLines (powerIn (s .setup))
+  pub accepted : Opens (powerIn (s .setup)) (s .setup .image) (runWords rest ws) (s .setup .table) (front ++ (placed (batchPlace (s .setup)) items ++ back))
   pub long : length ws ≡ s .setup .image / 8
   pub lent : length table ≡ s .setup .table
-  pub batch : BatchFits (s .control) (s .buffer) (chunksIn basePower (s .setup .image)) (runWords rest ws) (front ++ back) items
+  pub batch : BatchFits (s .control) (s .buffer) (powerIn (s .setup)) (chunksIn (powerIn (s .setup)) (s .setup .image)) (runWords rest ws) (front ++ back) items
   pub agree : Agree (front ++ back)
   pub apart : BlocksApart (front ++ back)
   pub built : BuiltBy rest s table (front ++ back) (front ++ (placed (batchPlace (s .setup)) items ++ back))
   pub table-room : s .control .keys + s .control .fresh ≤ capacity (s .setup .table)
-  pub hint : Hint (chunksIn basePower (s .setup .image)) (runWords rest ws) (s .setup .first) (s .setup .least)
+  pub hint : Hint (powerIn (s .setup)) (chunksIn (powerIn (s .setup)) (s .setup .image)) (runWords rest ws) (s .setup .first) (s .setup .least)
 
 -- In a cleaning, looking forward: with the actions still to come done on these words, the image is accepted, and its
 -- entries are those before without the cleaned chunk's, with the copies of the kept ones among them. Until the last
@@ -149,34 +156,34 @@ pub record CleanFits (c : Control) (k : Setup) (f : Source) (b ws table : List �
   pub as′ : List Entry
   pub bs : List Entry
   pub chunk : k .chunk ≤ 503
-  pub lines : k .lines ≤ 64
+  pub lines : k .lines ≤ chunkLines (powerIn k)
   pub source : f .chunk ≤ 503
-  pub committed : f .lines ≤ 64
-  pub room : f .words ≤ batchRoom
-  pub moves : Moves (f .chunk) (f .words) xs mid ys as′ bs (batchPlace k)
-  pub accepted : opening basePower (k .image) (runWords rest ws) (k .table) ≡ Accepted (after xs mid ys as′ bs (batchPlace k))
+  pub committed : f .lines ≤ chunkLines (powerIn k)
+  pub room : f .words ≤ secondRoom
+  pub moves : Moves (sizeIn k) (f .chunk) (f .words) xs mid ys as′ bs (batchPlace k)
+  pub accepted : Opens (powerIn k) (k .image) (runWords rest ws) (k .table) (after xs mid ys as′ bs (batchPlace k))
   pub long : length ws ≡ k .image / 8
   pub lent : length table ≡ k .table
-  pub cleaned : Cleaned xs mid ys as′ bs (batchPlace k)
-  pub here : Stand (runWords rest ws) (base basePower (f .chunk)) (base basePower (f .chunk) + 8 * f .lines) mid
+  pub cleaned : Cleaned (sizeIn k) xs mid ys as′ bs (batchPlace k)
+  pub here : Stand (runWords rest ws) (base (powerIn k) (f .chunk)) (base (powerIn k) (f .chunk) + 8 * f .lines) mid
   pub copied : Stand (runWords rest ws) (batchPlace k) (batchPlace k + 8 * linesFor (f .words)) (copiesOf xs mid ys (batchPlace k))
   pub built : BuiltBy rest (record { control = c; setup = k; buffer = b }) table (before xs mid ys) (after xs mid ys as′ bs (batchPlace k))
-  pub hint : Hint (chunksIn basePower (k .image)) (runWords rest ws) (k .first) (k .least)
+  pub hint : Hint (powerIn k) (chunksIn (powerIn k) (k .image)) (runWords rest ws) (k .first) (k .least)
 
 -- WHAT LOOK-UP READS in an unfinished call, looking forward: before each action still to come the words with the old
 -- directory words put back are accepted with the entries es; and until the last one is done table and bits are those of
 -- es.
-abbrev pub Shown : (image table : ℕ) → Olds → List Entry → List Action → List ℕ → Type 0
-Shown image table olds es [] ws = Unit {0}
-Shown image table olds es (a ∷ rest) ws =
-    (opening basePower image (putBack olds ws) table ≡ Accepted es) × Shown image table olds es rest (wordsAfter (asReport a) ws)
+abbrev pub Shown : (p image table : ℕ) → Olds → List Entry → List Action → List ℕ → Type 0
+Shown p image table olds es [] ws = Unit {0}
+Shown p image table olds es (a ∷ rest) ws =
+    Opens p image (putBack olds ws) table es × Shown p image table olds es rest (wordsAfter (asReport a) ws)
 
 pub record ReadFits (s : Session) (olds : Olds) (a : Action) (rest : List Action) (ws table : List ℕ) : Type 0 where
   pub entries : List Entry
   pub low : AreLow olds
   pub long : length ws ≡ s .setup .image / 8
-  pub shown : Shown (s .setup .image) (s .setup .table) olds entries (a ∷ rest) ws
-  pub built : Built (s .control) (s .buffer) table entries
+  pub shown : Shown (powerIn (s .setup)) (s .setup .image) (s .setup .table) olds entries (a ∷ rest) ws
+  pub built : Built (s .control) (sizeIn (s .setup)) (s .buffer) table entries
 
 abbrev pub Reads : Session → Olds → List Action → List ℕ → List ℕ → Type 0
 Reads s olds [] ws table = Unit {0}
@@ -189,8 +196,8 @@ TaskFits (Cleaning n olds) s items rest ws table = CleanFits (s .control) (s .se
 
 abbrev pub FitsAt : State → Session → List ℕ → List ℕ → Type 0
 FitsAt Closed s ws table = Unit {0}
-FitsAt (Rest b t items) s ws table = RestFits s ws table items
-FitsAt (Busy b t items task rest) s ws table = TaskFits task s items rest ws table × Reads s (oldsOf task) rest ws table
+FitsAt (Rest p b t items) s ws table = RestFits s ws table items
+FitsAt (Busy p b t items task rest) s ws table = TaskFits task s items rest ws table × Reads s (oldsOf task) rest ws table
 FitsAt (Formatting o b t rest) s ws table = Unit {0}
 
 abbrev pub Fits : Session → List ℕ → List ℕ → Type 0

@@ -1,6 +1,9 @@
 -- The record's numbers as a call leaves them, each way once.
 -- Assumes nothing.
 use Prim.Native.Nat.{ℕ, _+_}
+use Rattle.spec.specs.Places.{chunkLines}
+use Rattle.spec.specs.declared.Size.{Size}
+use Rattle.places.specs.Sizes.{powerOf}
 use Rattle.session.specs.declared.Control.{Control}
 use Rattle.session.specs.declared.Setup.{Setup}
 use Rattle.session.specs.declared.Source.{Source}
@@ -41,24 +44,26 @@ stagedMore next words fresh c = record { phase = 2; next = next; items = c .item
 abbrev pub formattingIn : ℕ → Control
 formattingIn phase = record { phase = phase; next = 0; items = 0; words = 0; keys = 0; fresh = 0 }
 
--- what a step only reads: nothing at all; a register opened with these lengths; a formatting begun with what it was
--- told; a staging begun whose block is written to a chunk; a commit or a cleaning begun that writes to one
+-- what a step only reads: nothing at all; a register opened with these lengths and chunks of a size; a formatting begun
+-- with what it was told; a staging begun whose block is written to a chunk; a commit or a cleaning begun that writes to
+-- one
 abbrev pub emptySetup : Setup
-emptySetup = record { image = 0; table = 0; chunk = 0; old = 0; lines = 0; first = 0; least = 0; fields = 0; station = 0; centre = 0; source = noSource }
+emptySetup = record { image = 0; table = 0; power = 0; chunk = 0; old = 0; lines = 0; first = 0; least = 0; fields = 0; station = 0; centre = 0; source = noSource }
 
-abbrev pub openedSetup : (image table : ℕ) → Setup
-openedSetup image table =
-    record { image = image; table = table; chunk = 0; old = 0; lines = 0; first = 1; least = 64; fields = 0; station = 0; centre = 0; source = noSource }
+abbrev pub openedSetup : (image table : ℕ) → Size → Setup
+openedSetup image table size =
+    record { image = image; table = table; power = powerOf size; chunk = 0; old = 0; lines = 0; first = 1; least = chunkLines (powerOf size); fields = 0; station = 0; centre = 0; source = noSource }
 
-abbrev pub formatSetup : (image table fields station centre : ℕ) → Setup
-formatSetup image table fields station centre =
-    record { image = image; table = table; chunk = 0; old = 0; lines = 0; first = 0; least = 0; fields = fields; station = station; centre = centre; source = noSource }
+abbrev pub formatSetup : (image table : ℕ) → Size → (fields station centre : ℕ) → Setup
+formatSetup image table size fields station centre =
+    record { image = image; table = table; power = powerOf size; chunk = 0; old = 0; lines = 0; first = 0; least = 0; fields = fields; station = station; centre = centre; source = noSource }
 
 abbrev pub blockSetup : Setup → (chunk old lines fields : ℕ) → Setup
 blockSetup k chunk old lines fields =
     record {
       image = k .image;
       table = k .table;
+      power = k .power;
       chunk = chunk;
       old = old;
       lines = lines;
@@ -75,6 +80,7 @@ appendSetup k chunk old lines first least source =
     record {
       image = k .image;
       table = k .table;
+      power = k .power;
       chunk = chunk;
       old = old;
       lines = lines;

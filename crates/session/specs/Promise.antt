@@ -1,16 +1,16 @@
--- THE PROMISE of every call on the station record: `Called` of the rules for this record, chunks of 4,096 bytes and the
--- archive's largest value. Every core and every public call cites it.
+-- THE PROMISE of every call on the station record: `Called` of the rules for this record. Every core and every public
+-- call cites it.
 -- Assumes nothing.
 use mathlib.Core.List.{List}
 use Prim.Native.Nat.{ℕ}
-use Rattle.spec.specs.Places.{basePower}
+use Rattle.spec.specs.declared.Size.{Size}
 use Rattle.spec.specs.Machine.{Call}
 use Rattle.spec.specs.Contract.{Called}
 use Rattle.spec.specs.declared.Report.{Report}
 use Rattle.session.specs.declared.Control.{Control}
 use Rattle.session.specs.declared.Setup.{Setup}
 use Rattle.session.specs.declared.Session.{Session}
-use Rattle.session.specs.State.{stateOf, limit}
+use Rattle.session.specs.State.{stateOf}
 use Rattle.session.specs.Fits.{Proper, Fits}
 
 -- THE MEMORY that a call is lent: the station record, the image's bytes and the key table's words
@@ -28,4 +28,4 @@ memoryOf control setup buffer image table = memory (record { control = control; 
 
 -- the call k: memory before and after, and the report
 abbrev pub Does : Call → (m m′ : Memory) → Report → Type 0
-Does k m m′ r = Called Proper stateOf Fits basePower limit k (m .session) (m′ .session) (m .image) (m′ .image) (m .table) (m′ .table) r
+Does k m m′ r = Called Proper stateOf Fits k (m .session) (m′ .session) (m .image) (m′ .image) (m .table) (m′ .table) r

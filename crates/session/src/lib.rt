@@ -10,6 +10,7 @@ ghost use Rattle.session.specs.Asks.{phaseOf, readAt, closedOr, Asking, 
 use buffer::Buffer;
 use spec::Refusal;
 use spec::Report;
+use spec::Size;
 
 // The numbers that change from call to call: what is begun (0 nothing open, 1 open and at rest, 2 a staging, 3 a
 // commit, 4 a formatting begun with nothing open, 5 one begun on an open register, 6 a cleaning), the number of its
@@ -36,9 +37,10 @@ pub struct Source {
 }
 
 // The numbers that a step only reads: the image's bytes and the table's words at the opening (at a formatting's begin,
-// once that is begun), where the begun call writes (chunk, its directory word, its committed lines), where the next
-// commit looks for space (`first` and `least`, the hint), what a formatting was told (the header's map of fields,
-// station and centre number), and what a cleaning has begun with. Below chunk `first % 512` no log chunk has space for
+// once that is begun), the power of two of the chunks' bytes (12 or 16; any number but 16 is read as 12), where the
+// begun call writes (chunk, its directory word, its committed lines), where the next commit looks for space (`first`
+// and `least`, the hint), what a formatting was told (the header's map of fields, station and centre number), and what
+// a cleaning has begun with. Below chunk `first % 512` no log chunk has space for
 // `least` lines; where `first` is 512 or more, none behind it has either, and no chunk below it is free. In the staging
 // of a large value `lines` is the block's first unit in its chunk, and `fields` the block size that a free chunk is
 // taken for, 0 where the chunk has it already.
@@ -46,6 +48,7 @@ pub struct Source {
 pub struct Setup {
     pub image: usize,
     pub table: usize,
+    pub power: u64,
     pub chunk: usize,
     pub old: u64,
     pub lines: usize,
@@ -221,6 +224,7 @@ pub fn empty_setup() -> Setup
     Setup {
         image: 0,
         table: 0,
+        power: 0,
         chunk: 0,
         old: 0,
         lines: 0,
@@ -233,18 +237,20 @@ pub fn empty_setup() -> Setup
     }
 }
 
-// A register opened with these lengths: the next commit looks for space from the first chunk on.
-pub fn opened_setup(image: usize, table: usize) -> Setup
-    ensures { λ r. ⌜ r ≡ openedSetup image table ⌝ }
+// A register opened with these lengths and chunks of this size: the next commit looks for space from the first chunk
+// on.
+pub fn opened_setup(image: usize, table: usize, size: Size) -> Setup
+    ensures { λ r. ⌜ r ≡ openedSetup image table size ⌝ }
 {
     Setup {
         image,
         table,
+        power: places::power_of(size),
         chunk: 0,
         old: 0,
         lines: 0,
         first: 1,
-        least: 64,
+        least: places::lines(size),
         fields: 0,
         station: 0,
         centre: 0,
@@ -253,12 +259,20 @@ pub fn opened_setup(image: usize, table: usize) -> Setup
 }
 
 // A formatting begun on an image and a table of these lengths, with what it was told.
-pub fn format_setup(image: usize, table: usize, fields: u64, station: u64, centre: u64) -> Setup
-    ensures { λ r. ⌜ r ≡ formatSetup image table fields station centre ⌝ }
+pub fn format_setup(
+    image: usize,
+    table: usize,
+    size: Size,
+    fields: u64,
+    station: u64,
+    centre: u64,
+) -> Setup
+    ensures { λ r. ⌜ r ≡ formatSetup image table size fields station centre ⌝ }
 {
     Setup {
         image,
         table,
+        power: places::power_of(size),
         chunk: 0,
         old: 0,
         lines: 0,
@@ -279,6 +293,7 @@ pub fn block_setup(setup: Setup, chunk: usize, old: u64, lines: usize, fields: u
     Setup {
         image: setup.image,
         table: setup.table,
+        power: setup.power,
         chunk,
         old,
         lines,
@@ -307,6 +322,7 @@ pub fn append_setup(
     Setup {
         image: setup.image,
         table: setup.table,
+        power: setup.power,
         chunk,
         old,
         lines,

@@ -4,3 +4,4 @@ pub mod NamedVersions
 pub mod Reprints
 pub mod Registers
 pub mod Stuck
+pub mod Powers

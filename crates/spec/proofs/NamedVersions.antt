@@ -33,7 +33,7 @@ told (Refuse n) = number n
 told (Begin items task acts) = 0
 
 abbrev put : List Entry → Given → ℕ → ℕ → ℕ
-put items named k bytes = told (planPut basePower (blockLimit basePower) 4 [] 64 known items named k (replicate bytes 94))
+put items named k bytes = told (planPut basePower 4 [] 64 known items named k (replicate bytes 94))
 
 abbrev delete : List Entry → Given → ℕ → ℕ
 delete items named k = told (planDelete 64 known items named k)

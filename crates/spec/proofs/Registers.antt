@@ -6,9 +6,9 @@ use Prim.Native.Nat.{ℕ}
 use lib.Dec.{T, eqb}
 use lib.ListN.{replicate, take}
 use Rattle.spec.specs.Basics.{pick, both, negate, every}
-use Rattle.spec.specs.Places.{basePower, base, firstLine, firstUnit, chunkBytes, chunkWords, chunkLines, chunkUnits, chunksIn, lengthAllowed, unitChunk, unitIn, wordChunk}
+use Rattle.spec.specs.Places.{basePower, base, firstLine, firstUnit, chunkBytes, chunkWords, chunkLines, chunkUnits, chunksIn, lengthAllowed, unitChunk, unitIn, wordChunk, sizeAllowed, anyAllowed}
 use Rattle.spec.specs.Medium.{Action, run, cut, latest, settledAt}
-use Rattle.spec.specs.Header.{headerTest, headerTail}
+use Rattle.spec.specs.Header.{headerTest, headerTail, fieldsTest, powerSaid, powerBit, powerField}
 use Rattle.spec.specs.Directory.{roleOf, linesOf, sizeOf, sizeFor, isSize, directoryRight}
 use Rattle.spec.specs.Log.{Entry, firstOf, stepOf}
 use Rattle.spec.specs.Blocks.{blockTest}
@@ -51,16 +51,16 @@ abbrev chunkOneLost : ℕ → ℕ
 chunkOneLost i = pick (eqb i 9) 0 1
 
 abbrev opens : List ℕ → Bool
-opens ws = accepted (opening basePower 16384 ws 64)
+opens ws = accepted (opening 16384 ws 64)
 
 abbrev rows : List Bool
 rows =
     done Commit tray before (begunActions (planCommit basePower 4 before staged))
     ∷ done (Clean 2) [] deleted (begunActions (planClean basePower 4 deleted (entriesIn basePower 4 deleted) [] 2))
     ∷ opens two
-    ∷ negate (opens (cut chunkOneLost (run (take 12 (formatOf 4 G.Absent G.Absent)) (settledAt two))))
+    ∷ negate (opens (cut chunkOneLost (run (take 12 (formatOf basePower 4 G.Absent G.Absent)) (settledAt two))))
     ∷ []
 
 pub computed : T (every rows)
-unfolding base firstLine firstUnit chunkBytes chunkWords chunkLines chunkUnits chunksIn lengthAllowed unitChunk unitIn wordChunk headerTest headerTail roleOf linesOf sizeOf sizeFor isSize directoryRight firstOf stepOf blockTest chosen tops capacity contents keptIn opening appendOf commitOf bodyOf padded fillOf blankOf formatOf planCommit planClean logPlace
+unfolding base firstLine firstUnit chunkBytes chunkWords chunkLines chunkUnits chunksIn lengthAllowed unitChunk unitIn wordChunk headerTest headerTail roleOf linesOf sizeOf sizeFor isSize directoryRight firstOf stepOf blockTest chosen tops capacity contents keptIn opening appendOf commitOf bodyOf padded fillOf blankOf formatOf planCommit planClean logPlace fieldsTest powerSaid powerBit powerField sizeAllowed anyAllowed
 computed = tt

@@ -27,10 +27,10 @@ abbrev bytes : ℕ
 bytes = 20480
 
 abbrev ask : Call → State → List ℕ → Report
-ask k σ ws = answer basePower (blockLimit basePower) k σ ws bytes 64
+ask k σ ws = answer k σ ws bytes 64
 
 abbrev leaves : Call → State → List ℕ → State
-leaves k σ ws = next basePower (blockLimit basePower) k σ ws bytes 64
+leaves k σ ws = next k σ ws bytes 64
 
 -- what look-up answers of keys 7 and 9: start, length and version, or a refusal's number
 abbrev shown : State → List ℕ → List ℕ
@@ -47,10 +47,10 @@ turns (suc n) before after σ ws = both (sameList (shown σ ws) before) (turns n
 
 -- a call that is begun with so many actions and one more
 abbrev begins : Call → List Entry → List ℕ → ℕ → Bool
-begins k items ws n = sameList (numbersOf (ask k (Rest bytes 64 items) ws)) (suc n ∷ [])
+begins k items ws n = sameList (numbersOf (ask k (Rest basePower bytes 64 items) ws)) (suc n ∷ [])
 
 abbrev reprints : Call → List Entry → List ℕ → ℕ → (before after : List ℕ) → Bool
-reprints k items ws n before after = both (begins k items ws n) (turns n before after (leaves k (Rest bytes 64 items) ws) ws)
+reprints k items ws n before after = both (begins k items ws n) (turns n before after (leaves k (Rest basePower bytes 64 items) ws) ws)
 
 -- so many steps on
 abbrev later : ℕ → (State → List ℕ → Bool) → State → List ℕ → Bool
@@ -100,8 +100,8 @@ large = Put G.Absent 7 (replicate 257 94)
 abbrev staging : List Bool
 staging =
     begins large [] one 40
-    ∷ later 1 (turns 2 inOne inOne) (leaves large (Rest bytes 64 []) one) one
-    ∷ later 38 (turns 2 inOne inOne) (leaves large (Rest bytes 64 []) one) one
+    ∷ later 1 (turns 2 inOne inOne) (leaves large (Rest basePower bytes 64 []) one) one
+    ∷ later 38 (turns 2 inOne inOne) (leaves large (Rest basePower bytes 64 []) one) one
     ∷ []
 
 pub staged : T (every staging)
@@ -110,15 +110,15 @@ staged = tt
 
 -- the refusal's number
 abbrev told : Call → State → ℕ → ℕ → List ℕ
-told k σ b t = numbersOf (answer basePower (blockLimit basePower) k σ one b t)
+told k σ b t = numbersOf (answer k σ one b t)
 
 abbrev committing : State
-committing = Busy bytes 64 items (Committing ((1, 257) ∷ [])) (Fence ∷ [])
+committing = Busy basePower bytes 64 items (Committing ((1, 257) ∷ [])) (Fence ∷ [])
 
 abbrev rows : List Bool
 rows =
     -- a staging without actions, before its end
-    sameList (shown (Busy bytes 64 items Staging []) one) inOne
+    sameList (shown (Busy basePower bytes 64 items Staging []) one) inOne
     -- 1 before all else; in a formatting of an open register 8, and 2 where none was open
     ∷ sameList (told (LookUp 7) committing 16384 64) (1 ∷ [])
     ∷ sameList (told (LookUp 7) committing bytes 63) (1 ∷ [])

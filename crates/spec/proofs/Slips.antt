@@ -1,5 +1,5 @@
 -- The slips that print the wrong label, as edits of the definitions: a small image on which each of them goes wrong is
--- computed here. The same slips as whole programs, with what an opening then shows, are in crate `worked`, `Cuts`.
+-- computed here. The same slips as whole programs, with what an opening then shows, are in crate `examples`, `Cuts`.
 -- Assumes nothing.
 use mathlib.Core.Bool.{Bool, true, false}
 use mathlib.Core.List.{List, [], _∷_, _++_}
@@ -7,9 +7,9 @@ use Prim.Native.Nat.{ℕ, _+_, _*_}
 use lib.Dec.{T, eqb}
 use lib.ListN.{length, replicate, take}
 use Rattle.spec.specs.Basics.{pick, both, negate, every}
-use Rattle.spec.specs.Places.{basePower, base, firstLine, firstUnit, chunkBytes, chunkWords, chunkLines, chunkUnits, chunksIn, lengthAllowed, unitChunk, unitIn, wordChunk}
+use Rattle.spec.specs.Places.{basePower, base, firstLine, firstUnit, chunkBytes, chunkWords, chunkLines, chunkUnits, chunksIn, lengthAllowed, unitChunk, unitIn, wordChunk, sizeAllowed, anyAllowed}
 use Rattle.spec.specs.Medium.{Action, run, cut, settledAt}
-use Rattle.spec.specs.Header.{headerTest}
+use Rattle.spec.specs.Header.{headerTest, fieldsTest, powerSaid}
 use Rattle.spec.specs.Directory.{roleOf, linesOf, sizeOf, sizeFor, isSize, directoryRight}
 use Rattle.spec.specs.Log.{Entry, firstOf, stepOf}
 use Rattle.spec.specs.Blocks.{blockTest}
@@ -35,7 +35,7 @@ accepted (Accepted es) = true
 -- the image opens, and keys 7 and 9 have this
 abbrev shows : List ℕ → Held → Held → Bool
 shows ws seven nine =
-    both (accepted (opening basePower 16384 ws 64)) (both (sameHeld (contents basePower 4 ws 7) seven) (sameHeld (contents basePower 4 ws 9) nine))
+    both (accepted (opening 16384 ws 64)) (both (sameHeld (contents basePower 4 ws 7) seven) (sameHeld (contents basePower 4 ws 9) nine))
 
 -- the commit of a delete of 7 and a put of 9, behind that line, and cuts in it
 abbrev pub begunActions : Plan → List Action
@@ -80,10 +80,10 @@ rows =
     -- a live block is not taken: the next one is
     ∷ eqb (blockOfSlot (slotFor basePower 4 inBlock (entriesIn basePower 4 inBlock) [] 2)) 34
     -- top puts of a key agree in one block, and in two they do not, whatever these hold
-    ∷ accepted (opening basePower 16384 (twins 32) 64)
-    ∷ negate (accepted (opening basePower 16384 (twins 34) 64))
+    ∷ accepted (opening 16384 (twins 32) 64)
+    ∷ negate (accepted (opening 16384 (twins 34) 64))
     ∷ []
 
 pub computed : T (every rows)
-unfolding base firstLine firstUnit chunkBytes chunkWords chunkLines chunkUnits chunksIn lengthAllowed unitChunk unitIn wordChunk headerTest roleOf linesOf sizeOf sizeFor isSize directoryRight firstOf stepOf blockTest chosen tops capacity contents keptIn opening appendOf commitOf bodyOf padded planCommit logPlace slotFor
+unfolding base firstLine firstUnit chunkBytes chunkWords chunkLines chunkUnits chunksIn lengthAllowed unitChunk unitIn wordChunk headerTest roleOf linesOf sizeOf sizeFor isSize directoryRight firstOf stepOf blockTest chosen tops capacity contents keptIn opening appendOf commitOf bodyOf padded planCommit logPlace slotFor fieldsTest powerSaid sizeAllowed anyAllowed
 computed = tt

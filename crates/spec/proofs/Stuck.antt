@@ -10,8 +10,8 @@ use Prim.Native.Nat.{ℕ, zero, suc, _+_, _*_}
 use lib.Dec.{T, eqb}
 use lib.ListN.{length, replicate}
 use Rattle.spec.specs.Basics.{every}
-use Rattle.spec.specs.Places.{basePower, base, firstLine, firstUnit, chunkBytes, chunkWords, chunkLines, chunkUnits, chunksIn, lengthAllowed, unitChunk, unitIn, wordChunk}
-use Rattle.spec.specs.Header.{headerTest}
+use Rattle.spec.specs.Places.{basePower, base, firstLine, firstUnit, chunkBytes, chunkWords, chunkLines, chunkUnits, chunksIn, lengthAllowed, sizeAllowed, anyAllowed, unitChunk, unitIn, wordChunk}
+use Rattle.spec.specs.Header.{headerTest, fieldsTest, powerSaid}
 use Rattle.spec.specs.Directory.{roleOf, linesOf, sizeOf, sizeFor, isSize, directoryRight, freeChunks}
 use Rattle.spec.specs.Log.{Entry, firstOf, stepOf}
 use Rattle.spec.specs.Blocks.{blockTest}
@@ -64,32 +64,32 @@ named ws = placeOf (chosenChunk basePower 4 ws (entriesIn basePower 4 ws))
 
 -- the cleaning of chunk 1: 7 entries go to chunk 3, 30 lines, and chunk 1 is freed: 9 · 30 + 4 + 3 actions
 pub cleaned : T (every (eqb (named before) 1 ∷ eqb (length (begunActions (cleaning before 1))) 277 ∷ eqb (placeOf (logPlace basePower 4 before 30 1 1)) 3 ∷ []))
-unfolding base firstLine firstUnit chunkBytes chunkWords chunkLines chunkUnits chunksIn lengthAllowed unitChunk unitIn wordChunk headerTest roleOf linesOf sizeOf sizeFor isSize directoryRight firstOf stepOf blockTest chosen tops capacity keptIn opening appendOf commitOf bodyOf padded planCommit planClean chosenChunk logPlace
+unfolding base firstLine firstUnit chunkBytes chunkWords chunkLines chunkUnits chunksIn lengthAllowed sizeAllowed anyAllowed unitChunk unitIn wordChunk headerTest fieldsTest powerSaid roleOf linesOf sizeOf sizeFor isSize directoryRight firstOf stepOf blockTest chosen tops capacity keptIn opening appendOf commitOf bodyOf padded planCommit planClean chosenChunk logPlace
 cleaned = tt
 
 -- cut before the freeing: the image is accepted, no chunk is free, and choosing names chunk 3, which is only freed
-pub opens : T (accepted (opening basePower 16384 afterCut 400))
-unfolding base firstLine firstUnit chunkBytes chunkWords chunkLines chunkUnits chunksIn lengthAllowed unitChunk unitIn wordChunk headerTest roleOf linesOf sizeOf sizeFor isSize directoryRight firstOf stepOf blockTest chosen tops capacity keptIn opening appendOf commitOf bodyOf padded planCommit planClean chosenChunk logPlace
+pub opens : T (accepted (opening 16384 afterCut 400))
+unfolding base firstLine firstUnit chunkBytes chunkWords chunkLines chunkUnits chunksIn lengthAllowed sizeAllowed anyAllowed unitChunk unitIn wordChunk headerTest fieldsTest powerSaid roleOf linesOf sizeOf sizeFor isSize directoryRight firstOf stepOf blockTest chosen tops capacity keptIn opening appendOf commitOf bodyOf padded planCommit planClean chosenChunk logPlace
 opens = tt
 
 pub freeable : T (every (eqb (length (freeChunks basePower 4 afterCut)) 0 ∷ eqb (named afterCut) 3 ∷ eqb (length (begunActions (cleaning afterCut 3))) 3 ∷ []))
-unfolding base firstLine firstUnit chunkBytes chunkWords chunkLines chunkUnits chunksIn lengthAllowed unitChunk unitIn wordChunk headerTest roleOf linesOf sizeOf sizeFor isSize directoryRight firstOf stepOf blockTest chosen tops capacity keptIn opening appendOf commitOf bodyOf padded planCommit planClean chosenChunk logPlace
+unfolding base firstLine firstUnit chunkBytes chunkWords chunkLines chunkUnits chunksIn lengthAllowed sizeAllowed anyAllowed unitChunk unitIn wordChunk headerTest fieldsTest powerSaid roleOf linesOf sizeOf sizeFor isSize directoryRight firstOf stepOf blockTest chosen tops capacity keptIn opening appendOf commitOf bodyOf padded planCommit planClean chosenChunk logPlace
 freeable = tt
 
 -- a commit of eight labels, 34 lines, that is begun first goes behind the copies
 pub goes-behind : T (every (eqb (length (begunActions (planCommit basePower 4 afterCut (items 23 8)))) 310 ∷ eqb (placeOf (logPlace basePower 4 afterCut 34 0 3)) 3 ∷ []))
-unfolding base firstLine firstUnit chunkBytes chunkWords chunkLines chunkUnits chunksIn lengthAllowed unitChunk unitIn wordChunk headerTest roleOf linesOf sizeOf sizeFor isSize directoryRight firstOf stepOf blockTest chosen tops capacity keptIn opening appendOf commitOf bodyOf padded planCommit planClean chosenChunk logPlace
+unfolding base firstLine firstUnit chunkBytes chunkWords chunkLines chunkUnits chunksIn lengthAllowed sizeAllowed anyAllowed unitChunk unitIn wordChunk headerTest fieldsTest powerSaid roleOf linesOf sizeOf sizeFor isSize directoryRight firstOf stepOf blockTest chosen tops capacity keptIn opening appendOf commitOf bodyOf padded planCommit planClean chosenChunk logPlace
 goes-behind = tt
 
 -- and then nothing goes any more: no put, no delete, no cleaning
-pub opens-stuck : T (accepted (opening basePower 16384 stuck 400))
-unfolding base firstLine firstUnit chunkBytes chunkWords chunkLines chunkUnits chunksIn lengthAllowed unitChunk unitIn wordChunk headerTest roleOf linesOf sizeOf sizeFor isSize directoryRight firstOf stepOf blockTest chosen tops capacity keptIn opening appendOf commitOf bodyOf padded planCommit planClean chosenChunk logPlace
+pub opens-stuck : T (accepted (opening 16384 stuck 400))
+unfolding base firstLine firstUnit chunkBytes chunkWords chunkLines chunkUnits chunksIn lengthAllowed sizeAllowed anyAllowed unitChunk unitIn wordChunk headerTest fieldsTest powerSaid roleOf linesOf sizeOf sizeFor isSize directoryRight firstOf stepOf blockTest chosen tops capacity keptIn opening appendOf commitOf bodyOf padded planCommit planClean chosenChunk logPlace
 opens-stuck = tt
 
 pub no-commit : T (every (noSpace (planCommit basePower 4 stuck (items 31 1)) ∷ noSpace (planCommit basePower 4 stuck (entry 2 0 2 0 1 [] ∷ [])) ∷ []))
-unfolding base firstLine firstUnit chunkBytes chunkWords chunkLines chunkUnits chunksIn lengthAllowed unitChunk unitIn wordChunk headerTest roleOf linesOf sizeOf sizeFor isSize directoryRight firstOf stepOf blockTest chosen tops capacity keptIn opening appendOf commitOf bodyOf padded planCommit planClean chosenChunk logPlace
+unfolding base firstLine firstUnit chunkBytes chunkWords chunkLines chunkUnits chunksIn lengthAllowed sizeAllowed anyAllowed unitChunk unitIn wordChunk headerTest fieldsTest powerSaid roleOf linesOf sizeOf sizeFor isSize directoryRight firstOf stepOf blockTest chosen tops capacity keptIn opening appendOf commitOf bodyOf padded planCommit planClean chosenChunk logPlace
 no-commit = tt
 
 pub no-cleaning : T (every (noSpace (cleaning stuck 1) ∷ noSpace (cleaning stuck 2) ∷ noSpace (cleaning stuck 3) ∷ []))
-unfolding base firstLine firstUnit chunkBytes chunkWords chunkLines chunkUnits chunksIn lengthAllowed unitChunk unitIn wordChunk headerTest roleOf linesOf sizeOf sizeFor isSize directoryRight firstOf stepOf blockTest chosen tops capacity keptIn opening appendOf commitOf bodyOf padded planCommit planClean chosenChunk logPlace
+unfolding base firstLine firstUnit chunkBytes chunkWords chunkLines chunkUnits chunksIn lengthAllowed sizeAllowed anyAllowed unitChunk unitIn wordChunk headerTest fieldsTest powerSaid roleOf linesOf sizeOf sizeFor isSize directoryRight firstOf stepOf blockTest chosen tops capacity keptIn opening appendOf commitOf bodyOf padded planCommit planClean chosenChunk logPlace
 no-cleaning = tt

@@ -61,8 +61,8 @@ takeOf c old s = Store (directoryWord c) (dataWord old s) ∷ Flush (lineOf (dir
 unfoldable pub blockOf : ℕ → List ℕ → List Action
 blockOf u words = writes (unitWord u) words ++ flushes (lineOf (unitWord u)) (linesFor (length words))
 
--- FORMAT: word 0 zeroed, flushed, fenced; words 1 to 511 stored, 64 lines flushed, fence; word 0 stored, flushed,
--- fenced. 582 actions.
+-- FORMAT, n chunks of 2^p bytes: word 0 zeroed, flushed, fenced; words 1 to 511 stored, 64 lines flushed, fence; word 0
+-- stored, flushed, fenced. 582 actions, all in the first 4,096 bytes.
 abbrev pub firstWordOf : ℕ → List Action
 firstWordOf v = Store 0 v ∷ Flush 0 ∷ Fence ∷ []
 
@@ -74,5 +74,5 @@ unfoldable pub blankOf : List ℕ → List ℕ
 blankOf tail = tail ++ replicate maxChunks 0
 
 -- R42
-unfoldable pub formatOf : ℕ → Given → Given → List Action
-formatOf n station centre = firstWordOf 0 ++ (fillOf (blankOf (headerTail n station centre)) 64 ++ firstWordOf (headerMap station centre))
+unfoldable pub formatOf : ℕ → ℕ → Given → Given → List Action
+formatOf p n station centre = firstWordOf 0 ++ (fillOf (blankOf (headerTail p n station centre)) 64 ++ firstWordOf (headerMap p station centre))

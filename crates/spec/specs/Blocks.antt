@@ -15,8 +15,9 @@ use Rattle.spec.specs.Places.{chunkUnits, unitChunk, unitIn, unitWord}
 use Rattle.spec.specs.Directory.{sizeOf, sizeFor}
 use Rattle.spec.specs.Log.{Entry, maxInLog}
 
--- the largest value of a block: the whole chunk but the length word (4,088 bytes in chunks of 4,096)
--- R14
+-- the largest value of a block: the whole chunk but the length word (4,088 bytes in chunks of 4,096, 65,528 in those of
+-- 65,536)
+-- R14, R49
 unfoldable pub blockLimit : ℕ → ℕ
 blockLimit p = 256 * chunkUnits p - 8
 

@@ -68,7 +68,7 @@ withStaged i b = book (b .register) (b .staged ++ (i ∷ [])) (b .in-flight)
 -- a call and its answer
 -- R74, R75
 abbrev pub note : Call → Report → Book → Book
-note (Format s c) r b = b
+note (Format p s c) r b = b
 note Open r b = b
 note (Put x k v) r b = pick (isRefused r) b (withStaged (record { key = k; gets = Value v }) b)
 note (Delete x k) r b = pick (isRefused r) b (withStaged (record { key = k; gets = Absent }) b)

@@ -9,11 +9,12 @@ use Prim.Native.Nat.{ℕ, suc, _+_, _*_, _/_, _≤_, _<_}
 use lib.ListN.{length, drop, replicate, set}
 use Rattle.spec.specs.Words.{AreBytes, wordsOf}
 use Rattle.spec.specs.Places.{chunksIn}
+use Rattle.spec.specs.Header.{headerPower}
 use Rattle.spec.specs.Medium.{Action, Store, Flush, Fence}
 use Rattle.spec.specs.Log.{Entry}
 use Rattle.spec.specs.Reports.{actionOf, partIn, asReport, isRefused}
 use Rattle.spec.specs.Plans.{Staging, Committing, Cleaning, Olds, maxVersion}
-use Rattle.spec.specs.Machine.{Kind, ToFormat, ToOpen, ToWork, ToRead, ToStep, kindOf, Call, Format, Open, Put, Delete, Commit, Abandon, LookUp, Choose, Clean, Step, State, Closed, Rest, Busy, Formatting, itemsOf, countOf, answer, next, barred, refusals, stepsLeft}
+use Rattle.spec.specs.Machine.{Kind, ToFormat, ToOpen, ToWork, ToRead, ToStep, kindOf, Call, Format, Open, Put, Delete, Commit, Abandon, LookUp, Choose, Clean, Step, State, Closed, Rest, Busy, Formatting, itemsOf, statePower, countOf, answer, next, barred, refusals, stepsLeft}
 use Rattle.spec.specs.declared.Refusal.{Refusal}
 use Rattle.spec.specs.declared.Report.{Report}
 use Rattle.spec.specs.declared.Report.the-variants as R
@@ -76,31 +77,31 @@ Refuses r = (n : Refusal) × (r ≡ R.Refused n)
 abbrev pub Begins : (List Action → State → Type 0) → State → Report → Type 0
 Begins Of σ r = (acts : List Action) × (Of acts σ × (r ≡ R.Begun (length acts)))
 
-abbrev pub StagesIn : ℕ → ℕ → List Action → State → Type 0
-StagesIn b t acts σ = (items : List Entry) × (σ ≡ Busy b t items Staging acts)
+abbrev pub StagesIn : ℕ → ℕ → ℕ → List Action → State → Type 0
+StagesIn p b t acts σ = (items : List Entry) × (σ ≡ Busy p b t items Staging acts)
 
-abbrev pub CommitsIn : ℕ → ℕ → List Entry → List Action → State → Type 0
-CommitsIn b t items acts σ = (olds : Olds) × (σ ≡ Busy b t items (Committing olds) acts)
+abbrev pub CommitsIn : ℕ → ℕ → ℕ → List Entry → List Action → State → Type 0
+CommitsIn p b t items acts σ = (olds : Olds) × (σ ≡ Busy p b t items (Committing olds) acts)
 
-abbrev pub CleansIn : ℕ → ℕ → List Action → State → Type 0
-CleansIn b t acts σ = (n : ℕ) × ((olds : Olds) × (σ ≡ Busy b t [] (Cleaning n olds) acts))
+abbrev pub CleansIn : ℕ → ℕ → ℕ → List Action → State → Type 0
+CleansIn p b t acts σ = (n : ℕ) × ((olds : Olds) × (σ ≡ Busy p b t [] (Cleaning n olds) acts))
 
 -- R37
-abbrev pub Anyway : (p limit : ℕ) → Call → (σ σ′ : State) → (ws : List ℕ) → (bytes table : ℕ) → Report → Type 0
-Anyway p limit (Format x y) σ σ′ ws bytes table r = (r ≡ answer p limit (Format x y) σ ws bytes table) × (σ′ ≡ next p limit (Format x y) σ ws bytes table)
-Anyway p limit Open σ σ′ ws bytes table r = Refuses r ⊎ ((r ≡ R.Opened) × (σ′ ≡ Rest bytes table []))
-Anyway p limit (Put x k v) σ σ′ ws bytes table r = Refuses r ⊎ Begins (StagesIn bytes table) σ′ r
-Anyway p limit (Delete x k) σ σ′ ws bytes table r = Refuses r ⊎ Begins (StagesIn bytes table) σ′ r
-Anyway p limit Commit σ σ′ ws bytes table r = Refuses r ⊎ Begins (CommitsIn bytes table (itemsOf σ)) σ′ r
-Anyway p limit Abandon σ σ′ ws bytes table r = (r ≡ answer p limit Abandon σ ws bytes table) × (σ′ ≡ next p limit Abandon σ ws bytes table)
-Anyway p limit (LookUp k) σ σ′ ws bytes table r = Refuses r ⊎ ((a : ℕ) × ((n : ℕ) × ((v : ℕ) × ((r ≡ R.Part a n v) × ((a + n ≤ bytes) × (v ≤ maxVersion))))))
-Anyway p limit Choose σ σ′ ws bytes table r = Refuses r ⊎ ((c : ℕ) × ((r ≡ R.Chosen c) × ((1 ≤ c) × (c < chunksIn p bytes))))
-Anyway p limit (Clean c) σ σ′ ws bytes table r = Refuses r ⊎ Begins (CleansIn bytes table) σ′ r
-Anyway p limit Step σ σ′ ws bytes table r = (r ≡ answer p limit Step σ ws bytes table) × (σ′ ≡ next p limit Step σ ws bytes table)
+abbrev pub Anyway : Call → (σ σ′ : State) → (ws : List ℕ) → (bytes table : ℕ) → Report → Type 0
+Anyway (Format p x y) σ σ′ ws bytes table r = (r ≡ answer (Format p x y) σ ws bytes table) × (σ′ ≡ next (Format p x y) σ ws bytes table)
+Anyway Open σ σ′ ws bytes table r = Refuses r ⊎ ((r ≡ R.Opened) × (σ′ ≡ Rest (headerPower ws) bytes table []))
+Anyway (Put x k v) σ σ′ ws bytes table r = Refuses r ⊎ Begins (StagesIn (statePower σ) bytes table) σ′ r
+Anyway (Delete x k) σ σ′ ws bytes table r = Refuses r ⊎ Begins (StagesIn (statePower σ) bytes table) σ′ r
+Anyway Commit σ σ′ ws bytes table r = Refuses r ⊎ Begins (CommitsIn (statePower σ) bytes table (itemsOf σ)) σ′ r
+Anyway Abandon σ σ′ ws bytes table r = (r ≡ answer Abandon σ ws bytes table) × (σ′ ≡ next Abandon σ ws bytes table)
+Anyway (LookUp k) σ σ′ ws bytes table r = Refuses r ⊎ ((a : ℕ) × ((n : ℕ) × ((v : ℕ) × ((r ≡ R.Part a n v) × ((a + n ≤ bytes) × (v ≤ maxVersion))))))
+Anyway Choose σ σ′ ws bytes table r = Refuses r ⊎ ((c : ℕ) × ((r ≡ R.Chosen c) × ((1 ≤ c) × (c < chunksIn (statePower σ) bytes))))
+Anyway (Clean c) σ σ′ ws bytes table r = Refuses r ⊎ Begins (CleansIn (statePower σ) bytes table) σ′ r
+Anyway Step σ σ′ ws bytes table r = (r ≡ answer Step σ ws bytes table) × (σ′ ≡ next Step σ ws bytes table)
 
 -- the count at a call's end: 0 but for a cleaning. The calls that answer directly are never begun.
 abbrev pub CountAt : Call → ℕ → Type 0
-CountAt (Format x y) n = n ≡ 0
+CountAt (Format p x y) n = n ≡ 0
 CountAt Open n = ⊥
 CountAt (Put x k v) n = n ≡ 0
 CountAt (Delete x k) n = n ≡ 0
@@ -115,7 +116,7 @@ CountAt Step n = ⊥
 -- state, and keeps record and table fitting the image's words: "memory as our calls left it". An opening and a
 -- formatting ask no more of the record than that it is proper. To be believed is that every record which can be lent is
 -- proper (of a record with an array: that it has the array's length), and nothing of the other two.
-module _ {S : Type 0} (Proper : S → Type 0) (stateOf : S → State) (Fits : S → List ℕ → List ℕ → Type 0) (p limit : ℕ) where
+module _ {S : Type 0} (Proper : S → Type 0) (stateOf : S → State) (Fits : S → List ℕ → List ℕ → Type 0) where
   abbrev pub ReadyBy : Kind → S → List ℕ → List ℕ → Type 0
   ReadyBy ToFormat s ws table = Proper s
   ReadyBy ToOpen s ws table = Proper s
@@ -129,8 +130,8 @@ module _ {S : Type 0} (Proper : S → Type 0) (stateOf : S → State) (Fits : S 
   -- on memory as our calls left it: the definition's answer, the definition's state, and memory fits again
   -- R29, R36
   pub record Exact (k : Call) (s s′ : S) (bytes bytes′ table table′ : List ℕ) (r : Report) : Type 0 where
-    pub answered : r ≡ answer p limit k (stateOf s) (wordsOf bytes) (length bytes) (length table)
-    pub became : stateOf s′ ≡ next p limit k (stateOf s) (wordsOf bytes) (length bytes) (length table)
+    pub answered : r ≡ answer k (stateOf s) (wordsOf bytes) (length bytes) (length table)
+    pub became : stateOf s′ ≡ next k (stateOf s) (wordsOf bytes) (length bytes) (length table)
     pub fits : Again k r (Fits s′ (wordsOf bytes′) table′)
 
   -- a refusal leaves record and table as they were; a refused opening leaves a record with nothing open and a table of
@@ -150,8 +151,8 @@ module _ {S : Type 0} (Proper : S → Type 0) (stateOf : S → State) (Fits : S 
   -- R44
   abbrev pub TableKept : State → List ℕ → List ℕ → Type 0
   TableKept Closed table table′ = table′ ≡ table
-  TableKept (Rest b t items) table table′ = table′ ≡ table
-  TableKept (Busy b t items task rest) table table′ = Unit {0}
+  TableKept (Rest p b t items) table table′ = table′ ≡ table
+  TableKept (Busy p b t items task rest) table table′ = Unit {0}
   TableKept (Formatting o b t rest) table table′ = table′ ≡ table
 
   -- R33
@@ -186,7 +187,7 @@ module _ {S : Type 0} (Proper : S → Type 0) (stateOf : S → State) (Fits : S 
     pub image : Changed r bytes bytes′
     pub sized : length table′ ≡ length table
     pub outcome : Outcome k s s′ table table′ r
-    pub anyway : Anyway p limit k (stateOf s) (stateOf s′) (wordsOf bytes) (length bytes) (length table) r
+    pub anyway : Anyway k (stateOf s) (stateOf s′) (wordsOf bytes) (length bytes) (length table) r
 
   -- EVERY BEGUN CALL ENDS AFTER ITS COUNT. Steps with these reports, each lent any image and any table of the lengths b
   -- and t: nothing is asked of what these hold, and they may be altered between the steps.

@@ -17,7 +17,7 @@ use Rattle.spec.specs.declared.Role.the-variants as R
 
 -- Block sizes: a chunk is shared out evenly, so a block of the size for u units is the chunk's units divided by
 -- (these divided by u). In chunks of 16 units the sizes are 2, 3, 4, 5, 8 and 16, with 8, 5, 4, 3, 2 and 1 blocks.
--- R15
+-- R15, R91
 unfoldable pub sizeFor : ℕ → ℕ → ℕ
 sizeFor p u = chunkUnits p / (chunkUnits p / u)
 

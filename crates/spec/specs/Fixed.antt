@@ -2,16 +2,15 @@
 -- end the count fixed there, whatever image and table of the same lengths are lent to each step.
 -- Assumes nothing.
 use mathlib.Core.Path.{_≡_}
+use mathlib.Core.Option.{some}
 use mathlib.Core.List.{List, [], _∷_, _++_, map}
 use Prim.Native.Nat.{ℕ, suc, _≤_}
 use lib.ListN.{length, take}
 use Rattle.spec.specs.Words.{wordsOf}
-use Rattle.spec.specs.Places.{chunksIn}
 use Rattle.spec.specs.Medium.{Action}
-use Rattle.spec.specs.Contents.{entriesIn}
 use Rattle.spec.specs.Reports.{asReport}
-use Rattle.spec.specs.Plans.{Olds, Cleaning, Begin, planClean}
-use Rattle.spec.specs.Machine.{Clean, State, itemsOf}
+use Rattle.spec.specs.Plans.{Olds, Cleaning, Begin}
+use Rattle.spec.specs.Machine.{Clean, State, itemsOf, statePower, planOf}
 use Rattle.spec.specs.Contract.{Called, SteppedOn}
 use Rattle.spec.specs.declared.Report.{Report}
 use Rattle.spec.specs.declared.Report.the-variants as R
@@ -20,7 +19,7 @@ use Rattle.spec.specs.declared.Report.the-variants as R
 abbrev pub allReports : List Action → ℕ → List Report
 allReports acts count = map asReport acts ++ (R.End count ∷ [])
 
-module _ {S : Type 0} (Proper : S → Type 0) (stateOf : S → State) (Fits : S → List ℕ → List ℕ → Type 0) (p limit : ℕ) where
+module _ {S : Type 0} (Proper : S → Type 0) (stateOf : S → State) (Fits : S → List ℕ → List ℕ → Type 0) where
   -- the cleaning of chunk c, begun on the record s with these bytes and this table, which left the record s′ and said
   -- `a` actions
   pub record FixedAt (c : ℕ) (s s′ : S) (bytes table : List ℕ) (a : ℕ) : Type 0 where
@@ -29,12 +28,12 @@ module _ {S : Type 0} (Proper : S → Type 0) (stateOf : S → State) (Fits : S 
     pub olds : Olds
     pub long : length acts ≡ a
     -- steps on any images and tables of these lengths: so far as they go, and to the end
-    pub so-far : (rs : List Report) → SteppedOn Proper stateOf Fits p limit (length bytes) (length table) s′ rs → length rs ≤ suc a → rs ≡ take (length rs) (allReports acts count)
-    pub whole : (rs : List Report) → SteppedOn Proper stateOf Fits p limit (length bytes) (length table) s′ rs → length rs ≡ suc a → rs ≡ allReports acts count
+    pub so-far : (rs : List Report) → SteppedOn Proper stateOf Fits (length bytes) (length table) s′ rs → length rs ≤ suc a → rs ≡ take (length rs) (allReports acts count)
+    pub whole : (rs : List Report) → SteppedOn Proper stateOf Fits (length bytes) (length table) s′ rs → length rs ≡ suc a → rs ≡ allReports acts count
     -- on memory as our calls left it they are the plan's
     pub planned : Fits s (wordsOf bytes) table
-        → planClean p (chunksIn p (length bytes)) (wordsOf bytes) (entriesIn p (chunksIn p (length bytes)) (wordsOf bytes)) (itemsOf (stateOf s)) c ≡ Begin [] (Cleaning count olds) acts
+        → planOf (statePower (stateOf s)) (Clean c) (itemsOf (stateOf s)) (wordsOf bytes) (length bytes) (length table) ≡ some (Begin [] (Cleaning count olds) acts)
 
   -- R63
   abbrev pub Fixed : Type 0
-  Fixed = (c : ℕ) (s s′ : S) (bytes bytes′ table table′ : List ℕ) (a : ℕ) → Called Proper stateOf Fits p limit (Clean c) s s′ bytes bytes′ table table′ (R.Begun a) → FixedAt c s s′ bytes table a
+  Fixed = (c : ℕ) (s s′ : S) (bytes bytes′ table table′ : List ℕ) (a : ℕ) → Called Proper stateOf Fits (Clean c) s s′ bytes bytes′ table table′ (R.Begun a) → FixedAt c s s′ bytes table a

@@ -11,6 +11,7 @@ use lib.ListN.{length}
 use Rattle.spec.specs.Basics.{pick}
 use Rattle.spec.specs.Words.{wordsOf, AreBytes}
 use Rattle.spec.specs.Places.{chunksIn}
+use Rattle.spec.specs.Header.{headerPower}
 use Rattle.spec.specs.Medium.{Medium, cut, settledAt, latest}
 use Rattle.spec.specs.Contents.{Held, Absent, Value, contents}
 use Rattle.spec.specs.Reports.{number, refusalOf, partIn, mediumAfter, isRefused}
@@ -83,7 +84,7 @@ module _ {S : Type 0} (Proper : S → Type 0) where
 -- a formatting stands in the list only if refused; a value is bytes
 -- R72
 abbrev pub Stands : Call → Report → Type 0
-Stands (Format a b) r = isRefused r ≡ true
+Stands (Format p a b) r = isRefused r ≡ true
 Stands Open r = Unit {0}
 Stands (Put x k v) r = AreBytes v
 Stands (Delete x k) r = Unit {0}
@@ -103,6 +104,15 @@ shownBy none none = none
 abbrev pub shows : Report → List ℕ → Option Held
 shows r image = shownBy (refusalOf r) (partIn r image)
 
+-- The register that an image of so many bytes with these words means: for each key the bytes of its highest version, or
+-- absent. The chunk power is the one that the header says.
+abbrev pub meantBy : ℕ → List ℕ → ℕ → Held
+meantBy bytes ws = contents (headerPower ws) (chunksIn (headerPower ws) bytes) ws
+
+-- R77
+abbrev pub meant : List ℕ → ℕ → Held
+meant image = meantBy (length image) (wordsOf image)
+
 -- the world after a call, and after a cut
 abbrev pub leastAfter : Call → List ℕ → ℕ → ℕ
 leastAfter k table n = pick (isOpening (kindOf k)) (length table) n
@@ -120,12 +130,12 @@ afterCall k w s′ image′ table′ r = record {
 abbrev pub afterCut : {S : Type 0} → World S → (ℕ → ℕ) → List ℕ → World S
 afterCut w chooses image′ = record { medium = settledAt (cut chooses (w .medium)); image = image′; lent = none; unfinished = false; least = w .least }
 
-module _ {S : Type 0} (Proper : S → Type 0) (stateOf : S → State) (Fits : S → List ℕ → List ℕ → Type 0) (p limit : ℕ) where
+module _ {S : Type 0} (Proper : S → Type 0) (stateOf : S → State) (Fits : S → List ℕ → List ℕ → Type 0) where
   -- look-up, whatever is asked, then gives this register
   -- R68, R78
   abbrev pub Shows : S → List ℕ → List ℕ → (ℕ → Held) → Type 0
   Shows s image table register =
-      (k : ℕ) (s′ : S) (table′ : List ℕ) (r : Report) → Called Proper stateOf Fits p limit (LookUp k) s s′ image image table table′ r → shows r image ≡ some (register k)
+      (k : ℕ) (s′ : S) (table′ : List ℕ) (r : Report) → Called Proper stateOf Fits (LookUp k) s s′ image image table table′ r → shows r image ≡ some (register k)
 
   -- WHAT IS CLAIMED of a call's outcome, and of what comes then. Every opening succeeds, and look-up then gives the
   -- book's register; so does every look-up with no call unfinished.
@@ -142,7 +152,7 @@ module _ {S : Type 0} (Proper : S → Type 0) (stateOf : S → State) (Fits : S 
   Goes k Then w b s′ image′ table′ r = Then (afterCall k w s′ image′ table′ r) (note k r b)
 
   abbrev pub Ends : Call → (World S → Book → Type 0) → World S → Book → S → List ℕ → List ℕ → Report → Type 0
-  Ends (Format a c) Then w b s′ image′ table′ r = Goes (Format a c) Then w b s′ image′ table′ r
+  Ends (Format p a c) Then w b s′ image′ table′ r = Goes (Format p a c) Then w b s′ image′ table′ r
   Ends Open Then w b s′ image′ table′ r = Opens Then w b s′ image′ table′ r
   Ends (Put x k v) Then w b s′ image′ table′ r = Goes (Put x k v) Then w b s′ image′ table′ r
   Ends (Delete x k) Then w b s′ image′ table′ r = Goes (Delete x k) Then w b s′ image′ table′ r
@@ -157,7 +167,7 @@ module _ {S : Type 0} (Proper : S → Type 0) (stateOf : S → State) (Fits : S 
   -- leaves, by its picks
   abbrev pub Claim : Event → (World S → Book → Type 0) → World S → Book → Type 0
   Claim (Do k) Then w b =
-      (s s′ : S) (image′ table table′ : List ℕ) (r : Report) → Lends Proper k w s table → Called Proper stateOf Fits p limit k s s′ (w .image) image′ table table′ r → AreBytes image′ → Stands k r
+      (s s′ : S) (image′ table table′ : List ℕ) (r : Report) → Lends Proper k w s table → Called Proper stateOf Fits k s s′ (w .image) image′ table table′ r → AreBytes image′ → Stands k r
       → Ends k Then w b s′ image′ table′ r
   Claim (Cut chooses) Then w b =
       (image′ : List ℕ) → AreBytes image′ → wordsOf image′ ≡ cut chooses (w .medium) → length image′ ≡ length (w .image) → Then (afterCut w chooses image′) (noteCut b)
@@ -171,7 +181,7 @@ module _ {S : Type 0} (Proper : S → Type 0) (stateOf : S → State) (Fits : S 
   abbrev pub Stepped : List Report → Medium → S → List ℕ → List ℕ → Medium → S → List ℕ → List ℕ → Type 0
   Stepped [] m s image table m′ s′ image′ table′ = (m′ ≡ m) × ((s′ ≡ s) × ((image′ ≡ image) × (table′ ≡ table)))
   Stepped (r ∷ rs) m s image table m′ s′ image′ table′ =
-      (s₁ : S) × ((image₁ : List ℕ) × ((table₁ : List ℕ) × (Called Proper stateOf Fits p limit Step s s₁ image image₁ table table₁ r
+      (s₁ : S) × ((image₁ : List ℕ) × ((table₁ : List ℕ) × (Called Proper stateOf Fits Step s s₁ image image₁ table table₁ r
       × Stepped rs (mediumAfter r m) s₁ image₁ table₁ m′ s′ image′ table′)))
 
   abbrev pub world : Medium → List ℕ → Option (Lent S) → ℕ → World S
@@ -180,9 +190,9 @@ module _ {S : Type 0} (Proper : S → Type 0) (stateOf : S → State) (Fits : S 
   -- R69
   abbrev pub AfterFormat : List Event → Type 0
   AfterFormat events =
-      (m m′ : Medium) (s s₀ s′ : S) (image image′ table table₀ table′ : List ℕ) (station centre : Given) (a n : ℕ) (rs : List Report)
+      (m m′ : Medium) (s s₀ s′ : S) (image image′ table table₀ table′ : List ℕ) (p : ℕ) (station centre : Given) (a n : ℕ) (rs : List Report)
       → wordsOf image ≡ latest m → Proper s
-      → Called Proper stateOf Fits p limit (Format station centre) s s₀ image image table table₀ (R.Begun a)
+      → Called Proper stateOf Fits (Format p station centre) s s₀ image image table table₀ (R.Begun a)
       → Stepped (rs ++ (R.End n ∷ [])) m s₀ image table₀ m′ s′ image′ table′ → AreBytes image′
       → Faithful events (world m′ image′ none 0) (newBook nothing)
 
@@ -190,9 +200,9 @@ module _ {S : Type 0} (Proper : S → Type 0) (stateOf : S → State) (Fits : S 
   -- R69
   abbrev pub AfterOpening : List Event → Type 0
   AfterOpening events =
-      (s s′ : S) (image table table′ : List ℕ) → AreBytes image → Proper s → Called Proper stateOf Fits p limit Open s s′ image image table table′ R.Opened
+      (s s′ : S) (image table table′ : List ℕ) → AreBytes image → Proper s → Called Proper stateOf Fits Open s s′ image image table table′ R.Opened
       → Faithful events (world (settledAt (wordsOf image)) image (some (record { session = s′; table = table′ })) (length table′))
-      (newBook (contents p (chunksIn p (length image)) (wordsOf image)))
+      (newBook (meant image))
 
   -- DEMAND 3, one claim over every list of calls and power cuts
   -- R62, R68

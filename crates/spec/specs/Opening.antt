@@ -7,8 +7,8 @@ use Prim.Native.Nat.{ℕ}
 use lib.Dec.{eqb, leb}
 use lib.ListN.{length, drop}
 use Rattle.spec.specs.Basics.{pick, both, all}
-use Rattle.spec.specs.Places.{lengthAllowed, chunksIn, maxChunks}
-use Rattle.spec.specs.Header.{headerRight}
+use Rattle.spec.specs.Places.{sizeAllowed, anyAllowed, chunksIn, maxChunks}
+use Rattle.spec.specs.Header.{headerRight, headerPower}
 use Rattle.spec.specs.Directory.{directoryFrom}
 use Rattle.spec.specs.Log.{Entry, Parsed, Wrong, Entries, imageEntries}
 use Rattle.spec.specs.Blocks.{pointed, blockRight}
@@ -77,7 +77,13 @@ openChunks p n ws table =
     (pick (directoryTest p n ws) (openLog p n ws table (imageEntries p n ws)) (Refused N.DirectoryWrong))
     (Refused N.NotOpen)
 
+-- the same with the power that the header says. 2 too where there is no such power, or the length is not that of 4 to
+-- 504 such chunks; that they are as many as the header counts is asked with the header.
+-- R24
+abbrev pub openPower : ℕ → ℕ → List ℕ → ℕ → Opening
+openPower p bytes ws table = pick (sizeAllowed p bytes) (openChunks p (chunksIn p bytes) ws table) (Refused N.NotOpen)
+
 -- the opening of an image of so many bytes whose words are ws, with a key table of so many words
 -- R23
-unfoldable pub opening : ℕ → ℕ → List ℕ → ℕ → Opening
-opening p bytes ws table = pick (lengthAllowed p bytes) (openChunks p (chunksIn p bytes) ws table) (Refused N.ImageLength)
+unfoldable pub opening : ℕ → List ℕ → ℕ → Opening
+opening bytes ws table = pick (anyAllowed bytes) (openPower (headerPower ws) bytes ws table) (Refused N.ImageLength)

@@ -13,7 +13,7 @@ use Rattle.spec.specs.Places.{chunkLines, chunkUnits, firstUnit, unitChu
 use Rattle.spec.specs.Medium.{Action}
 use Rattle.spec.specs.Directory.{roleAt, linesOf, sizeOf, isLog, isFree, freeChunks}
 use Rattle.spec.specs.Log.{Entry, maxInLog, encodeAll}
-use Rattle.spec.specs.Blocks.{blockSize, pointed}
+use Rattle.spec.specs.Blocks.{blockLimit, blockSize, pointed}
 use Rattle.spec.specs.Contents.{highest, chosen, capacity, pointers, liveBlocks, keptIn}
 use Rattle.spec.specs.Actions.{linesFor, appendOf, freeOf, takeOf, blockOf}
 use Rattle.spec.specs.declared.Given.{Given}
@@ -165,11 +165,11 @@ stagePut p n ws es items version k bytes =
 abbrev pub putWords : ℕ → ℕ
 putWords bytes = 2 + pick (leb bytes maxInLog) ((bytes + 7) / 8) 0
 
--- 9, 17, 12, 10, 7, 13 of a put; `limit` is the level's largest value
+-- 9, 17, 12, 10, 7, 13 of a put
 -- R39, R49
-unfoldable pub planPut : ℕ → ℕ → ℕ → List ℕ → ℕ → List Entry → List Entry → Given → ℕ → List ℕ → Plan
-planPut p limit n ws table es items named k bytes =
-    need (leb (length bytes) limit) N.TooLong
+unfoldable pub planPut : ℕ → ℕ → List ℕ → ℕ → List Entry → List Entry → Given → ℕ → List ℕ → Plan
+planPut p n ws table es items named k bytes =
+    need (leb (length bytes) (blockLimit p)) N.TooLong
     (need (fitsVersion named k es items) N.OtherVersion
     (need (leb (nextVersion k es items) maxPutVersion) N.VersionSpent
     (need (fitsBatch items (putWords (length bytes))) N.BatchFull

@@ -10,6 +10,7 @@ use Prim.Native.Nat.{ℕ, _≤_, _<_}
 use lib.ListN.{length}
 use Rattle.spec.specs.Words.{wordsOf, AreBytes}
 use Rattle.spec.specs.Places.{chunksIn}
+use Rattle.spec.specs.Header.{headerPower}
 use Rattle.spec.specs.Medium.{Medium, Action, run, cut, settledAt, latest}
 use Rattle.spec.specs.Directory.{sizeOf, freeChunks}
 use Rattle.spec.specs.Contents.{entriesIn, keptIn}
@@ -46,18 +47,21 @@ Cleanable p n ws =
 abbrev pub Unstuck : ℕ → ℕ → List ℕ → Type 0
 Unstuck p n ws = (FreeStands p n ws ⊎ Freeable p n ws) × Cleanable p n ws
 
-module _ {S : Type 0} (Proper : S → Type 0) (stateOf : S → State) (Fits : S → List ℕ → List ℕ → Type 0) (p limit : ℕ) where
-  -- of the image as the calls left it
-  abbrev pub FreeIn : List ℕ → Type 0
-  FreeIn image = FreeStands p (chunksIn p (length image)) (wordsOf image)
+-- of an image of bytes, by the chunk power that its header says
+abbrev pub InImage : (ℕ → ℕ → List ℕ → Type 0) → List ℕ → Type 0
+InImage P image = P (headerPower (wordsOf image)) (chunksIn (headerPower (wordsOf image)) (length image)) (wordsOf image)
 
-  abbrev pub UnstuckIn : List ℕ → Type 0
-  UnstuckIn image = Unstuck p (chunksIn p (length image)) (wordsOf image)
+abbrev pub FreeIn : List ℕ → Type 0
+FreeIn image = InImage FreeStands image
 
+abbrev pub UnstuckIn : List ℕ → Type 0
+UnstuckIn image = InImage Unstuck image
+
+module _ {S : Type 0} (Proper : S → Type 0) (stateOf : S → State) (Fits : S → List ℕ → List ℕ → Type 0) where
   -- THE HOST'S RULE: a commit that is accepted was begun while a free chunk stood. Of the other calls nothing is asked.
   -- R83
   abbrev pub Obeys : Call → World S → Report → Type 0
-  Obeys (Format a c) w r = Unit {0}
+  Obeys (Format p a c) w r = Unit {0}
   Obeys Open w r = Unit {0}
   Obeys (Put x k v) w r = Unit {0}
   Obeys (Delete x k) w r = Unit {0}
@@ -72,7 +76,7 @@ module _ {S : Type 0} (Proper : S → Type 0) (stateOf : S → State) (Fits : S 
   abbrev pub FreeStays : List Event → World S → Type 0
   FreeStays [] w = Unit {0}
   FreeStays (Do k ∷ es) w =
-      (s s′ : S) (image′ table table′ : List ℕ) (r : Report) → Lends Proper k w s table → Called Proper stateOf Fits p limit k s s′ (w .image) image′ table table′ r → AreBytes image′ → Stands k r
+      (s s′ : S) (image′ table table′ : List ℕ) (r : Report) → Lends Proper k w s table → Called Proper stateOf Fits k s s′ (w .image) image′ table table′ r → AreBytes image′ → Stands k r
       → (unfinishedAfter r (w .unfinished) ≡ false → FreeIn image′) × FreeStays es (afterCall k w s′ image′ table′ r)
   FreeStays (Cut chooses ∷ es) w = Unit {0}
 
@@ -83,7 +87,7 @@ module _ {S : Type 0} (Proper : S → Type 0) (stateOf : S → State) (Fits : S 
 
   abbrev pub RoomClaim : Event → (World S → Type 0) → World S → Type 0
   RoomClaim (Do k) Then w =
-      (s s′ : S) (image′ table table′ : List ℕ) (r : Report) → Lends Proper k w s table → Called Proper stateOf Fits p limit k s s′ (w .image) image′ table table′ r → AreBytes image′ → Stands k r
+      (s s′ : S) (image′ table table′ : List ℕ) (r : Report) → Lends Proper k w s table → Called Proper stateOf Fits k s s′ (w .image) image′ table table′ r → AreBytes image′ → Stands k r
       → Obeys k w r → UnstuckNow (afterCall k w s′ image′ table′ r) × Then (afterCall k w s′ image′ table′ r)
   RoomClaim (Cut chooses) Then w =
       (image′ : List ℕ) → AreBytes image′ → wordsOf image′ ≡ cut chooses (w .medium) → length image′ ≡ length (w .image)
@@ -96,18 +100,18 @@ module _ {S : Type 0} (Proper : S → Type 0) (stateOf : S → State) (Fits : S 
   -- the two starts of demand 3; at the second the image that opening accepted is roomy
   abbrev pub RoomAfterFormat : List Event → Type 0
   RoomAfterFormat events =
-      (m m′ : Medium) (s s₀ s′ : S) (image image′ table table₀ table′ : List ℕ) (station centre : Given) (a n : ℕ) (rs : List Report)
+      (m m′ : Medium) (s s₀ s′ : S) (image image′ table table₀ table′ : List ℕ) (p : ℕ) (station centre : Given) (a n : ℕ) (rs : List Report)
       → wordsOf image ≡ latest m → Proper s
-      → Called Proper stateOf Fits p limit (Format station centre) s s₀ image image table table₀ (R.Begun a)
-      → Stepped Proper stateOf Fits p limit (rs ++ (R.End n ∷ [])) m s₀ image table₀ m′ s′ image′ table′ → AreBytes image′
-      → UnstuckNow (world Proper stateOf Fits p limit m′ image′ none 0) × KeepsRoom events (world Proper stateOf Fits p limit m′ image′ none 0)
+      → Called Proper stateOf Fits (Format p station centre) s s₀ image image table table₀ (R.Begun a)
+      → Stepped Proper stateOf Fits (rs ++ (R.End n ∷ [])) m s₀ image table₀ m′ s′ image′ table′ → AreBytes image′
+      → UnstuckNow (world Proper stateOf Fits m′ image′ none 0) × KeepsRoom events (world Proper stateOf Fits m′ image′ none 0)
 
   abbrev pub RoomAfterOpening : List Event → Type 0
   RoomAfterOpening events =
-      (s s′ : S) (image table table′ : List ℕ) → AreBytes image → Proper s → Called Proper stateOf Fits p limit Open s s′ image image table table′ R.Opened
-      → Roomy p (chunksIn p (length image)) (wordsOf image)
-      → UnstuckNow (world Proper stateOf Fits p limit (settledAt (wordsOf image)) image (some (record { session = s′; table = table′ })) (length table′))
-      × KeepsRoom events (world Proper stateOf Fits p limit (settledAt (wordsOf image)) image (some (record { session = s′; table = table′ })) (length table′))
+      (s s′ : S) (image table table′ : List ℕ) → AreBytes image → Proper s → Called Proper stateOf Fits Open s s′ image image table table′ R.Opened
+      → InImage Roomy image
+      → UnstuckNow (world Proper stateOf Fits (settledAt (wordsOf image)) image (some (record { session = s′; table = table′ })) (length table′))
+      × KeepsRoom events (world Proper stateOf Fits (settledAt (wordsOf image)) image (some (record { session = s′; table = table′ })) (length table′))
 
   -- NEVER STUCK
   -- R83

@@ -1,5 +1,12 @@
 // The declared types that the definitions and the contracts speak of: what words say, and what calls answer.
 
+// The size of a chunk: 4,096 bytes, or 65,536. Code is told it by value, so that its numbers are literals of two cases;
+// the definitions have the power of two.
+pub enum Size {
+    Small,
+    Large,
+}
+
 // What a directory word says of its chunk: free, a log chunk with its committed lines, a data chunk with its block size
 // in units.
 pub enum Role {

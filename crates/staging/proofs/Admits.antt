@@ -132,7 +132,7 @@ fresh-then old version fresh h = rw h (go (eqb version 0))
     go true = refl
     go false = omega arith
 
-module _ (c : Control) (b : List ℕ) (n : ℕ) (ws : List ℕ) (es items : List Entry) (fits : BatchFits c b n ws es items) (most key version more table : ℕ)
+module _ (c : Control) (b : List ℕ) (p n : ℕ) (ws : List ℕ) (es items : List Entry) (fits : BatchFits c b p n ws es items) (most key version more table : ℕ)
     (highest-is : version ≡ highest key (es ++ items)) (old-is : isOld key es items ≡ negate (eqb version 0)) where
   keys-fit : fitsKeys table es items key ≡ leb (c .keys + (c .fresh + newKeys version)) (capacity table)
   keys-fit = fits-keys (c .keys) (c .fresh) es items (fits .keys) table key ∙ rw (fresh-then (isOld key es items) version (c .fresh) old-is)
@@ -145,7 +145,7 @@ module _ (c : Control) (b : List ℕ) (n : ℕ) (ws : List ℕ) (es items : List
       ≡ planBy (admitOf c most version more (capacity table)) q
   unfolding admitOf
   plan-admits q =
-      rw (version-fits, fits-batch c b n ws es items fits more, keys-fit)
+      rw (version-fits, fits-batch c b p n ws es items fits more, keys-fit)
       (go (leb (suc version) most) (both (ltb (c .items) maxItems) (leb (c .words + more) batchRoom)) (leb (c .keys + (c .fresh + newKeys version)) (capacity table)))
     where
       go : (v w t : Bool) → need v N.VersionSpent (need w N.BatchFull (need t N.TableFull q)) ≡ planBy (admission c most version more (capacity table) v w t) q
@@ -189,7 +189,7 @@ module _ (named : Given) (c : Control) (most version more room : ℕ) where
   pub named-room : (words : ℕ) (a : Admission) → room ≡ tableRoom words → a ≡ admitNamed named c most version more room → a ≡ admitNamed named c most version more (capacity words)
   named-room words a r e = e ∙ ap (admitNamed named c most version more) (r ∙ sym (capacity-same words))
 
-module _ (named : Given) (c : Control) (b : List ℕ) (n : ℕ) (ws : List ℕ) (es items : List Entry) (fits : BatchFits c b n ws es items) (most key version more table : ℕ)
+module _ (named : Given) (c : Control) (b : List ℕ) (p n : ℕ) (ws : List ℕ) (es items : List Entry) (fits : BatchFits c b p n ws es items) (most key version more table : ℕ)
     (highest-is : version ≡ highest key (es ++ items)) (old-is : isOld key es items ≡ negate (eqb version 0)) where
   pub plan-named : (q : Plan)
       → need (fitsVersion named key es items) N.OtherVersion
@@ -202,7 +202,7 @@ module _ (named : Given) (c : Control) (b : List ℕ) (n : ℕ) (ws : List ℕ) 
     where
       go : (t : Bool) → need t N.OtherVersion (need (leb (nextVersion key es items) most) N.VersionSpent (need (fitsBatch items more) N.BatchFull (need (fitsKeys table es items key) N.TableFull q)))
           ≡ planBy (pick t (admitOf c most version more (capacity table)) (A.Refused N.OtherVersion)) q
-      go true = plan-admits c b n ws es items fits most key version more table highest-is old-is q
+      go true = plan-admits c b p n ws es items fits most key version more table highest-is old-is q
       go false = refl
 
 -- what is asked behind 17 may be answered, a version named or not

@@ -22,7 +22,7 @@ use Rattle.spec.specs.declared.Refusal.the-variants as N
 use Rattle.spec.specs.declared.Report.{Report}
 use Rattle.spec.specs.declared.Report.the-variants as R
 use Rattle.buffer.specs.Areas.{batchRoom}
-use Rattle.session.specs.State.{bufferPart, batchWords, batchItems, stateAt, stateOf, limit}
+use Rattle.session.specs.State.{bufferPart, batchWords, batchItems, powerIn, stateAt, stateOf}
 use Rattle.batch.specs.Items.{anyItem}
 use Rattle.session.specs.Fits.{RestFits, Fits}
 use Rattle.session.proofs.Kept.{none-fit}
@@ -41,7 +41,7 @@ module _ (c : Control) (k : Setup) (b bytes table : List ℕ) where
 
   module _ (g : Gated) (asks : Asking c k (length bytes) (length table) g) where
     pub at-gate : (call : Call) → Gating call → (n : Refusal) → g ≡ G.Refused n → Does call (memory s bytes table) (memory s bytes table) (R.Refused n)
-    at-gate call t n e = turned-down 12 limit s bytes table n (asks .asked b ∙ ap gateOf e) call t
+    at-gate call t n e = turned-down s bytes table n (asks .asked b ∙ ap gateOf e) call t
 
     module _ (passes : g ≡ G.Open) where
       pub opened : gate (stateOf s) (length bytes) (length table) ≡ none
@@ -68,15 +68,15 @@ module _ (c : Control) (k : Setup) (b bytes table : List ℕ) where
           go [] = refl
           go (e ∷ es) = refl
 
-      abandons : (r : Report) → pick (isEmpty (batchItems c b)) (R.Refused N.NothingStaged) R.Abandoned ≡ r → answer 12 limit Abandon (stateOf s) (wordsOf bytes) (length bytes) (length table) ≡ r
+      abandons : (r : Report) → pick (isEmpty (batchItems c b)) (R.Refused N.NothingStaged) R.Abandoned ≡ r → answer Abandon (stateOf s) (wordsOf bytes) (length bytes) (length table) ≡ r
       abandons r h = rw (opened, lengths .state) h
 
       pub abandon-none : anyItem b (c .words) ≡ false → Does Abandon (memory s bytes table) (memory s bytes table) (R.Refused N.NothingStaged)
       unfolding next
       abandon-none h =
-          refused 12 limit s bytes table N.NothingStaged Abandon refl (λ f. f) (λ f. sym answered) (passed (R.Refused N.NothingStaged)) (inr (inr (inr (inl refl)))) (refl, refl) (sym answered, sym (rw answered))
+          refused s bytes table N.NothingStaged Abandon refl (λ f. f) (λ f. sym answered) (passed (R.Refused N.NothingStaged)) (inr (inr (inr (inl refl)))) (refl, refl) (sym answered, sym (rw answered))
         where
-          answered : answer 12 limit Abandon (stateOf s) (wordsOf bytes) (length bytes) (length table) ≡ R.Refused N.NothingStaged
+          answered : answer Abandon (stateOf s) (wordsOf bytes) (length bytes) (length table) ≡ R.Refused N.NothingStaged
           answered = abandons (R.Refused N.NothingStaged) (rw (says, h))
 
       -- the record with nothing staged
@@ -94,12 +94,12 @@ module _ (c : Control) (k : Setup) (b bytes table : List ℕ) where
             long = f .long;
             lent = f .lent;
             built = record { indexed = f .built .indexed; blocks = f .built .blocks; sums = f .built .sums };
-            batch = record { room = omega arith; written = refl; count = refl; few = omega arith; right = tt; counts = tt; fit = none-fit (chunksIn 12 (k .image)) (wordsOf bytes) (f .entries); marked = tt; keys = omega arith };
+            batch = record { room = omega arith; written = refl; count = refl; few = omega arith; right = tt; counts = tt; fit = none-fit (powerIn k) (chunksIn (powerIn k) (k .image)) (wordsOf bytes) (f .entries); marked = tt; keys = omega arith };
             table-room = omega arith;
             hint = f .hint;
           }
 
-      bare-state : stateOf bare ≡ Rest (k .image) (k .table) []
+      bare-state : stateOf bare ≡ Rest (powerIn k) (k .image) (k .table) []
       unfolding stateAt batchItems batchWords
       bare-state = refl
 
@@ -114,12 +114,12 @@ module _ (c : Control) (k : Setup) (b bytes table : List ℕ) where
         anyway = (sym answered, became);
       }
         where
-          answered : answer 12 limit Abandon (stateOf s) (wordsOf bytes) (length bytes) (length table) ≡ R.Abandoned
+          answered : answer Abandon (stateOf s) (wordsOf bytes) (length bytes) (length table) ≡ R.Abandoned
           answered = abandons R.Abandoned (rw (says, h))
 
-          became : stateOf bare ≡ next 12 limit Abandon (stateOf s) (wordsOf bytes) (length bytes) (length table)
+          became : stateOf bare ≡ next Abandon (stateOf s) (wordsOf bytes) (length bytes) (length table)
           became =
               bare-state
-              ∙ ap (λ (i : ℕ). Rest i (k .table) []) (lengths .same-bytes)
-              ∙ ap (λ (i : ℕ). Rest (length bytes) i []) (lengths .same-words)
+              ∙ ap (λ (i : ℕ). Rest (powerIn k) i (k .table) []) (lengths .same-bytes)
+              ∙ ap (λ (i : ℕ). Rest (powerIn k) (length bytes) i []) (lengths .same-words)
               ∙ sym (rw (answered, lengths .state))

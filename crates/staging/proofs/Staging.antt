@@ -17,11 +17,14 @@ use Rattle.spec.specs.Log.{Entry, Entries, filled, maxInLog, imageEntries}
 use Rattle.spec.specs.Blocks.{blockLimit}
 use Rattle.spec.specs.Contents.{highest, capacity, entriesIn}
 use Rattle.spec.specs.Plans.{Staging, Plan, Begin, entry, maxItems, maxVersion, maxPutVersion, planPut, planDelete}
-use Rattle.spec.specs.Machine.{Call, Put, Delete, Busy, itemsOf, stepsLeft, gate, refusedBy, planOf, answer, next}
+use Rattle.spec.specs.Machine.{Call, Put, Delete, Busy, itemsOf, statePower, stepsLeft, gate, refusedBy, planOf, answer, next}
 use Rattle.spec.specs.Contract.{StagesIn, Anyway, Again, Ready, Barred}
 use Rattle.session.specs.declared.Control.{Control}
 use Rattle.session.specs.declared.Setup.{Setup}
 use Rattle.session.specs.declared.Session.{Session}
+use Rattle.spec.specs.declared.Size.{Size}
+use Rattle.spec.specs.declared.Size.the-variants as Z
+use Rattle.places.specs.Sizes.{powerOf}
 use Rattle.spec.specs.declared.Given.{Given}
 use Rattle.spec.specs.declared.Refusal.{Refusal}
 use Rattle.spec.specs.declared.Refusal.the-variants as N
@@ -30,12 +33,12 @@ use Rattle.spec.specs.declared.Report.the-variants as R
 use Rattle.words.proofs.Values.{length-packed, packed-filled, filled-test}
 use Rattle.theory_log.specs.Batch.{put, delete, Right}
 use Rattle.theory_crash.specs.Accepted.{Ok}
-use Rattle.theory_crash.proofs.Opening.{opens-ok}
 use Rattle.volatile.specs.Known.{Bounded}
 use Rattle.volatile.proofs.Image.{image-bounded}
 use Rattle.volatile.proofs.Sums.{summed-same}
-use Rattle.session.specs.State.{batchItems, blockActions, behindAll, stateAt, stateOf, limit}
+use Rattle.session.specs.State.{batchItems, blockActions, behindAll, sizeIn, powerIn, mostBytes, stateAt, stateOf}
 use Rattle.session.specs.Fits.{BatchFits, Fits}
+use Rattle.session.proofs.OpensRight.{opens-right}
 use Rattle.session.proofs.Phases.{rest-items}
 use Rattle.actions.proofs.Nth.{drop-past}
 use Rattle.actions.proofs.Filling.{none-left}
@@ -63,6 +66,12 @@ use Rattle.session.specs.Promise.{Does, memory, memoryOf}
 use Rattle.session.specs.Fits.{Proper}
 use Rattle.session.specs.Numbers.{stagedMore}
 
+-- a value of the log is no longer than a block takes
+limit-least : (size : Size) → 256 ≤ blockLimit (powerOf size)
+unfolding blockLimit chunkUnits
+limit-least Z.Small = omega arith
+limit-least Z.Large = omega arith
+
 -- ## The new entries are right
 
 pub put-right : (v : List ℕ) → AreBytes v → (version key : ℕ) → 1 ≤ version → version ≤ maxVersion → length v ≤ maxInLog → Right (entry 1 0 version (length v) key (packed v))
@@ -82,7 +91,7 @@ module _ (c : Control) (k : Setup) (b bytes table : List ℕ) where
   ws = wordsOf bytes
 
   abbrev chunks : ℕ
-  chunks = chunksIn 12 (length bytes)
+  chunks = chunksIn (powerIn k) (length bytes)
 
   abbrev room : ℕ
   room = capacity (length table)
@@ -136,6 +145,9 @@ module _ (c : Control) (k : Setup) (b bytes table : List ℕ) where
     pub barred : (r r′ : Report) → refusedBy (gate (stateOf s) (length bytes) (length table)) ≡ some r′ → r ≡ r′
     barred = Shows.passed c k b bytes table g asks passes
 
+    pub power : statePower (stateOf s) ≡ powerIn k
+    power = ap statePower (gate-passed s (length bytes) (length table) opened .state)
+
     -- ## What fitting memory says
 
     module _ (f : Fits s ws table) where
@@ -148,45 +160,45 @@ module _ (c : Control) (k : Setup) (b bytes table : List ℕ) where
       abbrev pub items : List Entry
       items = rests .items
 
-      pub batch : BatchFits c b (chunksIn 12 (k .image)) ws es items
+      pub batch : BatchFits c b (powerIn k) (chunksIn (powerIn k) (k .image)) ws es items
       batch = rests .fits .batch
 
-      pub ok : Ok 12 (chunksIn 12 (k .image)) ws es
-      ok = let r = rests .fits in opens-ok 12 (omega arith) (omega arith) (k .image) (k .table) ws es (r .long) (r .accepted) .0
+      pub ok : Ok (powerIn k) (chunksIn (powerIn k) (k .image)) ws es
+      ok = let r = rests .fits in opens-right (powerIn k) (k .image) (k .table) ws es (r .long) (r .accepted) .0
 
-      pub parsed : imageEntries 12 chunks ws ≡ Entries es
-      parsed = rw (ap (chunksIn 12) (rests .same-bytes)) at (ok .parsed)
+      pub parsed : imageEntries (powerIn k) chunks ws ≡ Entries es
+      parsed = rw (ap (chunksIn (powerIn k)) (rests .same-bytes)) at (ok .parsed)
 
-      small : Bounded es
-      small = image-bounded (chunksIn 12 (k .image)) ws es (ok .parsed) (ok .most)
+      small : Bounded (sizeIn k) es
+      small = image-bounded (sizeIn k) (chunksIn (powerIn k) (k .image)) ws es (ok .parsed) (ok .most)
 
-      pub numbered : (key v : ℕ) → VersionOf b (c .words) table key v → Numbered key es items v
-      numbered key v is = version-says key chunks ws es items parsed small (batch .counts) table (c .keys) (rests .fits .built .indexed) v (is items (fits-staged c b (chunksIn 12 (k .image)) ws es items batch))
+      pub numbered : (key v : ℕ) → VersionOf (sizeIn k) b (c .words) table key v → Numbered key es items v
+      numbered key v is = version-says (sizeIn k) key chunks ws es items parsed small (batch .counts) table (c .keys) (rests .fits .built .indexed) v (is items (fits-staged c b (powerIn k) (chunksIn (powerIn k) (k .image)) ws es items batch))
 
-      says : (key : ℕ) (n : Newest) → NewestOf b (c .words) table key n → Says key es items ws n
-      says key n is = newest-says key chunks ws es items parsed small (batch .counts) table (c .keys) (rests .fits .built .indexed) n (is items (fits-staged c b (chunksIn 12 (k .image)) ws es items batch))
+      says : (key : ℕ) (n : Newest) → NewestOf (sizeIn k) b (c .words) table key n → Says key es items ws n
+      says key n is = newest-says (sizeIn k) key chunks ws es items parsed small (batch .counts) table (c .keys) (rests .fits .built .indexed) n (is items (fits-staged c b (powerIn k) (chunksIn (powerIn k) (k .image)) ws es items batch))
 
     -- the call is begun as the definitions plan it
     pub begins : (call : Call) (item : Entry) (acts : List Action) (actions : ℕ) → c .items < maxItems → actions ≡ length acts
-        → ((f : Fits s ws table) → planOf 12 limit call (itemsOf (stateOf s)) ws (length bytes) (length table) ≡ some (Begin (items f ++ (item ∷ [])) Staging acts))
+        → ((f : Fits s ws table) → planOf (powerIn k) call (itemsOf (stateOf s)) ws (length bytes) (length table) ≡ some (Begin (items f ++ (item ∷ [])) Staging acts))
         → Begins call (memory s bytes table) item acts actions
     begins call item acts actions few counted plan = record {
       passes = opened;
       few = few;
       counted = counted;
-      plan = λ f. plan f ∙ ap (λ (l : List Entry). some (Begin (l ++ (item ∷ [])) Staging acts)) (sym (ap itemsOf (rests f .state)));
+      plan = λ f. ap (λ (p : ℕ). planOf p call (itemsOf (stateOf s)) ws (length bytes) (length table)) (power) ∙ plan f ∙ ap (λ (l : List Entry). some (Begin (l ++ (item ∷ [])) Staging acts)) (sym (ap itemsOf (rests f .state)));
     }
 
     -- ## Too long
 
-    pub put-long : (named : Given) (key : ℕ) (v : List ℕ) → limit < length v → Does (Put named key v) (memory s bytes table) (memory s bytes table) (R.Refused N.TooLong)
+    pub put-long : (named : Given) (key : ℕ) (v : List ℕ) → mostBytes k < length v → Does (Put named key v) (memory s bytes table) (memory s bytes table) (R.Refused N.TooLong)
     unfolding planPut
     put-long named key v l =
-        refused 12 limit s bytes table N.TooLong (Put named key v) refl (λ f. f) (λ f. sym (rw (opened, lt-leb (length v) limit l)))
+        refused s bytes table N.TooLong (Put named key v) refl (λ f. f) (λ f. sym (rw (opened, rests f .state, lt-leb (length v) (mostBytes k) l)))
         (barred (R.Refused N.TooLong)) (inr (inr (inr (inl refl)))) (refl, refl) (inl (N.TooLong, refl))
 
     -- `last` is the key's highest version so far
-    module _ (named : Given) (key last : ℕ) (is : VersionOf b (c .words) table key last) where
+    module _ (named : Given) (key last : ℕ) (is : VersionOf (sizeIn k) b (c .words) table key last) where
       -- ## One more item
 
       module _ (e : Entry) (most fresh : ℕ) (adm : Admitting c most last (2 + length (e .value)) room fresh) (after : List ℕ) (words : ℕ) (added : Added b after (c .words) words e) where
@@ -197,13 +209,14 @@ module _ (c : Control) (k : Setup) (b bytes table : List ℕ) where
         none-to-do : drop behindAll (blockActions k after) ≡ []
         none-to-do = drop-past (blockActions k after) behindAll (none-left k after behindAll (omega arith))
 
-        stages : StagesIn (length bytes) (length table) [] (stateOf s′)
+        stages : StagesIn (statePower (stateOf s)) (length bytes) (length table) [] (stateOf s′)
         unfolding stateAt
         stages =
             let l = gate-passed s (length bytes) (length table) opened in (
               batchItems (s′ .control) after,
-              ap (λ (x : List Action). Busy (k .image) (k .table) (batchItems (s′ .control) after) Staging x) none-to-do
-                  ∙ ap (λ (i : ℕ). Busy i (k .table) (batchItems (s′ .control) after) Staging []) (l .same-bytes) ∙ ap (λ (i : ℕ). Busy (length bytes) i (batchItems (s′ .control) after) Staging []) (l .same-words),
+              ap (λ (x : List Action). Busy (powerIn k) (k .image) (k .table) (batchItems (s′ .control) after) Staging x) none-to-do
+                  ∙ ap (λ (i : ℕ). Busy (powerIn k) i (k .table) (batchItems (s′ .control) after) Staging []) (l .same-bytes) ∙ ap (λ (i : ℕ). Busy (powerIn k) (length bytes) i (batchItems (s′ .control) after) Staging []) (l .same-words)
+                  ∙ ap (λ (p : ℕ). Busy p (length bytes) (length table) (batchItems (s′ .control) after) Staging []) (sym power),
             )
 
         steps : stepsLeft (stateOf s′) ≡ 1
@@ -219,19 +232,19 @@ module _ (c : Control) (k : Setup) (b bytes table : List ℕ) where
               let y = numbered f key last is in
               rw of-key (adm .counted ∙ sym (fresh-then (isOld key (es f) (items f)) last (c .fresh) (y .old)))
 
-          batch-then : BatchFits (s′ .control) after (chunksIn 12 (k .image)) ws (es f) more
+          batch-then : BatchFits (s′ .control) after (powerIn k) (chunksIn (powerIn k) (k .image)) ws (es f) more
           batch-then =
               let y = numbered f key last is in
               let v : e .version ≡ suc (highest (e .key) (es f ++ items f)) = rw of-key (version ∙ ap suc (y .version)) in
-              batch-more c b (chunksIn 12 (k .image)) ws (es f) (items f) (batch f) (s′ .control) after e added (adm .fits) (adm .few) right in-log v refl refl counted
+              batch-more c b (powerIn k) (chunksIn (powerIn k) (k .image)) ws (es f) (items f) (batch f) (s′ .control) after e added (adm .fits) (adm .few) right in-log v refl refl counted
 
           items-then : batchItems (s′ .control) after ≡ more
           items-then =
-              let r = sym (rest-items c k b (k .image) (k .table) (items f) (rests f .state)) in
+              let r = sym (rest-items c k b (powerIn k) (k .image) (k .table) (items f) (rests f .state)) in
               let z : AtZero (items f) = rw r (items-zero c b) in
               items-read (s′ .control) after more (batch-then .written) (batch-then .right) (zero-more (items f) e z at-zero)
 
-          state-then : stateOf s′ ≡ Busy (k .image) (k .table) more Staging []
+          state-then : stateOf s′ ≡ Busy (powerIn k) (k .image) (k .table) more Staging []
           unfolding stateAt
           state-then = rw (items-then, none-to-do)
 
@@ -247,7 +260,7 @@ module _ (c : Control) (k : Setup) (b bytes table : List ℕ) where
                     accepted = r .accepted;
                     long = r .long;
                     lent = r .lent;
-                    built = record { indexed = r .built .indexed; blocks = λ u. added .bits u ∙ r .built .blocks u; sums = summed-same b after (es f) (λ i l. added .behind i (omega arith)) (r .built .sums) };
+                    built = record { indexed = r .built .indexed; blocks = λ u. added .bits (sizeIn k) u ∙ r .built .blocks u; sums = summed-same (sizeIn k) b after (es f) (λ i l. added .behind i (omega arith)) (r .built .sums) };
                     batch = batch-then;
                     table-room = rw l at q;
                     hint = r .hint;
@@ -257,11 +270,11 @@ module _ (c : Control) (k : Setup) (b bytes table : List ℕ) where
               )
 
         -- the call, by what it answers and leaves
-        staged : (call : Call) → (Ready Proper stateOf Fits 12 limit call s ws table → Fits s ws table) → ((Fit : Type 0) → Fit → Again call (R.Begun 0) Fit) → Barred Proper stateOf Fits 12 limit call s bytes table (R.Begun 0)
+        staged : (call : Call) → (Ready Proper stateOf Fits call s ws table → Fits s ws table) → ((Fit : Type 0) → Fit → Again call (R.Begun 0) Fit) → Barred Proper stateOf Fits call s bytes table (R.Begun 0)
             → Right e → e .placement ≡ 0 → e .at ≡ 0 → e .version ≡ suc last → e .key ≡ key
-            → ((f : Fits s ws table) → (answer 12 limit call (stateOf s) ws (length bytes) (length table) ≡ R.Begun 0)
-            × (next 12 limit call (stateOf s) ws (length bytes) (length table) ≡ Busy (k .image) (k .table) (items f ++ (e ∷ [])) Staging []))
-            → Anyway 12 limit call (stateOf s) (stateOf s′) ws (length bytes) (length table) (R.Begun 0)
+            → ((f : Fits s ws table) → (answer call (stateOf s) ws (length bytes) (length table) ≡ R.Begun 0)
+            × (next call (stateOf s) ws (length bytes) (length table) ≡ Busy (powerIn k) (k .image) (k .table) (items f ++ (e ∷ [])) Staging []))
+            → Anyway call (stateOf s) (stateOf s′) ws (length bytes) (length table) (R.Begun 0)
             → Does call (memory s bytes table) (memory s′ bytes table) (R.Begun 0)
         staged call ready again bars right in-log at-zero version of-key goes any = record {
           exact = λ r. let f = ready r in record {
@@ -279,27 +292,26 @@ module _ (c : Control) (k : Setup) (b bytes table : List ℕ) where
       -- ## Put
 
       module _ (v : List ℕ) where
-        within : length v ≤ 256 → length v ≤ limit
-        unfolding blockLimit chunkUnits
-        within l = omega arith
+        within : length v ≤ 256 → length v ≤ mostBytes k
+        within l = let q = limit-least (sizeIn k) in omega arith
 
         abbrev need-words : ℕ
         need-words = 2 + (length v + 7) / 8
 
         put-plan : (l : length v ≤ 256) (f : Fits s ws table)
-            → planPut 12 limit chunks ws (length table) (entriesIn 12 chunks ws) (itemsOf (stateOf s)) named key v
+            → planPut (powerIn k) chunks ws (length table) (entriesIn (powerIn k) chunks ws) (itemsOf (stateOf s)) named key v
             ≡ planBy (admitNamed named c maxPutVersion last need-words room) (Begin (items f ++ (entry 1 0 (suc last) (length v) key (packed v) ∷ [])) Staging [])
         unfolding planPut
         put-plan l f =
             let y = numbered f key last is in
-            rw (parsed f, rests f .state, le-leb (length v) limit (within l), le-leb (length v) 256 l)
-            (plan-named named c b (chunksIn 12 (k .image)) ws (es f) (items f) (batch f) maxPutVersion key last need-words (length table) (y .version) (y .old) _
+            rw (parsed f, rests f .state, le-leb (length v) (mostBytes k) (within l), le-leb (length v) 256 l)
+            (plan-named named c b (powerIn k) (chunksIn (powerIn k) (k .image)) ws (es f) (items f) (batch f) maxPutVersion key last need-words (length table) (y .version) (y .old) _
             ∙ ap (λ (h : ℕ). planBy (admitNamed named c maxPutVersion last need-words room) (Begin (items f ++ (entry 1 0 (suc h) (length v) key (packed v) ∷ [])) Staging [])) (sym (y .version)))
 
         module _ (l : length v ≤ 256) (a : Admission) (told : a ≡ admitNamed named c maxPutVersion last need-words room) where
           put-refused : (x : Refusal) → a ≡ A.Refused x → Does (Put named key v) (memory s bytes table) (memory s bytes table) (R.Refused x)
           put-refused x e =
-              refused 12 limit s bytes table x (Put named key v) refl (λ f. f) (λ f. sym (rw (opened, put-plan l f, sym told ∙ e)))
+              refused s bytes table x (Put named key v) refl (λ f. f) (λ f. sym (rw (opened, power, put-plan l f, sym told ∙ e)))
               (barred (R.Refused x)) (inr (inr (inr (inr (named-turned named c maxPutVersion last need-words room (N.NoSpace ∷ []) x (sym told ∙ e)))))) (refl, refl) (inl (x, refl))
 
           module _ (fresh : ℕ) (e : a ≡ A.Admitted fresh) where
@@ -312,7 +324,7 @@ module _ (c : Control) (k : Setup) (b bytes table : List ℕ) where
             adm : Admitting c maxPutVersion last (2 + length (packed v)) room fresh
             adm = rw (length-packed v) (named-admitted named c maxPutVersion last need-words room fresh (sym told ∙ e))
 
-            plan : (f : Fits s ws table) → planPut 12 limit chunks ws (length table) (entriesIn 12 chunks ws) (itemsOf (stateOf s)) named key v ≡ Begin (items f ++ (item ∷ [])) Staging []
+            plan : (f : Fits s ws table) → planPut (powerIn k) chunks ws (length table) (entriesIn (powerIn k) chunks ws) (itemsOf (stateOf s)) named key v ≡ Begin (items f ++ (item ∷ [])) Staging []
             plan f = put-plan l f ∙ rw (sym told ∙ e, next-is)
 
             put-begins : Begins (Put named key v) (memory s bytes table) item [] 0
@@ -322,7 +334,7 @@ module _ (c : Control) (k : Setup) (b bytes table : List ℕ) where
             unfolding next
             put-records small after words added =
                 staged item maxPutVersion fresh adm after words added (Put named key v) (λ f. f) (λ Fit f. f) (barred (R.Begun 0)) right refl refl next-is refl
-                (λ f. (rw (opened, plan f), rw (opened, plan f, rests f .state))) (inr ([], (stages item maxPutVersion fresh adm after words added, refl)))
+                (λ f. (rw (opened, power, plan f), rw (opened, power, plan f, rests f .state))) (inr ([], (stages item maxPutVersion fresh adm after words added, refl)))
               where
                 right : Right item
                 right = let u = adm .unspent in put-right v small (last + 1) key (omega arith) (omega arith) l
@@ -337,31 +349,31 @@ module _ (c : Control) (k : Setup) (b bytes table : List ℕ) where
 
     -- ## Delete
 
-    module _ (named : Given) (key : ℕ) (n : Newest) (is : NewestOf b (c .words) table key n) where
-      version-is : VersionOf b (c .words) table key (n .version)
+    module _ (named : Given) (key : ℕ) (n : Newest) (is : NewestOf (sizeIn k) b (c .words) table key n) where
+      version-is : VersionOf (sizeIn k) b (c .words) table key (n .version)
       version-is items st = ap (λ (m : Newest). m .version) (is items st)
 
       delete-plan : presentBy ws n ≡ true → (f : Fits s ws table)
-          → planDelete (length table) (entriesIn 12 chunks ws) (itemsOf (stateOf s)) named key
+          → planDelete (length table) (entriesIn (powerIn k) chunks ws) (itemsOf (stateOf s)) named key
           ≡ planBy (admitNamed named c maxVersion (n .version) 2 room) (Begin (items f ++ (entry 2 0 (suc (n .version)) 0 key [] ∷ [])) Staging [])
       unfolding planDelete
       delete-plan h f =
           let x = says f key n is in
           let y = x .numbered in
           rw (parsed f, rests f .state, sym (x .shown) ∙ h)
-          (plan-named named c b (chunksIn 12 (k .image)) ws (es f) (items f) (batch f) maxVersion key (n .version) 2 (length table) (y .version) (y .old) _
+          (plan-named named c b (powerIn k) (chunksIn (powerIn k) (k .image)) ws (es f) (items f) (batch f) maxVersion key (n .version) 2 (length table) (y .version) (y .old) _
           ∙ ap (λ (h′ : ℕ). planBy (admitNamed named c maxVersion (n .version) 2 room) (Begin (items f ++ (entry 2 0 (suc h′) 0 key [] ∷ [])) Staging [])) (sym (y .version)))
 
       pub delete-absent : presentBy ws n ≡ false → Does (Delete named key) (memory s bytes table) (memory s bytes table) (R.Refused N.KeyAbsent)
       unfolding planDelete
       delete-absent h =
-          refused 12 limit s bytes table N.KeyAbsent (Delete named key) refl (λ f. f) (λ f. sym (rw (opened, parsed f, rests f .state, sym (says f key n is .shown) ∙ h)))
+          refused s bytes table N.KeyAbsent (Delete named key) refl (λ f. f) (λ f. sym (rw (opened, power, parsed f, rests f .state, sym (says f key n is .shown) ∙ h)))
           (barred (R.Refused N.KeyAbsent)) (inr (inr (inr (inl refl)))) (refl, refl) (inl (N.KeyAbsent, refl))
 
       module _ (h : presentBy ws n ≡ true) (a : Admission) (told : a ≡ admitNamed named c maxVersion (n .version) 2 room) where
         pub delete-refused : (x : Refusal) → a ≡ A.Refused x → DeletePlanned named key (memory s bytes table) (I.Refused x)
         delete-refused x e =
-            refused 12 limit s bytes table x (Delete named key) refl (λ f. f) (λ f. sym (rw (opened, delete-plan h f, sym told ∙ e)))
+            refused s bytes table x (Delete named key) refl (λ f. f) (λ f. sym (rw (opened, power, delete-plan h f, sym told ∙ e)))
             (barred (R.Refused x)) (inr (inr (inr (inr (named-turned named c maxVersion (n .version) 2 room [] x (sym told ∙ e)))))) (refl, refl) (inl (x, refl))
 
         module _ (fresh : ℕ) (e : a ≡ A.Admitted fresh) where
@@ -374,14 +386,14 @@ module _ (c : Control) (k : Setup) (b bytes table : List ℕ) where
           delete-adm : Admitting c maxVersion (n .version) 2 room fresh
           delete-adm = named-admitted named c maxVersion (n .version) 2 room fresh (sym told ∙ e)
 
-          delete-begun : (f : Fits s ws table) → planDelete (length table) (entriesIn 12 chunks ws) (itemsOf (stateOf s)) named key ≡ Begin (items f ++ (delete-entry ∷ [])) Staging []
+          delete-begun : (f : Fits s ws table) → planDelete (length table) (entriesIn (powerIn k) chunks ws) (itemsOf (stateOf s)) named key ≡ Begin (items f ++ (delete-entry ∷ [])) Staging []
           delete-begun f = delete-plan h f ∙ rw (sym told ∙ e, delete-next)
 
           delete-records : ItemRecords (Delete named key) (memory s bytes table) delete-entry fresh
           unfolding next
           delete-records after words added =
               staged named key (n .version) version-is delete-entry maxVersion fresh delete-adm after words added (Delete named key) (λ f. f) (λ Fit f. f) (barred (R.Begun 0)) right refl refl delete-next refl
-              (λ f. (rw (opened, delete-begun f), rw (opened, delete-begun f, rests f .state))) (inr ([], (stages named key (n .version) version-is delete-entry maxVersion fresh delete-adm after words added, refl)))
+              (λ f. (rw (opened, power, delete-begun f), rw (opened, power, delete-begun f, rests f .state))) (inr ([], (stages named key (n .version) version-is delete-entry maxVersion fresh delete-adm after words added, refl)))
             where
               right : Right delete-entry
               right = let u = delete-adm .unspent in delete-right (n .version + 1) key (omega arith) (omega arith)

@@ -12,10 +12,11 @@ use Rattle.spec.specs.Plans.{isNamed, maxItems}
 use Rattle.session.specs.declared.Control.{Control}
 use Rattle.spec.specs.declared.FirstWord.{FirstWord}
 use Rattle.spec.specs.declared.FirstWord.the-variants as F
+use Rattle.spec.specs.declared.Size.{Size}
 use Rattle.spec.specs.declared.Given.{Given}
 use Rattle.spec.specs.declared.Refusal.the-variants as N
 use Rattle.index.specs.Index.{get}
-use Rattle.index.specs.Packed.{unpackOf}
+use Rattle.packing.specs.Packed.{unpackOf}
 use Rattle.buffer.specs.Areas.{batchRoom}
 use Rattle.batch.specs.declared.Latest.{Latest}
 use Rattle.batch.specs.Items.{StagedIn, latestOf}
@@ -24,20 +25,20 @@ use Rattle.staging.specs.declared.admit.Admission.{Admission}
 use Rattle.staging.specs.declared.admit.Admission.the-variants as A
 
 -- by what the last staged item says and by the table's word of the key
-abbrev pub committedBy : ℕ → Newest
-committedBy word =
+abbrev pub committedBy : Size → ℕ → Newest
+committedBy size word =
     pick (eqb word 0) (record { version = 0; staged = false; op = 0; place = 0 })
-    (record { version = unpackOf word .version; staged = false; op = 0; place = unpackOf word .place })
+    (record { version = unpackOf size word .version; staged = false; op = 0; place = unpackOf size word .place })
 
-abbrev pub newestBy : Latest → ℕ → Newest
-newestBy last word = pick (eqb (last .version) 0) (committedBy word) (record { version = last .version; staged = true; op = last .op; place = 0 })
+abbrev pub newestBy : Size → Latest → ℕ → Newest
+newestBy size last word = pick (eqb (last .version) 0) (committedBy size word) (record { version = last .version; staged = true; op = last .op; place = 0 })
 
-abbrev pub NewestOf : List ℕ → ℕ → List ℕ → ℕ → Newest → Type 0
-NewestOf buffer words table key r = (items : List Entry) → StagedIn buffer words items → r ≡ newestBy (latestOf key items) (get table key)
+abbrev pub NewestOf : Size → List ℕ → ℕ → List ℕ → ℕ → Newest → Type 0
+NewestOf size buffer words table key r = (items : List Entry) → StagedIn buffer words items → r ≡ newestBy size (latestOf key items) (get table key)
 
 -- the version alone
-abbrev pub VersionOf : List ℕ → ℕ → List ℕ → ℕ → ℕ → Type 0
-VersionOf buffer words table key r = (items : List Entry) → StagedIn buffer words items → r ≡ newestBy (latestOf key items) (get table key) .version
+abbrev pub VersionOf : Size → List ℕ → ℕ → List ℕ → ℕ → ℕ → Type 0
+VersionOf size buffer words table key r = (items : List Entry) → StagedIn buffer words items → r ≡ newestBy size (latestOf key items) (get table key) .version
 
 -- a put by its first word; a key that is present
 abbrev pub putIn : FirstWord → Bool

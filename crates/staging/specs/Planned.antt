@@ -7,14 +7,13 @@ use mathlib.Core.List.{List, [], _∷_, _++_}
 use Prim.Native.Nat.{ℕ, _<_}
 use lib.ListN.{length}
 use Rattle.spec.specs.Words.{AreBytes, wordsOf, packed}
-use Rattle.spec.specs.Places.{basePower}
 use Rattle.spec.specs.Medium.{Action}
 use Rattle.spec.specs.Log.{Entry}
 use Rattle.spec.specs.Plans.{Staging, Begin, entry, maxItems}
-use Rattle.spec.specs.Machine.{Call, Put, Delete, itemsOf, gate, planOf}
+use Rattle.spec.specs.Machine.{Call, Put, Delete, itemsOf, statePower, gate, planOf}
 use Rattle.spec.specs.declared.Given.{Given}
 use Rattle.spec.specs.declared.Report.the-variants as R
-use Rattle.session.specs.State.{behindAll, stateOf, limit}
+use Rattle.session.specs.State.{powerIn, behindAll, stateOf}
 use Rattle.session.specs.Fits.{Fits}
 use Rattle.session.specs.Numbers.{stagedMore}
 use Rattle.session.specs.Promise.{Memory, memoryOf, Does}
@@ -33,7 +32,7 @@ pub record Begins (call : Call) (m : Memory) (item : Entry) (acts : List Action)
   pub few : m .session .control .items < maxItems
   pub counted : actions ≡ length acts
   pub plan : Fits (m .session) (wordsOf (m .image)) (m .table)
-      → planOf basePower limit call (itemsOf (stateOf (m .session))) (wordsOf (m .image)) (length (m .image)) (length (m .table))
+      → planOf (statePower (stateOf (m .session))) call (itemsOf (stateOf (m .session))) (wordsOf (m .image)) (length (m .image)) (length (m .table))
       ≡ some (Begin (itemsOf (stateOf (m .session)) ++ (item ∷ [])) Staging acts)
 
 -- with the item recorded, and so many staged keys not known then, the call does what it promises
@@ -61,7 +60,7 @@ abbrev pub BlockPlanned : Given → (key bytes : ℕ) → Memory → BlockPlan �
 BlockPlanned named key bytes m (B.Refused n) = (v : List ℕ) → length v ≡ bytes → Does (Put named key v) m m (R.Refused n)
 BlockPlanned named key bytes m (B.Item version fresh unit old size actions) =
     (v : List ℕ) → length v ≡ bytes
-    → Begins (Put named key v) m (entry 1 1 version (unit .0) key []) (actionsAt (unit .0) old size v) actions
+    → Begins (Put named key v) m (entry 1 1 version (unit .0) key []) (actionsAt (powerIn (m .session .setup)) (unit .0) old size v) actions
     × (AreBytes v → BlockRecords (Put named key v) m version key v (unit .0) old size fresh actions)
 
 -- A DELETE

@@ -11,6 +11,7 @@ use session::Control;
 use spec::FirstWord;
 use spec::Given;
 use spec::Refusal;
+use spec::Size;
 
 // What is known of a key: the highest version, staged items counted, 0 where it has none; whether it is staged, and
 // then the operation of its last staged item; else the place of its chosen entry.
@@ -21,8 +22,8 @@ pub struct Newest {
     pub place: usize,
 }
 
-pub fn known_of(buffer: &Buffer, words: usize, table: &[u64], key: u64) -> Newest
-    ensures { λ r. ⌜ NewestOf (now (buffer .entry)) words (now (table .entry)) key r ⌝ }
+pub fn known_of(buffer: &Buffer, words: usize, table: &[u64], key: u64, size: Size) -> Newest
+    ensures { λ r. ⌜ NewestOf size (now (buffer .entry)) words (now (table .entry)) key r ⌝ }
 {
     let last = batch::last_staged(buffer, words, key);
     if last.version == 0 {
@@ -35,7 +36,7 @@ pub fn known_of(buffer: &Buffer, words: usize, table: &[u64], key: u64) -> Newes
                 place: 0,
             };
         }
-        let info = index::unpack(word);
+        let info = packing::unpack(size, word);
         return Newest {
             version: info.version,
             staged: false,
@@ -52,12 +53,12 @@ pub fn known_of(buffer: &Buffer, words: usize, table: &[u64], key: u64) -> Newes
 }
 
 // The highest version of a key, staged items counted, 0 where it has none.
-pub fn version_of(buffer: &Buffer, words: usize, table: &[u64], key: u64) -> u64
-    ensures { λ r. ⌜ VersionOf (now (buffer .entry)) words (now (table .entry)) key r ⌝ }
+pub fn version_of(buffer: &Buffer, words: usize, table: &[u64], key: u64, size: Size) -> u64
+    ensures { λ r. ⌜ VersionOf size (now (buffer .entry)) words (now (table .entry)) key r ⌝ }
 {
     let latest = batch::last_staged(buffer, words, key);
     if latest.version == 0 {
-        let info = index::unpack(index::get(table, key));
+        let info = packing::unpack(size, index::get(table, key));
         return info.version;
     }
     latest.version

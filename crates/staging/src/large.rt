@@ -1,6 +1,7 @@
 // A large value: the slot found for it, which changes nothing; and the staging recorded, its words held in the record,
 // its item behind the others, and the place of its actions in the setup.
 ghost use mathlib.Core.Path.{_≡_};
+ghost use Rattle.places.specs.Sizes.{powerOf};
 ghost use Rattle.staging.specs.Large.{countFor, LargePlanned, BlockBegun};
 use actions::block::hold_value;
 use batch::add_entry;
@@ -8,32 +9,34 @@ use buffer::Buffer;
 use codec::Unit;
 use codec::block_size;
 use directory::directory_word;
+use places::size_by;
 use placing::blocks::Slot;
 use placing::blocks::slot_for;
 use session::Setup;
+use spec::Size;
 use words::lesser;
 
 // THE PLAN
-// Where a large value goes: to the block at this unit; `size` is 0 if its chunk is a data chunk, else the chunk, whose
-// directory word is `old`, is taken for blocks of that size; with so many actions. Or nowhere.
+// Where a large value goes: to the block at this unit; `units` is 0 if its chunk is a data chunk, else the chunk, whose
+// directory word is `old`, is taken for blocks of so many units; with so many actions. Or nowhere.
 pub enum LargePlan {
     At {
         unit: Unit,
         old: u64,
-        size: u64,
+        units: u64,
         actions: usize,
     },
     Nowhere,
 }
 
 // How many actions a value of so many bytes has: a longer one is counted as one of the most bytes.
-fn count_for(bytes: usize, size: u64) -> usize
-    ensures { λ r. ⌜ r ≡ countFor bytes size ⌝ }
+fn count_for(size: Size, bytes: usize, units: u64) -> usize
+    ensures { λ r. ⌜ r ≡ countFor (powerOf size) bytes units ⌝ }
 {
-    let most = lesser(bytes, 4088);
+    let most = lesser(bytes, places::largest_value(size));
     let words = 1 + (most + 7) / 8;
     let flushes = (words + 7) / 8;
-    if size == 0 {
+    if units == 0 {
         return words + flushes;
     }
     2 + words + flushes
@@ -49,26 +52,28 @@ pub fn plan_large(
 ) -> LargePlan
     ensures { λ r. ⌜ LargePlanned (now (image .entry)) (now (buffer .entry)) setup words bytes r ⌝ }
 {
-    let size = block_size(bytes);
-    let slot = slot_for(image, setup.image / 4096, size as usize, buffer, words);
+    let size = size_by(setup.power);
+    let units = block_size(size, bytes);
+    let chunks = places::chunks_in(size, setup.image);
+    let slot = slot_for(image, chunks, units as usize, buffer, words, size);
     match slot {
         Slot::Data(unit) => {
-            let actions = count_for(bytes, 0);
+            let actions = count_for(size, bytes, 0);
             LargePlan::At {
                 unit,
                 old: 0,
-                size: 0,
+                units: 0,
                 actions,
             }
         }
         Slot::Free(c) => {
             let old = directory_word(image, c);
-            let unit = Unit::of(c, 0);
-            let actions = count_for(bytes, size);
+            let unit = Unit::of(size, c, 0);
+            let actions = count_for(size, bytes, units);
             LargePlan::At {
                 unit,
                 old,
-                size,
+                units,
                 actions,
             }
         }
@@ -93,19 +98,20 @@ pub fn record_large(
     value: &[u8],
     unit: Unit,
     old: u64,
-    size: u64,
+    units: u64,
 ) -> Large
-    ensures { λ r. ⌜ BlockBegun (now (buffer .entry)) (now (buffer .exit)) setup words version key (now (value .entry)) (unit .0) old size r ⌝ }
+    ensures { λ r. ⌜ BlockBegun (now (buffer .entry)) (now (buffer .exit)) setup words version key (now (value .entry)) (unit .0) old units r ⌝ }
 {
-    hold_value(buffer, value);
+    let size = size_by(setup.power);
+    hold_value(buffer, value, size);
     let field = unit.0;
     let end = add_entry(buffer, words, 1, 1, version, field, key, &value[0..0]);
     let placed = session::block_setup(
         setup,
-        unit.chunk() as usize,
+        unit.chunk(size) as usize,
         old,
-        unit.place() as usize,
-        size,
+        unit.place(size) as usize,
+        units,
     );
     Large {
         setup: placed,

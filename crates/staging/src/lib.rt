@@ -17,6 +17,7 @@ use crate::admit::Admission;
 use crate::large::LargePlan;
 use buffer::Buffer;
 use codec::Unit;
+use places::size_by;
 use session::Control;
 use session::Gated;
 use session::Outcome;
@@ -80,12 +81,15 @@ fn refused(control: Control, n: Refusal) -> Stepped
     }
 }
 
+// A number behind all actions of a staging.
+const BEHIND_ALL: usize = 16_384;
+
 // One more item, with so many words in all; the call then has no action, and ends with its next step.
 fn one_more(control: Control, words: usize, fresh: usize) -> Stepped
     requires { ⌜ control .items < 16 ⌝ }
     ensures { λ r. ⌜ r ≡ oneMore control words fresh ⌝ }
 {
-    let next = session::one_more(control, 1024, words, fresh);
+    let next = session::one_more(control, BEHIND_ALL, words, fresh);
     Stepped {
         control: next,
         report: Report::Begun(0),
@@ -118,7 +122,8 @@ pub fn plan_in_log(
     match g {
         Gated::Refused(n) => ItemPlan::Refused(n),
         Gated::Open => {
-            let version = admit::version_of(buffer, control.words, table, key);
+            let size = size_by(setup.power);
+            let version = admit::version_of(buffer, control.words, table, key, size);
             let more = 2 + (bytes + 7) / 8;
             let room = index::capacity(table.len());
             let a = admit::admit(control, named, LAST_PUT, version, more, room);
@@ -171,7 +176,7 @@ pub enum BlockPlan {
         fresh: usize,
         unit: Unit,
         old: u64,
-        size: u64,
+        units: u64,
         actions: usize,
     },
 }
@@ -194,11 +199,12 @@ pub fn plan_in_block(
     match g {
         Gated::Refused(n) => BlockPlan::Refused(n),
         Gated::Open => {
-            if 4088 < bytes {
+            let size = size_by(setup.power);
+            if places::largest_value(size) < bytes {
                 return BlockPlan::Refused(Refusal::TooLong);
             }
             let words = control.words;
-            let known = admit::known_of(buffer, words, table, key);
+            let known = admit::known_of(buffer, words, table, key, size);
             let version = known.version;
             let a = admit::admit(
                 control,
@@ -217,14 +223,14 @@ pub fn plan_in_block(
                         LargePlan::At {
                             unit,
                             old,
-                            size,
+                            units,
                             actions,
                         } => BlockPlan::Item {
                             version: next,
                             fresh,
                             unit,
                             old,
-                            size,
+                            units,
                             actions,
                         },
                         LargePlan::Nowhere => BlockPlan::Refused(Refusal::NoSpace),
@@ -262,7 +268,7 @@ fn put_in_block(
             fresh,
             unit,
             old,
-            size,
+            units,
             actions,
         } => {
             let words = control.words;
@@ -275,7 +281,7 @@ fn put_in_block(
                 value,
                 unit,
                 old,
-                size,
+                units,
             );
             let begun = session::one_more(control, 0, large.words, fresh);
             let bound = large.setup;
@@ -442,7 +448,8 @@ pub fn plan_delete(
     match g {
         Gated::Refused(n) => ItemPlan::Refused(n),
         Gated::Open => {
-            let known = admit::known_of(buffer, control.words, table, key);
+            let size = size_by(setup.power);
+            let known = admit::known_of(buffer, control.words, table, key, size);
             if admit::is_present(image, known) {
                 let version = known.version;
                 let a = admit::admit(

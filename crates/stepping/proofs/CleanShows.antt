@@ -6,6 +6,9 @@ use mathlib.Core.List.{List, [], _∷_}
 use Prim.Native.Nat.{ℕ, _+_, _*_, _/_, _%_, _≤_, _<_, min}
 use native.Mathlib.Omega.{arith}
 use lib.ListN.{length, drop}
+use Rattle.spec.specs.Places.{base, chunksIn}
+use Rattle.spec.specs.declared.Size.{Size}
+use Rattle.places.specs.Sizes.{powerOf}
 use Rattle.spec.specs.Words.{wordsOf}
 use Rattle.spec.specs.Medium.{Action}
 use Rattle.spec.specs.Actions.{linesFor}
@@ -15,8 +18,8 @@ use Rattle.session.specs.declared.Control.{Control}
 use Rattle.session.specs.declared.Setup.{Setup}
 use Rattle.spec.specs.declared.Report.{Report}
 use Rattle.spec.specs.declared.Report.the-variants as R
-use Rattle.buffer.specs.Areas.{batchRoom}
-use Rattle.session.specs.State.{chunkIn, linesIn, sourceIn, sourceLines, cleanActions}
+use Rattle.buffer.specs.Areas.{secondRoom}
+use Rattle.session.specs.State.{sizeIn, powerIn, chunkIn, linesIn, sourceIn, sourceLines, cleanActions}
 use Rattle.actions.specs.Nth.{nth, nthReport}
 use Rattle.actions.proofs.Performed.{changed-words}
 use Rattle.apply.specs.Passes.{Emptying}
@@ -29,16 +32,16 @@ use Rattle.stepping.specs.Moves.{ChunkLeft, CleanStepped}
 use Rattle.session.specs.Numbers.{endedEmpty}
 use Rattle.session.proofs.Kept.{reads-kept}
 
-pub shows-left : (k : Setup) (f : Source) (ws b b′ table table′ : List ℕ) (keys keys′ lines at end from until count : ℕ) → lines ≡ linesFor (min (f .words) batchRoom)
-    → at ≡ 512 * sourceIn f → end ≡ at + 8 * sourceLines f → from ≡ 512 * chunkIn k + 8 * linesIn k → until ≡ from + 8 * lines → count ≡ k .image / 4096
-    → Emptying count ws b b′ table table′ keys at end from until (f .words) keys′ → ChunkLeft k f ws b b′ table table′ keys keys′
-shows-left k f ws b b′ table table′ keys keys′ lines at end from until count el ea ee ef eu ec e = record {
+pub shows-left : (k : Setup) (f : Source) (size : Size) (ws b b′ table table′ : List ℕ) (keys keys′ lines at end from until count : ℕ) → size ≡ sizeIn k → lines ≡ linesFor (min (f .words) secondRoom)
+    → at ≡ base (powerOf size) (sourceIn f) → end ≡ at + 8 * sourceLines f → from ≡ base (powerIn k) (chunkIn k) + 8 * linesIn k → until ≡ from + 8 * lines → count ≡ chunksIn (powerOf size) (k .image)
+    → Emptying size count ws b b′ table table′ keys at end from until (f .words) keys′ → ChunkLeft k f ws b b′ table table′ keys keys′
+shows-left k f size ws b b′ table table′ keys keys′ lines at end from until count z el ea ee ef eu ec e = record {
   at = at;
   end = end;
   from = from;
   until = until;
-  ends = record { at-is = ea; end-is = ee; from-is = ef; until-is = eu ∙ ap (λ (x : ℕ). from + 8 * x) el };
-  empties = rw ec at e;
+  ends = record { at-is = rw z at ea; end-is = ee; from-is = ef; until-is = eu ∙ ap (λ (x : ℕ). from + 8 * x) el };
+  empties = rw (ec, z) at e;
 }
 
 module _ (c : Control) (k : Setup) (f : Source) (b image table : List ℕ) where
@@ -94,7 +97,7 @@ module _ (c : Control) (k : Setup) (f : Source) (b image table : List ℕ) where
           behind = none b′ ∙ sym (none b);
           sized = l .empties .sized;
           kept = l .empties .kept;
-          fits = λ t. rw (none b′, words) (last-kept c k f b (wordsOf image) table (nth acts (c .next)) (rw (here, none b) at t) (k .image / 4096) (l .at) (l .end) (l .from) (l .until) refl (l .ends) b′ table′ keys (rw words at (l .empties)));
+          fits = λ t. rw (none b′, words) (last-kept c k f b (wordsOf image) table (nth acts (c .next)) (rw (here, none b) at t) (chunksIn (powerIn k) (k .image)) (l .at) (l .end) (l .from) (l .until) refl (l .ends) b′ table′ keys (rw words at (l .empties)));
           reads = λ olds t. rw (none b′) tt;
         })
       where

@@ -14,7 +14,7 @@ use Rattle.session.specs.declared.Setup.{Setup}
 use Rattle.session.specs.declared.Source.{Source}
 use Rattle.session.specs.declared.Session.{Session}
 use Rattle.spec.specs.declared.Report.{Report}
-use Rattle.session.specs.State.{cleanOlds, batchWords, batchItems, cleanActions, stateAt}
+use Rattle.session.specs.State.{powerIn, cleanOlds, batchWords, batchItems, cleanActions, stateAt}
 use Rattle.session.specs.Fits.{CleanFits, RestFits, Fits, Reads}
 use Rattle.actions.specs.Nth.{nth}
 use Rattle.actions.specs.Record.{cleanCount}
@@ -38,7 +38,7 @@ module _ (c : Control) (k : Setup) (b bytes table : List ℕ) (e : c .phase ≡ 
   acts = cleanActions k f b
 
   abbrev F : List Action → State
-  F = Busy (k .image) (k .table) [] (Cleaning (f .entries) (cleanOlds k f))
+  F = Busy (powerIn k) (k .image) (k .table) [] (Cleaning (f .entries) (cleanOlds k f))
 
   -- memory as the calls left it, in a cleaning
   fitting : Fits s (wordsOf bytes) table → CleanFits c k f b (wordsOf bytes) table (drop (c .next) acts) × Reads s (cleanOlds k f) (drop (c .next) acts) (wordsOf bytes) table
@@ -57,7 +57,7 @@ module _ (c : Control) (k : Setup) (b bytes table : List ℕ) (e : c .phase ≡ 
     acted : Does Step (memory s bytes table) (memory (with′ c′ b′) bytes′ table′) r
     acted =
         rw (t .report)
-        (step-acts s (with′ c′ b′) bytes bytes′ table table′ (k .image) (k .table) (f .entries) (Rest (k .image) (k .table) []) F (busy (k .image) (k .table) [] (Cleaning (f .entries) (cleanOlds k f))) same-bytes same-words
+        (step-acts s (with′ c′ b′) bytes bytes′ table table′ (k .image) (k .table) (f .entries) (Rest (powerIn k) (k .image) (k .table) []) F (busy (powerIn k) (k .image) (k .table) [] (Cleaning (f .entries) (cleanOlds k f))) same-bytes same-words
         (nth acts (c .next)) (drop (c .next + 1) acts) here (moved ∙ ap F (t .behind)) (rw (t .report) at (t .changed)) (t .sized) (rw (at-6 c k b e) tt)
         (λ q. (t .kept ∙ q .0, rw moved (t .fits (fitting q .0), t .reads (cleanOlds k f) (fitting q .1)))))
 
@@ -73,7 +73,7 @@ module _ (c : Control) (k : Setup) (b bytes table : List ℕ) (e : c .phase ≡ 
     unfolding stateAt batchItems batchWords
     over =
         rw (t .report, t .control, t .buffer, t .unchanged, t .same)
-        (step-ends s (with′ (endedEmpty c) b) bytes bytes table table (k .image) (k .table) (f .entries) (Rest (k .image) (k .table) []) F (busy (k .image) (k .table) [] (Cleaning (f .entries) (cleanOlds k f)))
+        (step-ends s (with′ (endedEmpty c) b) bytes bytes table table (k .image) (k .table) (f .entries) (Rest (powerIn k) (k .image) (k .table) []) F (busy (powerIn k) (k .image) (k .table) [] (Cleaning (f .entries) (cleanOlds k f)))
         same-bytes same-words last refl (λ q. (q .0, rests (fitting q .0))))
 
   pub cleans : (c′ : Control) (b′ bytes′ table′ : List ℕ) (r : Report) → CleanStepped c c′ k f b b′ bytes bytes′ table table′ r → Does Step (memory s bytes table) (memory (with′ c′ b′) bytes′ table′) r

@@ -7,7 +7,7 @@ use Prim.Native.Nat.{ℕ, _+_, _*_, _/_}
 use native.Mathlib.Omega.{arith}
 use lib.ListN.{length}
 use Rattle.spec.specs.Basics.{distinct}
-use Rattle.spec.specs.Places.{basePower, chunkWords, base, chunksIn}
+use Rattle.spec.specs.Places.{base, chunksIn}
 use Rattle.spec.specs.Medium.{Action, Mem as Among}
 use Rattle.spec.specs.Log.{Entry, placed}
 use Rattle.spec.specs.Contents.{keysOf}
@@ -17,15 +17,15 @@ use Rattle.session.specs.declared.Setup.{Setup}
 use Rattle.session.specs.declared.Session.{Session}
 use Rattle.theory_base.proofs.Lists.{number-l, number-r, number-cases, distinct-equal}
 use Rattle.theory_crash.specs.Accepted.{Ok}
-use Rattle.theory_crash.proofs.Opening.{keys-fit, opens-ok}
-use Rattle.session.specs.State.{batchWords, chunkIn, linesIn}
+use Rattle.theory_crash.proofs.Opening.{keys-fit}
+use Rattle.session.specs.State.{sizeIn, powerIn, batchWords, chunkIn, linesIn}
 use Rattle.buffer.specs.Areas.{filterPlace}
 use Rattle.session.specs.Fits.{keyList, batchPlace, CommitFits}
+use Rattle.session.proofs.OpensRight.{opens-right}
 use Rattle.session.proofs.Part.{chunk-in, lines-in}
 use Rattle.session.proofs.Kept.{words-kept, batch-kept, built-kept}
 use Rattle.apply.specs.Joining.{Shown, Fenced, Joining}
 use Rattle.forward.proofs.Staged.{action-length}
-use Rattle.forward.proofs.Shown.{lo, hi}
 use Rattle.session.specs.Numbers.{withKeys}
 
 -- THE KNOWN KEYS, with a batch placed among the entries.
@@ -71,10 +71,10 @@ module _ (c : Control) (k : Setup) (b : List ℕ) where
       accepted = f .accepted;
       long = action-length x ws ∙ f .long;
       lent = f .lent;
-      batch = batch-kept c (acted c (c .keys) (c .fresh)) b b (chunksIn basePower (k .image)) _ (f .front ++ f .back) items refl refl refl refl refl (f .batch);
+      batch = batch-kept c (acted c (c .keys) (c .fresh)) b b (powerIn k) (chunksIn (powerIn k) (k .image)) _ (f .front ++ f .back) items refl refl refl refl refl (f .batch);
       agree = f .agree;
       apart = f .apart;
-      built = built-kept c (acted c (c .keys) (c .fresh)) b table (f .front ++ f .back) refl (f .built);
+      built = built-kept c (acted c (c .keys) (c .fresh)) (sizeIn k) b table (f .front ++ f .back) refl (f .built);
       table-room = f .table-room;
       hint = f .hint;
     }
@@ -90,16 +90,18 @@ module _ (c : Control) (k : Setup) (b : List ℕ) where
       long′ : length ws′ ≡ k .image / 8
       long′ = action-length x ws ∙ f .long
 
-      ok : Ok basePower (chunksIn basePower (k .image)) ws′ after
-      ok = opens-ok basePower lo hi (k .image) (k .table) ws′ after long′ (f .accepted) .0
+      ok : Ok (powerIn k) (chunksIn (powerIn k) (k .image)) ws′ after
+      ok = opens-right (powerIn k) (k .image) (k .table) ws′ after long′ (f .accepted) .0
 
       -- the batch begins at this word, as the code counts it
-      module _ (place : ℕ) (is-place : place ≡ 512 * chunkIn k + 8 * linesIn k) where
+      module _ (place : ℕ) (is-place : place ≡ base (powerIn k) (chunkIn k) + 8 * linesIn k) where
         at-place : place ≡ batchPlace k
-        unfolding base chunkWords
-        at-place = let a = chunk-in k (f .chunk) in let l = lines-in k (f .lines) in omega arith
+        at-place =
+            let a : base (powerIn k) (chunkIn k) ≡ base (powerIn k) (k .chunk) = ap (base (powerIn k)) (chunk-in k (f .chunk)) in
+            let l = lines-in k (f .lines) in
+            omega arith
 
-        fenced : Fenced (chunksIn basePower (k .image)) place (c .words) (c .keys) b ws′ table (f .front) (f .back) items
+        fenced : Fenced (sizeIn k) (chunksIn (powerIn k) (k .image)) place (c .words) (c .keys) b ws′ table (f .front) (f .back) items
         unfolding batchWords
         fenced = rw at-place (record {
           most = ok .most;
@@ -109,13 +111,13 @@ module _ (c : Control) (k : Setup) (b : List ℕ) where
           fit = f .batch .fit;
           image = ok .parsed;
           shown = record { indexed = f .built .indexed; blocks = f .built .blocks; sums = f .built .sums; agree = f .agree; apart = f .apart };
-          room = rw (f .lent) (keys-fit (k .table) after (opens-ok basePower lo hi (k .image) (k .table) ws′ after long′ (f .accepted) .1));
+          room = rw (f .lent) (keys-fit (k .table) after (opens-right (powerIn k) (k .image) (k .table) ws′ after long′ (f .accepted) .1));
         })
 
-        pub last-kept : (b′ table′ : List ℕ) (keys : ℕ) → Joining place (c .words) (c .keys) b b′ ws′ table table′ keys
+        pub last-kept : (b′ table′ : List ℕ) (keys : ℕ) → Joining (sizeIn k) place (c .words) (c .keys) b b′ ws′ table table′ keys
             → CommitFits (record { control = acted c keys 0; setup = k; buffer = b′ }) ws′ table′ items []
         last-kept b′ table′ keys j =
-            let q : Shown b′ table′ keys after = rw at-place at (j .joins (chunksIn basePower (k .image)) (f .front) (f .back) items fenced) in
+            let q : Shown (sizeIn k) b′ table′ keys after = rw at-place at (j .joins (chunksIn (powerIn k) (k .image)) (f .front) (f .back) items fenced) in
             let e : keys + 0 ≡ c .keys + c .fresh = let x = q .indexed .count in let y = joined-keys (batchPlace k) (f .front) (f .back) items in let z = f .batch .keys in omega arith in
             let r = f .table-room in
             record {
@@ -126,7 +128,7 @@ module _ (c : Control) (k : Setup) (b : List ℕ) where
               accepted = f .accepted;
               long = long′;
               lent = j .sized ∙ f .lent;
-              batch = batch-kept c (acted c keys 0) b b′ (chunksIn basePower (k .image)) _ (f .front ++ f .back) items refl refl (words-kept c (acted c keys 0) b b′ (j .kept) refl) (j .kept .between filterPlace (omega arith) (omega arith)) e (f .batch);
+              batch = batch-kept c (acted c keys 0) b b′ (powerIn k) (chunksIn (powerIn k) (k .image)) _ (f .front ++ f .back) items refl refl (words-kept c (acted c keys 0) b b′ (j .kept) refl) (j .kept .between filterPlace (omega arith) (omega arith)) e (f .batch);
               agree = f .agree;
               apart = f .apart;
               built = record { indexed = q .indexed; blocks = q .blocks; sums = q .sums };

@@ -10,6 +10,7 @@ use lib.Dec.{eqb}
 use lib.ListN.{length, getD, drop}
 use borrow.Author.Tests.{eq-eqb, ne-eqb}
 use Rattle.spec.specs.Basics.{both}
+use Rattle.spec.specs.Places.{base}
 use Rattle.spec.specs.Words.{wordsOf}
 use Rattle.spec.specs.Medium.{Action}
 use Rattle.spec.specs.Actions.{linesFor, padded}
@@ -25,7 +26,7 @@ use Rattle.spec.specs.declared.Report.{Report}
 use Rattle.spec.specs.declared.Report.the-variants as R
 use Rattle.words.specs.Image.{Saved}
 use Rattle.buffer.specs.Areas.{batchRoom}
-use Rattle.session.specs.State.{commitOlds, bufferPart, batchWords, batchItems, chunkIn, linesIn, commitActions, formatActions, blockActions, stateAt}
+use Rattle.session.specs.State.{sizeIn, powerIn, commitOlds, bufferPart, batchWords, batchItems, chunkIn, linesIn, commitActions, formatActions, blockActions, stateAt}
 use Rattle.session.specs.Fits.{CommitFits, TaskFits, Reads, Fits}
 use Rattle.session.proofs.Kept.{words-kept, same-items, same-acts, end-kept, staging-kept, reads-kept}
 use Rattle.actions.specs.Nth.{nth, nthReport, commitCount, formatCount}
@@ -71,12 +72,12 @@ module _ (c : Control) (k : Setup) (b bytes table : List ℕ) (same-bytes : k .i
 
   module _ (e : c .phase ≡ 2) where
     abbrev S : List Action → State
-    S = Busy (k .image) (k .table) (batchItems c b) Staging
+    S = Busy (powerIn k) (k .image) (k .table) (batchItems c b) Staging
 
     pub staging-ends : length (blockActions k b) ≤ c .next → Does Step (memory s bytes table) (memory (with′ (ended c) b) bytes table) (R.End 0)
     unfolding stateAt batchItems batchWords
     staging-ends h =
-        step-ends s (with′ (ended c) b) bytes bytes table table (k .image) (k .table) 0 (Rest (k .image) (k .table) (batchItems c b)) S (busy (k .image) (k .table) (batchItems c b) Staging)
+        step-ends s (with′ (ended c) b) bytes bytes table table (k .image) (k .table) 0 (Rest (powerIn k) (k .image) (k .table) (batchItems c b)) S (busy (powerIn k) (k .image) (k .table) (batchItems c b) Staging)
         same-bytes same-words last refl (λ f. (f .0, staging-kept c k b (wordsOf bytes) table (batchItems c b) ((rw last at (f .1)) .0)))
       where
         last : stateAt c k b ≡ S []
@@ -87,7 +88,7 @@ module _ (c : Control) (k : Setup) (b bytes table : List ℕ) (same-bytes : k .i
     unfolding batchItems batchWords
     staging-acts bytes′ r h er changed =
         rw er
-        (step-acts s (with′ stored b) bytes bytes′ table table (k .image) (k .table) 0 (Rest (k .image) (k .table) (batchItems c b)) S (busy (k .image) (k .table) (batchItems c b) Staging) same-bytes same-words
+        (step-acts s (with′ stored b) bytes bytes′ table table (k .image) (k .table) 0 (Rest (powerIn k) (k .image) (k .table) (batchItems c b)) S (busy (powerIn k) (k .image) (k .table) (batchItems c b) Staging) same-bytes same-words
         now′ rest here after done refl (table-kept (stateAt c k b) table) fits)
       where
         now′ : Action
@@ -121,7 +122,7 @@ module _ (c : Control) (k : Setup) (b bytes table : List ℕ) (same-bytes : k .i
     acts = commitActions c k b
 
     abbrev F : List Action → State
-    F = Busy (k .image) (k .table) (batchItems c b) (Committing (commitOlds k))
+    F = Busy (powerIn k) (k .image) (k .table) (batchItems c b) (Committing (commitOlds k))
 
     abbrev act : Action
     act = nth acts (c .next)
@@ -147,7 +148,7 @@ module _ (c : Control) (k : Setup) (b bytes table : List ℕ) (same-bytes : k .i
       pub commit-acts : c .next + 1 < commitCount (c .words) → Does Step (memory s bytes table) (memory (with′ (acted c (c .keys) (c .fresh)) b) bytes′ table) r
       commit-acts h =
           rw er
-          (step-acts s s′ bytes bytes′ table table (k .image) (k .table) 0 (Rest (k .image) (k .table) []) F (busy (k .image) (k .table) (batchItems c b) (Committing (commitOlds k))) same-bytes same-words
+          (step-acts s s′ bytes bytes′ table table (k .image) (k .table) 0 (Rest (powerIn k) (k .image) (k .table) []) F (busy (powerIn k) (k .image) (k .table) (batchItems c b) (Committing (commitOlds k))) same-bytes same-words
           act (drop (c .next + 1) acts) (here (omega arith)) after done refl (table-kept (stateAt c k b) table) fits)
         where
           s′ : Session
@@ -170,11 +171,11 @@ module _ (c : Control) (k : Setup) (b bytes table : List ℕ) (same-bytes : k .i
               )
 
       -- the last, with its batch joined
-      pub commit-joins : (b′ table′ : List ℕ) (keys place : ℕ) → place ≡ 512 * chunkIn k + 8 * linesIn k → c .next + 1 ≡ commitCount (c .words)
-          → Joining place (c .words) (c .keys) b b′ (wordsOf bytes′) table table′ keys → Does Step (memory s bytes table) (memory (with′ (acted c keys 0) b′) bytes′ table′) r
+      pub commit-joins : (b′ table′ : List ℕ) (keys place : ℕ) → place ≡ base (powerIn k) (chunkIn k) + 8 * linesIn k → c .next + 1 ≡ commitCount (c .words)
+          → Joining (sizeIn k) place (c .words) (c .keys) b b′ (wordsOf bytes′) table table′ keys → Does Step (memory s bytes table) (memory (with′ (acted c keys 0) b′) bytes′ table′) r
       commit-joins b′ table′ keys place is-place h j =
           rw er
-          (step-acts s s′ bytes bytes′ table table′ (k .image) (k .table) 0 (Rest (k .image) (k .table) []) F (busy (k .image) (k .table) (batchItems c b) (Committing (commitOlds k))) same-bytes same-words
+          (step-acts s s′ bytes bytes′ table table′ (k .image) (k .table) 0 (Rest (powerIn k) (k .image) (k .table) []) F (busy (powerIn k) (k .image) (k .table) (batchItems c b) (Committing (commitOlds k))) same-bytes same-words
           act (drop (c .next + 1) acts) (here (omega arith)) after done (j .sized) (rw (at-3 c k b e) tt) fits)
         where
           s′ : Session
@@ -190,25 +191,25 @@ module _ (c : Control) (k : Setup) (b bytes table : List ℕ) (same-bytes : k .i
           fits f = (j .kept .long ∙ f .0, rw (after, none, words) (last-kept c k b (wordsOf bytes) table (batchItems c b) act ((rw (here (omega arith), none) at (f .1)) .0) place is-place b′ table′ keys (rw words at j), tt))
 
     -- that is a fence
-    pub commit-fences : (b′ table′ : List ℕ) (keys place : ℕ) → place ≡ 512 * chunkIn k + 8 * linesIn k → c .next < commitCount (c .words) → commitCount (c .words) ≤ c .next + 1
-        → Joining place (c .words) (c .keys) b b′ (wordsOf bytes) table table′ keys → Does Step (memory s bytes table) (memory (with′ (acted c keys 0) b′) bytes table′) R.Fence
+    pub commit-fences : (b′ table′ : List ℕ) (keys place : ℕ) → place ≡ base (powerIn k) (chunkIn k) + 8 * linesIn k → c .next < commitCount (c .words) → commitCount (c .words) ≤ c .next + 1
+        → Joining (sizeIn k) place (c .words) (c .keys) b b′ (wordsOf bytes) table table′ keys → Does Step (memory s bytes table) (memory (with′ (acted c keys 0) b′) bytes table′) R.Fence
     commit-fences b′ table′ keys place is-place l h j =
         commit-joins bytes R.Fence (sym (ap asReport (commit-last c k b (c .next) h))) refl b′ table′ keys place is-place (omega arith) j
 
     -- a store of one of the batch's words
-    pub commit-stores : (bytes′ : List ℕ) (w v : ℕ) → c .next < 8 * linesFor (min (c .words) batchRoom) → w ≡ 512 * chunkIn k + 8 * linesIn k + c .next
+    pub commit-stores : (bytes′ : List ℕ) (w v : ℕ) → c .next < 8 * linesFor (min (c .words) batchRoom) → w ≡ base (powerIn k) (chunkIn k) + 8 * linesIn k + c .next
         → v ≡ getD (padded (bufferPart b 0 (min (c .words) batchRoom))) (c .next) 0 → Saved bytes bytes′ w v
         → Does Step (memory s bytes table) (memory (with′ (acted c (c .keys) (c .fresh)) b) bytes′ table) (R.Store w v)
     unfolding commitActions batchWords
     commit-stores bytes′ w v h ew ev saved =
         let n : ℕ = min (c .words) batchRoom in
-        commit-acts bytes′ (R.Store w v) (shows-store k (bufferPart b 0 n) (c .next) (linesFor n) (lines-of b 0 n _ refl) w v h ew ev)
+        commit-acts bytes′ (R.Store w v) (shows-store k (bufferPart b 0 n) (c .next) (linesFor n) (lines-of b 0 n _ refl) (sizeIn k) refl w v h ew ev)
         (changed-store (R.Store w v) bytes bytes′ w v refl saved) (omega arith)
 
     pub commit-ends : commitCount (c .words) ≤ c .next → Does Step (memory s bytes table) (memory (with′ (endedEmpty c) b) bytes table) (R.End 0)
     unfolding stateAt batchItems batchWords
     commit-ends h =
-        step-ends s (with′ (endedEmpty c) b) bytes bytes table table (k .image) (k .table) 0 (Rest (k .image) (k .table) []) F (busy (k .image) (k .table) (batchItems c b) (Committing (commitOlds k)))
+        step-ends s (with′ (endedEmpty c) b) bytes bytes table table (k .image) (k .table) 0 (Rest (powerIn k) (k .image) (k .table) []) F (busy (powerIn k) (k .image) (k .table) (batchItems c b) (Committing (commitOlds k)))
         same-bytes same-words last refl (λ f. (f .0, end-kept c k b (wordsOf bytes) table (batchItems c b) ((rw last at (f .1)) .0)))
       where
         last : stateAt c k b ≡ F []

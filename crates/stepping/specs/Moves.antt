@@ -5,6 +5,7 @@ use mathlib.Core.Logic.{_⊎_}
 use mathlib.Core.List.{List, []}
 use Prim.Native.Nat.{ℕ, _+_, _/_, _≤_, _<_}
 use lib.ListN.{length, drop}
+use Rattle.spec.specs.Places.{chunksIn}
 use Rattle.spec.specs.Words.{wordsOf}
 use Rattle.spec.specs.Contract.{Changed}
 use Rattle.spec.specs.Plans.{Olds}
@@ -16,7 +17,7 @@ use Rattle.session.specs.Fits.{RestFits, CleanFits, Reads}
 use Rattle.actions.specs.Nth.{nthReport}
 use Rattle.apply.specs.Passes.{Emptying}
 use Rattle.session.specs.declared.Source.{Source}
-use Rattle.session.specs.State.{cleanActions}
+use Rattle.session.specs.State.{sizeIn, powerIn, cleanActions}
 use Rattle.actions.specs.Record.{cleanCount}
 use Rattle.stepping.specs.Ends.{Ends, acted}
 use Rattle.session.specs.Numbers.{endedEmpty}
@@ -28,7 +29,7 @@ pub record ChunkLeft (k : Setup) (f : Source) (ws b b′ table table′ : List �
   pub from : ℕ
   pub until : ℕ
   pub ends : Ends k f at end from until
-  pub empties : Emptying (k .image / 4096) ws b b′ table table′ keys at end from until (f .words) keys′
+  pub empties : Emptying (sizeIn k) (chunksIn (powerIn k) (k .image)) ws b b′ table table′ keys at end from until (f .words) keys′
 
 -- AN ACTION: of any memory its report, the image's change, and that the actions behind it stay; and memory stays as the
 -- calls left it

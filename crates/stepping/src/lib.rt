@@ -46,8 +46,17 @@ fn commit_step(
             report: act,
         };
     }
+    let size = places::size_by(setup.power);
     let place = actions::append::batch_start(setup);
-    let keys = apply::join::join(place, control.words, control.keys, buffer, image, table);
+    let keys = apply::join::join(
+        place,
+        control.words,
+        control.keys,
+        buffer,
+        image,
+        table,
+        size,
+    );
     fenced(control, next, keys)
 }
 
@@ -55,7 +64,7 @@ fn commit_step(
 pub fn is_stored(setup: Setup, buffer: &Buffer, at: usize) -> bool
     ensures { λ r. ⌜ r ≡ leb (length (blockActions setup (now (buffer .entry)))) at ⌝ }
 {
-    if 1024 <= at {
+    if 16384 <= at {
         return true;
     }
     actions::block::block_count(setup, buffer) <= at
@@ -130,11 +139,12 @@ fn remove_source(
 ) -> usize
     ensures { λ r. ⌜ ChunkLeft setup source (wordsOf (now (image .entry))) (now (buffer .entry)) (now (buffer .exit)) (now (table .entry)) (now (table .exit)) keys r ⌝ }
 {
+    let size = places::size_by(setup.power);
     let from = actions::append::batch_start(setup);
-    let until = from + 8 * actions::append::batch_lines(source.words);
-    let at = 512 * (source.chunk % 512);
-    let end = at + 8 * (source.lines % 128);
-    let count = setup.image / 4096;
+    let until = from + 8 * actions::append::kept_lines(source.words);
+    let at = places::first_word(size, source.chunk % 512);
+    let end = at + 8 * (source.lines % 2048);
+    let count = places::chunks_in(size, setup.image);
     apply::remove::remove_chunk(
         image,
         count,
@@ -146,6 +156,7 @@ fn remove_source(
         from,
         until,
         source.words,
+        size,
     )
 }
 

@@ -13,7 +13,7 @@ use Rattle.spec.specs.Contract.{oddBytes, Changed, Exact}
 use Rattle.spec.specs.declared.Report.{Report}
 use Rattle.spec.specs.declared.Report.the-variants as R
 use Rattle.theory_histories.proofs.Bytes.{same-bytes}
-use Rattle.session.specs.State.{stateOf, limit}
+use Rattle.session.specs.State.{stateOf}
 use Rattle.session.specs.Fits.{Proper, Fits}
 use Rattle.session.specs.Promise.{Memory, Does}
 use Rattle.running.specs.Run.{Ran, isStore, RunsOn}
@@ -53,16 +53,16 @@ alike-in f m l n = rw (n .state, n .words, n .long, n .lengths)
 -- a step
 step-near : (m l m′ l′ : Memory) (r q : Report) → Near m l → Does Step m m′ r → Does Step l l′ q → (r ≡ q) × Near m′ l′
 step-near m l m′ l′ r q n c d =
-    let x : Exact Proper stateOf Fits 12 limit Step (m .session) (m′ .session) (m .image) (m′ .image) (m .table) (m′ .table) r = c .exact (n .fits) in
-    let y : Exact Proper stateOf Fits 12 limit Step (l .session) (l′ .session) (l .image) (l′ .image) (l .table) (l′ .table) q = d .exact (n .also) in
-    let e : r ≡ q = x .answered ∙ alike-in (answer 12 limit Step) m l n ∙ sym (y .answered) in
+    let x : Exact Proper stateOf Fits Step (m .session) (m′ .session) (m .image) (m′ .image) (m .table) (m′ .table) r = c .exact (n .fits) in
+    let y : Exact Proper stateOf Fits Step (l .session) (l′ .session) (l .image) (l′ .image) (l .table) (l′ .table) q = d .exact (n .also) in
+    let e : r ≡ q = x .answered ∙ alike-in (answer Step) m l n ∙ sym (y .answered) in
     let i = changed-near r (m .image) (l .image) (m′ .image) (l′ .image) (n .words) (n .odd) (n .long) (c .image) (rw e (d .image)) in (
       e,
       record {
         words = i .0;
         odd = i .1 .0;
         long = i .1 .1;
-        state = x .became ∙ alike-in (next 12 limit Step) m l n ∙ sym (y .became);
+        state = x .became ∙ alike-in (next Step) m l n ∙ sym (y .became);
         lengths = c .sized ∙ n .lengths ∙ sym (d .sized);
         fits = x .fits;
         also = y .fits;

@@ -2,10 +2,10 @@
 -- its begin, whatever image and key table of the same lengths are lent to its steps.
 -- Assumes nothing.
 use Rattle.spec.specs.Fixed.{Fixed}
-use Rattle.session.specs.State.{limit, stateOf}
+use Rattle.session.specs.State.{stateOf}
 use Rattle.session.specs.Fits.{Fits}
 use Rattle.theory_histories.proofs.Fixed.{fixed}
 use Rattle.session.specs.Fits.{Proper}
 
-pub one-reading : Fixed Proper stateOf Fits 12 limit
-one-reading = fixed Proper stateOf Fits 12 limit
+pub one-reading : Fixed Proper stateOf Fits
+one-reading = fixed Proper stateOf Fits

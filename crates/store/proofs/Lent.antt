@@ -83,7 +83,7 @@ is-setup h g = LL.owed T.the-type T′.the-laws h _ g .1 .0
 
 -- the array `buffer`: its type, where it lies, its machine value
 abbrev pub Row-buffer : RattleType
-Row-buffer = Array u64 1664
+Row-buffer = Array u64 11264
 
 abbrev pub d-buffer : ℕ
 d-buffer = offset (fieldOf T′.mir 2)
@@ -96,17 +96,17 @@ is-buffer h g = subst (λ (zs : List ℕ). Is Row-buffer zs (val-buffer zs ∷ [
 
 -- in memory, from its cell, and back
 module _ {M : Type 1} (𝓤 : URA M) (H : Heap 𝓤) (A : Atoms 𝓤) (W : Given 𝓤 H A) (b o : ℕ) (xs : List ℕ) where
-  in-buffer : Is Row-buffer xs (val-buffer xs ∷ []) → ent 𝓤 (H .at fullShare (tyArray (tyInt w64) 1664) b o (val-buffer xs)) (sem 𝓤 H A (partAt Row-buffer fullShare xs b o))
+  in-buffer : Is Row-buffer xs (val-buffer xs ∷ []) → ent 𝓤 (H .at fullShare (tyArray (tyInt w64) 11264) b o (val-buffer xs)) (sem 𝓤 H A (partAt Row-buffer fullShare xs b o))
   unfolding partOf
   in-buffer j =
-      qed W (‵ (fat fullShare (tyArray (tyInt w64) 1664) b o (val-buffer xs)) ∷ []) ∵ owned ! Row-buffer (Is Row-buffer) (array-makes 𝓤 H A W u64 (uint-makes 𝓤 H A W w64) 1664) xs (val-buffer xs ∷ []) j $ move ! (1 ∷ 0 ∷ []) $ fjoin ! $
+      qed W (‵ (fat fullShare (tyArray (tyInt w64) 11264) b o (val-buffer xs)) ∷ []) ∵ owned ! Row-buffer (Is Row-buffer) (array-makes 𝓤 H A W u64 (uint-makes 𝓤 H A W w64) 11264) xs (val-buffer xs ∷ []) j $ move ! (1 ∷ 0 ∷ []) $ fjoin ! $
       fpack ! (List Val) (λ us. fsep (cellAt fullShare (Row-buffer .mir) us b o) (Row-buffer .own xs us)) (val-buffer xs ∷ []) $ done !
 
-  out-buffer : ent 𝓤 (sem 𝓤 H A (partAt Row-buffer fullShare xs b o)) (guard 𝓤 (Is Row-buffer xs (val-buffer xs ∷ [])) (H .at fullShare (tyArray (tyInt w64) 1664) b o (val-buffer xs)))
+  out-buffer : ent 𝓤 (sem 𝓤 H A (partAt Row-buffer fullShare xs b o)) (guard 𝓤 (Is Row-buffer xs (val-buffer xs ∷ [])) (H .at fullShare (tyArray (tyInt w64) 11264) b o (val-buffer xs)))
   unfolding partOf
   out-buffer =
       qed W (‵ (partAt Row-buffer fullShare xs b o) ∷ []) ∵ fpick ! (λ vs. fsplit ! $
-      spelt ! Row-buffer (Is Row-buffer) (shows 𝓤 H A Row-buffer) (array-vals (uint-vals w64)) (array-tells u64 (uint-vals w64) (uint-tells w64) 1664) fullShare xs vs b o $
+      spelt ! Row-buffer (Is Row-buffer) (shows 𝓤 H A Row-buffer) (array-vals (uint-vals w64)) (array-tells u64 (uint-vals w64) (uint-tells w64) 11264) fullShare xs vs b o $
       move ! (1 ∷ []) $ peeks ! Row-buffer (Is Row-buffer) (shows 𝓤 H A Row-buffer) xs (val-buffer xs ∷ []) (λ j. drop ! $ check ! j $ done !))
 
 -- the machine value by its parts
@@ -138,12 +138,12 @@ module _ {M : Type 1} (𝓤 : URA M) (H : Heap 𝓤) (A : Atoms 𝓤) (W : Given
   pub cut : (c-control : Control) (c-setup : Setup) (x-buffer : List ℕ) → Is Row-buffer x-buffer (val-buffer x-buffer ∷ []) → ent 𝓤 (H .at fullShare T′.mir b o (parts c-control c-setup x-buffer)) (sep 𝓤 (sem 𝓤 H A (partAt Row-buffer fullShare x-buffer b (o + d-buffer))) (Rest c-control c-setup))
   cut c-control c-setup x-buffer j-buffer =
       qed W (‵ (fat fullShare T′.mir b o (parts c-control c-setup x-buffer)) ∷ []) ∵
-      use1 W ((‵ (fat fullShare T-Control′.mir b (o + d-control) (val-control c-control)) ⊛ ‵ (fat fullShare T-Setup′.mir b (o + d-setup) (val-setup c-setup)) ⊛ ‵ (fat fullShare (tyArray (tyInt w64) 1664) b (o + d-buffer) (val-buffer x-buffer)) ⊛ ‵ ftrue) ⊛ raw (all 𝓤 Way)) (W .laws .at-fields fullShare _ (tysOf T′.mir) b o (vcons (val-control c-control) (vcons (val-setup c-setup) (vcons (val-buffer x-buffer) vnil)))) $ split ! $
+      use1 W ((‵ (fat fullShare T-Control′.mir b (o + d-control) (val-control c-control)) ⊛ ‵ (fat fullShare T-Setup′.mir b (o + d-setup) (val-setup c-setup)) ⊛ ‵ (fat fullShare (tyArray (tyInt w64) 11264) b (o + d-buffer) (val-buffer x-buffer)) ⊛ ‵ ftrue) ⊛ raw (all 𝓤 Way)) (W .laws .at-fields fullShare _ (tysOf T′.mir) b o (vcons (val-control c-control) (vcons (val-setup c-setup) (vcons (val-buffer x-buffer) vnil)))) $ split ! $
       split ! $ move ! (1 ∷ []) $ split ! $ move ! (1 ∷ []) $ split ! $ use1 W (‵ (partAt Row-buffer fullShare x-buffer b (o + d-buffer))) (in-buffer 𝓤 H A W b (o + d-buffer) x-buffer j-buffer) $ move ! (1 ∷ []) $ drop ! $ move ! (0 ∷ 2 ∷ 1 ∷ 3 ∷ []) $ done !
 
   pub back : (c-control : Control) (c-setup : Setup) (x-buffer : List ℕ) → ent 𝓤 (sep 𝓤 (sem 𝓤 H A (partAt Row-buffer fullShare x-buffer b (o + d-buffer))) (Rest c-control c-setup)) (guard 𝓤 ((Is Row-buffer x-buffer (val-buffer x-buffer ∷ []))) (H .at fullShare T′.mir b o (parts c-control c-setup x-buffer)))
   back c-control c-setup x-buffer =
       qed W (‵ (partAt Row-buffer fullShare x-buffer b (o + d-buffer)) ∷ ‵ (fat fullShare T-Control′.mir b (o + d-control) (val-control c-control)) ∷ ‵ (fat fullShare T-Setup′.mir b (o + d-setup) (val-setup c-setup)) ∷ raw (all 𝓤 Way) ∷ []) ∵
-      use1 W (given (Is Row-buffer x-buffer (val-buffer x-buffer ∷ [])) (‵ (fat fullShare (tyArray (tyInt w64) 1664) b (o + d-buffer) (val-buffer x-buffer)))) (out-buffer 𝓤 H A W b (o + d-buffer) x-buffer) $ learn ! (λ j-buffer. check ! j-buffer $
+      use1 W (given (Is Row-buffer x-buffer (val-buffer x-buffer ∷ [])) (‵ (fat fullShare (tyArray (tyInt w64) 11264) b (o + d-buffer) (val-buffer x-buffer)))) (out-buffer 𝓤 H A W b (o + d-buffer) x-buffer) $ learn ! (λ j-buffer. check ! j-buffer $
       use0 W (‵ ftrue) (id⊢ 𝓤 (emp 𝓤)) $ move ! (1 ∷ 0 ∷ []) $ join ! $ move ! (2 ∷ 0 ∷ []) $ join ! $ move ! (1 ∷ 0 ∷ []) $ join ! $ move ! (1 ∷ []) $ use1 W (raw (Way (vcons (val-control c-control) (vcons (val-setup c-setup) (vcons (val-buffer x-buffer) vnil))))) (allE 𝓤 Way (vcons (val-control c-control) (vcons (val-setup c-setup) (vcons (val-buffer x-buffer) vnil)))) $ move ! (1 ∷ 0 ∷ []) $
       use2 W (‵ (fat fullShare T′.mir b o (parts c-control c-setup x-buffer))) (apply∗ 𝓤 (fieldsAt 𝓤 H fullShare (tysOf T′.mir) zero b o (vcons (val-control c-control) (vcons (val-setup c-setup) (vcons (val-buffer x-buffer) vnil)))) (H .at fullShare T′.mir b o (parts c-control c-setup x-buffer))) $ done !)

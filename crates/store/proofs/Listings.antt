@@ -10,14 +10,14 @@ use native.Mathlib.Decide.{decLt}
 use lib.ListN.{length, getD, take}
 use lib.Seq.{ext-getD, getD-take}
 use Rattle.spec.specs.Words.{wordsOf}
-use Rattle.spec.specs.Places.{basePower, chunksIn}
+use Rattle.spec.specs.Places.{chunksIn}
 use Rattle.spec.specs.Log.{Entry}
 use Rattle.spec.specs.Contents.{entriesIn}
-use Rattle.spec.specs.Machine.{State, readGate, readWords}
+use Rattle.spec.specs.Machine.{State, statePower, readGate, readWords}
 use Rattle.spec.specs.Reopening.{Same}
 use Rattle.spec.specs.declared.Refusal.{Refusal}
 use Rattle.session.specs.declared.Session.{Session}
-use Rattle.session.specs.State.{stateOf, limit}
+use Rattle.session.specs.State.{stateOf}
 use Rattle.session.specs.Fits.{Proper, Fits}
 use Rattle.lookup.specs.declared.Counted.{Counted}
 use Rattle.lookup.specs.declared.Counted.the-variants as C
@@ -43,7 +43,7 @@ same-keys ks out one other a b l m x y f g = (same, ext-getD 0 one other (l ∙ 
     at i (yes h) = sym (getD-take a one i 0 h) ∙ ap (λ (l : List ℕ). getD l i 0) front ∙ getD-take a other i 0 h
     at i (no n) = f i (omega arith) ∙ sym (g i (let e = same in omega arith))
 
-module _ (s t : Session) (image table beside : List ℕ) (w : Same Proper stateOf Fits 12 limit s t image image table beside) where
+module _ (s t : Session) (image table beside : List ℕ) (w : Same Proper stateOf Fits s t image image table beside) where
   -- the gate answers the same at both
   same-gates : readGate (stateOf t) (length image) (length beside) ≡ readGate (stateOf s) (length image) (length table)
   same-gates = gates readGate s t image image table beside w
@@ -59,7 +59,7 @@ module _ (s t : Session) (image table beside : List ℕ) (w : Same Proper stateO
   read σ = readWords σ (wordsOf image)
 
   abbrev entries : State → List Entry
-  entries σ = entriesIn basePower (chunksIn basePower (length image)) (read σ)
+  entries σ = entriesIn (statePower σ) (chunksIn (statePower σ) (length image)) (read σ)
 
   -- one key
   pub key-alike : (key : ℕ) (r q : Listed) → KeyListed s key image table r → KeyListed t key image beside q → r ≡ q

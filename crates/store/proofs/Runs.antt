@@ -16,7 +16,7 @@ use Rattle.session.specs.declared.Setup.{Setup}
 use Rattle.session.specs.declared.Session.{Session}
 use Rattle.spec.specs.declared.Report.{Report}
 use Rattle.spec.specs.declared.Report.the-variants as R
-use Rattle.session.specs.State.{stateOf, limit}
+use Rattle.session.specs.State.{stateOf}
 use Rattle.session.specs.Fits.{Fits}
 use Rattle.running.specs.Fast.{Idles, HereIn, OnFastPath}
 use Rattle.running.specs.Run.{Ran, Runs}
@@ -30,7 +30,7 @@ pub data AllStores : List Report → Type 0 where
 
 abbrev pub Steps : (m m′ : Memory) → Report → Medium → Type 0
 Steps m m′ r o =
-    (rs : List Report) × (AllStores rs × ((o′ : Medium) × Stepped Proper stateOf Fits 12 limit (rs ++ (r ∷ [])) o (m .session) (m .image) (m .table) o′ (m′ .session) (m′ .image) (m′ .table)))
+    (rs : List Report) × (AllStores rs × ((o′ : Medium) × Stepped Proper stateOf Fits (rs ++ (r ∷ [])) o (m .session) (m .image) (m .table) o′ (m′ .session) (m′ .image) (m′ .table)))
 
 ran-steps : (n : ℕ) (m m′ : Memory) (r : Report) (o : Medium) → Ran n m m′ r → Steps m m′ r o
 ran-steps zero m m′ r o q = ([], (none, (mediumAfter r o, (m′ .session, (m′ .image, (m′ .table, (q, (refl, (refl, (refl, refl))))))))))

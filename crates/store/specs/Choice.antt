@@ -6,6 +6,7 @@ use lib.ListN.{length}
 use Rattle.spec.specs.Places.{chunksIn}
 use Rattle.spec.specs.Machine.{Choose}
 use Rattle.session.specs.declared.Session.{Session}
+use Rattle.session.specs.State.{powerIn}
 use Rattle.spec.specs.declared.Report.{Report}
 use Rattle.choosing.specs.Choices.{ChosenIn}
 use Rattle.session.specs.Promise.{Does, memory}
@@ -13,4 +14,4 @@ use Rattle.session.specs.Promise.{Does, memory}
 -- the call's report, for any memory a refusal or a chunk of the lent image
 pub record Chosen (s : Session) (bytes table : List ℕ) (r : Report) : Type 0 where
   pub called : Does Choose (memory s bytes table) (memory s bytes table) r
-  pub inside : ChosenIn (chunksIn 12 (length bytes)) r
+  pub inside : ChosenIn (chunksIn (powerIn (s .setup)) (length bytes)) r

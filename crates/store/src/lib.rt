@@ -18,17 +18,18 @@ use session::Session;
 use spec::Report;
 
 // OPENING AND FORMATTING
-// Begins a formatting; the register's numbers are told each with a mark whether it is given.
+// Begins a formatting, told the chunk power; the register's numbers are told each with a mark whether it is given.
 pub fn format(
     s: &mut Session,
     image: &[u8],
     table: &[u64],
+    power: u64,
     station_given: bool,
     station: u64,
     centre_given: bool,
     centre: u64,
 ) -> Report
-    ensures { λ r. ⌜ Does (Format (given «station_given» station) (given «centre_given» centre)) (memory (now (s .entry)) (now (image .entry)) (now (table .entry))) (memory (now (s .exit)) (now (image .entry)) (now (table .entry))) r ⌝ }
+    ensures { λ r. ⌜ Does (Format power (given «station_given» station) (given «centre_given» centre)) (memory (now (s .entry)) (now (image .entry)) (now (table .entry))) (memory (now (s .exit)) (now (image .entry)) (now (table .entry))) r ⌝ }
 {
     let c = s.control;
     let k = s.setup;
@@ -38,6 +39,7 @@ pub fn format(
         &s.buffer,
         image,
         table,
+        power,
         station_given,
         station,
         centre_given,
@@ -61,7 +63,7 @@ pub fn open_register(s: &mut Session, image: &[u8], table: &mut [u64]) -> Report
 }
 
 // STAGING
-// Begins staging a put of up to 4,088 bytes, for whatever version stands.
+// Begins staging a put of up to 4,088 bytes (65,528 in large chunks), for whatever version stands.
 pub fn stage_put(s: &mut Session, image: &[u8], table: &[u64], key: u64, value: &[u8]) -> Report
     ensures { λ r. ⌜ Does (Put Absent key (now (value .entry))) (memory (now (s .entry)) (now (image .entry)) (now (table .entry))) (memory (now (s .exit)) (now (image .entry)) (now (table .entry))) r ⌝ }
 {

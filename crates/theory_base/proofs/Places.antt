@@ -1,6 +1,7 @@
 -- The laws of places, for chunks of 2^12 to 2^16 bytes: all that is known of a chunk's size.
 -- Assumes nothing.
-use mathlib.Core.Bool.{true}
+use mathlib.Core.Bool.{Bool, true, false}
+use mathlib.Core.Logic.{_⊎_, inl, inr, ⊎-elim}
 use mathlib.Core.Path.{_≡_, refl, ap}
 use Prim.Native.Nat.{ℕ, suc, _+_, _-_, _*_, _/_, _%_, _^_, _≤_, _<_}
 use native.Mathlib.Omega.{arith}
@@ -8,9 +9,9 @@ use native.Mathlib.Decide.{ℕ-discrete, decLt}
 use native.Mathlib.Nat.{zero-mul, mul-le-mul-right, suc-mul}
 use lib.Dec.{eqb, leb}
 use borrow.Author.Tests.{eqb-true, leb-true, le-leb}
-use Rattle.spec.specs.Basics.{both}
+use Rattle.spec.specs.Basics.{both, either}
 use Rattle.theory_base.proofs.Lists.{both-l, both-r}
-use Rattle.spec.specs.Places.{chunkBytes, chunkWords, chunkLines, chunkUnits, base, firstLine, firstUnit, wordChunk, unitChunk, unitIn, lineOf, unitWord, chunksIn, lengthAllowed, maxChunks}
+use Rattle.spec.specs.Places.{chunkBytes, chunkWords, chunkLines, chunkUnits, base, firstLine, firstUnit, wordChunk, unitChunk, unitIn, lineOf, unitWord, chunksIn, lengthAllowed, sizeAllowed, anyAllowed, isPower, basePower, largePower, maxChunks}
 
 -- a fact of each of the five
 pub each : (P : ℕ → Type 0) → P 12 → P 13 → P 14 → P 15 → P 16 → (p : ℕ) → 12 ≤ p → p ≤ 16 → P p
@@ -179,3 +180,31 @@ module _ (p : ℕ) (lo : 12 ≤ p) (hi : p ≤ 16) where
 -- unit u begins at line 4 · u
 pub unit-line : (u j : ℕ) → lineOf (unitWord u + j) ≡ 4 * u + j / 8
 unit-line u j = omega arith
+
+-- The powers that there are, and the lengths allowed.
+either-is : (a b : Bool) → either a b ≡ true → (a ≡ true) ⊎ (b ≡ true)
+either-is true b h = inl refl
+either-is false b h = inr h
+
+pub power-is : (p : ℕ) → isPower p ≡ true → (p ≡ basePower) ⊎ (p ≡ largePower)
+power-is p h = ⊎-elim (λ a. inl (eqb-true p basePower a)) (λ a. inr (eqb-true p largePower a)) (either-is (eqb p basePower) (eqb p largePower) h)
+
+pub power-bounds : (p : ℕ) → isPower p ≡ true → (12 ≤ p) × (p ≤ 16)
+power-bounds p h = ⊎-elim (λ e. (omega arith, omega arith)) (λ e. (omega arith, omega arith)) (power-is p h)
+
+either-l : (a b : Bool) → a ≡ true → either a b ≡ true
+either-l a b h = rw h
+
+either-r : (a b : Bool) → b ≡ true → either a b ≡ true
+either-r true b h = refl
+either-r false b h = h
+
+pub size-allowed : (p bytes : ℕ) → sizeAllowed p bytes ≡ true → (isPower p ≡ true) × (lengthAllowed p bytes ≡ true)
+unfolding sizeAllowed
+size-allowed p bytes h = (both-l (isPower p) (lengthAllowed p bytes) h, both-r (isPower p) (lengthAllowed p bytes) h)
+
+-- a length allowed for a power is allowed for that size, and for one of them
+pub allowed-size : (p bytes : ℕ) → isPower p ≡ true → lengthAllowed p bytes ≡ true → (sizeAllowed p bytes ≡ true) × (anyAllowed bytes ≡ true)
+unfolding sizeAllowed anyAllowed
+allowed-size p bytes h l =
+    (rw (h, l) refl, ⊎-elim (λ e. either-l (lengthAllowed basePower bytes) (lengthAllowed largePower bytes) (rw e at l)) (λ e. either-r (lengthAllowed basePower bytes) (lengthAllowed largePower bytes) (rw e at l)) (power-is p h))

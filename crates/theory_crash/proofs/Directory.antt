@@ -13,7 +13,7 @@ use lib.Seq.{getD-drop}
 use borrow.Author.Tests.{eqb-true, leb-true, ltb-true, le-leb, lt-ltb}
 use Rattle.spec.specs.Basics.{pick, both}
 use Rattle.spec.specs.Places.{chunkLines, directoryWord, maxChunks}
-use Rattle.spec.specs.Header.{headerRight}
+use Rattle.spec.specs.Header.{headerRight, headerPower}
 use Rattle.spec.specs.Directory.{isSize, roleBy, roleOf, linesIn, sizeIn, isFree, isLog, isRole, directoryRight, directoryFrom, logWord, dataWord, freedWord}
 use Rattle.spec.specs.Opening.{directoryTest}
 use Rattle.spec.specs.declared.Role.{Role}
@@ -168,3 +168,6 @@ each-test p n ws h = each-from p n maxChunks 0 (drop 8 ws) (λ c l. let e : 0 + 
 -- The header looks at the header line alone.
 pub header-agree : (n : ℕ) (ws vs : List ℕ) → ((k : ℕ) → k < 8 → getD vs k 0 ≡ getD ws k 0) → headerRight n vs ≡ headerRight n ws
 header-agree n ws vs h = rw (h 0 (omega arith), h 1 (omega arith), h 2 (omega arith), h 3 (omega arith), h 4 (omega arith), h 5 (omega arith), h 6 (omega arith), h 7 (omega arith))
+
+pub power-agree : (ws vs : List ℕ) → ((k : ℕ) → k < 8 → getD vs k 0 ≡ getD ws k 0) → headerPower vs ≡ headerPower ws
+power-agree ws vs h = rw (h 0 (omega arith), h 2 (omega arith), h 3 (omega arith), h 4 (omega arith))

@@ -10,19 +10,17 @@ use native.Mathlib.Decide.{ℕ-discrete}
 use lib.Dec.{eqb}
 use lib.ListN.{length, getD, replicate, length-append}
 use lib.Seq.{slice-empty, getD-append-add}
-use borrow.Author.Tests.{eq-eqb}
-use Rattle.spec.specs.Basics.{both}
-use Rattle.spec.specs.Places.{base, directoryWord, maxChunks}
+use borrow.Author.Tests.{eq-eqb, eqb-true}
+use Rattle.spec.specs.Basics.{pick, both}
+use Rattle.spec.specs.Places.{basePower, base, directoryWord, maxChunks}
 use Rattle.spec.specs.Medium.{Cell, fresh, values, added, marked, drained, Action, Store, Flush, Fence, step, Medium, apply, run, latest, cellAt, Mem as Among, CanCutTo}
-use Rattle.spec.specs.Header.{wordValues, headerTest, headerRight, headerMap, checkWord, headerTail}
+use Rattle.spec.specs.Header.{wordValues, fieldsTest, headerTest, headerRight, powerSaid, headerPower, bitOf, powerBit, powerField, headerMap, fieldsOf, sum, checkWord, headerTail}
 use Rattle.spec.specs.Directory.{roleOf, linesOf, sizeOf}
 use Rattle.spec.specs.Log.{Entries, allFrom}
 use Rattle.spec.specs.Contents.{contentsBy, meaning}
-use Rattle.spec.specs.Opening.{Refused, opening}
 use Rattle.spec.specs.Actions.{writes, flushes, firstWordOf, fillOf, blankOf, formatOf}
 use Rattle.spec.specs.declared.Given.{Given}
 use Rattle.spec.specs.declared.Given.the-variants as G
-use Rattle.spec.specs.declared.Refusal.the-variants as N
 use Rattle.theory_base.proofs.Words as W
 use Rattle.theory_base.proofs.Words.{runCell, runCell-append}
 use Rattle.theory_base.proofs.Through.{Through, Each, through-kept, through-map, through-append}
@@ -30,7 +28,7 @@ use Rattle.theory_base.proofs.Places.{base-low}
 use Rattle.theory_log.proofs.Contents.{chosen-best}
 use Rattle.theory_log.proofs.Directory.{lines-is, size-is}
 use Rattle.theory_crash.specs.Accepted.{Ok, Support}
-use Rattle.theory_crash.specs.Rest.{AtRest, Flushed, Holds, Rests, empty, FormatCuts}
+use Rattle.theory_crash.specs.Rest.{AtRest, Flushed, Holds, Rests, empty, NoRegister, FormatCuts}
 use Rattle.theory_crash.proofs.Directory.{role-zero, zero-word}
 use Rattle.theory_crash.proofs.Opening.{refused-2}
 use Rattle.theory_crash.proofs.Rest.{can-from, only, quiet-can}
@@ -38,8 +36,8 @@ use Rattle.theory_crash.proofs.Cells.{each-append, each-writes, each-fl
 
 -- word 0 is 0: no register
 pub no-register : (n : ℕ) (xs : List ℕ) → getD xs 0 0 ≡ 0 → headerRight n xs ≡ false
-unfolding headerTest
-no-register n xs e = rw e (go (eqb ((0 + getD xs 1 0 + getD xs 2 0 + getD xs 3 0 + getD xs 4 0 + getD xs 5 0 + getD xs 6 0 + getD xs 7 0) % wordValues) 0) (eqb (getD xs 1 0) n) (eqb (getD xs 4 0 + getD xs 5 0 + getD xs 6 0) 0))
+unfolding headerTest fieldsTest
+no-register n xs e = rw e (go (eqb ((0 + getD xs 1 0 + getD xs 2 0 + getD xs 3 0 + getD xs 4 0 + getD xs 5 0 + getD xs 6 0 + getD xs 7 0) % wordValues) 0) (eqb (getD xs 1 0) n) (eqb (getD xs 5 0 + getD xs 6 0) 0))
   where
     go : (a b c : Bool) → both a (both b (both c false)) ≡ false
     go true true true = refl
@@ -47,28 +45,47 @@ no-register n xs e = rw e (go (eqb ((0 + getD xs 1 0 + getD xs 2 0 + getD xs 3 0
     go true false c = refl
     go false b c = refl
 
--- the header that the writer makes is right
+-- THE HEADER that the writer makes is right, and says the power.
 check-sum : (x : ℕ) → (x + checkWord x) % wordValues ≡ 0
 check-sum x = omega arith
 
-pub header-made : (n : ℕ) (station centre : Given) (rest : List ℕ) → headerRight n (headerMap station centre ∷ (headerTail n station centre ++ rest)) ≡ true
-unfolding headerTest headerTail
-header-made n (G.Number s) (G.Number c) rest =
-    let x = 7 + (n + (s + (c + (0 + (0 + (0 + 0)))))) in
-    let e : 7 + n + s + c + 0 + 0 + 0 + checkWord x ≡ x + checkWord x = omega arith in
-    rw (e, check-sum x, eq-eqb n n refl)
-header-made n (G.Number s) G.Absent rest =
-    let x = 3 + (n + (s + (0 + (0 + (0 + (0 + 0)))))) in
-    let e : 3 + n + s + 0 + 0 + 0 + 0 + checkWord x ≡ x + checkWord x = omega arith in
-    rw (e, check-sum x, eq-eqb n n refl)
-header-made n G.Absent (G.Number c) rest =
-    let x = 5 + (n + (c + (0 + (0 + (0 + (0 + 0)))))) in
-    let e : 5 + n + c + 0 + 0 + 0 + 0 + checkWord x ≡ x + checkWord x = omega arith in
-    rw (e, check-sum x, eq-eqb n n refl)
-header-made n G.Absent G.Absent rest =
-    let x = 1 + (n + (0 + (0 + (0 + (0 + (0 + 0)))))) in
-    let e : 1 + n + 0 + 0 + 0 + 0 + 0 + checkWord x ≡ x + checkWord x = omega arith in
-    rw (e, check-sum x, eq-eqb n n refl)
+-- a map with the fields that it needs, the last two words being 0
+made : (map n a b c : ℕ) → fieldsTest map a b c ≡ true → headerTest n map n a b c 0 0 (checkWord (map + (n + (a + (b + (c + (0 + (0 + 0)))))))) ≡ true
+unfolding headerTest
+made map n a b c h =
+    let x = map + (n + (a + (b + (c + (0 + (0 + 0)))))) in
+    let e : map + n + a + b + c + 0 + 0 + checkWord x ≡ x + checkWord x = omega arith in
+    rw (e, check-sum x, eq-eqb n n refl, h)
+
+-- by what is given, with a power's bit and field or with none
+abbrev Made : (p bit x n : ℕ) → Given → Given → List ℕ → Type 0
+Made p bit x n station centre rest =
+    let map = 1 + bitOf 2 station + bitOf 4 centre + bit in
+    let words = map ∷ (((n ∷ fieldsOf x station centre) ++ (checkWord (map + (n + sum (fieldsOf x station centre))) ∷ [])) ++ rest) in
+    (headerRight n words ≡ true) × (headerPower words ≡ p)
+
+made-small : (n : ℕ) (station centre : Given) (rest : List ℕ) → Made basePower 0 0 n station centre rest
+unfolding fieldsTest powerSaid
+made-small n (G.Number s) (G.Number c) rest = (made 7 n s c 0 refl, refl)
+made-small n (G.Number s) G.Absent rest = (made 3 n s 0 0 refl, refl)
+made-small n G.Absent (G.Number c) rest = (made 5 n c 0 0 refl, refl)
+made-small n G.Absent G.Absent rest = (made 1 n 0 0 0 refl, refl)
+
+made-other : (p n : ℕ) (station centre : Given) (rest : List ℕ) → Made p 8 p n station centre rest
+unfolding fieldsTest powerSaid
+made-other p n (G.Number s) (G.Number c) rest = (made 15 n s c p refl, refl)
+made-other p n (G.Number s) G.Absent rest = (made 11 n s p 0 refl, refl)
+made-other p n G.Absent (G.Number c) rest = (made 13 n c p 0 refl, refl)
+made-other p n G.Absent G.Absent rest = (made 9 n p 0 0 refl, refl)
+
+pub header-made : (p n : ℕ) (station centre : Given) (rest : List ℕ)
+    → (headerRight n (headerMap p station centre ∷ (headerTail p n station centre ++ rest)) ≡ true) × (headerPower (headerMap p station centre ∷ (headerTail p n station centre ++ rest)) ≡ p)
+unfolding headerTail powerBit powerField
+header-made p n station centre rest = go (eqb p basePower) refl
+  where
+    go : (b : Bool) → eqb p basePower ≡ b → Made p (pick b 0 8) (pick b 0 p) n station centre rest
+    go true e = let q : p ≡ basePower = eqb-true p basePower e in rw q (made-small n station centre rest)
+    go false e = made-other p n station centre rest
 
 -- words 1 to 511 of a new register: the header's tail, and zeros
 zeros-at : (i k : ℕ) → _≡_ {A = ℕ} (getD (replicate i 0) k 0) 0
@@ -76,22 +93,22 @@ zeros-at zero k = refl
 zeros-at (suc i) zero = refl
 zeros-at (suc i) (suc k) = zeros-at i k
 
-tail-length : (n : ℕ) (station centre : Given) → length (headerTail n station centre) ≡ 7
+tail-length : (p n : ℕ) (station centre : Given) → length (headerTail p n station centre) ≡ 7
 unfolding headerTail
-tail-length n (G.Number s) (G.Number c) = refl
-tail-length n (G.Number s) G.Absent = refl
-tail-length n G.Absent (G.Number c) = refl
-tail-length n G.Absent G.Absent = refl
+tail-length p n (G.Number s) (G.Number c) = refl
+tail-length p n (G.Number s) G.Absent = refl
+tail-length p n G.Absent (G.Number c) = refl
+tail-length p n G.Absent G.Absent = refl
 
-pub blank-length : (n : ℕ) (station centre : Given) → length (blankOf (headerTail n station centre)) ≡ 511
+pub blank-length : (p n : ℕ) (station centre : Given) → length (blankOf (headerTail p n station centre)) ≡ 511
 unfolding blankOf
-blank-length n station centre = length-append (headerTail n station centre) (replicate maxChunks 0) ∙ rw (tail-length n station centre)
+blank-length p n station centre = length-append (headerTail p n station centre) (replicate maxChunks 0) ∙ rw (tail-length p n station centre)
 
-blank-free : (n : ℕ) (station centre : Given) (c : ℕ) → getD (blankOf (headerTail n station centre)) (7 + c) 0 ≡ 0
+blank-free : (p n : ℕ) (station centre : Given) (c : ℕ) → getD (blankOf (headerTail p n station centre)) (7 + c) 0 ≡ 0
 unfolding blankOf
-blank-free n station centre c =
-    let e : 7 + c ≡ length (headerTail n station centre) + c = rw (tail-length n station centre) in
-    rw (e, getD-append-add (headerTail n station centre) (replicate maxChunks 0) c 0) (zeros-at maxChunks c)
+blank-free p n station centre c =
+    let e : 7 + c ≡ length (headerTail p n station centre) + c = rw (tail-length p n station centre) in
+    rw (e, getD-append-add (headerTail p n station centre) (replicate maxChunks 0) c 0) (zeros-at maxChunks c)
 
 -- an empty register
 all-empty : (p i c : ℕ) (xs : List ℕ) → ((d : ℕ) → c ≤ d → d < c + i → linesOf p xs d ≡ 0) → allFrom p i c xs ≡ Entries []
@@ -104,12 +121,13 @@ pub empty-contents : (xs : List ℕ) (k : ℕ) → contentsBy (meaning xs) [] k 
 empty-contents xs k = rw (chosen-best k [])
 
 module _ (p n : ℕ) (least : 4 ≤ n) (most : n ≤ maxChunks) where
-  pub empty-ok : (xs : List ℕ) → length xs ≡ base p n → headerRight n xs ≡ true → ((c : ℕ) → c < maxChunks → getD xs (directoryWord c) 0 ≡ 0) → Ok p n xs []
-  empty-ok xs long header free = record {
+  pub empty-ok : (xs : List ℕ) → length xs ≡ base p n → headerRight n xs ≡ true → headerPower xs ≡ p → ((c : ℕ) → c < maxChunks → getD xs (directoryWord c) 0 ≡ 0) → Ok p n xs []
+  empty-ok xs long header power free = record {
     least = least;
     most = most;
     long = long;
     header = header;
+    power = power;
     dirs = λ c l. rw (free c l) (zero-word p n c .0);
     parsed = all-empty p (n - 1) 1 xs (λ d a b. lines-is p xs d ∙ rw (free d (omega arith), role-zero p));
     blocks = λ e t. absurd (t .0);
@@ -119,11 +137,11 @@ module _ (p n : ℕ) (least : 4 ≤ n) (most : n ≤ maxChunks) where
 
 -- The words of a new register: h, then `words`.
 module _ (p : ℕ) (lo : 12 ≤ p) (hi : p ≤ 16) (n : ℕ) (least : 4 ≤ n) (most : n ≤ maxChunks) (m₀ : Medium) (long : length m₀ ≡ base p n) (h : ℕ) (words : List ℕ) (size : length words ≡ 511)
-    (header : headerTest n h (getD words 0 0) (getD words 1 0) (getD words 2 0) (getD words 3 0) (getD words 4 0) (getD words 5 0) (getD words 6 0) ≡ true)
+    (header : headerTest n h (getD words 0 0) (getD words 1 0) (getD words 2 0) (getD words 3 0) (getD words 4 0) (getD words 5 0) (getD words 6 0) ≡ true) (power : powerSaid h (getD words 1 0) (getD words 2 0) (getD words 3 0) ≡ p)
     (free : (c : ℕ) → getD words (7 + c) 0 ≡ 0) where
   new-ok : (xs : List ℕ) → length xs ≡ base p n → getD xs 0 0 ≡ h → ((j : ℕ) → j < 511 → getD xs (1 + j) 0 ≡ getD words j 0) → Ok p n xs []
   new-ok xs l e w =
-      empty-ok p n least most xs l (rw (e, w 0 (omega arith), w 1 (omega arith), w 2 (omega arith), w 3 (omega arith), w 4 (omega arith), w 5 (omega arith), w 6 (omega arith)) header)
+      empty-ok p n least most xs l (rw (e, w 0 (omega arith), w 1 (omega arith), w 2 (omega arith), w 3 (omega arith), w 4 (omega arith), w 5 (omega arith), w 6 (omega arith)) header) (rw (e, w 1 (omega arith), w 2 (omega arith), w 3 (omega arith)) power)
       (λ c q. let r : directoryWord c ≡ 1 + (7 + c) = omega arith in rw r (w (7 + c) (omega arith) ∙ free c))
 
   abbrev B : Medium → Type 0
@@ -136,8 +154,8 @@ module _ (p : ℕ) (lo : 12 ≤ p) (hi : p ≤ 16) (n : ℕ) (least : 4 ≤ n) (
   abbrev Zero : Medium → Type 0
   Zero m = (length m ≡ base p n) × (cellAt m 0 ≡ fresh 0)
 
-  no-cut : (xs : List ℕ) → getD xs 0 0 ≡ 0 → CanCutTo m₀ xs ⊎ (((table : ℕ) → opening p (8 * base p n) xs table ≡ Refused N.NotOpen) ⊎ Holds p n 0 empty xs)
-  no-cut xs e = inr (inl (λ table. refused-2 p lo hi n table xs least most (no-register n xs e)))
+  no-cut : (xs : List ℕ) → getD xs 0 0 ≡ 0 → CanCutTo m₀ xs ⊎ (NoRegister xs ⊎ Holds p n 0 empty xs)
+  no-cut xs e = inr (inl (refused-2 xs (λ n′. no-register n′ xs e)))
 
   zero-cuts : (m : Medium) → Zero m → B m
   zero-cuts m (l, e) xs t = no-cut xs (W.can-fresh m xs t 0 0 (in-words m l 0 (omega arith)) e)
@@ -205,7 +223,7 @@ module _ (p : ℕ) (lo : 12 ≤ p) (hi : p ≤ 16) (n : ℕ) (least : 4 ≤ n) (
       b1 : B (s1 0 m₀ long)
       b1 xs t = two (new-or-old 0 m₀ long xs t)
         where
-          two : (getD xs 0 0 ≡ 0) ⊎ CanCutTo m₀ xs → CanCutTo m₀ xs ⊎ (((table : ℕ) → opening p (8 * base p n) xs table ≡ Refused N.NotOpen) ⊎ Holds p n 0 empty xs)
+          two : (getD xs 0 0 ≡ 0) ⊎ CanCutTo m₀ xs → CanCutTo m₀ xs ⊎ (NoRegister xs ⊎ Holds p n 0 empty xs)
           two (inl e) = no-cut xs e
           two (inr c) = inl c
 
@@ -238,7 +256,7 @@ module _ (p : ℕ) (lo : 12 ≤ p) (hi : p ≤ 16) (n : ℕ) (least : 4 ≤ n) (
     b1 : B m1
     b1 xs t = two (new-or-old h m (z .0) xs t)
       where
-        two : (getD xs 0 0 ≡ h) ⊎ CanCutTo m xs → CanCutTo m₀ xs ⊎ (((table : ℕ) → opening p (8 * base p n) xs table ≡ Refused N.NotOpen) ⊎ Holds p n 0 empty xs)
+        two : (getD xs 0 0 ≡ h) ⊎ CanCutTo m xs → CanCutTo m₀ xs ⊎ (NoRegister xs ⊎ Holds p n 0 empty xs)
         two (inr c) = zero-cuts m z xs c
         two (inl e) =
             let l1 : length m1 ≡ base p n = W.length-apply (Store 0 h) m ∙ z .0 in
@@ -314,20 +332,20 @@ module _ (p : ℕ) (lo : 12 ≤ p) (hi : p ≤ 16) (n : ℕ) (least : 4 ≤ n) (
 
 -- FORMATTING an image of n chunks, whatever the medium holds
 pub format-through : (p : ℕ) → 12 ≤ p → p ≤ 16 → (n : ℕ) → 4 ≤ n → n ≤ maxChunks → (station centre : Given) (m₀ : Medium) → length m₀ ≡ base p n
-    → Through (FormatCuts p n m₀) (Rests p n 0 empty) (formatOf n station centre) m₀
+    → Through (FormatCuts p n m₀) (Rests p n 0 empty) (formatOf p n station centre) m₀
 unfolding formatOf blankOf
 format-through p lo hi n least most station centre m₀ long =
-    new-through p lo hi n least most m₀ long (headerMap station centre) (blankOf (headerTail n station centre)) (blank-length n station centre)
-    (header-made n station centre (replicate maxChunks 0)) (blank-free n station centre)
+    new-through p lo hi n least most m₀ long (headerMap p station centre) (blankOf (headerTail p n station centre)) (blank-length p n station centre)
+    (header-made p n station centre (replicate maxChunks 0) .0) (header-made p n station centre (replicate maxChunks 0) .1) (blank-free p n station centre)
 
-pub format-count : (n : ℕ) (station centre : Given) → length (formatOf n station centre) ≡ 582
+pub format-count : (p n : ℕ) (station centre : Given) → length (formatOf p n station centre) ≡ 582
 unfolding formatOf fillOf
-format-count n station centre = simp (length-append, length-writes, blank-length n station centre)
+format-count p n station centre = simp (length-append, length-writes, blank-length p n station centre)
 
 -- what a formatting leaves in the directory
 pub format-fresh : (p : ℕ) → 12 ≤ p → p ≤ 16 → (n : ℕ) → 4 ≤ n → n ≤ maxChunks → (station centre : Given) (m₀ : Medium) → length m₀ ≡ base p n
-    → (c : ℕ) → c < maxChunks → cellAt (run (formatOf n station centre) m₀) (directoryWord c) ≡ fresh 0
+    → (c : ℕ) → c < maxChunks → cellAt (run (formatOf p n station centre) m₀) (directoryWord c) ≡ fresh 0
 unfolding formatOf blankOf
 format-fresh p lo hi n least most station centre m₀ long =
-    fresh-cell p lo hi n least most m₀ long (headerMap station centre) (blankOf (headerTail n station centre)) (blank-length n station centre)
-    (header-made n station centre (replicate maxChunks 0)) (blank-free n station centre)
+    fresh-cell p lo hi n least most m₀ long (headerMap p station centre) (blankOf (headerTail p n station centre)) (blank-length p n station centre)
+    (header-made p n station centre (replicate maxChunks 0) .0) (header-made p n station centre (replicate maxChunks 0) .1) (blank-free p n station centre)

@@ -21,7 +21,7 @@ use Rattle.theory_log.proofs.Image.{all-agree}
 use Rattle.theory_log.proofs.Directory.{lines-is, lines-most}
 use Rattle.theory_log.proofs.Tops.{contents-mean}
 use Rattle.theory_crash.specs.Accepted.{Calm, Ok, Support, Framed}
-use Rattle.theory_crash.proofs.Directory.{lines-inside, header-agree}
+use Rattle.theory_crash.proofs.Directory.{lines-inside, header-agree, power-agree}
 use Rattle.theory_crash.proofs.Blocks.{Fits, block-fits, needs-first, needs-move, fits-in, needs-only}
 
 module _ (p : ℕ) (lo : 12 ≤ p) (hi : p ≤ 16) where
@@ -99,6 +99,7 @@ module _ (p : ℕ) (lo : 12 ≤ p) (hi : p ≤ 16) where
       most = ok .most;
       long = f .long ∙ ok .long;
       header = header-agree n ws vs (λ k l. f .same k (inl l)) ∙ ok .header;
+      power = power-agree ws vs (λ k l. f .same k (inl l)) ∙ ok .power;
       dirs = dirs-same;
       parsed = all-agree p (n - 1) 1 ws vs chunk-same ∙ ok .parsed;
       blocks = λ e t. live-same e t .0;

@@ -32,7 +32,7 @@ use Rattle.theory_log.proofs.Kept.{Parts}
 use Rattle.theory_crash.specs.Accepted.{Calm, Ok, Support}
 use Rattle.theory_crash.specs.Rest.{AtRest, Ready, Flushed, Rests, Cuts, CutsTo}
 use Rattle.theory_crash.specs.Clean.{Covers}
-use Rattle.theory_crash.proofs.Directory.{freed-word, header-agree}
+use Rattle.theory_crash.proofs.Directory.{freed-word, header-agree, power-agree}
 use Rattle.theory_crash.proofs.Blocks.{needs-first, needs-move, fits-in, needs-only}
 use Rattle.theory_crash.proofs.Frame.{live-fits, directory-in}
 use Rattle.theory_crash.proofs.Rest.{rest-length, rest-long, word-in-medium, rest-quiet, rest-store, rest-to, store-contents, stays-old}
@@ -135,6 +135,7 @@ module _ (p : ℕ) (lo : 12 ≤ p) (hi : p ≤ 16) (n d old : ℕ) (ws : List �
       most = ok .most;
       long = length-set ws (directoryWord d) (freedWord old) ∙ ok .long;
       header = header-agree n ws freed (λ k h. other-word k (λ e. omega arith)) ∙ ok .header;
+      power = power-agree ws freed (λ k h. other-word k (λ e. omega arith)) ∙ ok .power;
       dirs = λ c h. dirs′ c h (ℕ-discrete c d);
       parsed = parsed;
       blocks = λ e t. fine-same e (top-was e t) .0;

@@ -26,7 +26,7 @@ use Rattle.theory_log.proofs.Directory.{lines-is}
 use Rattle.theory_log.proofs.Tops.{contents-mean}
 use Rattle.theory_crash.specs.Accepted.{Needs, Ok}
 use Rattle.theory_crash.specs.Batch.{entryWords, Batch}
-use Rattle.theory_crash.proofs.Directory.{log-word, header-agree}
+use Rattle.theory_crash.proofs.Directory.{log-word, header-agree, power-agree}
 use Rattle.theory_crash.proofs.Blocks.{Fits, block-fits, fits-in, needs-only}
 use Rattle.theory_crash.proofs.Frame.{directory-in}
 
@@ -229,6 +229,7 @@ module _ (p : ℕ) (lo : 12 ≤ p) (hi : p ≤ 16) where
       most = ok .most;
       long = length-set ws (directoryWord d) (logWord old (l + b)) ∙ ok .long;
       header = header-agree n ws published (λ k h. other-word k (λ e. omega arith)) ∙ ok .header;
+      power = power-agree ws published (λ k h. other-word k (λ e. omega arith)) ∙ ok .power;
       dirs = λ c h. dirs′ c h (ℕ-discrete c d);
       parsed = shape .3;
       blocks = λ e t. fine-same e (top-fine e (top-cases e t)) .0;

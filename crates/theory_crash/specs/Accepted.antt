@@ -7,7 +7,7 @@ use mathlib.Core.List.{List}
 use Prim.Native.Nat.{ℕ, _+_, _*_, _≤_, _<_}
 use lib.ListN.{length, getD}
 use Rattle.spec.specs.Places.{base, unitChunk, unitWord, directoryWord, maxChunks}
-use Rattle.spec.specs.Header.{headerRight}
+use Rattle.spec.specs.Header.{headerRight, headerPower}
 use Rattle.spec.specs.Directory.{roleOf, linesIn, directoryRight, linesOf}
 use Rattle.spec.specs.Log.{Entry, Entries, imageEntries}
 use Rattle.spec.specs.Blocks.{pointed, blockWords}
@@ -24,12 +24,14 @@ abbrev pub Needs : ℕ → List ℕ → Entry → ℕ → Type 0
 Needs p ws e k =
     (pointed e ≡ true) × ((k ≡ directoryWord (unitChunk p (e .field))) ⊎ ((unitWord (e .field) ≤ k) × (k < unitWord (e .field) + 1 + blockWords ws (e .field))))
 
--- ws is an image of n chunks whose entries are es, and opening takes it (but for the table, refusal 7)
+-- ws is an image of n chunks of 2^p bytes, as its header says, whose entries are es, and opening takes it (but for the
+-- table, refusal 7)
 pub record Ok (p n : ℕ) (ws : List ℕ) (es : List Entry) : Type 0 where
   pub least : 4 ≤ n
   pub most : n ≤ maxChunks
   pub long : length ws ≡ base p n
   pub header : headerRight n ws ≡ true
+  pub power : headerPower ws ≡ p
   pub dirs : (c : ℕ) → c < maxChunks → directoryRight p n c (getD ws (directoryWord c) 0) ≡ true
   pub parsed : imageEntries p n ws ≡ Entries es
   pub blocks : (e : Entry) → Top es e → fine p n ws e ≡ true

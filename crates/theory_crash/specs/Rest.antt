@@ -2,10 +2,11 @@
 -- Assumes nothing.
 use mathlib.Core.Path.{_≡_}
 use mathlib.Core.Logic.{_⊎_}
+use mathlib.Core.Bool.{true}
 use mathlib.Core.List.{List, [], _++_}
-use Prim.Native.Nat.{ℕ, _*_, _≤_, _<_}
+use Prim.Native.Nat.{ℕ, _≤_, _<_}
 use lib.ListN.{length, getD}
-use Rattle.spec.specs.Places.{base, directoryWord, maxChunks}
+use Rattle.spec.specs.Places.{directoryWord, maxChunks, anyAllowed}
 use Rattle.spec.specs.Medium.{fresh, values, Medium, latest, cellAt, Mem as Among, CanCutTo}
 use Rattle.spec.specs.Directory.{linesOf, sizeOf}
 use Rattle.spec.specs.Log.{Entry}
@@ -74,10 +75,13 @@ abbrev pub Leaves : ℕ → ℕ → ℕ → (ℕ → Held) → Medium → Type 0
 Leaves p n keys C m = (xs : List ℕ) × CanCutTo m xs × Holds p n keys C xs
 
 -- Formatting, begun on the medium m₀: a cut leaves what a cut of m₀ might have left, or an image that opening refuses
--- with 2, or an empty register.
+-- with 2, whatever length it has that is allowed, or an empty register.
 abbrev pub empty : ℕ → Held
 empty k = Absent
 
+abbrev pub NoRegister : List ℕ → Type 0
+NoRegister xs = (bytes table : ℕ) → anyAllowed bytes ≡ true → opening bytes xs table ≡ Refused N.NotOpen
+
 abbrev pub FormatCuts : ℕ → ℕ → Medium → Medium → Type 0
 FormatCuts p n m₀ m =
-    (xs : List ℕ) → CanCutTo m xs → CanCutTo m₀ xs ⊎ (((table : ℕ) → opening p (8 * base p n) xs table ≡ Refused N.NotOpen) ⊎ Holds p n 0 empty xs)
+    (xs : List ℕ) → CanCutTo m xs → CanCutTo m₀ xs ⊎ (NoRegister xs ⊎ Holds p n 0 empty xs)

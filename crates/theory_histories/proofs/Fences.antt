@@ -87,10 +87,10 @@ unfolding blockOf
 block-unfenced u words =
     each-append NoFence (writes (unitWord u) words) _ (each-writes NoFence (unitWord u) words (λ k v x y. tt)) (each-flushes NoFence (lineOf (unitWord u)) (linesFor (length words)) (λ x. tt))
 
-pub put-unfenced : (p limit n : ℕ) (ws : List ℕ) (table : ℕ) (es items : List Entry) (x : Given) (k : ℕ) (v : List ℕ) (items′ : List Entry) (task : Task) (acts : List Action)
-    → planPut p limit n ws table es items x k v ≡ Begin items′ task acts → Each NoFence acts
-put-unfenced p limit n ws table es items x k v items′ task acts h =
-    go (leb (length v) maxInLog) (slotFor p n ws es items (blockSize p (length v))) (put-begun p limit n ws table es items x k v items′ task acts h .staged)
+pub put-unfenced : (p n : ℕ) (ws : List ℕ) (table : ℕ) (es items : List Entry) (x : Given) (k : ℕ) (v : List ℕ) (items′ : List Entry) (task : Task) (acts : List Action)
+    → planPut p n ws table es items x k v ≡ Begin items′ task acts → Each NoFence acts
+put-unfenced p n ws table es items x k v items′ task acts h =
+    go (leb (length v) maxInLog) (slotFor p n ws es items (blockSize p (length v))) (put-begun p n ws table es items x k v items′ task acts h .staged)
   where
     version : ℕ
     version = nextVersion k es items

@@ -10,10 +10,10 @@ use Prim.Native.Nat.{ℕ, _*_, _/_, _≤_}
 use native.Mathlib.Omega.{arith}
 use lib.ListN.{length}
 use Rattle.spec.specs.Words.{wordsOf, AreBytes}
-use Rattle.spec.specs.Places.{base, chunksIn, lengthAllowed}
+use Rattle.spec.specs.Places.{isPower, base, chunksIn, lengthAllowed, sizeAllowed}
 use Rattle.spec.specs.Medium.{Medium, Action, latest, cut, settledAt, CanCutTo}
 use Rattle.spec.specs.Contents.{capacity}
-use Rattle.spec.specs.Opening.{Opening, Refused, opening}
+use Rattle.spec.specs.Opening.{Opening, Refused}
 use Rattle.spec.specs.Actions.{formatOf}
 use Rattle.spec.specs.Reports.{mediumAfter}
 use Rattle.spec.specs.Machine.{Format, Open, State, Closed, Formatting, opened, isOpen}
@@ -26,9 +26,9 @@ use Rattle.spec.specs.declared.Refusal.the-variants as N
 use Rattle.spec.specs.declared.Report.{Report}
 use Rattle.spec.specs.declared.Report.the-variants as R
 use Rattle.theory_base.proofs.Words.{can-cut, can-is-cut}
-use Rattle.theory_base.proofs.Places.{length-allowed}
+use Rattle.theory_base.proofs.Places.{length-allowed, power-bounds, size-allowed, allowed-size}
 use Rattle.theory_base.proofs.Through.{Through}
-use Rattle.theory_crash.specs.Rest.{Holds, Rests, FormatCuts, empty}
+use Rattle.theory_crash.specs.Rest.{Holds, Rests, NoRegister, FormatCuts, empty}
 use Rattle.theory_crash.proofs.Rest.{stays-cut}
 use Rattle.theory_crash.proofs.Crash.{holds-rests}
 use Rattle.theory_crash.proofs.Format.{format-through}
@@ -46,93 +46,105 @@ through-first : (B A : Medium → Type 0) → ((m : Medium) → A m → B m) →
 through-first B A weaker [] m h = weaker m h
 through-first B A weaker (a ∷ acts) m h = h .0
 
-module _ (p limit : ℕ) (laws : Laws p limit) {S : Type 0} (Proper : S → Type 0) (stateOf : S → State) (Fits : S → List ℕ → List ℕ → Type 0) where
+module _ (p : ℕ) (power : isPower p ≡ true) (laws : Laws p) {S : Type 0} (Proper : S → Type 0) (stateOf : S → State) (Fits : S → List ℕ → List ℕ → Type 0) where
   -- steps with nothing unfinished do nothing
   idle-walk : (rs : List Report) (m m′ : Medium) (s s′ : S) (image image′ table table′ : List ℕ) → stateOf s ≡ Closed
-      → Stepped Proper stateOf Fits p limit rs m s image table m′ s′ image′ table′ → m′ ≡ m
+      → Stepped Proper stateOf Fits rs m s image table m′ s′ image′ table′ → m′ ≡ m
   idle-walk [] m m′ s s′ image image′ table table′ e q = q .0
   idle-walk (r ∷ rs) m m′ s s′ image image′ table table′ e (s₁, (image₁, (table₁, (c, rest)))) =
-      let d = Start.idle-step p limit laws Proper stateOf Fits s s₁ image image₁ table table₁ r e c in
+      let d = Start.idle-step Proper stateOf Fits s s₁ image image₁ table table₁ r e c in
       idle-walk rs (mediumAfter r m) m′ s₁ s′ image₁ image′ table₁ table′ (d .1) rest ∙ ap (λ (x : Report). mediumAfter x m) (d .0)
 
   -- ANY NUMBER OF STEPS of a formatting keep what its action list keeps.
   part-walk : (B A : Medium → Type 0) → ((m : Medium) → A m → B m) → (l t : ℕ) (o : Bool) (acts : List Action) (rs : List Report) (m m′ : Medium) (s s′ : S) (image image′ table table′ : List ℕ)
       → stateOf s ≡ Formatting o l t acts → l ≡ length image → t ≡ length table → Through B A acts m
-      → Stepped Proper stateOf Fits p limit rs m s image table m′ s′ image′ table′ → B m′
+      → Stepped Proper stateOf Fits rs m s image table m′ s′ image′ table′ → B m′
   part-walk B A weaker l t o acts [] m m′ s s′ image image′ table table′ e x y h q = rw (q .0) (through-first B A weaker acts m h)
   part-walk B A weaker l t o [] (r ∷ rs) m m′ s s′ image image′ table table′ e x y h (s₁, (image₁, (table₁, (c, rest)))) =
-      let d = Start.format-step p limit laws Proper stateOf Fits o [] s s₁ image image₁ table table₁ r l t e x y c in
+      let d = Start.format-step Proper stateOf Fits o [] s s₁ image image₁ table table₁ r l t e x y c in
       let still : m′ ≡ m = idle-walk rs (mediumAfter r m) m′ s₁ s′ image₁ image′ table₁ table′ (d .1) rest ∙ ap (λ (x : Report). mediumAfter x m) (d .0) in
       rw still (weaker m h)
   part-walk B A weaker l t o (a ∷ acts) (r ∷ rs) m m′ s s′ image image′ table table′ e x y h (s₁, (image₁, (table₁, (c, rest)))) =
-      let d = Start.format-step p limit laws Proper stateOf Fits o (a ∷ acts) s s₁ image image₁ table table₁ r l t e x y c in
-      part-walk B A weaker l t o acts rs (mediumAfter r m) m′ s₁ s′ image₁ image′ table₁ table′ (d .1) (x ∙ sym (I.same-length r image image₁ (c .image))) (y ∙ sym (c .sized)) (rw (d .0, Start.next-medium p limit laws Proper stateOf Fits a m) (h .1)) rest
+      let d = Start.format-step Proper stateOf Fits o (a ∷ acts) s s₁ image image₁ table table₁ r l t e x y c in
+      part-walk B A weaker l t o acts rs (mediumAfter r m) m′ s₁ s′ image₁ image′ table₁ table′ (d .1) (x ∙ sym (I.same-length r image image₁ (c .image))) (y ∙ sym (c .sized)) (rw (d .0, Start.next-medium Proper stateOf Fits a m) (h .1)) rest
 
   -- AN EMPTY REGISTER opens with any table, and look-up then says 11 for every key.
   empty-opens : (image : List ℕ) → AreBytes image → length image ≡ 8 * base p (chunksIn p (length image)) → Standing p (chunksIn p (length image)) 0 nothing [] [] (settledAt (wordsOf image))
-      → (t t′ : S) (table table′ : List ℕ) (r : Report) → Proper t → Called Proper stateOf Fits p limit Open t t′ image image table table′ r → Empty Proper stateOf Fits p limit t′ image table′ r
+      → (t t′ : S) (table table′ : List ℕ) (r : Report) → Proper t → Called Proper stateOf Fits Open t t′ image image table table′ r → Empty Proper stateOf Fits t′ image table′ r
   empty-opens image small whole stands t t′ table table′ r proper c = (
     j .0,
-    λ k s″ table″ r″ d. E.looks p limit laws Proper stateOf Fits (length image) k (afterCall Open before t′ image table′ r) (newBook nothing) t′ s″ image table′ table″ r″ (j .1) (refl, refl) d small (rw (j .0) refl),
+    λ k s″ table″ r″ d. E.looks p power laws Proper stateOf Fits (length image) k (afterCall Open before t′ image table′ r) (newBook nothing) t′ s″ image table′ table″ r″ (j .1) (refl, refl) d small (rw (j .0) refl),
   )
     where
       before : World S
-      before = world Proper stateOf Fits p limit (settledAt (wordsOf image)) image none 0
+      before = world Proper stateOf Fits (settledAt (wordsOf image)) image none 0
 
       j : (r ≡ R.Opened) × Inv p Proper stateOf Fits (length image) (afterCall Open before t′ image table′ r) (newBook nothing)
-      j = E.opened p limit laws Proper stateOf Fits (length image) whole before (newBook nothing) false t t′ image table table′ r (sym (W.latest-settled (wordsOf image))) refl stands (omega arith) proper c
+      j = E.opened p power laws Proper stateOf Fits (length image) whole before (newBook nothing) false t t′ image table table′ r (sym (W.latest-settled (wordsOf image))) refl stands (omega arith) proper c
 
-module _ (p limit : ℕ) (lo : 12 ≤ p) (hi : p ≤ 16) (laws : Laws p limit) {S : Type 0} (Proper : S → Type 0) (stateOf : S → State) (Fits : S → List ℕ → List ℕ → Type 0) where
+module _ (every : (p : ℕ) → isPower p ≡ true → Laws p) {S : Type 0} (Proper : S → Type 0) (stateOf : S → State) (Fits : S → List ℕ → List ℕ → Type 0) where
   -- a new register that rests is cut to an empty one
-  rests-cut : (n : ℕ) (m₀ m : Medium) → Rests p n 0 empty m → FormatCuts p n m₀ m
-  rests-cut n m₀ m h xs t = inr (inr (stays-cut p lo hi n 0 empty empty m (h .0) xs t))
+  rests-cut : (p : ℕ) → 12 ≤ p → p ≤ 16 → (n : ℕ) (m₀ m : Medium) → Rests p n 0 empty m → FormatCuts p n m₀ m
+  rests-cut p lo hi n m₀ m h xs t = inr (inr (stays-cut p lo hi n 0 empty empty m (h .0) xs t))
 
-  module _ (m m′ : Medium) (s s₀ s₁ : S) (image image₁ table table₀ table₁ : List ℕ) (station centre : Given) (a : ℕ) (rs : List Report) (agrees : wordsOf image ≡ latest m)
-      (c : Called Proper stateOf Fits p limit (Format station centre) s s₀ image image table table₀ (R.Begun a)) (steps : Stepped Proper stateOf Fits p limit rs m s₀ image table₀ m′ s₁ image₁ table₁) where
+  module _ (m m′ : Medium) (s s₀ s₁ : S) (image image₁ table table₀ table₁ : List ℕ) (p : ℕ) (station centre : Given) (a : ℕ) (rs : List Report) (agrees : wordsOf image ≡ latest m)
+      (c : Called Proper stateOf Fits (Format p station centre) s s₀ image image table table₀ (R.Begun a)) (steps : Stepped Proper stateOf Fits rs m s₀ image table₀ m′ s₁ image₁ table₁) where
     abbrev n : ℕ
     n = chunksIn p (length image)
 
-    started : (lengthAllowed p (length image) ≡ true) × (length m ≡ length image / 8) × (stateOf s₀ ≡ Formatting (isOpen (stateOf s)) (length image) (length table) (formatOf n station centre))
-    started = Start.format-begins p limit laws Proper stateOf Fits m s s₀ image table table₀ station centre a agrees c
+    started : (sizeAllowed p (length image) ≡ true) × (length m ≡ length image / 8) × (stateOf s₀ ≡ Formatting (isOpen (stateOf s)) (length image) (length table) (formatOf p n station centre))
+    started = Start.format-begins Proper stateOf Fits m s s₀ image table table₀ p station centre a agrees c
+
+    allowed : (isPower p ≡ true) × (lengthAllowed p (length image) ≡ true)
+    allowed = size-allowed p (length image) (started .0)
+
+    power : isPower p ≡ true
+    power = allowed .0
+
+    lo : 12 ≤ p
+    lo = power-bounds p power .0
+
+    hi : p ≤ 16
+    hi = power-bounds p power .1
 
     whole : length image ≡ 8 * base p n
-    whole = length-allowed p lo hi (length image) (started .0) .2
+    whole = length-allowed p lo hi (length image) (allowed .1) .2
 
     cuts : FormatCuts p n m m′
     cuts =
-        let u = length-allowed p lo hi (length image) (started .0) in
+        let u = length-allowed p lo hi (length image) (allowed .1) in
         let q = started .1 in
         let e = whole in
         let size : length m ≡ base p n = omega arith in
-        part-walk p limit laws Proper stateOf Fits (FormatCuts p n m) (Rests p n 0 empty) (λ m₁. rests-cut n m m₁) (length image) (length table) (isOpen (stateOf s)) (formatOf n station centre) rs m m′ s₀ s₁ image image₁ table₀ table₁
+        part-walk p power (every p power) Proper stateOf Fits (FormatCuts p n m) (Rests p n 0 empty) (λ m₁. rests-cut p lo hi n m m₁) (length image) (length table) (isOpen (stateOf s)) (formatOf p n station centre) rs m m′ s₀ s₁ image image₁ table₀ table₁
         (started .2) refl (sym (c .sized)) (format-through p lo hi n (u .0) (u .1) station centre m size) steps
 
     -- the first opening of what a cut leaves
     opens : (image′ : List ℕ) → AreBytes image′ → length image′ ≡ length image → (t t′ : S) (table₂ table₃ : List ℕ) (r : Report) → Proper t
-        → Called Proper stateOf Fits p limit Open t t′ image′ image′ table₂ table₃ r
-        → CanCutTo m (wordsOf image′) ⊎ (((table : ℕ) → opening p (8 * base p n) (wordsOf image′) table ≡ Refused N.NotOpen) ⊎ Holds p n 0 empty (wordsOf image′))
-        → Old Proper stateOf Fits p limit m image′ table₂ r ⊎ ((r ≡ R.Refused N.NotOpen) ⊎ Empty Proper stateOf Fits p limit t′ image′ table₃ r)
+        → Called Proper stateOf Fits Open t t′ image′ image′ table₂ table₃ r
+        → CanCutTo m (wordsOf image′) ⊎ (NoRegister (wordsOf image′) ⊎ Holds p n 0 empty (wordsOf image′))
+        → Old Proper stateOf Fits m image′ table₂ r ⊎ ((r ≡ R.Refused N.NotOpen) ⊎ Empty Proper stateOf Fits t′ image′ table₃ r)
     opens image′ small long t t′ table₂ table₃ r proper d (inl x) = inl (x, d .exact proper .answered)
-    opens image′ small long t t′ table₂ table₃ r proper d (inr (inl x)) = inr (inl (d .exact proper .answered ∙ rw (long, whole, x (length table₂))))
+    opens image′ small long t t′ table₂ table₃ r proper d (inr (inl x)) = inr (inl (d .exact proper .answered ∙ rw (x (length image′) (length table₂) (rw long (allowed-size p (length image) power (allowed .1) .1)))))
     opens image′ small long t t′ table₂ table₃ r proper d (inr (inr x)) =
-        inr (inr (empty-opens p limit laws Proper stateOf Fits image′ small (rw long whole) (rw long (rests-stand p n 0 nothing (settledAt (wordsOf image′)) (wider (holds-rests p n 0 empty (wordsOf image′) x)))) t t′ table₂ table₃ r proper d))
+        inr (inr (empty-opens p power (every p power) Proper stateOf Fits image′ small (rw long whole) (rw long (rests-stand p n 0 nothing (settledAt (wordsOf image′)) (wider (holds-rests p n 0 empty (wordsOf image′) x)))) t t′ table₂ table₃ r proper d))
       where
         wider : Rests p n 0 empty (settledAt (wordsOf image′)) → Rests p n (capacity 0) nothing (settledAt (wordsOf image′))
         wider ((ws, es, q, few, h), fl) = ((ws, es, q, omega arith, h), fl)
 
-  pub format-cut : FormatCut Proper stateOf Fits p limit
-  format-cut m m′ s s₀ s₁ image image₁ table table₀ table₁ station centre a rs agrees c steps chooses image′ small words long t t′ table₂ table₃ r proper d =
-      opens m m′ s s₀ s₁ image image₁ table table₀ table₁ station centre a rs agrees c steps image′ small long t t′ table₂ table₃ r proper d
-      (cuts m m′ s s₀ s₁ image image₁ table table₀ table₁ station centre a rs agrees c steps (wordsOf image′) (rw words (can-cut chooses m′)))
+  pub format-cut : FormatCut Proper stateOf Fits
+  format-cut m m′ s s₀ s₁ image image₁ table table₀ table₁ p station centre a rs agrees c steps chooses image′ small words long t t′ table₂ table₃ r proper d =
+      opens m m′ s s₀ s₁ image image₁ table table₀ table₁ p station centre a rs agrees c steps image′ small long t t′ table₂ table₃ r proper d
+      (cuts m m′ s s₀ s₁ image image₁ table table₀ table₁ p station centre a rs agrees c steps (wordsOf image′) (rw words (can-cut chooses m′)))
 
   -- what demand 3 says of a cut just before it says what the old image opens with
-  pub format-cut-among : FormatCutAmong Proper stateOf Fits p limit
-  format-cut-among w b faithful agrees m′ s s₀ s₁ image₁ table table₀ table₁ station centre a rs c steps chooses image′ small words long t t′ table₂ table₃ r proper larger d =
-      go (format-cut (w .medium) m′ s s₀ s₁ (w .image) image₁ table table₀ table₁ station centre a rs agrees c steps chooses image′ small words long t t′ table₂ table₃ r proper d)
+  pub format-cut-among : FormatCutAmong Proper stateOf Fits
+  format-cut-among w b faithful agrees m′ s s₀ s₁ image₁ table table₀ table₁ p station centre a rs c steps chooses image′ small words long t t′ table₂ table₃ r proper larger d =
+      go (format-cut (w .medium) m′ s s₀ s₁ (w .image) image₁ table table₀ table₁ p station centre a rs agrees c steps chooses image′ small words long t t′ table₂ table₃ r proper d)
     where
-      go : Old Proper stateOf Fits p limit (w .medium) image′ table₂ r ⊎ ((r ≡ R.Refused N.NotOpen) ⊎ Empty Proper stateOf Fits p limit t′ image′ table₃ r)
-          → ((r ≡ R.Opened) × ((done : Bool) × Shows Proper stateOf Fits p limit t′ image′ table₃ (noteOpen done b .register)))
-          ⊎ ((r ≡ R.Refused N.NotOpen) ⊎ Empty Proper stateOf Fits p limit t′ image′ table₃ r)
+      go : Old Proper stateOf Fits (w .medium) image′ table₂ r ⊎ ((r ≡ R.Refused N.NotOpen) ⊎ Empty Proper stateOf Fits t′ image′ table₃ r)
+          → ((r ≡ R.Opened) × ((done : Bool) × Shows Proper stateOf Fits t′ image′ table₃ (noteOpen done b .register)))
+          ⊎ ((r ≡ R.Refused N.NotOpen) ⊎ Empty Proper stateOf Fits t′ image′ table₃ r)
       go (inr q) = inr q
       go (inl q) =
           let before = can-is-cut (w .medium) (wordsOf image′) (q .0) in

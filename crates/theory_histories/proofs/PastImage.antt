@@ -23,5 +23,5 @@ past-by (some (Store w v)) bytes bytes′ (words, sized, odd) b b′ h =
 past-by (some (Flush l)) bytes bytes′ c b b′ h = c
 past-by (some Fence) bytes bytes′ c b b′ h = c
 
-pub past-image : {S : Type 0} (Proper : S → Type 0) (stateOf : S → State) (Fits : S → List ℕ → List ℕ → Type 0) (p limit : ℕ) → PastImage Proper stateOf Fits p limit
-past-image Proper stateOf Fits p limit k s s′ bytes bytes′ table table′ r c b b′ h = past-by (actionOf r) bytes bytes′ (c .image) b b′ h
+pub past-image : {S : Type 0} (Proper : S → Type 0) (stateOf : S → State) (Fits : S → List ℕ → List ℕ → Type 0) → PastImage Proper stateOf Fits
+past-image Proper stateOf Fits k s s′ bytes bytes′ table table′ r c b b′ h = past-by (actionOf r) bytes bytes′ (c .image) b b′ h

@@ -12,7 +12,8 @@ use lib.Seq.{slice}
 use borrow.Author.Tests.{eq-eqb}
 use Rattle.spec.specs.Basics.{both}
 use Rattle.spec.specs.Words.{wordsOf, AreBytes}
-use Rattle.spec.specs.Places.{base, chunksIn}
+use Rattle.spec.specs.Places.{isPower, base, chunksIn}
+use Rattle.spec.specs.Header.{headerPower}
 use Rattle.spec.specs.Medium.{Medium, Action, Store, Flush, Fence, apply, latest, cut, settledAt}
 use Rattle.spec.specs.Log.{Entry}
 use Rattle.spec.specs.Contents.{Held, entriesIn, contents}
@@ -21,12 +22,12 @@ use Rattle.spec.specs.Plans.{Task, Staging, oldsOf, putBack, readBy, lookUp, Pl
 use Rattle.spec.specs.Machine.{Call, Format, Open, Put, Delete, Commit, Abandon, LookUp, Choose, Clean, Step, State, Closed, Rest, Busy, Formatting, begun, itemsThen, stepAnswer, answer, change, next}
 use Rattle.spec.specs.Book.{Book, doneBatch, newBook, nothing}
 use Rattle.spec.specs.Contract.{Called, Ready, partBytes}
-use Rattle.spec.specs.History.{Event, Lent, World, SameLent, Stepped, shows, world}
-use Rattle.spec.specs.Means.{meant}
+use Rattle.spec.specs.History.{Event, Lent, World, SameLent, Stepped, shows, meantBy, meant, world}
 use Rattle.spec.specs.Reprint.{MayRead, Fences, Early, Reprints, Reprinted, OneOfTheCuts, Leads, AlwaysACut}
 use Rattle.spec.specs.declared.Refusal.the-variants as N
 use Rattle.spec.specs.declared.Report.{Report}
 use Rattle.spec.specs.declared.Report.the-variants as R
+use Rattle.theory_base.proofs.Places.{size-allowed}
 use Rattle.theory_base.proofs.Words as W
 use Rattle.theory_base.proofs.Through.{Each}
 use Rattle.theory_crash.proofs.Opening.{ok-contents}
@@ -45,62 +46,71 @@ use Rattle.theory_histories.proofs.Theorem as T
 
 -- ## One of the registers that a cut may leave
 
-module _ (p limit : ℕ) (laws : Laws p limit) (bytes least : ℕ) (u : Bool) (b : Book) (m : Medium) (image : List ℕ) (small : AreBytes image) (agrees : wordsOf image ≡ latest m) where
+left-is : (p bytes : ℕ) (xs : List ℕ) (k : ℕ) → headerPower xs ≡ p → meantBy bytes xs k ≡ contents p (chunksIn p bytes) xs k
+left-is p bytes xs k e = ap (λ (q : ℕ). contents q (chunksIn q bytes) xs k) e
+
+module _ (p : ℕ) (power : isPower p ≡ true) (laws : Laws p) (bytes least : ℕ) (u : Bool) (b : Book) (m : Medium) (image : List ℕ) (small : AreBytes image) (agrees : wordsOf image ≡ latest m) where
   abbrev n : ℕ
   n = chunksIn p bytes
 
   abbrev Cut : State → Type 0
-  Cut σ = (chooses : ℕ → ℕ) × ((k : ℕ) → shows (answer p limit (LookUp k) σ (latest m) bytes least) image ≡ some (contents p n (cut chooses m) k))
+  Cut σ = (chooses : ℕ → ℕ) × ((k : ℕ) → shows (answer (LookUp k) σ (latest m) bytes least) image ≡ some (meantBy bytes (cut chooses m) k))
 
   -- with the words that the processor reads
-  newest : (σ : State) (C : ℕ → Held) → ((k : ℕ) → shows (answer p limit (LookUp k) σ (latest m) bytes least) image ≡ some (C k)) → ((k : ℕ) → contents p n (latest m) k ≡ C k) → Cut σ
-  newest σ C s c = let q = W.can-is-cut m (latest m) (can-latest m) in (q .0, λ k. s k ∙ ap some (sym (c k) ∙ ap (λ (xs : List ℕ). contents p n xs k) (sym (q .1))))
+  newest : (σ : State) (C : ℕ → Held) → ((k : ℕ) → shows (answer (LookUp k) σ (latest m) bytes least) image ≡ some (C k)) → headerPower (latest m) ≡ p → ((k : ℕ) → contents p n (latest m) k ≡ C k) → Cut σ
+  newest σ C s hp c =
+      let q = W.can-is-cut m (latest m) (can-latest m) in (q .0, λ k. s k ∙ ap some (sym (left-is p bytes (latest m) k hp ∙ c k) ∙ ap (λ (xs : List ℕ). meantBy bytes xs k) (sym (q .1))))
 
   pub look-cut : (σ : State) → Holds p bytes least u b σ m → Cut σ
   look-cut Closed h = absurd h
-  look-cut (Rest l t items) h =
-      newest (Rest l t items) (b .register) (λ k. rw (eq-eqb l bytes (h .0), eq-eqb t least (h .1)) (laws .look-shows n least (b .register) (b .staged) items m image small agrees (h .3) k))
-      (stand-means p n least (b .register) (b .staged) items m (h .3))
-  look-cut (Busy l t items task []) h =
+  look-cut (Rest z l t items) h =
+      newest (Rest z l t items) (b .register) (λ k. rw (eq-eqb l bytes (h .0), eq-eqb t least (h .1), h .4) (laws .look-shows n least (b .register) (b .staged) items m image small agrees (h .3) k))
+      (laws .stand-power n least (b .register) (b .staged) items m (h .3)) (stand-means p n least (b .register) (b .staged) items m (h .3))
+  look-cut (Busy z l t items task []) h =
       let D : ℕ → Held = doneBatch (b .in-flight) (b .register) in
-      newest (Busy l t items task []) D (λ k. rw (eq-eqb l bytes (h .0), eq-eqb t least (h .1)) (laws .look-shows n least D (b .staged) (itemsThen task items) m image small agrees (h .3) k))
-      (stand-means p n least D (b .staged) (itemsThen task items) m (h .3))
-  look-cut (Busy l t items task (a ∷ rest)) h =
-      let r = h .4 .1 in
+      newest (Busy z l t items task []) D (λ k. rw (eq-eqb l bytes (h .0), eq-eqb t least (h .1), h .4) (laws .look-shows n least D (b .staged) (itemsThen task items) m image small agrees (h .3) k))
+      (laws .stand-power n least D (b .staged) (itemsThen task items) m (h .3)) (stand-means p n least D (b .staged) (itemsThen task items) m (h .3))
+  look-cut (Busy z l t items task (a ∷ rest)) h =
+      let r = h .5 .1 in
       let left = r .reads .0 .1 in
       let q = W.can-is-cut m (left .0) (left .1) in (
         q .0,
         λ k.
-            rw (eq-eqb l bytes (h .0), eq-eqb t least (h .1)) (laws .reading-shows n least (b .register) (h .4 .0) (oldsOf task) (a ∷ rest) m image small agrees r k)
-            ∙ ap some (sym (ok-contents p n (left .0) (left .2 .0) (left .2 .1) k ∙ left .2 .3 k) ∙ ap (λ (xs : List ℕ). contents p n xs k) (sym (q .1))),
+            rw (eq-eqb l bytes (h .0), eq-eqb t least (h .1), h .4) (laws .reading-shows n least (b .register) (h .5 .0) (oldsOf task) (a ∷ rest) m image small agrees r k)
+            ∙ ap some (sym (left-is p bytes (left .0) k (left .2 .1 .power) ∙ ok-contents p n (left .0) (left .2 .0) (left .2 .1) k ∙ left .2 .3 k) ∙ ap (λ (xs : List ℕ). meantBy bytes xs k) (sym (q .1))),
       )
   look-cut (Formatting o l t rest) h = absurd h
 
-module _ (p limit : ℕ) (laws : Laws p limit) {S : Type 0} (Proper : S → Type 0) (stateOf : S → State) (Fits : S → List ℕ → List ℕ → Type 0) where
-  one-of-the-cuts : (bytes : ℕ) (w : World S) (b : Book) → Inv p Proper stateOf Fits bytes w b → (lent : Option (Lent S)) → w .lent ≡ lent → OneOfTheCuts Proper stateOf Fits p limit lent w
+module _ (p : ℕ) (power : isPower p ≡ true) (laws : Laws p) {S : Type 0} (Proper : S → Type 0) (stateOf : S → State) (Fits : S → List ℕ → List ℕ → Type 0) where
+  one-of-the-cuts : (bytes : ℕ) (w : World S) (b : Book) → Inv p Proper stateOf Fits bytes w b → (lent : Option (Lent S)) → w .lent ≡ lent → OneOfTheCuts Proper stateOf Fits lent w
   one-of-the-cuts bytes w b i none e = tt
   one-of-the-cuts bytes w b i (some l) e = λ small.
       let h : HeldAt p Proper stateOf Fits bytes (some l) w b = rw e at (i .held) in
-      let q = look-cut p limit laws bytes (w .least) (w .unfinished) b (w .medium) (w .image) small (i .agrees) (stateOf (l .session)) (h .2) in (
+      let q = look-cut p power laws bytes (w .least) (w .unfinished) b (w .medium) (w .image) small (i .agrees) (stateOf (l .session)) (h .2) in (
         q .0,
         λ k s′ table′ r c.
             let same : SameLent (w .lent) (l .session) (l .table) = rw e (refl, refl) in
-            let a = E.answered p limit laws Proper stateOf Fits bytes (LookUp k) w b (l .session) s′ (w .image) (l .table) table′ r i same c (h .0) in
+            let a = E.answered p power laws Proper stateOf Fits bytes (LookUp k) w b (l .session) s′ (w .image) (l .table) table′ r i same c (h .0) in
             rw (a, i .sized) (q .1 k),
       )
 
-  leads : (bytes : ℕ) → bytes ≡ 8 * base p (chunksIn p bytes) → (events : List Event) (w : World S) (b : Book) → Inv p Proper stateOf Fits bytes w b → Leads Proper stateOf Fits p limit events w b
+  leads : (bytes : ℕ) → bytes ≡ 8 * base p (chunksIn p bytes) → (events : List Event) (w : World S) (b : Book) → Inv p Proper stateOf Fits bytes w b → Leads Proper stateOf Fits events w b
   leads bytes whole [] w b i = one-of-the-cuts bytes w b i (w .lent) refl
-  leads bytes whole (e ∷ events) w b i = T.claim p limit laws Proper stateOf Fits bytes whole (Leads Proper stateOf Fits p limit events) (leads bytes whole events) e w b i
+  leads bytes whole (e ∷ events) w b i = T.claim p power laws Proper stateOf Fits bytes whole (Leads Proper stateOf Fits events) (leads bytes whole events) e w b i
 
-  pub always-a-cut : AlwaysACut Proper stateOf Fits p limit
+-- of the laws at every power that there is: a formatting is told one, and an accepted header says one
+module _ (every : (q : ℕ) → isPower q ≡ true → Laws q) {S : Type 0} (Proper : S → Type 0) (stateOf : S → State) (Fits : S → List ℕ → List ℕ → Type 0) where
+  pub always-a-cut : AlwaysACut Proper stateOf Fits
   always-a-cut events = (
-    λ m m′ s s₀ s′ image image′ table table₀ table′ station centre a n rs agrees proper c steps small.
-        let i = Start.format-start p limit laws Proper stateOf Fits m m′ s s₀ s′ image image′ table table₀ table′ station centre a n rs agrees c steps in
-        leads (length image) (i .0) events (world Proper stateOf Fits p limit m′ image′ none 0) (newBook nothing) (i .1),
+    λ m m′ s s₀ s′ image image′ table table₀ table′ p station centre a n rs agrees proper c steps small.
+        let q = size-allowed p (length image) (Start.format-begins Proper stateOf Fits m s s₀ image table table₀ p station centre a agrees c .0) in
+        let i = Start.format-start p (q .0) (every p (q .0)) Proper stateOf Fits m m′ s s₀ s′ image image′ table table₀ table′ station centre a n rs agrees c steps in
+        leads p (q .0) (every p (q .0)) Proper stateOf Fits (length image) (i .0) events (world Proper stateOf Fits m′ image′ none 0) (newBook nothing) (i .1),
     λ s s′ image table table′ small proper c.
-        let i = Start.opening-start p limit laws Proper stateOf Fits s s′ image table table′ proper c in
-        leads (length image) (i .0) events (world Proper stateOf Fits p limit (settledAt (wordsOf image)) image (some (record { session = s′; table = table′ })) (length table′)) (newBook (meant p image)) (i .1),
+        let p = headerPower (wordsOf image) in
+        let q = T.opened-power Proper stateOf Fits s s′ image table table′ proper c in
+        let i = Start.opening-start p q (every p q) Proper stateOf Fits s s′ image table table′ refl proper c in
+        leads p q (every p q) Proper stateOf Fits (length image) (i .0) events (world Proper stateOf Fits (settledAt (wordsOf image)) image (some (record { session = s′; table = table′ })) (length table′)) (newBook (meant image)) (i .1),
   )
 
 -- ## The answer of before, and that of after
@@ -125,13 +135,13 @@ plan-begins (Refuse x) a h = absurd (let z : _≡_ {A = ℕ} 0 1 = cc in omega a
 plan-begins (Begin items task acts) a h = (items, (task, (acts, (refl, let q : a ≡ length acts = cc in sym q))))
 
 -- what an accepted begin leaves
-begun-changes : (p limit : ℕ) (k : Call) (σ : State) (ws : List ℕ) (bytes table a : ℕ) → answer p limit k σ ws bytes table ≡ R.Begun a → next p limit k σ ws bytes table ≡ change p limit k σ ws bytes table
+begun-changes : (k : Call) (σ : State) (ws : List ℕ) (bytes table a : ℕ) → answer k σ ws bytes table ≡ R.Begun a → next k σ ws bytes table ≡ change k σ ws bytes table
 unfolding next
-begun-changes p limit k σ ws bytes table a h = rw h
+begun-changes k σ ws bytes table a h = rw h
 
 -- what a call's task and actions are, so far as it matters when look-up turns to the new register
 abbrev Turns : Call → Task → List Action → Type 0
-Turns (Format x y) task acts = Unit {0}
+Turns (Format q x y) task acts = Unit {0}
 Turns Open task acts = Unit {0}
 Turns (Put x k v) task acts = (task ≡ Staging) × Each NoFence acts
 Turns (Delete x k) task acts = (task ≡ Staging) × Each NoFence acts
@@ -146,7 +156,7 @@ Turns Step task acts = Unit {0}
 early-words : (k : Call) (task : Task) (acts front rest : List Action) (vs : List ℕ) (n a : ℕ) → MayRead k → Turns k task acts → acts ≡ front ++ rest → n ≡ length front → length acts ≡ a → Early k n a
     → readBy task rest vs ≡ putBack (oldsOf task) vs
 early-words k task acts front (x ∷ rest) vs n a may t split en ea e = refl
-early-words (Format x y) task acts front [] vs n a may t split en ea e = absurd may
+early-words (Format q x y) task acts front [] vs n a may t split en ea e = absurd may
 early-words Open task acts front [] vs n a may t split en ea e = absurd may
 early-words (Put x k v) task acts front [] vs n a may t split en ea e = rw (t .0)
 early-words (Delete x k) task acts front [] vs n a may t split en ea e = rw (t .0)
@@ -159,7 +169,7 @@ early-words Step task acts front [] vs n a may t split en ea e = absurd may
 
 -- and the last of all reports is then the fence's
 last-fence : (k : Call) (task : Task) (acts : List Action) → Fences k → Turns k task acts → (xs : List Report) × (map asReport acts ≡ xs ++ (R.Fence ∷ []))
-last-fence (Format x y) task acts f t = absurd f
+last-fence (Format q x y) task acts f t = absurd f
 last-fence Open task acts f t = absurd f
 last-fence (Put x k v) task acts f t = absurd f
 last-fence (Delete x k) task acts f t = absurd f
@@ -183,7 +193,7 @@ no-report (a ∷ front) rest u [] ys e = action-report a (u .0) cc
 no-report (a ∷ front) rest u (x ∷ xs) ys e = no-report front rest (u .1) xs ys cc
 
 unfenced-acts : (k : Call) (task : Task) (acts : List Action) → MayRead k → (Fences k → ⊥) → Turns k task acts → Each NoFence acts
-unfenced-acts (Format x y) task acts may f t = absurd may
+unfenced-acts (Format q x y) task acts may f t = absurd may
 unfenced-acts Open task acts may f t = absurd may
 unfenced-acts (Put x k v) task acts may f t = t .1
 unfenced-acts (Delete x k) task acts may f t = t .1
@@ -195,7 +205,7 @@ unfenced-acts (Clean c) task acts may f t = absurd (f tt)
 unfenced-acts Step task acts may f t = absurd may
 
 fences-read : (k : Call) → Fences k → MayRead k
-fences-read (Format x y) f = absurd f
+fences-read (Format q x y) f = absurd f
 fences-read Open f = absurd f
 fences-read (Put x k v) f = absurd f
 fences-read (Delete x k) f = absurd f
@@ -206,13 +216,13 @@ fences-read Choose f = absurd f
 fences-read (Clean c) f = tt
 fences-read Step f = absurd f
 
-module _ (p limit : ℕ) (laws : Laws p limit) {S : Type 0} (Proper : S → Type 0) (stateOf : S → State) (Fits : S → List ℕ → List ℕ → Type 0) (l t : ℕ) (C : ℕ → Held) (ws : List ℕ) (task : Task) (items : List Entry) where
+module _ (p : ℕ) (power : isPower p ≡ true) (laws : Laws p) {S : Type 0} (Proper : S → Type 0) (stateOf : S → State) (Fits : S → List ℕ → List ℕ → Type 0) (l t : ℕ) (C : ℕ → Held) (ws : List ℕ) (task : Task) (items : List Entry) where
   abbrev nl : ℕ
   nl = chunksIn p l
 
   -- a call unfinished, with these actions still to come, begun on the words ws with contents C
   pub record At (s : S) (image table : List ℕ) (acts : List Action) (m : Medium) : Type 0 where
-    pub state : stateOf s ≡ Busy l t items task acts
+    pub state : stateOf s ≡ Busy p l t items task acts
     pub fits : Fits s (wordsOf image) table
     pub agrees : wordsOf image ≡ latest m
     pub long : length image ≡ l
@@ -226,15 +236,15 @@ module _ (p limit : ℕ) (laws : Laws p limit) {S : Type 0} (Proper : S → Type
 
   -- a step: its report, and what stands then
   at-steps : (a : Action) (acts : List Action) (s s₁ : S) (image image₁ table table₁ : List ℕ) (m : Medium) (r : Report) → At s image table (a ∷ acts) m
-      → Called Proper stateOf Fits p limit Step s s₁ image image₁ table table₁ r → (r ≡ asReport a) × At s₁ image₁ table₁ acts (mediumAfter r m)
+      → Called Proper stateOf Fits Step s s₁ image image₁ table table₁ r → (r ≡ asReport a) × At s₁ image₁ table₁ acts (mediumAfter r m)
   at-steps a acts s s₁ image image₁ table table₁ m r h c =
-      let told : stepAnswer (Busy l t items task (a ∷ acts)) (length image) (length table) ≡ asReport a = busy-goes l t items task .reports (a ∷ acts) (length image) (length table) (h .long) (h .lent) in
+      let told : stepAnswer (Busy p l t items task (a ∷ acts)) (length image) (length table) ≡ asReport a = busy-goes p l t items task .reports (a ∷ acts) (length image) (length table) (h .long) (h .lent) in
       let said : r ≡ asReport a = c .anyway .0 ∙ ap (λ (σ : State). stepAnswer σ (length image) (length table)) (h .state) ∙ told in
       let f = image-follows r m image image₁ (c .image) (h .agrees) in
       let md : mediumAfter r m ≡ apply a m = ap (λ (x : Report). mediumAfter x m) said ∙ medium-is a m in (
         said,
         record {
-          state = c .anyway .1 ∙ ap (λ (σ : State). next p limit Step σ (wordsOf image) (length image) (length table)) (h .state) ∙ next-moves p limit (Busy l t items task (a ∷ acts)) (wordsOf image) (length image) (length table) a told;
+          state = c .anyway .1 ∙ ap (λ (σ : State). next Step σ (wordsOf image) (length image) (length table)) (h .state) ∙ next-moves (Busy p l t items task (a ∷ acts)) (wordsOf image) (length image) (length table) a told;
           fits = c .exact (h .fits) .fits;
           agrees = f .0;
           long = f .1 ∙ h .long;
@@ -252,7 +262,7 @@ module _ (p limit : ℕ) (laws : Laws p limit) {S : Type 0} (Proper : S → Type
     pub there : At s′ image′ table′ rest m′
 
   pub walk : (rs : List Report) (acts : List Action) (s s′ : S) (image image′ table table′ : List ℕ) (m m′ : Medium) → At s image table acts m
-      → Stepped Proper stateOf Fits p limit rs m s image table m′ s′ image′ table′ → length rs ≤ length acts → Walked rs acts s′ image′ table′ m′
+      → Stepped Proper stateOf Fits rs m s image table m′ s′ image′ table′ → length rs ≤ length acts → Walked rs acts s′ image′ table′ m′
   walk [] acts s s′ image image′ table table′ m m′ h (em, (es, (ei, et))) le = record { front = []; rest = acts; split = refl; reported = refl; there = rw (em, es, ei, et) h }
   walk (r ∷ rs) [] s s′ image image′ table table′ m m′ h st le = absurd (omega arith)
   walk (r ∷ rs) (a ∷ acts) s s′ image image′ table table′ m m′ h (s₁, (image₁, (table₁, (c, more)))) le =
@@ -267,37 +277,37 @@ module _ (p limit : ℕ) (laws : Laws p limit) {S : Type 0} (Proper : S → Type
 
   -- what look-up answers there
   at-looks : (acts : List Action) (s s′ : S) (image table table′ : List ℕ) (m : Medium) (key : ℕ) (r : Report) → At s image table acts m
-      → Called Proper stateOf Fits p limit (LookUp key) s s′ image image table table′ r → r ≡ lookUp (readBy task acts (latest m)) (entriesIn p nl (readBy task acts (latest m))) key
+      → Called Proper stateOf Fits (LookUp key) s s′ image image table table′ r → r ≡ lookUp (readBy task acts (latest m)) (entriesIn p nl (readBy task acts (latest m))) key
   at-looks acts s s′ image table table′ m key r h c =
-      c .exact (h .fits) .answered ∙ ap (λ (σ : State). answer p limit (LookUp key) σ (wordsOf image) (length image) (length table)) (h .state)
+      c .exact (h .fits) .answered ∙ ap (λ (σ : State). answer (LookUp key) σ (wordsOf image) (length image) (length table)) (h .state)
       ∙ rw (h .agrees, h .long, h .lent, eq-eqb l l refl, eq-eqb t t refl)
 
   -- with the directory words put back
   pub at-before : (acts : List Action) (s s′ : S) (image table table′ : List ℕ) (m : Medium) (key : ℕ) (r : Report) → AreBytes image → At s image table acts m → readBy task acts (latest m) ≡ putBack (oldsOf task) (latest m)
-      → Called Proper stateOf Fits p limit (LookUp key) s s′ image image table table′ r → (r ≡ lookUp ws (entriesIn p nl ws) key) × (shows r image ≡ some (C key))
+      → Called Proper stateOf Fits (LookUp key) s s′ image image table table′ r → (r ≡ lookUp ws (entriesIn p nl ws) key) × (shows r image ≡ some (C key))
   at-before acts s s′ image table table′ m key r small h back c =
       let e : r ≡ lookUp (putBack (oldsOf task) (latest m)) (entriesIn p nl (putBack (oldsOf task) (latest m))) key =
       at-looks acts s s′ image table table′ m key r h c ∙ ap (λ (vs : List ℕ). lookUp vs (entriesIn p nl vs) key) back in
       (e ∙ laws .reading-same nl t C ws (oldsOf task) acts m (h .reading) key, rw e (laws .reading-shows nl t C ws (oldsOf task) acts m image small (h .agrees) (h .reading) key))
 
   -- the step that reports the end
-  ended : (vs : List ℕ) (x y : ℕ) → x ≡ l → y ≡ t → next p limit Step (Busy l t items task []) vs x y ≡ Rest l t (itemsThen task items)
+  ended : (vs : List ℕ) (x y : ℕ) → x ≡ l → y ≡ t → next Step (Busy p l t items task []) vs x y ≡ Rest p l t (itemsThen task items)
   unfolding next
   ended vs x y ex ey = rw (ex, ey, eq-eqb l l refl, eq-eqb t t refl)
 
-  pub at-end : (s s₂ : S) (image image₂ table table₂ : List ℕ) (m : Medium) (k : ℕ) → At s image table [] m → Called Proper stateOf Fits p limit Step s s₂ image image₂ table table₂ (R.End k)
-      → (key : ℕ) (s′ s″ : S) (table′ table″ : List ℕ) (r₁ r₂ : Report) → Called Proper stateOf Fits p limit (LookUp key) s s′ image image table table′ r₁
-      → Called Proper stateOf Fits p limit (LookUp key) s₂ s″ image₂ image₂ table₂ table″ r₂ → r₁ ≡ r₂
+  pub at-end : (s s₂ : S) (image image₂ table table₂ : List ℕ) (m : Medium) (k : ℕ) → At s image table [] m → Called Proper stateOf Fits Step s s₂ image image₂ table table₂ (R.End k)
+      → (key : ℕ) (s′ s″ : S) (table′ table″ : List ℕ) (r₁ r₂ : Report) → Called Proper stateOf Fits (LookUp key) s s′ image image table table′ r₁
+      → Called Proper stateOf Fits (LookUp key) s₂ s″ image₂ image₂ table₂ table″ r₂ → r₁ ≡ r₂
   at-end s s₂ image image₂ table table₂ m k h c key s′ s″ table′ table″ r₁ r₂ d₁ d₂ =
-      let now : stateOf s₂ ≡ Rest l t (itemsThen task items) = c .anyway .1 ∙ ap (λ (σ : State). next p limit Step σ (wordsOf image) (length image) (length table)) (h .state) ∙ ended (wordsOf image) (length image) (length table) (h .long) (h .lent) in
+      let now : stateOf s₂ ≡ Rest p l t (itemsThen task items) = c .anyway .1 ∙ ap (λ (σ : State). next Step σ (wordsOf image) (length image) (length table)) (h .state) ∙ ended (wordsOf image) (length image) (length table) (h .long) (h .lent) in
       let e₂ : r₂ ≡ lookUp (latest m) (entriesIn p nl (latest m)) key =
-      d₂ .exact (c .exact (h .fits) .fits) .answered ∙ ap (λ (σ : State). answer p limit (LookUp key) σ (wordsOf image₂) (length image₂) (length table₂)) now
+      d₂ .exact (c .exact (h .fits) .fits) .answered ∙ ap (λ (σ : State). answer (LookUp key) σ (wordsOf image₂) (length image₂) (length table₂)) now
       ∙ rw (c .image, c .sized, h .agrees, h .long, h .lent, eq-eqb l l refl, eq-eqb t t refl) in
       at-looks [] s s′ image table table′ m key r₁ h d₁ ∙ sym e₂
 
 -- ## From memory as our calls left it
 
-module _ (p limit : ℕ) (laws : Laws p limit) {S : Type 0} (Proper : S → Type 0) (stateOf : S → State) (Fits : S → List ℕ → List ℕ → Type 0) (bytes : ℕ)
+module _ (p : ℕ) (power : isPower p ≡ true) (laws : Laws p) {S : Type 0} (Proper : S → Type 0) (stateOf : S → State) (Fits : S → List ℕ → List ℕ → Type 0) (bytes : ℕ)
     (whole : bytes ≡ 8 * base p (chunksIn p bytes)) (w : World S) (b : Book) (s : S) (table : List ℕ) (i : Inv p Proper stateOf Fits bytes w b) (same : SameLent (w .lent) s table) (small : AreBytes (w .image)) where
   abbrev nb : ℕ
   nb = chunksIn p bytes
@@ -309,12 +319,12 @@ module _ (p limit : ℕ) (laws : Laws p limit) {S : Type 0} (Proper : S → Type
   C = b .register
 
   held : HeldAt p Proper stateOf Fits bytes (some (record { session = s; table = table })) w b
-  held = E.same-lent p limit laws Proper stateOf Fits bytes w b (w .lent) s table same (i .held)
+  held = E.same-lent p power laws Proper stateOf Fits bytes w b (w .lent) s table same (i .held)
 
   -- the state is at rest, with the lengths of the opening
   pub record Resting : Type 0 where
     pub items : List Entry
-    pub state : stateOf s ≡ Rest bytes (w .least) items
+    pub state : stateOf s ≡ Rest p bytes (w .least) items
     pub stands : Standing p nb (w .least) C (b .staged) items m
 
   rests : w .unfinished ≡ false → Resting
@@ -322,8 +332,8 @@ module _ (p limit : ℕ) (laws : Laws p limit) {S : Type 0} (Proper : S → Type
     where
       go : (σ : State) → stateOf s ≡ σ → Holds p bytes (w .least) (w .unfinished) b σ m → Resting
       go Closed e h = absurd h
-      go (Rest x y items) e h = record { items = items; state = e ∙ rw (h .0, h .1); stands = h .3 }
-      go (Busy x y items task rest) e h = absurd (false-true (sym idle ∙ h .2))
+      go (Rest z x y items) e h = record { items = items; state = e ∙ rw (h .4, h .0, h .1); stands = h .3 }
+      go (Busy z x y items task rest) e h = absurd (false-true (sym idle ∙ h .2))
       go (Formatting o x y rest) e h = absurd h
 
   -- WHAT A CALL BEGAN there, with `a` actions
@@ -333,22 +343,22 @@ module _ (p limit : ℕ) (laws : Laws p limit) {S : Type 0} (Proper : S → Type
     pub acts : List Action
     pub long : length acts ≡ a
     pub turns : Turns k task acts
-    pub there : At p limit laws Proper stateOf Fits bytes (w .least) C (latest m) task items s₀ (w .image) table₀ acts m
+    pub there : At p power laws Proper stateOf Fits bytes (w .least) C (latest m) task items s₀ (w .image) table₀ acts m
 
-  module _ (k : Call) (s₀ : S) (table₀ : List ℕ) (a : ℕ) (c : Called Proper stateOf Fits p limit k s s₀ (w .image) (w .image) table table₀ (R.Begun a)) (rest : Resting) where
+  module _ (k : Call) (s₀ : S) (table₀ : List ℕ) (a : ℕ) (c : Called Proper stateOf Fits k s s₀ (w .image) (w .image) table table₀ (R.Begun a)) (rest : Resting) where
     -- a call with this plan, whose accepted begin has such a task and such actions
-    planned-begins : (q : Plan) → Ready Proper stateOf Fits p limit k s (wordsOf (w .image)) table → Fits s₀ (wordsOf (w .image)) table₀
-        → answer p limit k (Rest bytes (w .least) (rest .items)) (latest m) bytes (w .least) ≡ planned q
-        → change p limit k (Rest bytes (w .least) (rest .items)) (latest m) bytes (w .least) ≡ begun q (Rest bytes (w .least) (rest .items))
+    planned-begins : (q : Plan) → Ready Proper stateOf Fits k s (wordsOf (w .image)) table → Fits s₀ (wordsOf (w .image)) table₀
+        → answer k (Rest p bytes (w .least) (rest .items)) (latest m) bytes (w .least) ≡ planned q
+        → change k (Rest p bytes (w .least) (rest .items)) (latest m) bytes (w .least) ≡ begun q (Rest p bytes (w .least) (rest .items))
         → ((items′ : List Entry) (task : Task) (acts : List Action) → q ≡ Begin items′ task acts → Turns k task acts × Reading p nb (w .least) C (latest m) (oldsOf task) acts m) → Unfinished k s₀ table₀ a
     planned-begins q ready fits answers changes begins =
-        let said : R.Begun a ≡ answer p limit k (stateOf s) (latest m) bytes (w .least) = E.answered p limit laws Proper stateOf Fits bytes k w b s s₀ (w .image) table table₀ (R.Begun a) i same c ready in
-        let found = plan-begins q a (said ∙ ap (λ (σ : State). answer p limit k σ (latest m) bytes (w .least)) (rest .state) ∙ answers) in
+        let said : R.Begun a ≡ answer k (stateOf s) (latest m) bytes (w .least) = E.answered p power laws Proper stateOf Fits bytes k w b s s₀ (w .image) table table₀ (R.Begun a) i same c ready in
+        let found = plan-begins q a (said ∙ ap (λ (σ : State). answer k σ (latest m) bytes (w .least)) (rest .state) ∙ answers) in
         let (items′, (task, (acts, (e, long)))) = found in
-        let now : stateOf s₀ ≡ Busy bytes (w .least) items′ task acts =
-        E.became p limit laws Proper stateOf Fits bytes k w b s s₀ (w .image) table table₀ (R.Begun a) i same c ready
-        ∙ begun-changes p limit k (stateOf s) (latest m) bytes (w .least) a (sym said)
-        ∙ ap (λ (σ : State). change p limit k σ (latest m) bytes (w .least)) (rest .state) ∙ changes ∙ ap (λ (x : Plan). begun x (Rest bytes (w .least) (rest .items))) e in
+        let now : stateOf s₀ ≡ Busy p bytes (w .least) items′ task acts =
+        E.became p power laws Proper stateOf Fits bytes k w b s s₀ (w .image) table table₀ (R.Begun a) i same c ready
+        ∙ begun-changes k (stateOf s) (latest m) bytes (w .least) a (sym said)
+        ∙ ap (λ (σ : State). change k σ (latest m) bytes (w .least)) (rest .state) ∙ changes ∙ ap (λ (x : Plan). begun x (Rest p bytes (w .least) (rest .items))) e in
         let g = begins items′ task acts e in record {
           task = task;
           items = items′;
@@ -362,15 +372,15 @@ module _ (p limit : ℕ) (laws : Laws p limit) {S : Type 0} (Proper : S → Type
   passed : both (eqb bytes bytes) (eqb (w .least) (w .least)) ≡ true
   passed = rw (eq-eqb bytes bytes refl, eq-eqb (w .least) (w .least) refl)
 
-  begins : (k : Call) → MayRead k → (rest : Resting) (s₀ : S) (table₀ : List ℕ) (a : ℕ) (c : Called Proper stateOf Fits p limit k s s₀ (w .image) (w .image) table table₀ (R.Begun a)) → Unfinished k s₀ table₀ a
-  begins (Format x y) may rest s₀ table₀ a c = absurd may
+  begins : (k : Call) → MayRead k → (rest : Resting) (s₀ : S) (table₀ : List ℕ) (a : ℕ) (c : Called Proper stateOf Fits k s s₀ (w .image) (w .image) table table₀ (R.Begun a)) → Unfinished k s₀ table₀ a
+  begins (Format q x y) may rest s₀ table₀ a c = absurd may
   begins Open may rest s₀ table₀ a c = absurd may
   begins (Put x key v) may rest s₀ table₀ a c =
-      planned-begins (Put x key v) s₀ table₀ a c rest (planPut p limit nb (latest m) (w .least) (entriesIn p nb (latest m)) (rest .items) x key v) (held .0) (c .exact (held .0) .fits) (rw passed) refl
+      planned-begins (Put x key v) s₀ table₀ a c rest (planPut p nb (latest m) (w .least) (entriesIn p nb (latest m)) (rest .items) x key v) (held .0) (c .exact (held .0) .fits) (rw passed) refl
       (λ items′ task acts e. (
         (
           laws .put-goes nb (w .least) C (b .staged) (rest .items) items′ task acts m x key v may (rest .stands) e .0,
-          put-unfenced p limit nb (latest m) (w .least) (entriesIn p nb (latest m)) (rest .items) x key v items′ task acts e,
+          put-unfenced p nb (latest m) (w .least) (entriesIn p nb (latest m)) (rest .items) x key v items′ task acts e,
         ),
         laws .put-reads nb (w .least) C (b .staged) (rest .items) items′ task acts m x key v may (rest .stands) e,
       ))
@@ -398,22 +408,22 @@ module _ (p limit : ℕ) (laws : Laws p limit) {S : Type 0} (Proper : S → Type
   begins Step may rest s₀ table₀ a c = absurd may
 
   -- look-up at rest
-  at-rest : (rest : Resting) (key : ℕ) (r : Report) → Called Proper stateOf Fits p limit (LookUp key) s s (w .image) (w .image) table table r
+  at-rest : (rest : Resting) (key : ℕ) (r : Report) → Called Proper stateOf Fits (LookUp key) s s (w .image) (w .image) table table r
       → (r ≡ lookUp (latest m) (entriesIn p nb (latest m)) key) × (shows r (w .image) ≡ some (C key))
   at-rest rest key r c =
       let e : r ≡ lookUp (latest m) (entriesIn p nb (latest m)) key =
-      E.answered p limit laws Proper stateOf Fits bytes (LookUp key) w b s s (w .image) table table r i same c (held .0)
-      ∙ ap (λ (σ : State). answer p limit (LookUp key) σ (latest m) bytes (w .least)) (rest .state) ∙ rw (eq-eqb bytes bytes refl, eq-eqb (w .least) (w .least) refl) in
+      E.answered p power laws Proper stateOf Fits bytes (LookUp key) w b s s (w .image) table table r i same c (held .0)
+      ∙ ap (λ (σ : State). answer (LookUp key) σ (latest m) bytes (w .least)) (rest .state) ∙ rw (eq-eqb bytes bytes refl, eq-eqb (w .least) (w .least) refl) in
       (e, rw e (laws .look-shows nb (w .least) C (b .staged) (rest .items) m (w .image) small (i .agrees) (rest .stands) key))
 
   -- so many of its steps
   goes-on : (k : Call) (s₀ s′ : S) (image′ table₀ table′ : List ℕ) (a : ℕ) (rs : List Report) (m₁ m₂ : Medium) (u : Unfinished k s₀ table₀ a)
-      → Stepped Proper stateOf Fits p limit rs m₁ s₀ (w .image) table₀ m₂ s′ image′ table′ → length rs ≤ a
-      → (m′ : Medium) × Walked p limit laws Proper stateOf Fits bytes (w .least) C (latest m) (u .task) (u .items) rs (u .acts) s′ image′ table′ m′
+      → Stepped Proper stateOf Fits rs m₁ s₀ (w .image) table₀ m₂ s′ image′ table′ → length rs ≤ a
+      → (m′ : Medium) × Walked p power laws Proper stateOf Fits bytes (w .least) C (latest m) (u .task) (u .items) rs (u .acts) s′ image′ table′ m′
   goes-on k s₀ s′ image′ table₀ table′ a rs m₁ m₂ u steps few =
-      let (m′, again) = M.restep p limit laws Proper stateOf Fits rs m₁ m₂ m s₀ s′ (w .image) image′ table₀ table′ steps in
+      let (m′, again) = M.restep Proper stateOf Fits rs m₁ m₂ m s₀ s′ (w .image) image′ table₀ table′ steps in
       let long = u .long in
-      (m′, walk p limit laws Proper stateOf Fits bytes (w .least) C (latest m) (u .task) (u .items) rs (u .acts) s₀ s′ (w .image) image′ table₀ table′ m m′ (u .there) again (omega arith))
+      (m′, walk p power laws Proper stateOf Fits bytes (w .least) C (latest m) (u .task) (u .items) rs (u .acts) s₀ s′ (w .image) image′ table₀ table′ m m′ (u .there) again (omega arith))
 
   -- as many as it has actions
   all-done : (rs : List Report) (front rest acts : List Action) → acts ≡ front ++ rest → rs ≡ map asReport front → length rs ≡ length acts → (rest ≡ []) × (rs ≡ map asReport acts)
@@ -422,7 +432,7 @@ module _ (p limit : ℕ) (laws : Laws p limit) {S : Type 0} (Proper : S → Type
       absurd (let f = length-map front asReport in let g : length rs ≡ length (map asReport front) = ap length r in let h : length acts ≡ length (front ++ (x ∷ rest)) = ap length e in let j = length-append front (x ∷ rest) in omega arith)
 
   early-few : (k : Call) (n a : ℕ) → Early k n a → n ≤ a
-  early-few (Format x y) n a e = omega arith
+  early-few (Format q x y) n a e = omega arith
   early-few Open n a e = omega arith
   early-few (Put x key v) n a e = e
   early-few (Delete x key) n a e = e
@@ -433,14 +443,14 @@ module _ (p limit : ℕ) (laws : Laws p limit) {S : Type 0} (Proper : S → Type
   early-few (Clean c) n a e = omega arith
   early-few Step n a e = omega arith
 
-  pub reprints : w .unfinished ≡ false → Reprints Proper stateOf Fits p limit s (w .image) table
+  pub reprints : w .unfinished ≡ false → Reprints Proper stateOf Fits s (w .image) table
   reprints idle = record {
     before = λ k key s₀ s′ image′ table₀ table′ a rs m₁ m₂ r r′ may small′ looked c steps early looks.
         let u = begins k may (rests idle) s₀ table₀ a c in
         let (m′, q) = goes-on k s₀ s′ image′ table₀ table′ a rs m₁ m₂ u steps (early-few k (length rs) a early) in
         let n : length rs ≡ length (q .front) = ap length (q .reported) ∙ length-map (q .front) asReport in
         let back = early-words k (u .task) (u .acts) (q .front) (q .rest) (latest m′) (length rs) a may (u .turns) (q .split) n (u .long) early in
-        let z = at-before p limit laws Proper stateOf Fits bytes (w .least) C (latest m) (u .task) (u .items) (q .rest) s′ s′ image′ table′ table′ m′ key r′ small′ (q .there) back looks in
+        let z = at-before p power laws Proper stateOf Fits bytes (w .least) C (latest m) (u .task) (u .items) (q .rest) s′ s′ image′ table′ table′ m′ key r′ small′ (q .there) back looks in
         let o = at-rest (rests idle) key r looked in
         let e : r′ ≡ r = z .0 ∙ sym (o .0) in
         (e, shown-part r image′ (w .image) (ap (λ (x : Report). shows x image′) (sym e) ∙ z .1 ∙ sym (o .1)));
@@ -448,7 +458,7 @@ module _ (p limit : ℕ) (laws : Laws p limit) {S : Type 0} (Proper : S → Type
         let u = begins k may (rests idle) s₀ table₀ a c in
         let (m′, q) = goes-on k s₀ s₁ image₁ table₀ table₁ a rs m₁ m₂ u steps (omega arith) in
         let none = all-done rs (q .front) (q .rest) (u .acts) (q .split) (q .reported) (all ∙ sym (u .long)) .0 in
-        at-end p limit laws Proper stateOf Fits bytes (w .least) C (latest m) (u .task) (u .items) s₁ s₂ image₁ image₂ table₁ table₂ m′ x (rw none at (q .there)) end key s₁ s₂ table₁ table₂ r₁ r₂ d₁ d₂;
+        at-end p power laws Proper stateOf Fits bytes (w .least) C (latest m) (u .task) (u .items) s₁ s₂ image₁ image₂ table₁ table₂ m′ x (rw none at (q .there)) end key s₁ s₂ table₁ table₂ r₁ r₂ d₁ d₂;
     fenced = λ k s₀ s₁ image₁ table₀ table₁ a rs m₁ m₂ fences c steps all.
         let u = begins k (fences-read k fences) (rests idle) s₀ table₀ a c in
         let (m′, q) = goes-on k s₀ s₁ image₁ table₀ table₁ a rs m₁ m₂ u steps (omega arith) in
@@ -461,7 +471,7 @@ module _ (p limit : ℕ) (laws : Laws p limit) {S : Type 0} (Proper : S → Type
         no-report (q .front) (q .rest) (subst (Each NoFence) (q .split) (unfenced-acts k (u .task) (u .acts) may stages (u .turns))) xs ys (sym (q .reported) ∙ e);
   }
 
-pub reprinted : (p limit : ℕ) → Laws p limit → {S : Type 0} (Proper : S → Type 0) (stateOf : S → State) (Fits : S → List ℕ → List ℕ → Type 0) → Reprinted Proper stateOf Fits p limit
-reprinted p limit laws Proper stateOf Fits =
-    M.as-calls-left p limit laws Proper stateOf Fits (λ b u s image table. u ≡ false → Reprints Proper stateOf Fits p limit s image table)
-    (λ bytes whole w b s table i same small idle. reprints p limit laws Proper stateOf Fits bytes whole w b s table i same small idle)
+pub reprinted : ((q : ℕ) → isPower q ≡ true → Laws q) → {S : Type 0} (Proper : S → Type 0) (stateOf : S → State) (Fits : S → List ℕ → List ℕ → Type 0) → Reprinted Proper stateOf Fits
+reprinted every Proper stateOf Fits =
+    M.as-calls-left every Proper stateOf Fits (λ b u s image table. u ≡ false → Reprints Proper stateOf Fits s image table)
+    (λ p there bytes whole w b s table i same small idle. reprints p there (every p there) Proper stateOf Fits bytes whole w b s table i same small idle)

@@ -3,7 +3,7 @@
 -- alike, whatever record and table hold. Of `Fits` it is asked that a record that fits is one of its type, and that an
 -- image that fits at rest is accepted.
 -- Assumes nothing.
-use mathlib.Core.Path.{_≡_, refl, sym, _∙_}
+use mathlib.Core.Path.{_≡_, refl, sym, _∙_, ap}
 use mathlib.Core.Bool.{Bool, true, false}
 use mathlib.Core.Option.{some}
 use mathlib.Core.List.{List, [], _∷_, map}
@@ -11,7 +11,8 @@ use Prim.Native.Nat.{ℕ, _*_}
 use native.Mathlib.Omega.{arith}
 use lib.ListN.{length}
 use Rattle.spec.specs.Words.{wordsOf, AreBytes}
-use Rattle.spec.specs.Places.{base, chunksIn}
+use Rattle.spec.specs.Places.{isPower, base, chunksIn}
+use Rattle.spec.specs.Header.{headerPower}
 use Rattle.spec.specs.Log.{Entry}
 use Rattle.spec.specs.Opening.{Accepted, opening}
 use Rattle.spec.specs.Reports.{isRefused}
@@ -44,9 +45,9 @@ changed-same R.Abandoned image a b small also c d = c ∙ sym d
 changed-same (R.Chosen n) image a b small also c d = c ∙ sym d
 changed-same (R.Part x n v) image a b small also c d = c ∙ sym d
 
-module _ (p limit : ℕ) {S : Type 0} (Proper : S → Type 0) (stateOf : S → State) (Fits : S → List ℕ → List ℕ → Type 0) (proper : (s : S) (ws table : List ℕ) → Fits s ws table → Proper s) where
-  ready : (k : Call) (s : S) (ws table : List ℕ) → Fits s ws table → Ready Proper stateOf Fits p limit k s ws table
-  ready (Format a b) s ws table f = proper s ws table f
+module _ {S : Type 0} (Proper : S → Type 0) (stateOf : S → State) (Fits : S → List ℕ → List ℕ → Type 0) (proper : (s : S) (ws table : List ℕ) → Fits s ws table → Proper s) where
+  ready : (k : Call) (s : S) (ws table : List ℕ) → Fits s ws table → Ready Proper stateOf Fits k s ws table
+  ready (Format p a b) s ws table f = proper s ws table f
   ready Open s ws table f = proper s ws table f
   ready (Put x k v) s ws table f = f
   ready (Delete x k) s ws table f = f
@@ -58,9 +59,9 @@ module _ (p limit : ℕ) {S : Type 0} (Proper : S → Type 0) (stateOf : S → S
   ready Step s ws table f = f
 
   -- MEMORY FITS AGAIN after every call; a refused formatting leaves it as it was.
-  fits-again : (k : Call) (s s′ : S) (image image′ table table′ : List ℕ) (r : Report) → Fits s (wordsOf image) table → Called Proper stateOf Fits p limit k s s′ image image′ table table′ r
+  fits-again : (k : Call) (s s′ : S) (image image′ table table′ : List ℕ) (r : Report) → Fits s (wordsOf image) table → Called Proper stateOf Fits k s s′ image image′ table table′ r
       → Fits s′ (wordsOf image′) table′
-  fits-again (Format a b) s s′ image image′ table table′ r f c = go (isRefused r) refl
+  fits-again (Format p a b) s s′ image image′ table table′ r f c = go (isRefused r) refl
     where
       go : (t : Bool) → isRefused r ≡ t → Fits s′ (wordsOf image′) table′
       go false e = c .exact (proper s (wordsOf image) table f) .fits e
@@ -80,12 +81,12 @@ module _ (p limit : ℕ) {S : Type 0} (Proper : S → Type 0) (stateOf : S → S
   fits-again Step s s′ image image′ table table′ r f c = c .exact f .fits
 
   -- WHAT TWO STATIONS SHARE is kept by every call.
-  pub alike : (ks : List Call) (s t : S) (image other table beside : List ℕ) → Same Proper stateOf Fits p limit s t image other table beside
-      → Alike Proper stateOf Fits p limit ks s t image other table beside
+  pub alike : (ks : List Call) (s t : S) (image other table beside : List ℕ) → Same Proper stateOf Fits s t image other table beside
+      → Alike Proper stateOf Fits ks s t image other table beside
   alike [] s t image other table beside w = w
   alike (k ∷ ks) s t image other table beside w = λ s′ t′ image′ other′ table′ beside′ r q small small′ c d.
-      let x : Exact Proper stateOf Fits p limit k s s′ image image′ table table′ r = c .exact (ready k s (wordsOf image) table (w .fits)) in
-      let y : Exact Proper stateOf Fits p limit k t t′ other other′ beside beside′ q = d .exact (ready k t (wordsOf other) beside (w .also)) in
+      let x : Exact Proper stateOf Fits k s s′ image image′ table table′ r = c .exact (ready k s (wordsOf image) table (w .fits)) in
+      let y : Exact Proper stateOf Fits k t t′ other other′ beside beside′ q = d .exact (ready k t (wordsOf other) beside (w .also)) in
       let e : r ≡ q = x .answered ∙ rw (w .state, w .bytes, w .lengths) (sym (y .answered)) in
       let i : image′ ≡ other′ = changed-same r image image′ other′ small small′ (c .image) (rw (e, w .bytes) (d .image)) in (
         e,
@@ -102,11 +103,11 @@ module _ (p limit : ℕ) {S : Type 0} (Proper : S → Type 0) (stateOf : S → S
       )
 
   -- A STATION AT REST, on an image that opening accepts with a table as long, and the same image opened.
-  reopens : (s : S) (image table : List ℕ) (es : List Entry) → opening p (length image) (wordsOf image) (length table) ≡ Accepted es
-      → Fits s (wordsOf image) table → stateOf s ≡ Rest (length image) (length table) [] → Reopens Proper stateOf Fits p limit s image table
+  reopens : (s : S) (image table : List ℕ) (es : List Entry) → opening (length image) (wordsOf image) (length table) ≡ Accepted es
+      → Fits s (wordsOf image) table → stateOf s ≡ Rest (headerPower (wordsOf image)) (length image) (length table) [] → Reopens Proper stateOf Fits s image table
   unfolding next
   reopens s image table es a f rests t t′ lent table′ r q same c =
-      let x : Exact Proper stateOf Fits p limit Open t t′ image image lent table′ r = c .exact q in (
+      let x : Exact Proper stateOf Fits Open t t′ image image lent table′ r = c .exact q in (
         x .answered ∙ rw (same, a),
         λ calls. alike calls s t′ image image table table′ (record {
           state = rests ∙ sym (x .became ∙ rw (same, a));
@@ -117,37 +118,39 @@ module _ (p limit : ℕ) {S : Type 0} (Proper : S → Type 0) (stateOf : S → S
         }),
       )
 
-  pub reopened : ((s : S) (ws table : List ℕ) (bytes : ℕ) → Fits s ws table → stateOf s ≡ Rest bytes (length table) [] → (es : List Entry) × (opening p bytes ws (length table) ≡ Accepted es))
-      → Reopened Proper stateOf Fits p limit
-  reopened accepted s image table small f rests = let a = accepted s (wordsOf image) table (length image) f rests in reopens s image table (a .0) (a .1) f rests
+  pub reopened : ((s : S) (ws table : List ℕ) (p bytes : ℕ) → Fits s ws table → stateOf s ≡ Rest p bytes (length table) [] → (headerPower ws ≡ p) × ((es : List Entry) × (opening bytes ws (length table) ≡ Accepted es)))
+      → Reopened Proper stateOf Fits
+  reopened accepted s p image table small f rests =
+      let a = accepted s (wordsOf image) table p (length image) f rests in
+      reopens s image table (a .1 .0) (a .1 .1) f (rests ∙ ap (λ (y : ℕ). Rest y (length image) (length table) []) (sym (a .0)))
 
   -- By what the calls answered: with no call unfinished and an empty tray the station is at rest, and what stands is
   -- accepted.
-  module _ (laws : Laws p limit) (bytes : ℕ) (whole : bytes ≡ 8 * base p (chunksIn p bytes)) (w : World S) (b : Book) (s : S) (table : List ℕ) (i : Inv p Proper stateOf Fits bytes w b)
+  module _ (every : (q : ℕ) → isPower q ≡ true → Laws q) (p : ℕ) (power : isPower p ≡ true) (bytes : ℕ) (whole : bytes ≡ 8 * base p (chunksIn p bytes)) (w : World S) (b : Book) (s : S) (table : List ℕ) (i : Inv p Proper stateOf Fits bytes w b)
       (same : SameLent (w .lent) s table) where
     held : HeldAt p Proper stateOf Fits bytes (some (record { session = s; table = table })) w b
-    held = M.held p limit laws Proper stateOf Fits bytes whole w b s table i same
+    held = M.held every p power Proper stateOf Fits bytes whole w b s table i same
 
     at-rest : b .staged ≡ [] → w .unfinished ≡ false
-        → (stateOf s ≡ Rest (length (w .image)) (length table) []) × ((es : List Entry) × (opening p (length (w .image)) (wordsOf (w .image)) (length table) ≡ Accepted es))
-    at-rest empty idle = go (stateOf s) (held .2) (M.idle-rests p limit laws Proper stateOf Fits bytes whole w b s table i same idle)
+        → (stateOf s ≡ Rest (headerPower (wordsOf (w .image))) (length (w .image)) (length table) []) × ((es : List Entry) × (opening (length (w .image)) (wordsOf (w .image)) (length table) ≡ Accepted es))
+    at-rest empty idle = go (stateOf s) (held .2) (M.idle-rests every p power Proper stateOf Fits bytes whole w b s table i same idle)
       where
         none-staged : (items : List Entry) (f : Entry → Item) → map f items ≡ b .staged → items ≡ []
         none-staged [] f e = refl
         none-staged (x ∷ items) f e = absurd (let z : _≡_ {A = ℕ} 0 1 = cc in omega arith)
 
         go : (σ : State) → Holds p bytes (w .least) (w .unfinished) b σ (w .medium) → isUnfinished σ ≡ false
-            → (σ ≡ Rest (length (w .image)) (length table) []) × ((es : List Entry) × (opening p (length (w .image)) (wordsOf (w .image)) (length table) ≡ Accepted es))
+            → (σ ≡ Rest (headerPower (wordsOf (w .image))) (length (w .image)) (length table) []) × ((es : List Entry) × (opening (length (w .image)) (wordsOf (w .image)) (length table) ≡ Accepted es))
         go Closed h e = absurd h
-        go (Rest l t items) h e = (
-          rw (h .0, h .1, ← (i .sized), ← (held .1), none-staged items (itemOf (h .3 .words)) (h .3 .booked)),
-          rw (i .agrees, i .sized, whole, held .1) (laws .open-accepts (chunksIn p bytes) (w .least) (b .register) (b .staged) items (w .medium) (h .3)),
+        go (Rest z l t items) h e = (
+          rw (ap headerPower (i .agrees) ∙ every p power .stand-power (chunksIn p bytes) (w .least) (b .register) (b .staged) items (w .medium) (h .3), h .4, h .0, h .1, ← (i .sized), ← (held .1), none-staged items (itemOf (h .3 .words)) (h .3 .booked)),
+          rw (i .agrees, i .sized, whole, held .1) (every p power .open-accepts (chunksIn p bytes) (w .least) (b .register) (b .staged) items (w .medium) (h .3) power),
         )
-        go (Busy l t items task rest) h e = absurd (I.false-true (sym e))
+        go (Busy z l t items task rest) h e = absurd (I.false-true (sym e))
         go (Formatting o l t rest) h e = absurd h
 
-  pub reopened-after : Laws p limit → ReopenedAfter Proper stateOf Fits p limit
-  reopened-after laws = M.as-calls-left p limit laws Proper stateOf Fits (λ b u s image table. b .staged ≡ [] → u ≡ false → Reopens Proper stateOf Fits p limit s image table)
-      λ bytes whole w b s table i same small empty idle.
-      let a = at-rest laws bytes whole w b s table i same empty idle in
-      reopens s (w .image) table (a .1 .0) (a .1 .1) (held laws bytes whole w b s table i same .0) (a .0)
+  pub reopened-after : ((q : ℕ) → isPower q ≡ true → Laws q) → ReopenedAfter Proper stateOf Fits
+  reopened-after every = M.as-calls-left every Proper stateOf Fits (λ b u s image table. b .staged ≡ [] → u ≡ false → Reopens Proper stateOf Fits s image table)
+      λ p power bytes whole w b s table i same small empty idle.
+      let a = at-rest every p power bytes whole w b s table i same empty idle in
+      reopens s (w .image) table (a .1 .0) (a .1 .1) (held every p power bytes whole w b s table i same .0) (a .0)

@@ -18,6 +18,7 @@ use Rattle.spec.specs.Words.{packed}
 use Rattle.spec.specs.Places.{unitWord}
 use Rattle.spec.specs.Medium.{Action, Medium, run, latest, CanCutTo}
 use Rattle.spec.specs.Log.{Entry, Parsed, maxInLog}
+use Rattle.spec.specs.Blocks.{blockLimit}
 use Rattle.spec.specs.Blocks.{blockSize, pointed}
 use Rattle.spec.specs.Contents.{Held, highest, chosen, listed, entriesIn}
 use Rattle.spec.specs.Plans.{Task, Plan, Refuse, Begin, Slot, InData, InFree, Nowhere, Staging, need, nextVersion, present, fitsVersion, entry, slotFor, stageLarge, stagePut, planPut, planDelete, planCommit, planClean, partOr, lookUp}
@@ -108,11 +109,11 @@ staged-more p n ws k es items items′ task acts bytes h = go (leb (length bytes
 -- ## For a version named
 
 -- an accepted staging leaves the version behind the one that it named
-pub put-named : (p limit n : ℕ) (ws : List ℕ) (table : ℕ) (es items items′ : List Entry) (task : Task) (acts : List Action) (v k : ℕ) (bytes : List ℕ)
-    → planPut p limit n ws table es items (G.Number v) k bytes ≡ Begin items′ task acts → highest k (es ++ items′) ≡ v + 1
+pub put-named : (p n : ℕ) (ws : List ℕ) (table : ℕ) (es items items′ : List Entry) (task : Task) (acts : List Action) (v k : ℕ) (bytes : List ℕ)
+    → planPut p n ws table es items (G.Number v) k bytes ≡ Begin items′ task acts → highest k (es ++ items′) ≡ v + 1
 unfolding More
-put-named p limit n ws table es items items′ task acts v k bytes h =
-    let b = put-begun p limit n ws table es items (G.Number v) k bytes items′ task acts h in
+put-named p n ws table es items items′ task acts v k bytes h =
+    let b = put-begun p n ws table es items (G.Number v) k bytes items′ task acts h in
     let q : v ≡ highest k (es ++ items) = eqb-true v (highest k (es ++ items)) (b .named) in
     let m = staged-more p n ws k es items items′ task acts bytes (b .staged) in
     m ∙ omega arith
@@ -136,19 +137,19 @@ module _ (es items : List Entry) (v k : ℕ) (other : highest k (es ++ items) �
   unlike : fitsVersion (G.Number v) k es items ≡ false
   unlike = ne-eqb v (highest k (es ++ items)) (λ q. other (sym q))
 
-  pub put-other : (p limit n : ℕ) (ws : List ℕ) (table : ℕ) (bytes : List ℕ)
-      → (planPut p limit n ws table es items (G.Number v) k bytes ≡ Refuse N.TooLong) ⊎ (planPut p limit n ws table es items (G.Number v) k bytes ≡ Refuse N.OtherVersion)
+  pub put-other : (p n : ℕ) (ws : List ℕ) (table : ℕ) (bytes : List ℕ)
+      → (planPut p n ws table es items (G.Number v) k bytes ≡ Refuse N.TooLong) ⊎ (planPut p n ws table es items (G.Number v) k bytes ≡ Refuse N.OtherVersion)
   unfolding planPut
-  put-other p limit n ws table bytes = refused-either (leb (length bytes) limit) (fitsVersion (G.Number v) k es items) N.TooLong N.OtherVersion _ unlike
+  put-other p n ws table bytes = refused-either (leb (length bytes) (blockLimit p)) (fitsVersion (G.Number v) k es items) N.TooLong N.OtherVersion _ unlike
 
   pub delete-other : (table : ℕ) → (planDelete table es items (G.Number v) k ≡ Refuse N.KeyAbsent) ⊎ (planDelete table es items (G.Number v) k ≡ Refuse N.OtherVersion)
   unfolding planDelete
   delete-other table = refused-either (present k es items) (fitsVersion (G.Number v) k es items) N.KeyAbsent N.OtherVersion _ unlike
 
 -- TWO WINDOWS that name the same version: behind an accepted put or delete of the first the second gets 17, or 9 or 11
-pub second-put : (p limit n : ℕ) (ws : List ℕ) (table : ℕ) (es items : List Entry) (v k : ℕ) (bytes : List ℕ) → highest k (es ++ items) ≡ v + 1
-    → (planPut p limit n ws table es items (G.Number v) k bytes ≡ Refuse N.TooLong) ⊎ (planPut p limit n ws table es items (G.Number v) k bytes ≡ Refuse N.OtherVersion)
-second-put p limit n ws table es items v k bytes h = put-other es items v k (λ q. omega arith) p limit n ws table bytes
+pub second-put : (p n : ℕ) (ws : List ℕ) (table : ℕ) (es items : List Entry) (v k : ℕ) (bytes : List ℕ) → highest k (es ++ items) ≡ v + 1
+    → (planPut p n ws table es items (G.Number v) k bytes ≡ Refuse N.TooLong) ⊎ (planPut p n ws table es items (G.Number v) k bytes ≡ Refuse N.OtherVersion)
+second-put p n ws table es items v k bytes h = put-other es items v k (λ q. omega arith) p n ws table bytes
 
 pub second-delete : (table : ℕ) (es items : List Entry) (v k : ℕ) → highest k (es ++ items) ≡ v + 1
     → (planDelete table es items (G.Number v) k ≡ Refuse N.KeyAbsent) ⊎ (planDelete table es items (G.Number v) k ≡ Refuse N.OtherVersion)
@@ -169,9 +170,9 @@ module _ (p : ℕ) (lo : 12 ≤ p) (hi : p ≤ 16) (n table : ℕ) (C : ℕ → 
   counted : highest k (es′ ++ []) ≡ highest k (entriesIn p n (latest m) ++ items)
   counted = highest-append k es′ [] ∙ larger-zero (highest k es′) ∙ commit-versions p lo hi n table C book items items′ task acts m s h k
 
-  pub committed-put : (limit : ℕ) (bytes : List ℕ)
-      → (planPut p limit n ws′ table es′ [] (G.Number v) k bytes ≡ Refuse N.TooLong) ⊎ (planPut p limit n ws′ table es′ [] (G.Number v) k bytes ≡ Refuse N.OtherVersion)
-  committed-put limit bytes = put-other es′ [] v k (λ q. other (sym counted ∙ q)) p limit n ws′ table bytes
+  pub committed-put : (bytes : List ℕ)
+      → (planPut p n ws′ table es′ [] (G.Number v) k bytes ≡ Refuse N.TooLong) ⊎ (planPut p n ws′ table es′ [] (G.Number v) k bytes ≡ Refuse N.OtherVersion)
+  committed-put bytes = put-other es′ [] v k (λ q. other (sym counted ∙ q)) p n ws′ table bytes
 
   pub committed-delete : (planDelete table es′ [] (G.Number v) k ≡ Refuse N.KeyAbsent) ⊎ (planDelete table es′ [] (G.Number v) k ≡ Refuse N.OtherVersion)
   committed-delete = delete-other es′ [] v k (λ q. other (sym counted ∙ q)) table

@@ -9,6 +9,7 @@ use lib.Dec.{leb}
 use lib.ListN.{length}
 use Rattle.spec.specs.Medium.{Action}
 use Rattle.spec.specs.Log.{Entry}
+use Rattle.spec.specs.Blocks.{blockLimit}
 use Rattle.spec.specs.Plans.{Task, Staging, Plan, Begin, need, nextVersion, present, fitsVersion, fitsBatch, fitsKeys, maxPutVersion, maxVersion, entry, putWords, stagePut, planPut, planDelete}
 use Rattle.spec.specs.declared.Given.{Given}
 use Rattle.spec.specs.declared.Refusal.{Refusal}
@@ -19,19 +20,19 @@ need-begin true r q items task acts h = (refl, h)
 need-begin false r q items task acts h = absurd (let z : _≡_ {A = ℕ} 0 1 = cc in omega arith)
 
 -- a put
-pub record PutBegun (p limit n : ℕ) (ws : List ℕ) (table : ℕ) (es items : List Entry) (x : Given) (k : ℕ) (v : List ℕ) (items′ : List Entry) (task : Task) (acts : List Action) : Type 0 where
-  pub short : leb (length v) limit ≡ true
+pub record PutBegun (p n : ℕ) (ws : List ℕ) (table : ℕ) (es items : List Entry) (x : Given) (k : ℕ) (v : List ℕ) (items′ : List Entry) (task : Task) (acts : List Action) : Type 0 where
+  pub short : leb (length v) (blockLimit p) ≡ true
   pub named : fitsVersion x k es items ≡ true
   pub unspent : leb (nextVersion k es items) maxPutVersion ≡ true
   pub batch : fitsBatch items (putWords (length v)) ≡ true
   pub keys : fitsKeys table es items k ≡ true
   pub staged : stagePut p n ws es items (nextVersion k es items) k v ≡ Begin items′ task acts
 
-pub put-begun : (p limit n : ℕ) (ws : List ℕ) (table : ℕ) (es items : List Entry) (x : Given) (k : ℕ) (v : List ℕ) (items′ : List Entry) (task : Task) (acts : List Action)
-    → planPut p limit n ws table es items x k v ≡ Begin items′ task acts → PutBegun p limit n ws table es items x k v items′ task acts
+pub put-begun : (p n : ℕ) (ws : List ℕ) (table : ℕ) (es items : List Entry) (x : Given) (k : ℕ) (v : List ℕ) (items′ : List Entry) (task : Task) (acts : List Action)
+    → planPut p n ws table es items x k v ≡ Begin items′ task acts → PutBegun p n ws table es items x k v items′ task acts
 unfolding planPut
-put-begun p limit n ws table es items x k v items′ task acts h =
-    let a = need-begin (leb (length v) limit) N.TooLong _ items′ task acts h in
+put-begun p n ws table es items x k v items′ task acts h =
+    let a = need-begin (leb (length v) (blockLimit p)) N.TooLong _ items′ task acts h in
     let b = need-begin (fitsVersion x k es items) N.OtherVersion _ items′ task acts (a .1) in
     let c = need-begin (leb (nextVersion k es items) maxPutVersion) N.VersionSpent _ items′ task acts (b .1) in
     let d = need-begin (fitsBatch items (putWords (length v))) N.BatchFull _ items′ task acts (c .1) in

@@ -2,21 +2,24 @@
 -- Assumes nothing.
 use mathlib.Core.Path.{_≡_, refl, sym, _∙_, ap}
 use mathlib.Core.Logic.{_⊎_, inl, inr}
+use mathlib.Core.Bool.{true}
 use mathlib.Core.List.{List, [], _++_}
 use Prim.Native.Nat.{ℕ, _*_, _/_, _≤_}
 use native.Mathlib.Omega.{arith}
 use lib.ListN.{length}
-use Rattle.spec.specs.Places.{base, chunksIn}
+use Rattle.spec.specs.Places.{isPower, base, chunksIn, maxChunks}
+use Rattle.spec.specs.Header.{headerPower}
 use Rattle.spec.specs.Medium.{Medium, latest, cut, settledAt}
 use Rattle.spec.specs.Log.{Entry}
 use Rattle.spec.specs.Contents.{Held, keysOf, capacity, contents, entriesIn, listed}
-use Rattle.spec.specs.Opening.{Accepted, opening}
+use Rattle.spec.specs.Opening.{Accepted, fitsTable, openChunks, opening}
 use Rattle.spec.specs.Book.{Item}
 use Rattle.theory_base.proofs.Lists.{number-r, distinct-fewer}
 use Rattle.theory_base.proofs.Words.{can-cut}
 use Rattle.theory_base.proofs.Places.{chunks-bytes}
+use Rattle.theory_crash.specs.Accepted.{Ok}
 use Rattle.theory_crash.specs.Rest.{Holds, Rests, Cuts}
-use Rattle.theory_crash.proofs.Opening.{capacity-rises, fits-keys, keys-fit, ok-opens, opens-ok, ok-contents}
+use Rattle.theory_crash.proofs.Opening.{capacity-rises, fits-keys, keys-fit, ok-taken, taken-ok, ok-opens, opens-at, ok-contents}
 use Rattle.theory_crash.proofs.Rest.{rest-long, stays-old}
 use Rattle.theory_crash.proofs.Crash.{cut-rests, holds-rests}
 use Rattle.theory_plans.specs.Standing.{Staged, Standing, keyList}
@@ -63,8 +66,14 @@ module _ (p : ℕ) (lo : 12 ≤ p) (hi : p ≤ 16) where
     pub stand-length : (length m ≡ base p n) × (chunksIn p (8 * base p n) ≡ n)
     stand-length = (rest-long p lo hi n (s .words) (s .entries) m (s .rest), chunks-bytes p lo hi n .0)
 
-    pub open-accepts : (es : List Entry) × (opening p (8 * base p n) (latest m) table ≡ Accepted es)
-    open-accepts = (s .entries, rw (s .rest .now) (ok-opens p lo hi n (8 * base p n) table (s .words) (s .entries) refl (s .rest .ok) (fits-keys table (s .entries) known-few)))
+    pub stand-power : headerPower (latest m) ≡ p
+    stand-power = ap headerPower (s .rest .now) ∙ s .rest .ok .power
+
+    pub open-takes : (es : List Entry) × (openChunks p n (latest m) table ≡ Accepted es)
+    open-takes = (s .entries, rw (s .rest .now) (ok-taken p n table (s .words) (s .entries) (s .rest .ok) (fits-keys table (s .entries) known-few)))
+
+    pub open-accepts : isPower p ≡ true → (es : List Entry) × (opening (8 * base p n) (latest m) table ≡ Accepted es)
+    open-accepts power = (s .entries, rw (s .rest .now) (ok-opens p power n (8 * base p n) table (s .words) (s .entries) refl (s .rest .ok) (fits-keys table (s .entries) known-few)))
 
   pub cut-stands : (n table : ℕ) (C D : ℕ → Held) (m : Medium) (chooses : ℕ → ℕ) → Cuts p n (capacity table) C D m
       → Standing p n table C [] [] (settledAt (cut chooses m)) ⊎ Standing p n table D [] [] (settledAt (cut chooses m))
@@ -87,10 +96,17 @@ module _ (p : ℕ) (lo : 12 ≤ p) (hi : p ≤ 16) where
     booked = s .booked;
   }
 
-  pub accepted-stands : (bytes table : ℕ) (ws : List ℕ) (es : List Entry) → length ws ≡ bytes / 8 → opening p bytes ws table ≡ Accepted es
+  -- an image that is right, and whose keys fit the table
+  ok-stands : (n table : ℕ) (ws : List ℕ) (es : List Entry) → Ok p n ws es → fitsTable table es ≡ true → Standing p n table (contents p n ws) [] [] (settledAt ws)
+  ok-stands n table ws es ok fits =
+      let holds : Holds p n (capacity table) (contents p n ws) ws = (es, ok, keys-fit table es fits, λ k. sym (ok-contents p n ws es ok k)) in
+      rests-stand p n table (contents p n ws) (settledAt ws) (holds-rests p n (capacity table) (contents p n ws) ws holds)
+
+  pub taken-stands : (n table : ℕ) (ws : List ℕ) (es : List Entry) → 4 ≤ n → n ≤ maxChunks → length ws ≡ base p n → headerPower ws ≡ p → openChunks p n ws table ≡ Accepted es
+      → Standing p n table (contents p n ws) [] [] (settledAt ws)
+  taken-stands n table ws es least most long said h = let o = taken-ok p lo hi n table ws es least most long said h in ok-stands n table ws es (o .0) (o .1)
+
+  pub accepted-stands : (bytes table : ℕ) (ws : List ℕ) (es : List Entry) → length ws ≡ bytes / 8 → headerPower ws ≡ p → opening bytes ws table ≡ Accepted es
       → Standing p (chunksIn p bytes) table (contents p (chunksIn p bytes) ws) [] [] (settledAt ws) × (bytes ≡ 8 * base p (chunksIn p bytes))
-  accepted-stands bytes table ws es size h =
-      let n = chunksIn p bytes in
-      let o = opens-ok p lo hi bytes table ws es size h in
-      let holds : Holds p n (capacity table) (contents p n ws) ws = (es, o .0, keys-fit table es (o .1), λ k. sym (ok-contents p n ws es (o .0) k)) in
-      (rests-stand p n table (contents p n ws) (settledAt ws) (holds-rests p n (capacity table) (contents p n ws) ws holds), o .2)
+  accepted-stands bytes table ws es size said h =
+      let o = opens-at p bytes table ws es said size h in (ok-stands (chunksIn p bytes) table ws es (o .0) (o .1), o .2)

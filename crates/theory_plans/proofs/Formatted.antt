@@ -25,13 +25,13 @@ empty-stands p n table m ((ws, es, r, few, h), fl) = rests-stand p n table nothi
 
 module _ (p : ℕ) (lo : 12 ≤ p) (hi : p ≤ 16) where
   pub format-stands : (bytes table : ℕ) (m : Medium) (station centre : Given) → lengthAllowed p bytes ≡ true → length m ≡ bytes / 8
-      → Through Anything (Standing p (chunksIn p bytes) table nothing [] []) (formatOf (chunksIn p bytes) station centre) m × (bytes ≡ 8 * base p (chunksIn p bytes))
+      → Through Anything (Standing p (chunksIn p bytes) table nothing [] []) (formatOf p (chunksIn p bytes) station centre) m × (bytes ≡ 8 * base p (chunksIn p bytes))
   format-stands bytes table m station centre allowed size =
       let n = chunksIn p bytes in
       let u = length-allowed p lo hi bytes allowed in
       let b = u .2 in
       let long : length m ≡ base p n = omega arith in (
-        through-map (FormatCuts p n m) Anything (Rests p n 0 empty) (Standing p n table nothing [] []) (formatOf n station centre) m (λ m′ t. tt)
+        through-map (FormatCuts p n m) Anything (Rests p n 0 empty) (Standing p n table nothing [] []) (formatOf p n station centre) m (λ m′ t. tt)
             (empty-stands p n table _) (format-through p lo hi n (u .0) (u .1) station centre m long),
         b,
       )

@@ -1,7 +1,6 @@
--- The laws of the calls hold, for chunks of 2^12 to 2^16 bytes and any limit that a block can hold.
+-- The laws of the calls hold, for chunks of 2^12 to 2^16 bytes.
 -- Assumes nothing.
 use Prim.Native.Nat.{ℕ, _≤_}
-use Rattle.spec.specs.Blocks.{blockLimit}
 use Rattle.theory_plans.specs.Laws.{Laws}
 use Rattle.theory_plans.proofs.Between as B
 use Rattle.theory_plans.proofs.Looking as L
@@ -11,9 +10,9 @@ use Rattle.theory_plans.proofs.Staging as S
 use Rattle.theory_plans.proofs.Committing as C
 use Rattle.theory_plans.proofs.Cleaning as D
 
-pub laws-hold : (p : ℕ) → 12 ≤ p → p ≤ 16 → (limit : ℕ) → limit ≤ blockLimit p → Laws p limit
-laws-hold p lo hi limit fits = record {
-  put-goes = S.put-goes p lo hi limit fits;
+pub laws-hold : (p : ℕ) → 12 ≤ p → p ≤ 16 → Laws p
+laws-hold p lo hi = record {
+  put-goes = S.put-goes p lo hi;
   delete-goes = S.delete-goes p lo hi;
   commit-goes = C.commit-goes p lo hi;
   clean-goes = D.clean-goes p lo hi;
@@ -22,10 +21,13 @@ laws-hold p lo hi limit fits = record {
   cut-stands = B.cut-stands p lo hi;
   larger-table = B.larger-table p lo hi;
   stand-length = B.stand-length p lo hi;
+  stand-power = B.stand-power p lo hi;
+  open-takes = B.open-takes p lo hi;
+  taken-stands = B.taken-stands p lo hi;
   open-accepts = B.open-accepts p lo hi;
   accepted-stands = B.accepted-stands p lo hi;
   look-shows = L.look-shows p lo hi;
-  put-reads = S.put-reads p lo hi limit fits;
+  put-reads = S.put-reads p lo hi;
   delete-reads = S.delete-reads p lo hi;
   commit-reads = C.commit-reads p lo hi;
   clean-reads = D.clean-reads p lo hi;

@@ -210,10 +210,10 @@ module _ (p : ℕ) (lo : 12 ≤ p) (hi : p ≤ 16) (n table : ℕ) (C : ℕ → 
   pub put-cases : (G : List Action → Type 0) → G [] → ((u size : ℕ) (words : List ℕ) → B.Slot p n ws es u size → length words ≤ 32 * size → G (blockOf u words))
       → ((c size : ℕ) (words : List ℕ) → 1 ≤ c → c < n → isFree (roleAt p ws c) ≡ true → 3 ≤ length (freeChunks p n ws) → isSize p size ≡ true → length words ≤ 32 * size
       → G (takeOf c (getD ws (directoryWord c) 0) size ++ blockOf (firstUnit p c) words))
-      → (limit : ℕ) → limit ≤ blockLimit p → (items′ : List Entry) (task : Task) (acts : List Action) (x : Given) (k : ℕ) (v : List ℕ) → AreBytes v → planPut p limit n ws table es items x k v ≡ Begin items′ task acts → G acts
-  put-cases G nothing block take limit fits items′ task acts x k v bytes h =
-      let b = put-begun p limit n ws table es items x k v items′ task acts h in
-      go (leb-true (length v) limit (b .short)) (leb (length v) maxInLog) refl (b .staged)
+      → (items′ : List Entry) (task : Task) (acts : List Action) (x : Given) (k : ℕ) (v : List ℕ) → AreBytes v → planPut p n ws table es items x k v ≡ Begin items′ task acts → G acts
+  put-cases G nothing block take items′ task acts x k v bytes h =
+      let b = put-begun p n ws table es items x k v items′ task acts h in
+      go (leb-true (length v) (blockLimit p) (b .short)) (leb (length v) maxInLog) refl (b .staged)
     where
       size : ℕ
       size = blockSize p (length v)
@@ -221,7 +221,7 @@ module _ (p : ℕ) (lo : 12 ≤ p) (hi : p ≤ 16) (n table : ℕ) (C : ℕ → 
       version : ℕ
       version = nextVersion k es items
 
-      large : 257 ≤ length v → length v ≤ limit → (q : Slot) → slotFor p n ws es items size ≡ q → stageLarge p ws items version k v q ≡ Begin items′ task acts → G acts
+      large : 257 ≤ length v → length v ≤ blockLimit p → (q : Slot) → slotFor p n ws es items size ≡ q → stageLarge p ws items version k v q ≡ Begin items′ task acts → G acts
       large l u (InData x) e g =
           let z = Z.block-size p (length v) l (omega arith) in
           let o = Z.size-is p size (z .0) .0 in
@@ -233,12 +233,12 @@ module _ (p : ℕ) (lo : 12 ≤ p) (hi : p ≤ 16) (n table : ℕ) (C : ℕ → 
           (take c size (length v ∷ packed v) (f .0) (f .1) (f .2) (slot-three p n ws es items size c e) (z .0) (words-fit size (length v ∷ packed v) (block-words v bytes size l (z .1))))
       large l u Nowhere e g = absurd (let o : _≡_ {A = ℕ} 0 1 = cc in omega arith)
 
-      go : length v ≤ limit → (b : Bool) → leb (length v) maxInLog ≡ b
+      go : length v ≤ blockLimit p → (b : Bool) → leb (length v) maxInLog ≡ b
           → pick b (Begin (items ++ (entry 1 0 version (length v) k (packed v) ∷ [])) Staging []) (stageLarge p ws items version k v (slotFor p n ws es items size)) ≡ Begin items′ task acts → G acts
       go u true q g = rw (begun-acts _ _ _ _ _ _ g) nothing
       go u false q g = large (leb-false (length v) maxInLog q) u (slotFor p n ws es items size) refl g
 
-  put-plan : (limit : ℕ) → limit ≤ blockLimit p → (items′ : List Entry) (task : Task) (acts : List Action) (x : Given) (k : ℕ) (v : List ℕ) → AreBytes v → planPut p limit n ws table es items x k v ≡ Begin items′ task acts → Goes acts
+  put-plan : (items′ : List Entry) (task : Task) (acts : List Action) (x : Given) (k : ℕ) (v : List ℕ) → AreBytes v → planPut p n ws table es items x k v ≡ Begin items′ task acts → Goes acts
   put-plan = put-cases Goes room data-room taken-room
 
   delete-plan : (items′ : List Entry) (task : Task) (acts : List Action) (x : Given) (k : ℕ) → planDelete table es items x k ≡ Begin items′ task acts → Goes acts
@@ -301,7 +301,7 @@ module _ (p : ℕ) (lo : 12 ≤ p) (hi : p ≤ 16) (n table : ℕ) (C : ℕ → 
   within : (f : ℕ) → f < n → f < maxChunks
   within f high = let q = s .rest .ok .most in omega arith
 
-  put-stays : (limit : ℕ) → limit ≤ blockLimit p → (items′ : List Entry) (task : Task) (acts : List Action) (x : Given) (k : ℕ) (v : List ℕ) → AreBytes v → planPut p limit n (s .words) table (s .entries) items x k v ≡ Begin items′ task acts
+  put-stays : (items′ : List Entry) (task : Task) (acts : List Action) (x : Given) (k : ℕ) (v : List ℕ) → AreBytes v → planPut p n (s .words) table (s .entries) items x k v ≡ Begin items′ task acts
       → FreeStands p n (latest (run acts m))
   put-stays =
       put-cases p lo hi n table C book items m s room (λ acts. FreeStands p n (latest (run acts m))) (rw (s .rest .now) stands)
@@ -337,11 +337,11 @@ module _ (p : ℕ) (lo : 12 ≤ p) (hi : p ≤ 16) (n table : ℕ) (C : ℕ → 
 
 -- THE LAWS OF THE PLANS, as the calls read the image
 module _ (p : ℕ) (lo : 12 ≤ p) (hi : p ≤ 16) (n table : ℕ) (C : ℕ → Held) (book : List Item) (items items′ : List Entry) (task : Task) (acts : List Action) (m : Medium) (s : Standing p n table C book items m) (room : Room p n m) where
-  pub put-room : (limit : ℕ) → limit ≤ blockLimit p → (x : Given) (k : ℕ) (v : List ℕ) → AreBytes v → planPut p limit n (latest m) table (entriesIn p n (latest m)) items x k v ≡ Begin items′ task acts → Through (RoomyCuts p n) (Room p n) acts m
-  put-room limit fits x k v bytes h =
-      put-plan p lo hi n table C book items m s room limit fits items′ task acts x k v bytes
-      (ap (λ (ws : List ℕ). planPut p limit n ws table (s .entries) items x k v) (sym (s .rest .now))
-      ∙ ap (λ (es : List Entry). planPut p limit n (latest m) table es items x k v) (sym (stand-entries p lo hi n table C book items m s))
+  pub put-room : (x : Given) (k : ℕ) (v : List ℕ) → AreBytes v → planPut p n (latest m) table (entriesIn p n (latest m)) items x k v ≡ Begin items′ task acts → Through (RoomyCuts p n) (Room p n) acts m
+  put-room x k v bytes h =
+      put-plan p lo hi n table C book items m s room items′ task acts x k v bytes
+      (ap (λ (ws : List ℕ). planPut p n ws table (s .entries) items x k v) (sym (s .rest .now))
+      ∙ ap (λ (es : List Entry). planPut p n (latest m) table es items x k v) (sym (stand-entries p lo hi n table C book items m s))
       ∙ h)
 
   pub delete-room : (x : Given) (k : ℕ) → planDelete table (entriesIn p n (latest m)) items x k ≡ Begin items′ task acts → Through (RoomyCuts p n) (Room p n) acts m
@@ -353,12 +353,12 @@ module _ (p : ℕ) (lo : 12 ≤ p) (hi : p ≤ 16) (n table : ℕ) (C : ℕ → 
   commit-room f h =
       commit-plan p lo hi n table C book items m s room items′ task acts (rw (s .rest .now) at f) (rw (s .rest .now) at h) (commit-begun p lo hi n table C book items items′ task acts m s h .1 .1)
 
-  pub put-free : FreeStands p n (latest m) → (limit : ℕ) → limit ≤ blockLimit p → (x : Given) (k : ℕ) (v : List ℕ) → AreBytes v → planPut p limit n (latest m) table (entriesIn p n (latest m)) items x k v ≡ Begin items′ task acts
+  pub put-free : FreeStands p n (latest m) → (x : Given) (k : ℕ) (v : List ℕ) → AreBytes v → planPut p n (latest m) table (entriesIn p n (latest m)) items x k v ≡ Begin items′ task acts
       → FreeStands p n (latest (run acts m))
-  put-free f limit fits x k v bytes h =
-      put-stays p lo hi n table C book items m s room (rw (s .rest .now) at f) limit fits items′ task acts x k v bytes
-      (ap (λ (ws : List ℕ). planPut p limit n ws table (s .entries) items x k v) (sym (s .rest .now))
-      ∙ ap (λ (es : List Entry). planPut p limit n (latest m) table es items x k v) (sym (stand-entries p lo hi n table C book items m s))
+  put-free f x k v bytes h =
+      put-stays p lo hi n table C book items m s room (rw (s .rest .now) at f) items′ task acts x k v bytes
+      (ap (λ (ws : List ℕ). planPut p n ws table (s .entries) items x k v) (sym (s .rest .now))
+      ∙ ap (λ (es : List Entry). planPut p n (latest m) table es items x k v) (sym (stand-entries p lo hi n table C book items m s))
       ∙ h)
 
   pub delete-free : FreeStands p n (latest m) → (x : Given) (k : ℕ) → planDelete table (entriesIn p n (latest m)) items x k ≡ Begin items′ task acts → FreeStands p n (latest (run acts m))

@@ -59,11 +59,11 @@ module _ (p : ℕ) (lo : 12 ≤ p) (hi : p ≤ 16) (n table : ℕ) (C : ℕ → 
   )
 
   -- A FORMATTING at its end
-  pub format-room : (station centre : Given) (m : Medium) → length m ≡ base p n → Standing p n table C book items (run (formatOf n station centre) m) → Room p n (run (formatOf n station centre) m)
+  pub format-room : (station centre : Given) (m : Medium) → length m ≡ base p n → Standing p n table C book items (run (formatOf p n station centre) m) → Room p n (run (formatOf p n station centre) m)
   format-room station centre m size s = ((λ c low high f. free c low high), free-roomy p lo hi n 1 (omega arith) (let l = s .rest .ok .least in omega arith) m′ (λ xs t. (s .entries, rest-cut p lo hi n (s .words) (s .entries) m′ (s .rest) xs t .0)) (free 1 (omega arith) (let l = s .rest .ok .least in omega arith)))
     where
       m′ : Medium
-      m′ = run (formatOf n station centre) m
+      m′ = run (formatOf p n station centre) m
 
       free : (c : ℕ) → 1 ≤ c → c < n → Says (IsFree p) c m′
       free c low high =

@@ -71,9 +71,9 @@ module _ (p : ℕ) (lo : 12 ≤ p) (hi : p ≤ 16) (n table : ℕ) (C : ℕ → 
   no-reads = same-reads p lo hi n table C book items m s [] [] Anything tt tt tt tt
 
   -- A PUT of at most the bytes that a block can hold
-  planned-put : (limit : ℕ) → limit ≤ blockLimit p → (items′ : List Entry) (task : Task) (acts : List Action) (x : Given) (k : ℕ) (v : List ℕ) → AreBytes v → planPut p limit n ws table es items x k v ≡ Begin items′ task acts
+  planned-put : (items′ : List Entry) (task : Task) (acts : List Action) (x : Given) (k : ℕ) (v : List ℕ) → AreBytes v → planPut p n ws table es items x k v ≡ Begin items′ task acts
       → (task ≡ Staging) × (Going p n table C C (book ++ (record { key = k; gets = Value v } ∷ [])) items′ acts m × Reading p n table C ws (oldsOf task) acts m)
-  planned-put limit fits items′ task acts x k v bytes h = go (leb (length v) maxInLog) refl (begun .batch) (begun .staged)
+  planned-put items′ task acts x k v bytes h = go (leb (length v) maxInLog) refl (begun .batch) (begun .staged)
     where
       version : ℕ
       version = nextVersion k es items
@@ -87,8 +87,8 @@ module _ (p : ℕ) (lo : 12 ≤ p) (hi : p ≤ 16) (n table : ℕ) (C : ℕ → 
       Goal : Type 0
       Goal = (task ≡ Staging) × (Going p n table C C book′ items′ acts m × Reading p n table C ws (oldsOf task) acts m)
 
-      begun : PutBegun p limit n ws table es items x k v items′ task acts
-      begun = put-begun p limit n ws table es items x k v items′ task acts h
+      begun : PutBegun p n ws table es items x k v items′ task acts
+      begun = put-begun p n ws table es items x k v items′ task acts h
 
       spent : version ≤ maxPutVersion
       spent = leb-true version maxPutVersion (begun .unspent)
@@ -97,7 +97,7 @@ module _ (p : ℕ) (lo : 12 ≤ p) (hi : p ≤ 16) (n table : ℕ) (C : ℕ → 
       admitted u b = record { counts = refl; right = block-right (highest k (es ++ items)) u k spent; batch = b; keys = begun .keys }
 
       block′ : 257 ≤ length v → (isSize p size ≡ true) × (length v + 8 ≤ 256 * size)
-      block′ l = let a = leb-true (length v) limit (begun .short) in Z.block-size p (length v) l (omega arith)
+      block′ l = let a = leb-true (length v) (blockLimit p) (begun .short) in Z.block-size p (length v) l (omega arith)
 
       large : 257 ≤ length v → fitsBatch items 2 ≡ true → (q : Found) → slotFor p n ws es items size ≡ q → stageLarge p ws items version k v q ≡ Begin items′ task acts → Goal
       large l b (InData u) e g =
@@ -139,23 +139,23 @@ module _ (p : ℕ) (lo : 12 ≤ p) (hi : p ≤ 16) (n table : ℕ) (C : ℕ → 
       begun = delete-begun table es items x k items′ task acts h
 
 module _ (p : ℕ) (lo : 12 ≤ p) (hi : p ≤ 16) where
-  pub put-goes : (limit : ℕ) → limit ≤ blockLimit p → (n table : ℕ) (C : ℕ → Held) (book : List Item) (items items′ : List Entry) (task : Task) (acts : List Action) (m : Medium) (x : Given) (k : ℕ) (v : List ℕ)
-      → AreBytes v → Standing p n table C book items m → planPut p limit n (latest m) table (entriesIn p n (latest m)) items x k v ≡ Begin items′ task acts
+  pub put-goes : (n table : ℕ) (C : ℕ → Held) (book : List Item) (items items′ : List Entry) (task : Task) (acts : List Action) (m : Medium) (x : Given) (k : ℕ) (v : List ℕ)
+      → AreBytes v → Standing p n table C book items m → planPut p n (latest m) table (entriesIn p n (latest m)) items x k v ≡ Begin items′ task acts
       → (task ≡ Staging) × Going p n table C C (book ++ (record { key = k; gets = Value v } ∷ [])) items′ acts m
-  put-goes limit fits n table C book items items′ task acts m x k v bytes s h =
-      let g = planned-put p lo hi n table C book items m s limit fits items′ task acts x k v bytes
-      (ap (λ (ws : List ℕ). planPut p limit n ws table (s .entries) items x k v) (sym (s .rest .now))
-      ∙ ap (λ (es : List Entry). planPut p limit n (latest m) table es items x k v) (sym (stand-entries p lo hi n table C book items m s))
+  put-goes n table C book items items′ task acts m x k v bytes s h =
+      let g = planned-put p lo hi n table C book items m s items′ task acts x k v bytes
+      (ap (λ (ws : List ℕ). planPut p n ws table (s .entries) items x k v) (sym (s .rest .now))
+      ∙ ap (λ (es : List Entry). planPut p n (latest m) table es items x k v) (sym (stand-entries p lo hi n table C book items m s))
       ∙ h) in
       (g .0, g .1 .0)
 
-  pub put-reads : (limit : ℕ) → limit ≤ blockLimit p → (n table : ℕ) (C : ℕ → Held) (book : List Item) (items items′ : List Entry) (task : Task) (acts : List Action) (m : Medium) (x : Given) (k : ℕ) (v : List ℕ)
-      → AreBytes v → Standing p n table C book items m → planPut p limit n (latest m) table (entriesIn p n (latest m)) items x k v ≡ Begin items′ task acts
+  pub put-reads : (n table : ℕ) (C : ℕ → Held) (book : List Item) (items items′ : List Entry) (task : Task) (acts : List Action) (m : Medium) (x : Given) (k : ℕ) (v : List ℕ)
+      → AreBytes v → Standing p n table C book items m → planPut p n (latest m) table (entriesIn p n (latest m)) items x k v ≡ Begin items′ task acts
       → Reading p n table C (latest m) (oldsOf task) acts m
-  put-reads limit fits n table C book items items′ task acts m x k v bytes s h =
-      rw (s .rest .now) (planned-put p lo hi n table C book items m s limit fits items′ task acts x k v bytes
-      (ap (λ (ws : List ℕ). planPut p limit n ws table (s .entries) items x k v) (sym (s .rest .now))
-      ∙ ap (λ (es : List Entry). planPut p limit n (latest m) table es items x k v) (sym (stand-entries p lo hi n table C book items m s))
+  put-reads n table C book items items′ task acts m x k v bytes s h =
+      rw (s .rest .now) (planned-put p lo hi n table C book items m s items′ task acts x k v bytes
+      (ap (λ (ws : List ℕ). planPut p n ws table (s .entries) items x k v) (sym (s .rest .now))
+      ∙ ap (λ (es : List Entry). planPut p n (latest m) table es items x k v) (sym (stand-entries p lo hi n table C book items m s))
       ∙ h) .1 .1)
 
   pub delete-goes : (n table : ℕ) (C : ℕ → Held) (book : List Item) (items items′ : List Entry) (task : Task) (acts : List Action) (m : Medium) (x : Given) (k : ℕ)

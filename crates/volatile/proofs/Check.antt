@@ -8,6 +8,8 @@ use Prim.Native.Nat.{ℕ, suc, _≤_, _<_}
 use native.Mathlib.Omega.{arith}
 use lib.Dec.{eqb}
 use borrow.Author.Tests.{ltb-true}
+use Rattle.spec.specs.declared.Size.{Size}
+use Rattle.spec.specs.declared.Size.the-variants as S
 use Rattle.spec.specs.Basics.{pick, both, all, isIn}
 use Rattle.spec.specs.Log.{Entry, moved}
 use Rattle.spec.specs.Places.{basePower, maxChunks, chunkUnits, firstUnit, unitChunk}
@@ -21,7 +23,7 @@ use Rattle.theory_log.specs.Contents.{Mem, Apart}
 use Rattle.theory_log.proofs.Contents.{chosen-is}
 use Rattle.theory_log.proofs.Tops.{all-in, top-highest, chosen-top, top-is}
 use Rattle.theory_log.proofs.Agree.{same-agrees, test-agree}
-use Rattle.buffer.specs.Areas.{unitCount}
+use Rattle.places.specs.Sizes.{powerOf, power-low, power-high, unitCount}
 use Rattle.volatile.specs.Check.{Marks, CheckInv}
 use Rattle.volatile.proofs.Marks.{marks-start, marks-skip, marks-apart, marks-live}
 
@@ -76,10 +78,14 @@ block-unit p n ws e low high h points =
     let d = base-rises p low high (suc c) n below in
     omega (arith, base-next p low high c, units-words p low high, units-base p low high c, units-base p low high n)
 
--- which in the base has a bit
-pub block-bit : (n : ℕ) (ws : List ℕ) (e : Entry) → n ≤ maxChunks → fine basePower n ws e ≡ true → pointed e ≡ true → e .field < unitCount
+units-few : (size : Size) (n u : ℕ) → n ≤ maxChunks → u < firstUnit (powerOf size) n → u < unitCount size
 unfolding firstUnit chunkUnits
-block-bit n ws e most h points = let a = block-unit basePower n ws e (omega arith) (omega arith) h points in omega arith
+units-few S.Small n u h l = omega arith
+units-few S.Large n u h l = omega arith
+
+-- which has a bit
+pub block-bit : (size : Size) → (n : ℕ) (ws : List ℕ) (e : Entry) → n ≤ maxChunks → fine (powerOf size) n ws e ≡ true → pointed e ≡ true → e .field < unitCount size
+block-bit size n ws e most h points = let a = block-unit (powerOf size) n ws e (power-low size) (power-high size) h points in units-few size n (e .field) most a
 
 -- ## No entry
 

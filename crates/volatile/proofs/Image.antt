@@ -6,6 +6,10 @@ use Prim.Native.Nat.{ℕ, zero, suc, _+_, _-_, _*_, _≤_, _<_}
 use native.Mathlib.Omega.{arith}
 use lib.ListN.{length, length-append}
 use lib.Seq.{slice}
+use Rattle.spec.specs.declared.Size.{Size}
+use Rattle.spec.specs.declared.Size.the-variants as Z
+use Rattle.places.specs.Sizes.{powerOf, power-low, power-high}
+use Rattle.packing.specs.Packed.{widthsOf}
 use Rattle.spec.specs.declared.LogStep.{LogStep}
 use Rattle.spec.specs.declared.LogStep.the-variants as S
 use Rattle.spec.specs.Places.{basePower, chunkWords, base, maxChunks}
@@ -40,7 +44,7 @@ parse-few (w ∷ ws) zero at es s h = go (stepOf (w ∷ ws)) refl h (λ n fs. pa
         rw (c .2) (omega arith)
 
 module _ (p : ℕ) (low : 12 ≤ p) (high : p ≤ 16) where
-  all-few : (n c : ℕ) (ws : List ℕ) (es : List Entry) → allFrom p n c ws ≡ Entries es → base p c + 2 * length es ≤ base p (c + n)
+  pub all-few : (n c : ℕ) (ws : List ℕ) (es : List Entry) → allFrom p n c ws ≡ Entries es → base p c + 2 * length es ≤ base p (c + n)
   all-few zero c ws es h = let q : es ≡ [] = cc in let z : c + 0 ≡ c = omega arith in rw (q, z) (omega arith)
   all-few (suc n) c ws es h = go (join-inv (chunkEntries p ws c) (allFrom p n (suc c) ws) es h) (λ fs. all-few n (suc c) ws fs)
     where
@@ -64,28 +68,34 @@ module _ (p : ℕ) (low : 12 ≤ p) (high : p ≤ 16) where
     pub image-apart : Apart es
     image-apart = rising-apart (base p 1) (base p (1 + (n - 1))) es (sound .rising)
 
--- the numbers of the table's word are wide enough for chunks of 4,096 bytes
-extent-most : (op pl x : ℕ) → Kind op pl x → extentOf pl x < 0x100
-extent-most op pl x (put l) = omega arith
-extent-most op pl x block = omega arith
-extent-most op pl x delete = omega arith
+-- the numbers of the table's word are wide enough
+extent-most : (size : Size) → (op pl x : ℕ) → Kind op pl x → extentOf size pl x < widthsOf size .extent
+extent-most Z.Small op pl x (put l) = omega arith
+extent-most Z.Small op pl x block = omega arith
+extent-most Z.Small op pl x delete = omega arith
+extent-most Z.Large op pl x k = omega arith
 
-base-most : (c : ℕ) → c ≤ maxChunks → base basePower c ≤ 258048
+version-few : (size : Size) (v : ℕ) → v < 0x10_0000 → v < widthsOf size .version
+version-few Z.Small v h = h
+version-few Z.Large v h = h
+
+pub base-most : (size : Size) → (c : ℕ) → c ≤ maxChunks → (base (powerOf size) c < widthsOf size .place) × (base (powerOf size) c < 2 * widthsOf size .entries)
 unfolding base chunkWords
-base-most c h = omega arith
+base-most Z.Small c h = (omega arith, omega arith)
+base-most Z.Large c h = (omega arith, omega arith)
 
-pub image-bounded : (n : ℕ) (ws : List ℕ) (es : List Entry) → imageEntries basePower n ws ≡ Entries es → n ≤ maxChunks → Bounded es
-image-bounded n ws es h most =
-    let lo : 12 ≤ basePower = omega arith in
-    let hi : basePower ≤ 16 = omega arith in
-    let end = base-most (1 + (n - 1)) (omega arith) in
-    let first = base-low basePower lo hi 1 (omega arith) in
-    let few = all-few basePower lo hi (n - 1) 1 ws es h in
-    let s = sound basePower lo hi n ws es h in
+pub image-bounded : (size : Size) → (n : ℕ) (ws : List ℕ) (es : List Entry) → imageEntries (powerOf size) n ws ≡ Entries es → n ≤ maxChunks → Bounded size es
+image-bounded size n ws es h most =
+    let lo = power-low size in
+    let hi = power-high size in
+    let end = base-most size (1 + (n - 1)) (omega arith) in
+    let first = base-low (powerOf size) lo hi 1 (omega arith) in
+    let few = all-few (powerOf size) lo hi (n - 1) 1 ws es h in
+    let s = sound (powerOf size) lo hi n ws es h in
     record {
       each = λ e m.
-          let a = rising-in (base basePower 1) (base basePower (1 + (n - 1))) es e (s .rising) m in
+          let a = rising-in (base (powerOf size) 1) (base (powerOf size) (1 + (n - 1))) es e (s .rising) m in
           let r = right-in es e (s .right) m in
-          record { extent-high = extent-most (e .op) (e .placement) (e .field) (r .kind); place-low = omega arith; place-high = omega arith; version-low = r .low; version-high = r .high };
+          record { extent-high = extent-most size (e .op) (e .placement) (e .field) (r .kind); place-low = omega arith; place-high = omega arith; version-low = r .low; version-high = version-few size (e .version) (r .high) };
       few = omega arith;
     }

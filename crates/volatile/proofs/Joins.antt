@@ -6,6 +6,7 @@ use mathlib.Core.Option.{none, some}
 use mathlib.Core.List.{List, [], _∷_, _++_, append-nil}
 use Prim.Native.Nat.{ℕ, _+_, _≤_, _<_}
 use native.Mathlib.Omega.{arith}
+use Rattle.spec.specs.declared.Size.{Size}
 use Rattle.spec.specs.Log.{Entry}
 use Rattle.spec.specs.Contents.{chosen, highest}
 use Rattle.theory_log.specs.Contents.{Mem}
@@ -20,9 +21,9 @@ use Rattle.volatile.proofs.Chosen.{chosen-other, chosen-above, chosen-b
 use Rattle.volatile.specs.Change.{Renewing}
 
 -- above all of its key, anywhere
-pub joins-above : (ws : List ℕ) (old own w : ℕ) (xs ys : List Entry) (e : Entry) → old ≡ infoOf (e .key) (xs ++ ys) → own ≡ ownOf e → w ≡ weight e → Bounded (xs ++ ys) → Small e
-    → highest (e .key) (xs ++ ys) < e .version → ((f : Entry) → chosen (e .key) (xs ++ ys) ≡ some f → StandsIn ws f) → Renewing ws old own w (xs ++ ys) (xs ++ e ∷ ys) e
-joins-above ws old own w xs ys e is-old is-own is-weight small own-small above stands = record {
+pub joins-above : (size : Size) → (ws : List ℕ) (old own w : ℕ) (xs ys : List Entry) (e : Entry) → old ≡ infoOf size (e .key) (xs ++ ys) → own ≡ ownOf size e → w ≡ weight e → Bounded size (xs ++ ys) → Small size e
+    → highest (e .key) (xs ++ ys) < e .version → ((f : Entry) → chosen (e .key) (xs ++ ys) ≡ some f → StandsIn ws f) → Renewing size ws old own w (xs ++ ys) (xs ++ e ∷ ys) e
+joins-above size ws old own w xs ys e is-old is-own is-weight small own-small above stands = record {
   is-old = is-old;
   is-own = is-own;
   is-weight = is-weight;
@@ -36,9 +37,9 @@ joins-above ws old own w xs ys e is-old is-own is-weight small own-small above s
 }
 
 -- behind all others
-pub joins-behind : (ws : List ℕ) (old own w : ℕ) (xs : List Entry) (e : Entry) → old ≡ infoOf (e .key) xs → own ≡ ownOf e → w ≡ weight e → Bounded xs → Small e
-    → ((f : Entry) → chosen (e .key) xs ≡ some f → StandsIn ws f) → Renewing ws old own w xs (xs ++ e ∷ []) e
-joins-behind ws old own w xs e is-old is-own is-weight small own-small stands = record {
+pub joins-behind : (size : Size) → (ws : List ℕ) (old own w : ℕ) (xs : List Entry) (e : Entry) → old ≡ infoOf size (e .key) xs → own ≡ ownOf size e → w ≡ weight e → Bounded size xs → Small size e
+    → ((f : Entry) → chosen (e .key) xs ≡ some f → StandsIn ws f) → Renewing size ws old own w xs (xs ++ e ∷ []) e
+joins-behind size ws old own w xs e is-old is-own is-weight small own-small stands = record {
   is-old = is-old;
   is-own = is-own;
   is-weight = is-weight;
@@ -52,11 +53,11 @@ joins-behind ws old own w xs e is-old is-own is-weight small own-small stands = 
 }
 
 -- of a new key
-pub sum-new : (c : ℕ) (xs : List Entry) (e : Entry) → chosen (e .key) xs ≡ none → 1 ≤ e .version → chosenSum c (xs ++ e ∷ []) ≡ chosenSum c xs + shareIn c (some e)
-sum-new c xs e none-yet low =
+pub sum-new : (size : Size) → (c : ℕ) (xs : List Entry) (e : Entry) → chosen (e .key) xs ≡ none → 1 ≤ e .version → chosenSum size c (xs ++ e ∷ []) ≡ chosenSum size c xs + shareIn size c (some e)
+sum-new size c xs e none-yet low =
     let v : 0 ≡ highest (e .key) xs = chosen-version (e .key) xs none none-yet in
     let z : highest (e .key) (xs ++ []) < e .version = rw (append-nil xs) (omega arith) in
     let h : chosen (e .key) (xs ++ e ∷ []) ≡ some e = chosen-above (e .key) xs [] e refl z in
-    let t = sum-turned c (e .key) xs (xs ++ e ∷ []) (mem-known (e .key) (xs ++ e ∷ []) e (mem-r e xs (e ∷ []) (inl refl)) refl) (λ j n. chosen-other j xs [] e (λ q. n (sym q)) ∙ ap (chosen j) (append-nil xs)) in
-    let u : chosenSum c (xs ++ e ∷ []) + 0 ≡ chosenSum c xs + shareIn c (some e) = rw (none-yet, h) at t in
+    let t = sum-turned size c (e .key) xs (xs ++ e ∷ []) (mem-known (e .key) (xs ++ e ∷ []) e (mem-r e xs (e ∷ []) (inl refl)) refl) (λ j n. chosen-other j xs [] e (λ q. n (sym q)) ∙ ap (chosen j) (append-nil xs)) in
+    let u : chosenSum size c (xs ++ e ∷ []) + 0 ≡ chosenSum size c xs + shareIn size c (some e) = rw (none-yet, h) at t in
     omega arith

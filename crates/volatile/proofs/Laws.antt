@@ -14,6 +14,10 @@ use lib.Dec.{eqb}
 use lib.ListN.{length, getD, set, length-set}
 use lib.Seq.{getD-set-same, getD-set-other}
 use borrow.Author.Tests.{eqb-true, eq-eqb, ne-eqb}
+use Rattle.spec.specs.declared.Size.{Size}
+use Rattle.spec.specs.declared.Size.the-variants as S
+use Rattle.places.specs.Sizes.{powerOf}
+use Rattle.packing.specs.Packed.{widthsOf}
 use Rattle.spec.specs.Basics.{pick}
 use Rattle.spec.specs.Places.{basePower, chunkWords, wordChunk}
 use Rattle.spec.specs.Log.{Entry}
@@ -38,13 +42,13 @@ changed-none b n = record { kept = alone-self b n; sums = λ c l. refl; narrow =
 pub alone-front : (b d : List ℕ) → SumsAlone b d → FrontKept b d
 alone-front b d k = record { size = k .size; long = k .long; below = λ i l. k .below i (omega arith); between = λ i l h. k .below i (omega arith) }
 
-pub alone-bits : (b d : List ℕ) → SumsAlone b d → (u : ℕ) → hasBit d u ≡ hasBit b u
-alone-bits b d k = bits-agree b d (λ i l h. k .below i (omega arith))
+pub alone-bits : (size : Size) → (b d : List ℕ) → SumsAlone b d → (u : ℕ) → hasBit size d u ≡ hasBit size b u
+alone-bits size b d k = bits-agree size b d (λ i l h. k .below i (omega arith))
 
 -- a store to the sum of a place's chunk
-module _ (b : List ℕ) (place w v : ℕ) (n : length b ≡ bufferWords) where
+module _ (size : Size) (b : List ℕ) (place w v : ℕ) (n : length b ≡ bufferWords) where
   abbrev slot : ℕ
-  slot = sumsStart + place / 512 % sumsCount
+  slot = sumsStart + wordChunk (powerOf size) place % sumsCount
 
   in-range : slot < length b
   in-range = omega arith
@@ -52,36 +56,36 @@ module _ (b : List ℕ) (place w v : ℕ) (n : length b ≡ bufferWords) where
   stored : SumsAlone b (set b slot v)
   stored = record { size = n; long = length-set b slot v; below = λ i l. getD-set-other b slot i v 0 (λ e. omega arith) }
 
-  at-own : (c : ℕ) → place / 512 % sumsCount ≡ c → getD (set b slot v) (sumsStart + c) 0 ≡ v
+  at-own : (c : ℕ) → wordChunk (powerOf size) place % sumsCount ≡ c → getD (set b slot v) (sumsStart + c) 0 ≡ v
   at-own c e = rw (← e) (getD-set-same b slot v 0 in-range)
 
-  at-other : (c : ℕ) → (place / 512 % sumsCount ≡ c → ⊥) → getD (set b slot v) (sumsStart + c) 0 ≡ getD b (sumsStart + c) 0
+  at-other : (c : ℕ) → (wordChunk (powerOf size) place % sumsCount ≡ c → ⊥) → getD (set b slot v) (sumsStart + c) 0 ≡ getD b (sumsStart + c) 0
   at-other c d = getD-set-other b slot (sumsStart + c) v 0 (λ e. d (omega arith))
 
-  own-only : (c : ℕ) → place / 512 % sumsCount ≡ c → only place w c ≡ w
-  own-only c e = rw (eq-eqb (place / 512 % sumsCount) c e)
+  own-only : (c : ℕ) → wordChunk (powerOf size) place % sumsCount ≡ c → only size place w c ≡ w
+  own-only c e = rw (eq-eqb (wordChunk (powerOf size) place % sumsCount) c e)
 
-  other-only : (c : ℕ) → (place / 512 % sumsCount ≡ c → ⊥) → only place w c ≡ 0
-  other-only c d = rw (ne-eqb (place / 512 % sumsCount) c d)
+  other-only : (c : ℕ) → (wordChunk (powerOf size) place % sumsCount ≡ c → ⊥) → only size place w c ≡ 0
+  other-only c d = rw (ne-eqb (wordChunk (powerOf size) place % sumsCount) c d)
 
   narrowed : v < 2 ^ 64 → (c : ℕ) → c < sumsCount → getD b (sumsStart + c) 0 < 2 ^ 64 → getD (set b slot v) (sumsStart + c) 0 < 2 ^ 64
-  narrowed h c l g = by-cases (ℕ-discrete (place / 512 % sumsCount) c) (λ e. rw (at-own c e) h) (λ d. rw (at-other c d) g)
+  narrowed h c l g = by-cases (ℕ-discrete (wordChunk (powerOf size) place % sumsCount) c) (λ e. rw (at-own c e) h) (λ d. rw (at-other c d) g)
 
-  pub added : v ≡ (getD b slot 0 + w) % 2 ^ 64 → Changed b (set b slot v) (only place w) nothing
+  pub added : v ≡ (getD b slot 0 + w) % 2 ^ 64 → Changed b (set b slot v) (only size place w) nothing
   added e = record { kept = stored; sums = sums; narrow = narrowed (omega arith) }
     where
-      sums : (c : ℕ) → c < sumsCount → (getD (set b slot v) (sumsStart + c) 0 + 0) % 2 ^ 64 ≡ (getD b (sumsStart + c) 0 + only place w c) % 2 ^ 64
-      sums c l = by-cases (ℕ-discrete (place / 512 % sumsCount) c) (λ q. rw (at-own c q, own-only c q, ← q) (omega arith)) (λ d. rw (at-other c d, other-only c d))
+      sums : (c : ℕ) → c < sumsCount → (getD (set b slot v) (sumsStart + c) 0 + 0) % 2 ^ 64 ≡ (getD b (sumsStart + c) 0 + only size place w c) % 2 ^ 64
+      sums c l = by-cases (ℕ-discrete (wordChunk (powerOf size) place % sumsCount) c) (λ q. rw (at-own c q, own-only c q, ← q) (omega arith)) (λ d. rw (at-other c d, other-only c d))
 
-  pub taken : (v + w) % 2 ^ 64 ≡ getD b slot 0 → v < 2 ^ 64 → Changed b (set b slot v) nothing (only place w)
+  pub taken : (v + w) % 2 ^ 64 ≡ getD b slot 0 → v < 2 ^ 64 → Changed b (set b slot v) nothing (only size place w)
   taken e h = record { kept = stored; sums = sums; narrow = narrowed h }
     where
-      sums : (c : ℕ) → c < sumsCount → (getD (set b slot v) (sumsStart + c) 0 + only place w c) % 2 ^ 64 ≡ (getD b (sumsStart + c) 0 + 0) % 2 ^ 64
-      sums c l = by-cases (ℕ-discrete (place / 512 % sumsCount) c) (λ q. rw (at-own c q, own-only c q, ← q) (omega arith)) (λ d. rw (at-other c d, other-only c d))
+      sums : (c : ℕ) → c < sumsCount → (getD (set b slot v) (sumsStart + c) 0 + only size place w c) % 2 ^ 64 ≡ (getD b (sumsStart + c) 0 + 0) % 2 ^ 64
+      sums c l = by-cases (ℕ-discrete (wordChunk (powerOf size) place % sumsCount) c) (λ q. rw (at-own c q, own-only c q, ← q) (omega arith)) (λ d. rw (at-other c d, other-only c d))
 
 -- of a place its chunk alone counts
-pub changed-place : (b d : List ℕ) (p q w : ℕ) → p / 512 % sumsCount ≡ q / 512 % sumsCount → Changed b d (only p w) nothing → Changed b d (only q w) nothing
-changed-place b d p q w e k = subst (λ (x : ℕ). Changed b d (λ c. pick (eqb x c) w 0) nothing) e k
+pub changed-place : (size : Size) → (b d : List ℕ) (p q w : ℕ) → wordChunk (powerOf size) p % sumsCount ≡ wordChunk (powerOf size) q % sumsCount → Changed b d (only size p w) nothing → Changed b d (only size q w) nothing
+changed-place size b d p q w e k = subst (λ (x : ℕ). Changed b d (λ c. pick (eqb x c) w 0) nothing) e k
 
 -- one change after another
 mod-then : (m a b d more less more′ less′ : ℕ) → (b + less) % m ≡ (a + more) % m → (d + less′) % m ≡ (b + more′) % m → (d + (less + less′)) % m ≡ (a + (more + more′)) % m
@@ -100,9 +104,9 @@ changed-then a b d more less more′ less′ k m = record {
 }
 
 -- THE SUMS OF ENTRIES, before and after
-pub changed-summed : (b d : List ℕ) (more less : ℕ → ℕ) (es es′ : List Entry) → Changed b d more less
-    → ((c : ℕ) → c < sumsCount → chosenSum c es′ + less c ≡ chosenSum c es + more c) → Summed b es → Summed d es′
-changed-summed b d more less es es′ k h s = record {
+pub changed-summed : (size : Size) → (b d : List ℕ) (more less : ℕ → ℕ) (es es′ : List Entry) → Changed b d more less
+    → ((c : ℕ) → c < sumsCount → chosenSum size c es′ + less c ≡ chosenSum size c es + more c) → Summed size b es → Summed size d es′
+changed-summed size b d more less es es′ k h s = record {
   each = λ c l.
       let x = k .sums c l in
       let y = h c l in
@@ -111,13 +115,19 @@ changed-summed b d more less es es′ k h s = record {
       omega arith;
 }
 
-pub cleared-summed : (b d : List ℕ) → Cleared b d → Summed d []
-cleared-summed b d k = record { each = λ c l. let z = sum-none c in let y = k .zero c l in rw (y, z) }
+pub cleared-summed : (size : Size) → (b d : List ℕ) → Cleared b d → Summed size d []
+cleared-summed size b d k = record { each = λ c l. let z = sum-none size c in let y = k .zero c l in rw (y, z) }
+
+-- a place that the table's word has room for lies in a chunk that has a sum
+chunk-few : (size : Size) (w : ℕ) → w < widthsOf size .place → w / chunkWords (powerOf size) % sumsCount ≡ w / chunkWords (powerOf size)
+unfolding chunkWords
+chunk-few S.Small w l = omega arith
+chunk-few S.Large w l = omega arith
 
 -- what an entry adds to each chunk
-pub share-only : (c : ℕ) (e : Entry) → e .at < 0x4_0000 → shareIn c (some e) ≡ only (e .at) (weight e) c
-unfolding wordChunk chunkWords
-share-only c e l = let q : e .at / 512 % sumsCount ≡ e .at / 512 = omega arith in rw q
+pub share-only : (size : Size) → (c : ℕ) (e : Entry) → e .at < (widthsOf size .place) → shareIn size c (some e) ≡ only size (e .at) (weight e) c
+unfolding wordChunk
+share-only size c e l = rw (chunk-few size (e .at) l)
 
 -- ## Clearing: the sums before word i are 0
 

@@ -11,6 +11,8 @@ use native.Mathlib.Omega.{arith}
 use lib.Dec.{eqb, leb}
 use lib.ListN.{length}
 use borrow.Author.Tests.{eqb-true, eq-eqb, le-leb}
+use Rattle.spec.specs.declared.Size.{Size}
+use Rattle.spec.specs.declared.Size.the-variants as S
 use Rattle.spec.specs.Basics.{pick, first}
 use Rattle.spec.specs.Log.{Entry, moved}
 use Rattle.spec.specs.Blocks.{pointed}
@@ -21,16 +23,18 @@ use Rattle.theory_log.specs.Contents.{Mem}
 use Rattle.theory_log.proofs.Contents.{filter-mem, mem-cases, chosen-none}
 use Rattle.theory_log.proofs.Tops.{in-all}
 use Rattle.theory_log.proofs.Agree.{same-agrees}
-use Rattle.index.specs.Packed.{packed}
+use Rattle.packing.specs.declared.Info.{Info}
+use Rattle.packing.specs.Packed.{packOf}
 use Rattle.volatile.specs.Known.{several, infoOf, ownOf, noted, Bounded}
 use Rattle.volatile.specs.Check.{CheckInv}
 use Rattle.volatile.specs.Plain.{Single, Direct, PlainInv}
-use Rattle.volatile.proofs.Info.{several-most, info-chosen, info-none, chosen-first}
+use Rattle.volatile.proofs.Info.{said, several-most, info-chosen, info-none, chosen-first}
 use Rattle.volatile.proofs.Grow.{grows-last}
 
 -- A word without the bit is that of a key with one top entry at most.
-bit-low : (extent place version entries twins : ℕ) → twins < 2 → packed extent place version entries twins < 0x8000_0000_0000_0000 → twins ≡ 0
-bit-low extent place version entries twins m l = omega arith
+bit-low : (size : Size) (i : Info) → i .several < 2 → packOf size i < 0x8000_0000_0000_0000 → i .several ≡ 0
+bit-low S.Small i m l = omega arith
+bit-low S.Large i m l = omega arith
 
 first-nil : (ts : List Entry) → first ts ≡ none → ts ≡ []
 first-nil [] h = refl
@@ -40,12 +44,12 @@ tops-nil : (k : ℕ) (es : List Entry) → chosen k es ≡ none → tops k es �
 unfolding chosen
 tops-nil k es h = first-nil (tops k es) h
 
-pub low-single : (k : ℕ) (es : List Entry) → infoOf k es < 0x8000_0000_0000_0000 → several k es ≡ 0
-low-single k es l = go (chosen k es) refl
+pub low-single : (size : Size) → (k : ℕ) (es : List Entry) → infoOf size k es < 0x8000_0000_0000_0000 → several k es ≡ 0
+low-single size k es l = go (chosen k es) refl
   where
     go : (q : Option Entry) → chosen k es ≡ q → several k es ≡ 0
     go none h = rw (tops-nil k es h)
-    go (some f) h = bit-low _ _ _ _ (several k es) (several-most k es) (rw (info-chosen k es f h) at l)
+    go (some f) h = bit-low size (said size k es f) (several-most k es) (rw (info-chosen size k es f h) at l)
 
 -- A top entry is then the chosen one of its key.
 alone : (f : Entry) (rest : List Entry) → _≡_ {A = ℕ} (pick (leb 2 (length (f ∷ rest))) 1 0) 0 → rest ≡ []
@@ -95,35 +99,35 @@ plain-check p n ws es has z single direct = record {
 
 -- ## The pass that shows it
 
-pub plain-start : PlainInv [] true true true
-plain-start = record {
+pub plain-start : (size : Size) → PlainInv size [] true true true
+plain-start size = record {
   held = λ t. refl;
-  low = λ t k. let e : infoOf k [] ≡ 0 = info-none k [] (chosen-none k [] (λ f m q. m)) in omega arith;
+  low = λ t k. let e : infoOf size k [] ≡ 0 = info-none size k [] (chosen-none k [] (λ f m q. m)) in omega arith;
   unpointed = λ t e m. absurd m;
 }
 
-module _ (es : List Entry) (single direct fits : Bool) (inv : PlainInv es single direct fits) where
+module _ (size : Size) (es : List Entry) (single direct fits : Bool) (inv : PlainInv size es single direct fits) where
   pub single-end : single ≡ true → Single es
-  single-end t = record { each = λ k. low-single k es (inv .low t k) }
+  single-end t = record { each = λ k. low-single size k es (inv .low t k) }
 
   pub direct-end : direct ≡ true → Direct es
   direct-end t = record { each = inv .unpointed t }
 
 -- One more entry.
-low-next : (xs : List Entry) (e : Entry) → Bounded (xs ++ e ∷ []) → ((k : ℕ) → infoOf k xs < 0x8000_0000_0000_0000) → noted (infoOf (e .key) xs) (ownOf e) < 0x8000_0000_0000_0000
-    → (k : ℕ) → infoOf k (xs ++ e ∷ []) < 0x8000_0000_0000_0000
-low-next xs e b low l k = rw (grows-last xs e b .info k) (go (eqb (e .key) k) (eqb-true (e .key) k))
+low-next : (size : Size) → (xs : List Entry) (e : Entry) → Bounded size (xs ++ e ∷ []) → ((k : ℕ) → infoOf size k xs < 0x8000_0000_0000_0000) → noted size (infoOf size (e .key) xs) (ownOf size e) < 0x8000_0000_0000_0000
+    → (k : ℕ) → infoOf size k (xs ++ e ∷ []) < 0x8000_0000_0000_0000
+low-next size xs e b low l k = rw (grows-last size xs e b .info k) (go (eqb (e .key) k) (eqb-true (e .key) k))
   where
-    go : (t : Bool) → (t ≡ true → e .key ≡ k) → pick t (noted (infoOf k xs) (ownOf e)) (infoOf k xs) < 0x8000_0000_0000_0000
+    go : (t : Bool) → (t ≡ true → e .key ≡ k) → pick t (noted size (infoOf size k xs) (ownOf size e)) (infoOf size k xs) < 0x8000_0000_0000_0000
     go true y = rw (← y refl) l
     go false y = low k
 
-pub plain-next : (xs : List Entry) (e : Entry) (single direct fits single′ direct′ fits′ : Bool) → Bounded (xs ++ e ∷ []) → PlainInv xs single direct fits
-    → (single′ ≡ true → (single ≡ true) × (fits′ ≡ true) × (noted (infoOf (e .key) xs) (ownOf e) < 0x8000_0000_0000_0000)) → (direct′ ≡ true → (direct ≡ true) × (pointed e ≡ false))
-    → PlainInv (xs ++ e ∷ []) single′ direct′ fits′
-plain-next xs e single direct fits single′ direct′ fits′ b inv so in-log = record {
+pub plain-next : (size : Size) → (xs : List Entry) (e : Entry) (single direct fits single′ direct′ fits′ : Bool) → Bounded size (xs ++ e ∷ []) → PlainInv size xs single direct fits
+    → (single′ ≡ true → (single ≡ true) × (fits′ ≡ true) × (noted size (infoOf size (e .key) xs) (ownOf size e) < 0x8000_0000_0000_0000)) → (direct′ ≡ true → (direct ≡ true) × (pointed e ≡ false))
+    → PlainInv size (xs ++ e ∷ []) single′ direct′ fits′
+plain-next size xs e single direct fits single′ direct′ fits′ b inv so in-log = record {
   held = λ t. so t .1;
-  low = λ t. low-next xs e b (inv .low (so t .0)) (so t .2);
+  low = λ t. low-next size xs e b (inv .low (so t .0)) (so t .2);
   unpointed = λ t f m. go (in-log t .0) (in-log t .1) f (mem-cases f xs (e ∷ []) m);
 }
   where

@@ -12,6 +12,7 @@ use native.Mathlib.Omega.{arith}
 use native.Mathlib.Decide.{ℕ-discrete}
 use lib.Dec.{eqb}
 use borrow.Author.Tests.{eqb-true, eq-eqb, ne-eqb}
+use Rattle.spec.specs.declared.Size.{Size}
 use Rattle.spec.specs.Basics.{pick, isSome, isIn}
 use Rattle.spec.specs.Medium.{Mem as Among}
 use Rattle.spec.specs.Log.{Entry}
@@ -89,9 +90,9 @@ sum-lists f (k ∷ ks) js a b c d =
 
 -- ## The sum of a chunk
 
-share-none : (c : ℕ) (o : Option Entry) → isSome o ≡ false → shareIn c o ≡ 0
-share-none c none h = refl
-share-none c (some e) h = absurd (not-both true refl h)
+share-none : (size : Size) → (c : ℕ) (o : Option Entry) → isSome o ≡ false → shareIn size c o ≡ 0
+share-none size c none h = refl
+share-none size c (some e) h = absurd (not-both true refl h)
 
 pub keys-once : (es : List Entry) → Once (keysOf es)
 keys-once es = distinct-once (keyList es)
@@ -103,31 +104,31 @@ unknown-key es k n = go (known k es) refl
     go false h = refl
     go true h = absurd (n (isIn-mem k (keysOf es) (keys-known k es ∙ h)))
 
-pub keys-cover : (c : ℕ) (es : List Entry) → Covers (keysOf es) (λ k. shareIn c (chosen k es))
-keys-cover c es k n = share-none c (chosen k es) (unknown-key es k n)
+pub keys-cover : (size : Size) → (c : ℕ) (es : List Entry) → Covers (keysOf es) (λ k. shareIn size c (chosen k es))
+keys-cover size c es k n = share-none size c (chosen k es) (unknown-key es k n)
 
 -- over any list of keys that has every known one
-pub sum-by : (c : ℕ) (es : List Entry) (ks : List ℕ) → Once ks → Covers ks (λ k. shareIn c (chosen k es)) → chosenSum c es ≡ sumOver (λ k. shareIn c (chosen k es)) ks
+pub sum-by : (size : Size) → (c : ℕ) (es : List Entry) (ks : List ℕ) → Once ks → Covers ks (λ k. shareIn size c (chosen k es)) → chosenSum size c es ≡ sumOver (λ k. shareIn size c (chosen k es)) ks
 unfolding chosenSum
-sum-by c es ks o h = sum-lists (λ k. shareIn c (chosen k es)) (keysOf es) ks (keys-once es) o (keys-cover c es) h
+sum-by size c es ks o h = sum-lists (λ k. shareIn size c (chosen k es)) (keysOf es) ks (keys-once es) o (keys-cover size c es) h
 
 -- a buffer with the same sums
-pub summed-same : (b d : List ℕ) (es : List Entry) → ((i : ℕ) → sumsStart ≤ i → getD d i 0 ≡ getD b i 0) → Summed b es → Summed d es
-summed-same b d es h s = record { each = λ c l. h (sumsStart + c) (omega arith) ∙ s .each c l }
+pub summed-same : (size : Size) → (b d : List ℕ) (es : List Entry) → ((i : ℕ) → sumsStart ≤ i → getD d i 0 ≡ getD b i 0) → Summed size b es → Summed size d es
+summed-same size b d es h s = record { each = λ c l. h (sumsStart + c) (omega arith) ∙ s .each c l }
 
-pub sum-none : (c : ℕ) → chosenSum c [] ≡ 0
+pub sum-none : (size : Size) → (c : ℕ) → chosenSum size c [] ≡ 0
 unfolding chosenSum
-sum-none c = refl
+sum-none size c = refl
 
 -- ONE KEY'S CHOSEN ENTRY changes, and no other's
-pub sum-turned : (c k : ℕ) (es es′ : List Entry) → known k es′ ≡ true → ((j : ℕ) → (j ≡ k → ⊥) → chosen j es′ ≡ chosen j es)
-    → chosenSum c es′ + shareIn c (chosen k es) ≡ chosenSum c es + shareIn c (chosen k es′)
+pub sum-turned : (size : Size) → (c k : ℕ) (es es′ : List Entry) → known k es′ ≡ true → ((j : ℕ) → (j ≡ k → ⊥) → chosen j es′ ≡ chosen j es)
+    → chosenSum size c es′ + shareIn size c (chosen k es) ≡ chosenSum size c es + shareIn size c (chosen k es′)
 unfolding chosenSum
-sum-turned c k es es′ h same =
-    let f : (ℕ → ℕ) = λ j. shareIn c (chosen j es) in
-    let g : (ℕ → ℕ) = λ j. shareIn c (chosen j es′) in
+sum-turned size c k es es′ h same =
+    let f : (ℕ → ℕ) = λ j. shareIn size c (chosen j es) in
+    let g : (ℕ → ℕ) = λ j. shareIn size c (chosen j es′) in
     let here : Among k (keysOf es′) = isIn-mem k (keysOf es′) (keys-known k es′ ∙ h) in
-    let cover : Covers (keysOf es′) (λ j. shareIn c (chosen j es)) = λ j n. sym (ap (shareIn c) (same j (λ e. n (rw (sym e) at here)))) ∙ keys-cover c es′ j n in
-    let all = sum-by c es (keysOf es′) (keys-once es′) cover in
-    let two = sum-but g f k (keysOf es′) (keys-once es′) here (λ j n. ap (shareIn c) (same j n)) in
+    let cover : Covers (keysOf es′) (λ j. shareIn size c (chosen j es)) = λ j n. sym (ap (shareIn size c) (same j (λ e. n (rw (sym e) at here)))) ∙ keys-cover size c es′ j n in
+    let all = sum-by size c es (keysOf es′) (keys-once es′) cover in
+    let two = sum-but g f k (keysOf es′) (keys-once es′) here (λ j n. ap (shareIn size c) (same j n)) in
     rw all two

@@ -8,6 +8,8 @@ use native.Mathlib.Omega.{arith}
 use native.Mathlib.Decide.{ℕ-discrete}
 use lib.ListN.{length, getD}
 use borrow.Author.Tests.{eq-eqb, ne-eqb}
+use Rattle.spec.specs.declared.Size.{Size}
+use Rattle.spec.specs.declared.Size.the-variants as S
 use Rattle.spec.specs.declared.FirstWord.{FirstWord}
 use Rattle.spec.specs.declared.FirstWord.the-variants as F
 use Rattle.spec.specs.Log.{Entry, firstOf, wordsFor}
@@ -37,17 +39,18 @@ pub right-few : (e : Entry) → Right e → length (e .value) ≤ 32
 right-few e r = let k = kind-words (e .op) (e .placement) (e .field) (r .kind) in let w = r .words in omega arith
 
 -- a value in the log that is longer than a byte is a put's
-kind-put : (op pl x : ℕ) → Kind op pl x → 0 < extentOf pl x → (op ≡ 1) × (pl ≡ 0) × (x ≡ extentOf pl x + 1)
-kind-put _ _ x (put l) h = (refl, refl, omega arith)
-kind-put _ _ x block h = absurd (omega arith)
-kind-put _ _ _ delete h = absurd (omega arith)
+kind-put : (size : Size) → (op pl x : ℕ) → Kind op pl x → 0 < extentOf size pl x → (op ≡ 1) × (pl ≡ 0) × (x ≡ extentOf size pl x + 1)
+kind-put S.Small _ _ x (put l) h = (refl, refl, omega arith)
+kind-put S.Small _ _ x block h = absurd (omega arith)
+kind-put S.Small _ _ _ delete h = absurd (omega arith)
+kind-put S.Large op pl x k h = absurd (omega arith)
 
 -- THE ENTRY AT A PLACE
-module _ (ws : List ℕ) (extent place : ℕ) where
-  pub at-extent : (r : ℕ) → 0 < extent → r ≡ extentWeight extent → WeighedAt ws extent place r
+module _ (size : Size) (ws : List ℕ) (extent place : ℕ) where
+  pub at-extent : (r : ℕ) → 0 < extent → r ≡ extentWeight extent → WeighedAt size ws extent place r
   at-extent r l is-weight = record {
     is = λ f stands here tells narrow.
-        let k = kind-put (f .op) (f .placement) (f .field) (stands .right .kind) (rw tells l) in
+        let k = kind-put size (f .op) (f .placement) (f .field) (stands .right .kind) (rw tells l) in
         let x : f .field ≡ extent + 1 = k .2 ∙ ap (λ (i : ℕ). i + 1) tells in
         let n : length (f .value) ≡ (extent + 1 + 7) / 8 = stands .right .words ∙ rw (k .1, x) in
         is-weight ∙ sym (rw (k .0, n) (omega arith));
@@ -57,13 +60,13 @@ module _ (ws : List ℕ) (extent place : ℕ) where
     read : (f : Entry) → StandsIn ws f → f .at ≡ place → first ≡ F.Entry (f .op) (f .placement) (f .version) (f .field)
     read f stands here = is-first ∙ ap firstOf (is-word ∙ ap (λ (i : ℕ). getD ws i 0) (sym here)) ∙ stands .first
 
-    pub at-padding : first ≡ F.Padding → WeighedAt ws extent place 0
+    pub at-padding : first ≡ F.Padding → WeighedAt size ws extent place 0
     at-padding e = record { is = λ f stands here tells narrow. let q = read f stands here in absurd (let z : _≡_ {A = ℕ} 0 1 = cc in omega arith) }
 
-    pub at-wrong : first ≡ F.Wrong → WeighedAt ws extent place 0
+    pub at-wrong : first ≡ F.Wrong → WeighedAt size ws extent place 0
     at-wrong e = record { is = λ f stands here tells narrow. let q = read f stands here in absurd (let z : _≡_ {A = ℕ} 0 1 = cc in omega arith) }
 
-    pub at-entry : (op pl version x words r : ℕ) → first ≡ F.Entry op pl version x → words ≡ wordsFor pl x → Weighed op words r → WeighedAt ws extent place r
+    pub at-entry : (op pl version x words r : ℕ) → first ≡ F.Entry op pl version x → words ≡ wordsFor pl x → Weighed op words r → WeighedAt size ws extent place r
     at-entry op pl version x words r e is-words w = record {
       is = λ f stands here tells narrow.
           let q = read f stands here in

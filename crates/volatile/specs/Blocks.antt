@@ -6,12 +6,13 @@ use mathlib.Core.Option.{Option, none, some}
 use mathlib.Core.List.{List}
 use Prim.Native.Nat.{ℕ, _<_}
 use lib.Dec.{eqb}
+use Rattle.spec.specs.declared.Size.{Size}
 use Rattle.spec.specs.Basics.{both, either, negate}
 use Rattle.spec.specs.Log.{Entry}
 use Rattle.spec.specs.Contents.{chosen}
 use Rattle.spec.specs.declared.FirstWord.{FirstWord}
 use Rattle.spec.specs.declared.FirstWord.the-variants as F
-use Rattle.buffer.specs.Areas.{unitCount}
+use Rattle.places.specs.Sizes.{unitCount}
 use Rattle.buffer.specs.Bits.{hasBit, WordsKept}
 
 -- an entry with these parts is a put in the block at unit u
@@ -36,11 +37,11 @@ abbrev pub topBlock : ℕ → List Entry → ℕ → Bool
 topBlock key es u = blockOf (chosen key es) u
 
 -- the units that `gone` names have left the set, every other is as it was
-pub record Freed (before after : List ℕ) (gone : ℕ → Bool) : Type 0 where
-  pub bits : (u : ℕ) → hasBit after u ≡ both (hasBit before u) (negate (gone u))
+pub record Freed (size : Size) (before after : List ℕ) (gone : ℕ → Bool) : Type 0 where
+  pub bits : (u : ℕ) → hasBit size after u ≡ both (hasBit size before u) (negate (gone u))
   pub kept : WordsKept before after
 
 -- the units that `own` names, which the bits have room for, are in the set, every other is as it was
-pub record Claimed (before after : List ℕ) (own : ℕ → Bool) : Type 0 where
-  pub bits : (u : ℕ) → (own u ≡ true → u < unitCount) → hasBit after u ≡ either (own u) (hasBit before u)
+pub record Claimed (size : Size) (before after : List ℕ) (own : ℕ → Bool) : Type 0 where
+  pub bits : (u : ℕ) → (own u ≡ true → u < unitCount size) → hasBit size after u ≡ either (own u) (hasBit size before u)
   pub kept : WordsKept before after

@@ -7,17 +7,21 @@ use mathlib.Core.List.{List, [], _∷_, _++_}
 use Prim.Native.Nat.{ℕ, _+_, _-_, _*_, _/_, _%_, _^_, _≤_, _<_}
 use lib.Dec.{eqb}
 use lib.ListN.{length, getD}
+use Rattle.spec.specs.declared.Size.{Size}
+use Rattle.places.specs.Sizes.{powerOf}
+use Rattle.spec.specs.Places.{basePower, wordChunk}
+use Rattle.packing.specs.Packed.{widthsOf}
 use Rattle.spec.specs.Basics.{pick}
 use Rattle.spec.specs.Log.{Entry}
 use Rattle.spec.specs.Contents.{chosen, known, highest}
 use Rattle.log.specs.Stands.{StandsIn}
-use Rattle.buffer.specs.Areas.{batchRoom, sumsStart, sumsCount, bufferWords}
+use Rattle.buffer.specs.Areas.{secondRoom, sumsStart, sumsCount, bufferWords}
 use Rattle.volatile.specs.Known.{extentOf, infoOf, ownOf, Small, Bounded}
 use Rattle.volatile.specs.Sums.{highHalf, weightOf, weight, chosenSum, Summed}
 
 -- so much at the chunk of word `place`, of 512 words each; nothing anywhere
-abbrev pub only : (place weight : ℕ) → ℕ → ℕ
-only place weight c = pick (eqb (place / 512 % sumsCount) c) weight 0
+abbrev pub only : (size : Size) → (place weight : ℕ) → ℕ → ℕ
+only size place weight c = pick (eqb (wordChunk (powerOf size) place % sumsCount) c) weight 0
 
 abbrev pub nothing : ℕ → ℕ
 nothing c = 0
@@ -48,16 +52,16 @@ pub record Weighed (op words r : ℕ) : Type 0 where
   pub is : words ≤ 512 → r ≡ weightOf op words
   pub fits : r < 2 ^ 64
 
-pub record WeighedAt (ws : List ℕ) (extent place r : ℕ) : Type 0 where
-  pub is : (f : Entry) → StandsIn ws f → f .at ≡ place → extentOf (f .placement) (f .field) ≡ extent → extent < 0x100 → r ≡ weight f
+pub record WeighedAt (size : Size) (ws : List ℕ) (extent place r : ℕ) : Type 0 where
+  pub is : (f : Entry) → StandsIn ws f → f .at ≡ place → extentOf size (f .placement) (f .field) ≡ extent → extent < 0x100 → r ≡ weight f
 
 -- an entry e joins es, which gives es′; of its key the table holds `old`, and would hold `own` with e alone
-pub record Renewing (ws : List ℕ) (old own w : ℕ) (es es′ : List Entry) (e : Entry) : Type 0 where
-  pub is-old : old ≡ infoOf (e .key) es
-  pub is-own : own ≡ ownOf e
+pub record Renewing (size : Size) (ws : List ℕ) (old own w : ℕ) (es es′ : List Entry) (e : Entry) : Type 0 where
+  pub is-old : old ≡ infoOf size (e .key) es
+  pub is-own : own ≡ ownOf size e
   pub is-weight : w ≡ weight e
-  pub small : Bounded es
-  pub own-small : Small e
+  pub small : Bounded size es
+  pub own-small : Small size e
   pub present : known (e .key) es′ ≡ true
   pub others : (j : ℕ) → (j ≡ e .key → ⊥) → chosen j es′ ≡ chosen j es
   pub rises : highest (e .key) es < e .version → chosen (e .key) es′ ≡ some e
@@ -65,23 +69,23 @@ pub record Renewing (ws : List ℕ) (old own w : ℕ) (es es′ : List Entry) (e
   pub stands : (f : Entry) → chosen (e .key) es ≡ some f → StandsIn ws f
 
 -- before and after: of any memory, and where the sums were those of the entries
-pub record Renewed (ws before after : List ℕ) (old own w : ℕ) : Type 0 where
+pub record Renewed (size : Size) (ws before after : List ℕ) (old own w : ℕ) : Type 0 where
   pub kept : SumsAlone before after
-  pub renews : (es es′ : List Entry) (e : Entry) → Renewing ws old own w es es′ e → Summed before es → Summed after es′
+  pub renews : (es es′ : List Entry) (e : Entry) → Renewing size ws old own w es es′ e → Summed size before es → Summed size after es′
 
 -- A CLEANED CHUNK with this sum, of which so many words are kept: what they weigh
 abbrev pub turnedWeight : (sum words : ℕ) → ℕ
 turnedWeight sum words = sum % highHalf + highHalf * (words - sum % highHalf)
 
 -- the entries es before, out after: those of the chunk are gone, and what is kept of them stands at `place`
-pub record Turning (chunk place words : ℕ) (es out : List Entry) : Type 0 where
+pub record Turning (size : Size) (chunk place words : ℕ) (es out : List Entry) : Type 0 where
   pub source : chunk < sumsCount
-  pub target : place < 0x4_0000
-  pub few : words ≤ batchRoom
-  pub puts : chosenSum chunk es % highHalf ≤ words
-  pub gone : chosenSum chunk out ≡ 0
-  pub others : (c : ℕ) → (c ≡ chunk → ⊥) → chosenSum c out ≡ chosenSum c es + only place (turnedWeight (chosenSum chunk es) words) c
+  pub target : place < (widthsOf size .place)
+  pub few : words ≤ secondRoom
+  pub puts : chosenSum size chunk es % highHalf ≤ words
+  pub gone : chosenSum size chunk out ≡ 0
+  pub others : (c : ℕ) → (c ≡ chunk → ⊥) → chosenSum size c out ≡ chosenSum size c es + only size place (turnedWeight (chosenSum size chunk es) words) c
 
-pub record TurnedOver (before after : List ℕ) (chunk place words : ℕ) : Type 0 where
+pub record TurnedOver (size : Size) (before after : List ℕ) (chunk place words : ℕ) : Type 0 where
   pub kept : SumsAlone before after
-  pub turns : (es out : List Entry) → Turning chunk place words es out → Summed before es → Summed after out
+  pub turns : (es out : List Entry) → Turning size chunk place words es out → Summed size before es → Summed size after out

@@ -10,6 +10,8 @@ use mathlib.Core.List.{List, [], _∷_}
 use Prim.Native.Nat.{ℕ, _+_, _*_, _%_, _^_, _<_}
 use lib.Dec.{eqb}
 use lib.ListN.{length, getD}
+use Rattle.spec.specs.declared.Size.{Size}
+use Rattle.places.specs.Sizes.{powerOf}
 use Rattle.spec.specs.Basics.{pick}
 use Rattle.spec.specs.Places.{basePower}
 use Rattle.spec.specs.Log.{Entry}
@@ -27,18 +29,18 @@ abbrev pub weight : Entry → ℕ
 weight e = weightOf (e .op) (length (e .value))
 
 -- what a key adds to chunk c: its chosen entry's words, if that stands there
-abbrev pub shareIn : ℕ → Option Entry → ℕ
-shareIn c none = 0
-shareIn c (some e) = pick (inChunk basePower c e) (weight e) 0
+abbrev pub shareIn : (size : Size) → ℕ → Option Entry → ℕ
+shareIn size c none = 0
+shareIn size c (some e) = pick (inChunk (powerOf size) c e) (weight e) 0
 
 abbrev pub sumOver : (ℕ → ℕ) → List ℕ → ℕ
 sumOver f [] = 0
 sumOver f (k ∷ ks) = f k + sumOver f ks
 
 -- THE SUM of chunk c
-unfoldable pub chosenSum : ℕ → List Entry → ℕ
-chosenSum c es = sumOver (λ k. shareIn c (chosen k es)) (keysOf es)
+unfoldable pub chosenSum : (size : Size) → ℕ → List Entry → ℕ
+chosenSum size c es = sumOver (λ k. shareIn size c (chosen k es)) (keysOf es)
 
 -- the record's buffer has the sums of these entries
-pub record Summed (buffer : List ℕ) (es : List Entry) : Type 0 where
-  pub each : (c : ℕ) → c < sumsCount → getD buffer (sumsStart + c) 0 ≡ chosenSum c es % 2 ^ 64
+pub record Summed (size : Size) (buffer : List ℕ) (es : List Entry) : Type 0 where
+  pub each : (c : ℕ) → c < sumsCount → getD buffer (sumsStart + c) 0 ≡ chosenSum size c es % 2 ^ 64

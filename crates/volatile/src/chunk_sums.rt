@@ -6,12 +6,13 @@ ghost use lib.ListN.{getD};
 ghost use Rattle.spec.specs.Words.{wordsOf};
 ghost use Rattle.buffer.specs.Areas.{sumsStart, sumsCount};
 ghost use Rattle.volatile.specs.Change.{only, nothing, Changed, Cleared, extentWeight, Weighed, WeighedAt, Renewed, TurnedOver};
-use buffer::BATCH_WORDS;
 use buffer::BUFFER_WORDS;
 use buffer::Buffer;
+use buffer::SECOND_WORDS;
 use buffer::SUMS;
 use buffer::SUMS_COUNT;
 use spec::FirstWord;
+use spec::Size;
 
 // The sum of a chunk.
 pub fn sum_at(buffer: &Buffer, chunk: usize) -> u64
@@ -33,22 +34,22 @@ pub fn clear(buffer: &mut Buffer)
     }
 }
 
-// The sum of the chunk, of 512 words, in which word `place` lies, with so much more.
-pub fn add(buffer: &mut Buffer, place: usize, weight: u64)
-    ensures { λ _. ⌜ Changed (now (buffer .entry)) (now (buffer .exit)) (only place weight) nothing ⌝ }
+// The sum of the chunk in which word `place` lies, with so much more.
+pub fn add(buffer: &mut Buffer, place: usize, weight: u64, size: Size)
+    ensures { λ _. ⌜ Changed (now (buffer .entry)) (now (buffer .exit)) (only size place weight) nothing ⌝ }
 {
     buffer::buffer_length(buffer);
-    let at = SUMS + place / 512 % SUMS_COUNT;
+    let at = SUMS + places::chunk_of_word(size, place) % SUMS_COUNT;
     let sum = buffer[at];
     buffer[at] = std::num::wrapping_add_u64(sum, weight);
 }
 
 // And with so much less.
-pub fn take_off(buffer: &mut Buffer, place: usize, weight: u64)
-    ensures { λ _. ⌜ Changed (now (buffer .entry)) (now (buffer .exit)) nothing (only place weight) ⌝ }
+pub fn take_off(buffer: &mut Buffer, place: usize, weight: u64, size: Size)
+    ensures { λ _. ⌜ Changed (now (buffer .entry)) (now (buffer .exit)) nothing (only size place weight) ⌝ }
 {
     buffer::buffer_length(buffer);
-    let at = SUMS + place / 512 % SUMS_COUNT;
+    let at = SUMS + places::chunk_of_word(size, place) % SUMS_COUNT;
     let sum = buffer[at];
     buffer[at] = std::num::wrapping_sub_u64(sum, weight);
 }
@@ -75,8 +76,8 @@ pub fn weigh_extent(extent: u64) -> u64
 }
 
 // What the entry that stands at word `place` adds, of which the table says this extent.
-fn weigh_at(image: &[u8], extent: u64, place: usize) -> u64
-    ensures { λ r. ⌜ WeighedAt (wordsOf (now (image .entry))) extent place r ⌝ }
+fn weigh_at(image: &[u8], extent: u64, place: usize, size: Size) -> u64
+    ensures { λ r. ⌜ WeighedAt size (wordsOf (now (image .entry))) extent place r ⌝ }
 {
     if 0 < extent {
         return weigh_extent(extent);
@@ -97,30 +98,30 @@ fn weigh_at(image: &[u8], extent: u64, place: usize) -> u64
 // An entry of this weight joins, of whose key the table holds `old`; `own` is what it would hold with the entry alone.
 // Where the entry is chosen from now on, its words join the sum of its chunk, and those of the entry that was chosen
 // leave theirs.
-pub fn renew(image: &[u8], buffer: &mut Buffer, old: u64, own: u64, weight: u64)
-    ensures { λ _. ⌜ Renewed (wordsOf (now (image .entry))) (now (buffer .entry)) (now (buffer .exit)) old own weight ⌝ }
+pub fn renew(image: &[u8], buffer: &mut Buffer, old: u64, own: u64, weight: u64, size: Size)
+    ensures { λ _. ⌜ Renewed size (wordsOf (now (image .entry))) (now (buffer .entry)) (now (buffer .exit)) old own weight ⌝ }
 {
     buffer::buffer_length(buffer);
-    let new = index::unpack(own);
+    let new = packing::unpack(size, own);
     if old == 0 {
-        add(buffer, new.place as usize, weight);
+        add(buffer, new.place as usize, weight, size);
         return;
     }
-    let info = index::unpack(old);
+    let info = packing::unpack(size, old);
     if info.version < new.version {
-        let gone = weigh_at(image, info.extent, info.place as usize);
-        take_off(buffer, info.place as usize, gone);
-        add(buffer, new.place as usize, weight);
+        let gone = weigh_at(image, info.extent, info.place as usize, size);
+        take_off(buffer, info.place as usize, gone, size);
+        add(buffer, new.place as usize, weight, size);
     }
 }
 
-// More than a batch has words: a larger number of kept words is read by its remainder.
-const SPAN: u64 = 2 * BATCH_WORDS as u64;
+// More than the second area has words: a larger number of kept words is read by its remainder.
+const SPAN: u64 = 2 * SECOND_WORDS as u64;
 
 // A CLEANED CHUNK, of whose entries a cleaning has kept so many words: its chosen puts, and some of its chosen deletes.
 // They stand at word `place` from now on; its own sum is 0.
-pub fn turn_over(buffer: &mut Buffer, chunk: usize, place: usize, words: usize)
-    ensures { λ _. ⌜ TurnedOver (now (buffer .entry)) (now (buffer .exit)) chunk place words ⌝ }
+pub fn turn_over(buffer: &mut Buffer, chunk: usize, place: usize, words: usize, size: Size)
+    ensures { λ _. ⌜ TurnedOver size (now (buffer .entry)) (now (buffer .exit)) chunk place words ⌝ }
 {
     buffer::buffer_length(buffer);
     let sum = sum_at(buffer, chunk);
@@ -128,7 +129,7 @@ pub fn turn_over(buffer: &mut Buffer, chunk: usize, place: usize, words: usize)
     let all = words as u64 % SPAN;
     let at = SUMS + chunk % SUMS_COUNT;
     if puts <= all {
-        add(buffer, place, puts + 0x1_0000_0000 * (all - puts));
+        add(buffer, place, puts + 0x1_0000_0000 * (all - puts), size);
         buffer[at] = 0;
         return;
     }

@@ -1,5 +1,5 @@
-//! The label register for hosts in Rust: under each 64-bit key the exact bytes of a value of 0 to 4,088 bytes, in a
-//! file or a file on persistent memory, which survive a power cut at any moment.
+//! The label register for hosts in Rust: under each 64-bit key the exact bytes of a value of 0 to 4,088 bytes (65,528 with
+//! large chunks), in a file or a file on persistent memory, which survive a power cut at any moment.
 //!
 //! ```no_run
 //! use zitskvoze::{Change, Register};
@@ -49,13 +49,46 @@ use std::time::Duration;
 use error::refused;
 use file::File;
 
-/// The longest value, in bytes.
+/// The longest value, in bytes, of a register with small chunks.
 pub const VALUE_MAX: usize = 4088;
+/// The longest value, in bytes, of a register with large chunks.
+pub const LARGE_VALUE_MAX: usize = 65528;
 /// How many puts and deletes a batch may have.
 pub const BATCH_ITEMS: usize = 16;
 
 /// A version that no key has.
 const NO_VERSION: u64 = u64::MAX;
+
+/// How large the chunks of a register are: 4,096 or 65,536 bytes.
+#[derive(Clone, Copy, Debug, PartialEq, Eq)]
+pub enum ChunkSize {
+    Small,
+    Large,
+}
+
+impl ChunkSize {
+    pub fn bytes(self) -> usize {
+        match self {
+            ChunkSize::Small => sys::CHUNK_BYTES,
+            ChunkSize::Large => sys::LARGE_CHUNK_BYTES,
+        }
+    }
+
+    /// The longest value, in bytes.
+    pub fn value_max(self) -> usize {
+        match self {
+            ChunkSize::Small => VALUE_MAX,
+            ChunkSize::Large => LARGE_VALUE_MAX,
+        }
+    }
+
+    fn power(self) -> u64 {
+        match self {
+            ChunkSize::Small => sys::POWER_SMALL,
+            ChunkSize::Large => sys::POWER_LARGE,
+        }
+    }
+}
 
 /// One item of a batch.
 #[derive(Clone, Copy, Debug)]
@@ -160,18 +193,25 @@ impl Register {
     /// Makes an empty register of so many chunks (4 to 504) of 4,096 bytes and opens it to be written. A file that
     /// exists is left as it is, and the name is taken only once all is durable.
     pub fn create(path: impl AsRef<Path>, chunks: usize, station: Option<u64>, centre: Option<u64>) -> Result<Register, Error> {
+        Register::create_with(path, chunks, ChunkSize::Small, station, centre)
+    }
+
+    /// The same, with chunks of the size named.
+    pub fn create_with(
+        path: impl AsRef<Path>, chunks: usize, size: ChunkSize, station: Option<u64>, centre: Option<u64>,
+    ) -> Result<Register, Error> {
         right_version()?;
         if !sys::CHUNKS.contains(&chunks) {
             return Err(Refusal::ImageLength.into());
         }
-        let file = File::new(path.as_ref(), chunks * sys::CHUNK_BYTES)?;
+        let file = File::new(path.as_ref(), chunks * size.bytes())?;
         let mut register = Register::over(file, Access::Write);
         let (at, bytes, words) = register.lent();
         let (s, c) = (station.unwrap_or(0), centre.unwrap_or(0));
         // Safety: what is lent is this register's, of these lengths.
         let begun = unsafe {
             sys::zkv_format(&mut *register.record, at, bytes, register.table.as_ptr(), words,
-                station.is_some().into(), s, centre.is_some().into(), c)
+                size.power(), station.is_some().into(), s, centre.is_some().into(), c)
         };
         register.finish(begun)?;
         register.file.take_name()?;
@@ -223,7 +263,7 @@ impl Register {
     }
 
     fn over(file: File, access: Access) -> Register {
-        let record = Box::new(sys::Record { word: [0; 1685] });
+        let record = Box::new(sys::Record { word: [0; sys::RECORD_WORDS] });
         Register { file, record, table: vec![0; sys::TABLE_WORDS].into_boxed_slice(), access, stopped: false }
     }
 
@@ -496,8 +536,16 @@ impl Register {
         unsafe { sys::zkv_keys(&*self.record) }
     }
 
+    pub fn chunk_size(&self) -> ChunkSize {
+        // Safety: as above.
+        match unsafe { sys::zkv_power(self.file.image(), self.file.bytes()) } {
+            sys::POWER_LARGE => ChunkSize::Large,
+            _ => ChunkSize::Small,
+        }
+    }
+
     pub fn chunks(&self) -> usize {
-        self.file.bytes() / sys::CHUNK_BYTES
+        self.file.bytes() / self.chunk_size().bytes()
     }
 
     pub fn free_chunks(&self) -> u64 {

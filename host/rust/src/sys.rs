@@ -2,9 +2,13 @@
 use std::os::raw::{c_char, c_int, c_long, c_void};
 
 pub const VERSION: &str = "1.0"; // ZKV_VERSION of the header that this file follows
+pub const POWER_SMALL: u64 = 12;
+pub const POWER_LARGE: u64 = 16;
 pub const CHUNK_BYTES: usize = 4096;
+pub const LARGE_CHUNK_BYTES: usize = 65536;
 pub const CHUNKS: std::ops::RangeInclusive<usize> = 4..=504;
 pub const TABLE_WORDS: usize = 262_144;
+pub const RECORD_WORDS: usize = 11_286;
 
 pub const REFUSED: u64 = 0;
 pub const BEGUN: u64 = 1;
@@ -20,7 +24,7 @@ pub const FILE_WRITE: c_int = 1;
 #[repr(C)]
 #[derive(Clone)]
 pub struct Record {
-    pub word: [u64; 1685],
+    pub word: [u64; RECORD_WORDS],
 }
 
 #[repr(C)]
@@ -57,7 +61,7 @@ pub struct File {
     pub descriptor: c_int,
     pub how: c_int,
     pub by_pages: c_int,
-    pub page: [u8; 504],
+    pub page: [u8; 504 * 16],
     pub device: u64,
     pub inode: u64,
     pub owner: u32,
@@ -79,7 +83,7 @@ pub type Fence = unsafe extern "C" fn(*mut c_void) -> c_int;
 extern "C" {
     pub fn zkv_format(
         record: *mut Record, image: *const u8, bytes: usize, table: *const u64, words: usize,
-        station_given: u64, station: u64, centre_given: u64, centre: u64,
+        power: u64, station_given: u64, station: u64, centre_given: u64, centre: u64,
     ) -> Report;
     pub fn zkv_open(record: *mut Record, image: *const u8, bytes: usize, table: *mut u64, words: usize) -> Report;
     pub fn zkv_put(
@@ -122,6 +126,7 @@ extern "C" {
         record: *const Record, image: *const u8, bytes: usize, table: *const u64, words: usize,
         key: u64, version: *mut u64, length: *mut u64, block: *mut u64,
     ) -> u64;
+    pub fn zkv_power(image: *const u8, bytes: usize) -> u64;
     pub fn zkv_keys(record: *const Record) -> u64;
     pub fn zkv_free_chunks(image: *const u8, bytes: usize) -> u64;
     pub fn zkv_lines_used(image: *const u8, bytes: usize) -> u64;

@@ -7,7 +7,7 @@ use std::sync::mpsc;
 use std::thread;
 use std::time::{Duration, Instant};
 
-use zitskvoze::{Access, Change, Chunk, Error, Refusal, Register, VALUE_MAX};
+use zitskvoze::{Access, Change, Chunk, ChunkSize, Error, Refusal, Register, LARGE_VALUE_MAX, VALUE_MAX};
 
 /// A folder of its own, removed at the end.
 struct Folder(PathBuf);
@@ -433,6 +433,23 @@ fn chunks_of_large_labels_are_freed() {
 }
 
 #[test]
+fn large_chunks_have_longer_values() {
+    let folder = Folder::new("size");
+    let scan: Vec<u8> = (0..60_000).map(|i| (i % 251) as u8).collect();
+    let longest = vec![9; LARGE_VALUE_MAX];
+    let mut register = Register::create_with(folder.file(), 6, ChunkSize::Large, Some(7), None).unwrap();
+    assert_eq!((register.chunk_size(), register.chunks(), register.free_chunks()), (ChunkSize::Large, 6, 5));
+    register.batch(&[Change::Put(1, &scan), Change::Put(2, b"two"), Change::Put(3, &longest)]).unwrap();
+    assert_eq!(register.put(4, &vec![0; LARGE_VALUE_MAX + 1]), Err(Error::Refused(Refusal::TooLong)));
+    drop(register);
+    let register = Register::open_with(folder.file(), Access::Read, None).unwrap();
+    assert_eq!((register.chunk_size().value_max(), register.station()), (LARGE_VALUE_MAX, Some(7)));
+    assert_eq!(all(&register), BTreeMap::from([(1, scan), (2, b"two".to_vec()), (3, longest)]));
+    let small = Register::create(folder.0.join("small"), 5, None, None).unwrap();
+    assert_eq!((small.chunk_size(), small.chunks()), (ChunkSize::Small, 5));
+}
+
+#[test]
 fn files_and_locks() {
     let folder = Folder::new("files");
     let at_once = Some(Duration::ZERO);
@@ -504,7 +521,7 @@ mod c {
 
     pub const BEGUN: u64 = 1;
     pub const OPENED: u64 = 7;
-    pub const RECORD_WORDS: usize = 1685;
+    pub const RECORD_WORDS: usize = 11_286;
     pub const TABLE_WORDS: usize = 4096;
     pub const LAST_ACTIONS: u64 = 3; // of a cleaning: the chunk becomes free
 

@@ -4,22 +4,28 @@ use mathlib.Core.Path.{_≡_}
 use Prim.Native.Nat.{_≤_, _-_}
 use native.Mathlib.Omega.{arith}
 use borrow.Author.Needs.{needs}
-use Rattle.buffer.specs.Areas.{bitsStart, bitsEnd}
+use Rattle.buffer.specs.Areas.{bitsStart, bitsEndOf, bitsEnd}
 use Rattle.buffer.proofs.Laws.{Clearing, clear-none, clear-more, clear-all}
 use Rattle.buffer.proofs.clear_bits.Statement.{statement}
 use Rattle.buffer.proofs.clear_bits.Tie as tie
 
 abbrev Inv-loop : tie.InvT-loop
-Inv-loop buffer₀ i₀ buffer i = (bitsStart ≤ i) × (i ≤ bitsEnd) × Clearing buffer₀ buffer i
+Inv-loop buffer₀ end i₀ buffer i = (bitsStart ≤ i) × (i ≤ end) × (end ≤ bitsEnd) × Clearing buffer₀ buffer i
 
 abbrev μ-loop : tie.MeasureT-loop
-μ-loop buffer₀ i₀ buffer i = bitsEnd - i
+μ-loop buffer₀ end i₀ buffer i = end - i
 
 buffer-length-requires : tie.Need-buffer-length-requires Inv-loop μ-loop
 buffer-length-requires c κs = search needs
 
+unit-count-requires : tie.Need-unit-count-requires Inv-loop μ-loop
+unit-count-requires c κs = search needs
+
+add-end : tie.Need-add-end Inv-loop μ-loop
+add-end c = search needs
+
 loop-holds : tie.Need-loop-holds Inv-loop μ-loop
-loop-holds c = (omega arith, omega arith, clear-none (c .before .before .args .buffer .now) (omega arith))
+loop-holds c = (omega arith, omega arith, omega arith, clear-none (c .before .before .before .args .buffer .now) (omega arith))
 
 mul-buffer : tie.Need-mul-buffer Inv-loop μ-loop
 mul-buffer c = search needs
@@ -35,15 +41,17 @@ loop-less c = search needs
 
 loop-again : tie.Need-loop-again Inv-loop μ-loop
 loop-again c =
+    let at-start = c .before .before .before .before .before in
     let here = c .before .loop in
-    let b = c .before .before .before .before .args .buffer .now in
-    (omega arith, omega arith, clear-more b (here .buffer) (here .i) (here .inv .2) (omega arith) (omega arith))
+    let b = at-start .args .buffer .now in
+    (omega arith, omega arith, omega arith, clear-more b (here .buffer) (here .i) (here .inv .3) (omega arith) (omega arith))
 
 returns : tie.Need-returns Inv-loop μ-loop
 returns c =
+    let at-start = c .before .before .before .before .before in
     let here = c .before .loop in
-    let e : here .i ≡ bitsEnd = omega arith in
-    clear-all (c .before .before .before .before .args .buffer .now) (here .buffer) (rw e at (here .inv .2))
+    let e : here .i ≡ bitsEndOf (at-start .args .size) = omega arith in
+    clear-all (at-start .args .size) (at-start .args .buffer .now) (here .buffer) (rw e at (here .inv .3))
 
 pub clear-bits-spec : {M : Type 1} → statement M
 clear-bits-spec =
@@ -52,6 +60,8 @@ clear-bits-spec =
     Inv-loop
     μ-loop
     buffer-length-requires
+    unit-count-requires
+    add-end
     loop-holds
     mul-buffer
     element-write-buffer

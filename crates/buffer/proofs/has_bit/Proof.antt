@@ -6,6 +6,9 @@ use Rattle.buffer.proofs.Laws.{bit-in, bit-beyond}
 use Rattle.buffer.proofs.has_bit.Statement.{statement}
 use Rattle.buffer.proofs.has_bit.Tie as tie
 
+unit-count-requires : tie.Need-unit-count-requires
+unit-count-requires c κs = search needs
+
 add-word : tie.Need-add-word
 add-word c = search needs
 
@@ -20,14 +23,22 @@ shr-result c = search needs
 
 returns : tie.Need-returns
 returns c =
-    let start = c .before .before .args in
-    sym (bit-in (start .buffer .now) (start .unit .0) (omega arith))
+    let start = c .before .before .before .args in
+    sym (bit-in (start .size) (start .buffer .now) (start .unit .0) (omega arith))
 
 returns-2 : tie.Need-returns-2
 returns-2 c =
-    let start = c .before .args in
-    sym (bit-beyond (start .buffer .now) (start .unit .0) (omega arith))
+    let start = c .before .before .args in
+    sym (bit-beyond (start .size) (start .buffer .now) (start .unit .0) (omega arith))
 
 pub has-bit-spec : {M : Type 1} → statement M
 has-bit-spec =
-    tie.close (tie.spec add-word mul-word element-copy-out-word shr-result returns returns-2)
+    tie.close
+    (tie.spec
+    unit-count-requires
+    add-word
+    mul-word
+    element-copy-out-word
+    shr-result
+    returns
+    returns-2)

@@ -15,8 +15,7 @@ returns : tie.Need-returns
 returns c =
     let at-sum-at = c .before .before .before .before in
     let at-start = at-sum-at .before .before .before in
-    better-none (wordsOf (at-start .args .image .now)) _ _ _ _ _ _ (at-sum-at .sum-at .ensures) refl (λ z. omega arith)
-    (c .if2 .taken)
+    better-none (at-start .args .size) (wordsOf (at-start .args .image .now)) _ _ _ _ _ _ (at-sum-at .sum-at .ensures) refl (λ z. omega arith) (c .if2 .taken)
 
 counted-at-requires : tie.Need-counted-at-requires
 counted-at-requires c κs = search needs
@@ -28,8 +27,7 @@ returns-2 : tie.Need-returns-2
 returns-2 c =
     let at-sum-at = c .before .before .before .before .before in
     let at-start = at-sum-at .before .before .before in
-    better-counted (wordsOf (at-start .args .image .now)) _ _ _ _ _ _ (at-sum-at .sum-at .ensures) refl _ _
-    (c .before .before .if3 .taken) (c .before .counted-at .ensures) (c .better-of .ensures)
+    better-counted (at-start .args .size) (wordsOf (at-start .args .image .now)) _ _ _ _ _ _ (at-sum-at .sum-at .ensures) refl _ _ (c .before .before .if3 .taken) (c .before .counted-at .ensures) (c .better-of .ensures)
 
 candidate-at-requires : tie.Need-candidate-at-requires
 candidate-at-requires c κs = search needs
@@ -41,18 +39,7 @@ returns-3 : tie.Need-returns-3
 returns-3 c =
     let at-sum-at = c .before .before .before .before .before in
     let at-start = at-sum-at .before .before .before in
-    better-weighed (wordsOf (at-start .args .image .now)) _ _ _ _ _ _ (c .before .candidate-at .ensures)
-    (c .better-of2 .ensures)
+    better-weighed (at-start .args .size) (wordsOf (at-start .args .image .now)) _ _ _ _ _ _ (c .before .candidate-at .ensures) (c .better-of2 .ensures)
 
 pub better-at-spec : {M : Type 1} → statement M
-better-at-spec =
-    tie.close
-    (tie.spec
-    sum-at-requires
-    returns
-    counted-at-requires
-    better-of-requires
-    returns-2
-    candidate-at-requires
-    better-of-requires-2
-    returns-3)
+better-at-spec = tie.close (tie.spec sum-at-requires returns counted-at-requires better-of-requires returns-2 candidate-at-requires better-of-requires-2 returns-3)

@@ -1,7 +1,7 @@
 -- `choosing::better_of` meets its contract.
 -- Assumes nothing.
-use borrow.Author.Needs.{needs}
 use Rattle.choosing.proofs.Laws.{takes-first, takes-better, keeps-best, not-worth}
+use borrow.Author.Needs.{needs}
 use Rattle.choosing.proofs.better_of.Statement.{statement}
 use Rattle.choosing.proofs.better_of.Tie as tie
 

@@ -1,7 +1,7 @@
 -- `choosing::is_worth` meets its contract.
 -- Assumes nothing.
-use borrow.Author.Needs.{needs}
 use Rattle.choosing.proofs.Laws.{worth}
+use borrow.Author.Needs.{needs}
 use Rattle.choosing.proofs.is_worth.Statement.{statement}
 use Rattle.choosing.proofs.is_worth.Tie as tie
 

@@ -1,7 +1,7 @@
 -- `cleaning::clean_core` meets its contract.
 -- Assumes nothing.
-use borrow.Author.Needs.{needs}
 use Rattle.cleaning.proofs.Begins.{gate-refuses, cleans}
+use borrow.Author.Needs.{needs}
 use Rattle.cleaning.proofs.clean_core.Statement.{statement}
 use Rattle.cleaning.proofs.clean_core.Tie as tie
 
@@ -24,6 +24,4 @@ returns-2 : tie.Need-returns-2
 returns-2 c = cleans _ _ _ _ _ _ _ (c .before .before .before .before .gate .ensures) (c .before .before .enum-told .given .1) _ _ _ _ (c .begin-clean .ensures)
 
 pub clean-core-spec : {M : Type 1} → statement M
-clean-core-spec =
-    tie.close
-    (tie.spec gate-requires enum-known-gated enum-told begin-clean-requires returns returns-2)
+clean-core-spec = tie.close (tie.spec gate-requires enum-known-gated enum-told begin-clean-requires returns returns-2)

@@ -10,10 +10,7 @@ has-live-requires : tie.Need-has-live-requires
 has-live-requires c κs = search needs
 
 returns : tie.Need-returns
-returns c =
-    let a = c .before .before .before .args in
-    let v = c .before .has-live in
-    data-live (wordsOf (a .image .now)) (a .buffer .now) (a .chunk) (a .first) (v .result) (v .ensures) (c .if1 .taken)
+returns c = data-live (c .before .before .before .args .size) (wordsOf (c .before .before .before .args .image .now)) (c .before .before .before .args .buffer .now) (c .before .before .before .args .chunk) (c .before .before .before .args .first) (c .before .has-live .result) (c .before .has-live .ensures) (c .if1 .taken)
 
 directory-word-requires : tie.Need-directory-word-requires
 directory-word-requires c κs = search needs
@@ -22,14 +19,7 @@ lines-of-requires : tie.Need-lines-of-requires
 lines-of-requires c κs = search needs
 
 returns-2 : tie.Need-returns-2
-returns-2 c =
-    let at-start = c .before .before .before .before .before in
-    let a = at-start .args in
-    let v = c .before .before .before .has-live in
-    data-dead (wordsOf (a .image .now)) (a .buffer .now) (a .chunk) (a .first) (v .result) (v .ensures)
-    (c .before .before .if1 .left) _ _ (c .before .directory-word .ensures) (c .lines-of .ensures .0)
+returns-2 c = data-dead (c .before .before .before .before .before .args .size) (wordsOf (c .before .before .before .before .before .args .image .now)) (c .before .before .before .before .before .args .buffer .now) (c .before .before .before .before .before .args .chunk) (c .before .before .before .before .before .args .first) (c .before .before .before .has-live .result) (c .before .before .before .has-live .ensures) (c .before .before .if1 .left) _ _ (c .before .directory-word .ensures) (c .lines-of .ensures .0)
 
 pub plan-data-spec : {M : Type 1} → statement M
-plan-data-spec =
-    tie.close
-    (tie.spec has-live-requires returns directory-word-requires lines-of-requires returns-2)
+plan-data-spec = tie.close (tie.spec has-live-requires returns directory-word-requires lines-of-requires returns-2)

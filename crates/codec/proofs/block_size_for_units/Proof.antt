@@ -1,27 +1,29 @@
--- `codec::block_size_for_units` meets its contract: each entry of the table is the definition's, by the one test of the
--- table.
+-- `codec::block_size_for_units` meets its contract.
 -- Assumes nothing.
-use mathlib.Core.Path.{sym, _∙_}
-use Prim.Native.Nat.{_≤_, _<_}
-use native.Mathlib.Decide.{decLe}
-use native.Mathlib.Omega.{arith}
-use borrow.Author.Tests.{le-leb, lt-leb}
-use Rattle.codec.proofs.Sizes.{entry-inside, entry-past}
 use borrow.Author.Needs.{needs}
+use Rattle.spec.specs.Places.{chunkUnits}
 use Rattle.codec.proofs.block_size_for_units.Statement.{statement}
 use Rattle.codec.proofs.block_size_for_units.Tie as tie
 
-mul-result : tie.Need-mul-result
-mul-result c = search needs
+enum-told : tie.Need-enum-told
+enum-told c = search needs
 
-array-read-result : tie.Need-array-read-result
-array-read-result c = search needs
+small-size-requires : tie.Need-small-size-requires
+small-size-requires c κs = search needs
+
+enum-told-2 : tie.Need-enum-told-2
+enum-told-2 c = search needs
+
+large-size-requires : tie.Need-large-size-requires
+large-size-requires c κs = search needs
 
 returns : tie.Need-returns
-returns c = entry-inside (c .before .args .units) (omega arith)
+unfolding chunkUnits
+returns c = let e = c .before .enum-told .given .1 in rw e (c .small-size .ensures)
 
 returns-2 : tie.Need-returns-2
-returns-2 c = entry-past (c .before .args .units) (omega arith)
+unfolding chunkUnits
+returns-2 c = let e = c .before .enum-told2 .given .1 in rw e (c .large-size .ensures)
 
 pub block-size-for-units-spec : {M : Type 1} → statement M
-block-size-for-units-spec = tie.close (tie.spec mul-result array-read-result returns returns-2)
+block-size-for-units-spec = tie.close (tie.spec enum-told small-size-requires enum-told-2 large-size-requires returns returns-2)

@@ -33,8 +33,8 @@ array-read-h c = search needs
 sum-of-requires : tie.Need-sum-of-requires
 sum-of-requires c κs = search needs
 
-unused-requires : tie.Need-unused-requires
-unused-requires c κs = search needs
+both-unused-requires : tie.Need-both-unused-requires
+both-unused-requires c κs = search needs
 
 fields-right-requires : tie.Need-fields-right-requires
 fields-right-requires c κs = search needs
@@ -43,13 +43,13 @@ returns : tie.Need-returns
 returns c =
     fields-tested _ _ _ _ _ _ _ _ _
     (sym (c .before .before .before .before .before .sum-of .ensures) ∙ c .before .before .before .before .if1 .taken)
-    (c .before .before .before .if2 .taken) _ (c .before .before .unused .ensures) (c .before .if3 .taken) _ (c .fields-right .ensures)
+    (c .before .before .before .if2 .taken) _ (c .before .before .both-unused .ensures) (c .before .if3 .taken) _ (c .fields-right .ensures)
 
 returns-2 : tie.Need-returns-2
 returns-2 c =
     unused-wrong _ _ _ _ _ _ _ _ _
     (sym (c .before .before .before .before .sum-of .ensures) ∙ c .before .before .before .if1 .taken)
-    (c .before .before .if2 .taken) _ (c .before .unused .ensures) (c .if3 .left)
+    (c .before .before .if2 .taken) _ (c .before .both-unused .ensures) (c .if3 .left)
 
 returns-3 : tie.Need-returns-3
 returns-3 c =
@@ -71,7 +71,7 @@ header-right-spec =
     array-read-g
     array-read-h
     sum-of-requires
-    unused-requires
+    both-unused-requires
     fields-right-requires
     returns
     returns-2

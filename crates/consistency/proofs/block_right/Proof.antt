@@ -6,6 +6,7 @@ use Rattle.spec.specs.Words.{wordsOf}
 use Rattle.spec.specs.Directory.{sizeOf}
 use Rattle.words.specs.Image.{length-wordsOf}
 use Rattle.consistency.proofs.Blocks.{start-size, shows-start, shows-block}
+use Rattle.places.specs.Sizes.{powerOf}
 use borrow.Author.Needs.{needs}
 use Rattle.consistency.proofs.block_right.Statement.{statement}
 use Rattle.consistency.proofs.block_right.Tie as tie
@@ -39,7 +40,7 @@ length-right-requires c κs =
     let begins = c .before .before .before .before in
     let sized = begins .before .before in
     let a = sized .before .before .before .args in
-    (start-size (a .count) (a .unit .0) (sized .size-of .result) (sym (begins .before .starts .ensures) ∙ begins .if1 .taken), sized .size-of .ensures .1)
+    (start-size (powerOf (a .size)) (a .count) (a .unit .0) (sized .size-of .result) (sym (begins .before .starts .ensures) ∙ begins .if1 .taken), sized .size-of .ensures .1)
 
 returns : tie.Need-returns
 returns c =
@@ -51,7 +52,7 @@ returns c =
     let size = sized .size-of in
     let len = last .before .before .load in
     let l = length-wordsOf (a .image .now) in
-    shows-block (wordsOf (a .image .now)) (a .count) (a .unit .0) (size .result) (omega arith) (size .ensures .0 ∙ ap (sizeOf 12 (wordsOf (a .image .now))) (sized .before .chunk .ensures))
+    shows-block (powerOf (a .size)) (wordsOf (a .image .now)) (a .count) (a .unit .0) (size .result) (omega arith) (size .ensures .0 ∙ ap (sizeOf (powerOf (a .size)) (wordsOf (a .image .now))) (sized .before .chunk .ensures))
     (at .word-offset .result) (len .result) (last .load2 .result) (c .length-right .result) (at .word-offset .ensures) (len .ensures)
     (rw (last .before .words-for .ensures .0) at (last .load2 .ensures)) (sym (begins .before .starts .ensures) ∙ begins .if1 .taken) (c .length-right .ensures)
 
@@ -61,7 +62,7 @@ returns-2 c =
     let a = sized .before .before .before .args in
     let size = sized .size-of in
     let l = length-wordsOf (a .image .now) in
-    shows-start (wordsOf (a .image .now)) (a .count) (a .unit .0) (size .result) (omega arith) (size .ensures .0 ∙ ap (sizeOf 12 (wordsOf (a .image .now))) (sized .before .chunk .ensures)) (sym (c .before .starts .ensures) ∙ c .if1 .left)
+    shows-start (powerOf (a .size)) (wordsOf (a .image .now)) (a .count) (a .unit .0) (size .result) (omega arith) (size .ensures .0 ∙ ap (sizeOf (powerOf (a .size)) (wordsOf (a .image .now))) (sized .before .chunk .ensures)) (sym (c .before .starts .ensures) ∙ c .if1 .left)
 
 pub block-right-spec : {M : Type 1} → statement M
 block-right-spec =

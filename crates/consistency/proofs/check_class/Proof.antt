@@ -27,7 +27,7 @@ returns c =
     let at-if1 = at-mark-twins .before .before in
     let at-takes-marks = at-if1 .before in
     let at-start = at-takes-marks .before .before .before in
-    class-marked _ _ _ _ _ _ _ _ _ _ _
+    class-marked (at-start .args .size) _ _ _ _ _ _ _ _ _ _ _
     (marks-fit (at-start .args .fits) (at-start .args .single) (at-takes-marks .takes-marks .result)
     (at-takes-marks .takes-marks .ensures) (at-if1 .if1 .taken)) _ (at-mark-twins .mark-twins .ensures)
     (c .sweep .ensures)
@@ -45,7 +45,7 @@ sweep-requires-2 : tie.Need-sweep-requires-2
 sweep-requires-2 c κs = search needs
 
 returns-2 : tie.Need-returns-2
-returns-2 c = class-unmarked _ _ _ _ _ _ _ _ _ _ _ _ refl (c .sweep2 .ensures)
+returns-2 c = class-unmarked _ _ _ _ _ _ _ _ _ _ _ _ _ refl (c .sweep2 .ensures)
 
 pub check-class-spec : {M : Type 1} → statement M
 check-class-spec =

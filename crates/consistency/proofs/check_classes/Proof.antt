@@ -11,15 +11,15 @@ use Rattle.consistency.proofs.check_classes.Statement.{statement}
 use Rattle.consistency.proofs.check_classes.Tie as tie
 
 abbrev Inv-loop : tie.InvT-loop
-Inv-loop image count buffer₀ own₀ s₀ low₀ width₀ buffer own s low width = (length own ≡ 6144) × (low ≤ 2 ^ 32) × (1 ≤ width) × (width ≤ 2 ^ 32) × Done count (wordsOf image) buffer₀ buffer s low
+Inv-loop image count buffer₀ size own₀ s₀ low₀ width₀ buffer own s low width = (length own ≡ 65536) × (low ≤ 2 ^ 32) × (1 ≤ width) × (width ≤ 2 ^ 32) × Done size count (wordsOf image) buffer₀ buffer s low
 
 abbrev μ-loop : tie.MeasureT-loop
-μ-loop image count buffer₀ own₀ s₀ low₀ width₀ buffer own s low width = (2 ^ 32 - low) * 2 ^ 33 + width
+μ-loop image count buffer₀ size own₀ s₀ low₀ width₀ buffer own s low width = (2 ^ 32 - low) * 2 ^ 33 + width
 
 loop-holds : tie.Need-loop-holds Inv-loop μ-loop
 loop-holds c =
     let a = c .before .args in
-    (length-replicate {A = ℕ} 6144 0, omega arith, omega arith, omega arith, done-none (a .count) (wordsOf (a .image .now)) (a .buffer .now))
+    (length-replicate {A = ℕ} 65536 0, omega arith, omega arith, omega arith, done-none (a .size) (a .count) (wordsOf (a .image .now)) (a .buffer .now))
 
 range-end-requires : tie.Need-range-end-requires Inv-loop μ-loop
 range-end-requires c κs = search needs
@@ -68,7 +68,7 @@ loop-again c =
       h .1,
       w .0,
       w .1,
-      done-next _ _ _ _ _ _ (i .4) _ (omega arith) _ _ _ _
+      done-next _ _ _ _ _ _ _ (i .4) _ (omega arith) _ _ _ _
           (at-collect .collect .ensures) _ (c .before .before .check-class .result) (c .before .before .check-class .ensures)
           (c .before .if2 .taken),
     )
@@ -80,7 +80,7 @@ returns c =
     let at-loop = at-range-end .before .before in
     let i = at-loop .loop .inv in
     let h = at-range-end .range-end .ensures in
-    done-wrong _ _ _ _ _ _ (i .4) _ (omega arith) _ _ _ _ (at-collect .collect .ensures) _
+    done-wrong _ _ _ _ _ _ _ (i .4) _ (omega arith) _ _ _ _ (at-collect .collect .ensures) _
     (c .before .check-class .result) (c .before .check-class .ensures) (c .if2 .left)
 
 loop-less-2 : tie.Need-loop-less-2 Inv-loop μ-loop
@@ -103,7 +103,7 @@ returns-2 : tie.Need-returns-2 Inv-loop μ-loop
 returns-2 c =
     let i = c .before .loop .inv in
     let l = i .1 in
-    done-all _ _ _ _ _ _ (i .4) (omega arith)
+    done-all _ _ _ _ _ _ _ (i .4) (omega arith)
 
 pub check-classes-spec : {M : Type 1} → statement M
 check-classes-spec =

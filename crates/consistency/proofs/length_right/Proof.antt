@@ -13,13 +13,13 @@ sub-room : tie.Need-sub-room
 sub-room c = search needs
 
 returns : tie.Need-returns
-returns c = let a = c .before .args in length-low (a .size) (a .length) (a .last) (omega arith)
+returns c = let a = c .before .args in length-low (a .units) (a .length) (a .last) (omega arith)
 
 returns-2 : tie.Need-returns-2
-returns-2 c = let a = c .before .before .args in length-high (a .size) (a .length) (a .last) (omega arith) (omega arith)
+returns-2 c = let a = c .before .before .args in length-high (a .units) (a .length) (a .last) (omega arith) (omega arith)
 
 returns-3 : tie.Need-returns-3
-returns-3 c = let a = c .before .before .before .args in length-whole (a .size) (a .length) (a .last) (omega arith) (omega arith) (omega arith)
+returns-3 c = let a = c .before .before .before .args in length-whole (a .units) (a .length) (a .last) (omega arith) (omega arith) (omega arith)
 
 mul-result : tie.Need-mul-result
 mul-result c = search needs
@@ -28,7 +28,7 @@ shl-result : tie.Need-shl-result
 shl-result c = search needs
 
 returns-4 : tie.Need-returns-4
-returns-4 c = let a = c .before .before .before .args in length-filled (a .size) (a .length) (a .last) (omega arith) (omega arith) (omega arith)
+returns-4 c = let a = c .before .before .before .args in length-filled (a .units) (a .length) (a .last) (omega arith) (omega arith) (omega arith)
 
 pub length-right-spec : {M : Type 1} → statement M
 length-right-spec =

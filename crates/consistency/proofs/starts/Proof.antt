@@ -3,6 +3,7 @@
 use native.Mathlib.Omega.{arith}
 use Rattle.spec.specs.Places.{unitIn, chunkUnits}
 use Rattle.consistency.proofs.Blocks.{start-chunk, start-past, start-free, start-within, start-fits}
+use Rattle.places.specs.Sizes.{powerOf}
 use borrow.Author.Needs.{needs}
 use Rattle.consistency.proofs.starts.Statement.{statement}
 use Rattle.consistency.proofs.starts.Tie as tie
@@ -17,19 +18,19 @@ returns : tie.Need-returns
 returns c =
     let at = c .before in
     let a = at .before .before .args in
-    start-chunk (a .count) (a .unit .0) (a .size) _ _ (at .before .chunk .ensures) (at .place .ensures) (omega arith)
+    start-chunk (powerOf (a .size)) (a .count) (a .unit .0) (a .units) _ _ (at .before .chunk .ensures) (at .place .ensures .0) (omega arith)
 
 returns-2 : tie.Need-returns-2
 returns-2 c =
     let at = c .before .before in
     let a = at .before .before .args in
-    start-past (a .count) (a .unit .0) (a .size) _ _ (at .before .chunk .ensures) (at .place .ensures) (omega arith) (omega arith)
+    start-past (powerOf (a .size)) (a .count) (a .unit .0) (a .units) _ _ (at .before .chunk .ensures) (at .place .ensures .0) (omega arith) (omega arith)
 
 returns-3 : tie.Need-returns-3
 returns-3 c =
     let at = c .before .before .before in
     let a = at .before .before .args in
-    start-free (a .count) (a .unit .0) (a .size) _ _ (at .before .chunk .ensures) (at .place .ensures) (omega arith) (omega arith) (omega arith)
+    start-free (powerOf (a .size)) (a .count) (a .unit .0) (a .units) _ _ (at .before .chunk .ensures) (at .place .ensures .0) (omega arith) (omega arith) (omega arith)
 
 rem-if4 : tie.Need-rem-if4
 rem-if4 c = search needs
@@ -38,18 +39,33 @@ add-result : tie.Need-add-result
 unfolding unitIn chunkUnits
 add-result c = omega arith
 
+units-requires : tie.Need-units-requires
+units-requires c κs = search needs
+
 returns-4 : tie.Need-returns-4
 returns-4 c =
-    let at = c .before .before .before .before in
+    let at = c .before .before .before .before .before in
     let a = at .before .before .args in
-    start-fits (a .count) (a .unit .0) (a .size) _ _ (at .before .chunk .ensures) (at .place .ensures) (omega arith) (omega arith) (omega arith) (c .if4 .taken)
+    rw (c .units .ensures .0)
+    (start-fits (powerOf (a .size)) (a .count) (a .unit .0) (a .units) _ _ (at .before .chunk .ensures) (at .place .ensures .0) (omega arith) (omega arith) (omega arith) (c .before .if4 .taken))
 
 returns-5 : tie.Need-returns-5
 returns-5 c =
     let at = c .before .before .before .before in
     let a = at .before .before .args in
-    start-within (a .count) (a .unit .0) (a .size) _ _ (at .before .chunk .ensures) (at .place .ensures) (omega arith) (omega arith) (omega arith) (c .if4 .left)
+    start-within (powerOf (a .size)) (a .count) (a .unit .0) (a .units) _ _ (at .before .chunk .ensures) (at .place .ensures .0) (omega arith) (omega arith) (omega arith) (c .if4 .left)
 
 pub starts-spec : {M : Type 1} → statement M
 starts-spec =
-    tie.close (tie.spec chunk-requires place-requires returns returns-2 returns-3 rem-if4 add-result returns-4 returns-5)
+    tie.close
+    (tie.spec
+    chunk-requires
+    place-requires
+    returns
+    returns-2
+    returns-3
+    rem-if4
+    add-result
+    units-requires
+    returns-4
+    returns-5)

@@ -17,7 +17,7 @@ returns c =
     let at-start = c .before .before .before .before .before in
     let a = at-start .args in
     let ws = wordsOf (a .image .now) in
-    shows-table (a .count) ws (a .table .now) (a .fits) (a .key) (c .before .before .if1 .taken)
+    shows-table (a .size) (a .count) ws (a .table .now) (a .fits) (a .key) (c .before .before .if1 .taken)
     (c .before .get .result) (c .unpack .result) (c .before .get .ensures) (c .unpack .ensures)
 
 best-of-requires : tie.Need-best-of-requires
@@ -27,7 +27,7 @@ returns-2 : tie.Need-returns-2
 returns-2 c =
     let a = c .before .before .before .before .args in
     let ws = wordsOf (a .image .now) in
-    shows-scan (a .count) ws (a .table .now) (a .fits) (a .key) (c .best-of .result) (c .best-of .ensures)
+    shows-scan (a .size) (a .count) ws (a .table .now) (a .fits) (a .key) (c .best-of .result) (c .best-of .ensures)
 
 pub top-of-spec : {M : Type 1} → statement M
 top-of-spec = tie.close (tie.spec get-requires unpack-requires returns best-of-requires returns-2)

@@ -20,7 +20,7 @@ returns c =
     let at-is-within = at-if1 .before in
     let at-start = at-is-within .before .before .before in
     let a = at-start .args in
-    visited-below (a .count) (wordsOf (a .image .now)) (a .table .now) (a .fits) (a .low) (a .high) (a .e)
+    visited-below (a .size) (a .count) (wordsOf (a .image .now)) (a .table .now) (a .fits) (a .low) (a .high) (a .e)
     (sym (at-is-within .is-within .ensures) ∙ at-if1 .if1 .taken) (c .before .before .before .top-of .result)
     (c .before .before .before .top-of .ensures) (a .s) (a .buffer .now) (omega arith)
 
@@ -41,7 +41,7 @@ returns-2 c =
     let at-is-within = at-if1 .before in
     let at-start = at-is-within .before .before .before in
     let a = at-start .args in
-    visited-top (a .count) (wordsOf (a .image .now)) (a .table .now) (a .fits) (a .low) (a .high) (a .e)
+    visited-top (a .size) (a .count) (wordsOf (a .image .now)) (a .table .now) (a .fits) (a .low) (a .high) (a .e)
     (sym (at-is-within .is-within .ensures) ∙ at-if1 .if1 .taken) (at-top-of .top-of .result)
     (at-top-of .top-of .ensures) (a .s) (a .buffer .now) (omega arith)
     (sym (at-block-fine .block-fine .ensures) ∙ c .before .before .before .if3 .taken)
@@ -54,7 +54,7 @@ returns-3 c =
     let at-is-within = at-if1 .before in
     let at-start = at-is-within .before .before .before in
     let a = at-start .args in
-    visited-wrong (a .count) (wordsOf (a .image .now)) (a .table .now) (a .fits) (a .low) (a .high) (a .e)
+    visited-wrong (a .size) (a .count) (wordsOf (a .image .now)) (a .table .now) (a .fits) (a .low) (a .high) (a .e)
     (sym (at-is-within .is-within .ensures) ∙ at-if1 .if1 .taken) (at-top-of .top-of .result)
     (at-top-of .top-of .ensures) (a .s) (a .buffer .now) (omega arith)
     (sym (c .before .block-fine .ensures) ∙ c .if3 .left)
@@ -62,7 +62,7 @@ returns-3 c =
 returns-4 : tie.Need-returns-4
 returns-4 c =
     let a = c .before .before .before .before .args in
-    visited-out (a .count) (wordsOf (a .image .now)) (a .table .now) (a .fits) (a .low) (a .high) (a .e) (sym (c .before .is-within .ensures) ∙ c .if1 .left) (a .s) (a .buffer .now)
+    visited-out (a .size) (a .count) (wordsOf (a .image .now)) (a .table .now) (a .fits) (a .low) (a .high) (a .e) (sym (c .before .is-within .ensures) ∙ c .if1 .left) (a .s) (a .buffer .now)
 
 pub visit-spec : {M : Type 1} → statement M
 visit-spec =

@@ -16,7 +16,7 @@ lines-in-requires c κs = search needs
 returns : tie.Need-returns
 returns c =
     let a = c .before .before .before .args in
-    rw (c .lines-in .ensures) (lines-found (wordsOf (a .image .now)) (a .c) _ (sym (c .before .role-at .ensures)))
+    rw (c .lines-in .ensures) (lines-found (a .size) (wordsOf (a .image .now)) (a .c) _ (sym (c .before .role-at .ensures)))
 
 pub lines-of-spec : {M : Type 1} → statement M
 lines-of-spec = tie.close (tie.spec role-at-requires lines-in-requires returns)

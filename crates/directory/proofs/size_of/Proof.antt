@@ -16,7 +16,7 @@ size-in-requires c κs = search needs
 returns : tie.Need-returns
 returns c =
     let a = c .before .before .before .args in
-    rw (c .size-in .ensures) (size-found (wordsOf (a .image .now)) (a .c) _ (sym (c .before .role-at .ensures)))
+    rw (c .size-in .ensures) (size-found (a .size) (wordsOf (a .image .now)) (a .c) _ (sym (c .before .role-at .ensures)))
 
 pub size-of-spec : {M : Type 1} → statement M
 size-of-spec = tie.close (tie.spec role-at-requires size-in-requires returns)

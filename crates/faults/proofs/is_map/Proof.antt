@@ -1,4 +1,4 @@
--- `faults::is_map` meets its contract, test by test.
+-- `faults::is_map` meets its contract.
 -- Assumes nothing.
 use borrow.Author.Tests.{eq-eqb, ne-eqb}
 use Rattle.faults.proofs.is_map.Statement.{statement}
@@ -8,13 +8,7 @@ returns : tie.Need-returns
 returns c = rw (eq-eqb _ 1 (c .if1 .taken))
 
 returns-2 : tie.Need-returns-2
-returns-2 c = rw (ne-eqb _ 1 (c .before .if1 .left), eq-eqb _ 3 (c .if2 .taken))
-
-returns-3 : tie.Need-returns-3
-returns-3 c = rw (ne-eqb _ 1 (c .before .before .if1 .left), ne-eqb _ 3 (c .before .if2 .left), eq-eqb _ 5 (c .if3 .taken))
-
-returns-4 : tie.Need-returns-4
-returns-4 c = rw (ne-eqb _ 1 (c .before .before .if1 .left), ne-eqb _ 3 (c .before .if2 .left), ne-eqb _ 5 (c .if3 .left))
+returns-2 c = rw (ne-eqb _ 1 (c .if1 .left))
 
 pub is-map-spec : {M : Type 1} → statement M
-is-map-spec = tie.close (tie.spec returns returns-2 returns-3 returns-4)
+is-map-spec = tie.close (tie.spec returns returns-2)

@@ -26,7 +26,7 @@ spot-fault-requires c κs = search needs
 returns : tie.Need-returns
 returns c =
     let at-start = c .before .before .before .before .before in
-    stops-at (at-start .args .count) (wordsOf (at-start .args .image .now)) _ _
+    stops-at (at-start .args .size) (at-start .args .count) (wordsOf (at-start .args .image .now)) _ _
     (sym (c .before .before .before .read-log .ensures) ∙ c .before .stop .given .1)
 
 returns-2 : tie.Need-returns-2
@@ -35,7 +35,7 @@ returns-2 c =
     let told = spots .before in
     let read = told .before .before in
     let a = read .before .before .args in
-    stops-nowhere (a .count) (wordsOf (a .image .now)) (omega arith) _ _ (sym (read .read-log .ensures) ∙ told .enum-told .given .1) (spots .find-spots .ensures) (c .spot-fault .ensures)
+    stops-nowhere (a .size) (a .count) (wordsOf (a .image .now)) (omega arith) _ _ (sym (read .read-log .ensures) ∙ told .enum-told .given .1) (spots .find-spots .ensures) (c .spot-fault .ensures)
 
 pub log-fault-spec : {M : Type 1} → statement M
 log-fault-spec =

@@ -1,22 +1,32 @@
 -- `gathering::gather` meets its contract.
 -- Assumes nothing.
-use Rattle.gathering.proofs.Passes.{collected}
 use borrow.Author.Needs.{needs}
 use Rattle.gathering.proofs.gather.Statement.{statement}
 use Rattle.gathering.proofs.gather.Tie as tie
 
-read-chunk-requires : tie.Need-read-chunk-requires
-read-chunk-requires c κs = search needs
+enum-told : tie.Need-enum-told
+enum-told c = search needs
 
-slice-aggregate-take-all : tie.Need-slice-aggregate-take-all
-slice-aggregate-take-all c = search needs
+small-gather-requires : tie.Need-small-gather-requires
+small-gather-requires c κs = let e = c .before .enum-told .given .1 in (c .before .before .before .before .before .before .pre .0, rw e at (c .before .before .before .before .before .before .pre .1))
 
-take-all-requires : tie.Need-take-all-requires
-take-all-requires c κs = search needs
+enum-told-2 : tie.Need-enum-told-2
+enum-told-2 c = search needs
+
+large-gather-requires : tie.Need-large-gather-requires
+large-gather-requires c κs = let e = c .before .enum-told2 .given .1 in (c .before .before .before .before .before .before .pre .0, rw e at (c .before .before .before .before .before .before .pre .1))
+
+same-length : tie.Need-same-length
+same-length c = search needs
 
 returns : tie.Need-returns
-returns c = collected _ _ _ _ _ _ _ _ (c .before .before .before .read-chunk .ensures) (c .take-all .ensures)
+returns c = let e = c .before .before .before .before .enum-told .given .1 in rw e (c .before .before .small-gather .ensures)
+
+same-length-2 : tie.Need-same-length-2
+same-length-2 c = search needs
+
+returns-2 : tie.Need-returns-2
+returns-2 c = let e = c .before .before .before .before .enum-told2 .given .1 in rw e (c .before .before .large-gather .ensures)
 
 pub gather-spec : {M : Type 1} → statement M
-gather-spec =
-    tie.close (tie.spec read-chunk-requires slice-aggregate-take-all take-all-requires returns)
+gather-spec = tie.close (tie.spec enum-told small-gather-requires enum-told-2 large-gather-requires same-length returns same-length-2 returns-2)

@@ -20,26 +20,23 @@ abbrev μ-loop : tie.MeasureT-loop
 buffer-length-requires : tie.Need-buffer-length-requires Inv-loop μ-loop
 buffer-length-requires c κs = search needs
 
-kept-length-requires : tie.Need-kept-length-requires Inv-loop μ-loop
-kept-length-requires c κs = search needs
-
 loop-holds : tie.Need-loop-holds Inv-loop μ-loop
 loop-holds c = (omega arith, copied-start _ _ _ _)
 
 mul-buffer : tie.Need-mul-buffer Inv-loop μ-loop
 mul-buffer c = search needs
 
-element-copy-out-buffer : tie.Need-element-copy-out-buffer Inv-loop μ-loop
-element-copy-out-buffer c = search needs
+shared-slice-read-buffer : tie.Need-shared-slice-read-buffer Inv-loop μ-loop
+shared-slice-read-buffer c = let p = c .before .before .before .before .before .before .pre .1 in omega arith
 
 add-buffer : tie.Need-add-buffer Inv-loop μ-loop
-add-buffer c = search needs
+add-buffer c = let p = c .before .before .before .before .before .before .pre .0 in omega arith
 
 mul-buffer-2 : tie.Need-mul-buffer-2 Inv-loop μ-loop
-mul-buffer-2 c = search needs
+mul-buffer-2 c = let p = c .before .before .before .before .before .before .pre .0 in omega arith
 
 element-write-buffer : tie.Need-element-write-buffer Inv-loop μ-loop
-element-write-buffer c = search needs
+element-write-buffer c = let p = c .before .before .before .before .before .before .pre .0 in omega arith
 
 add-i : tie.Need-add-i Inv-loop μ-loop
 add-i c = search needs
@@ -48,26 +45,10 @@ loop-less : tie.Need-loop-less Inv-loop μ-loop
 loop-less c = omega arith
 
 loop-again : tie.Need-loop-again Inv-loop μ-loop
-loop-again c = (omega arith, copied-next bufferWords _ _ _ _ _ _ _ _ (c .before .before .before .before .buffer-length .ensures .1) (omega arith) (c .before .before .loop .inv .1) (rw zero-add refl) refl)
+loop-again c = (omega arith, copied-next bufferWords _ _ _ _ _ _ _ _ (c .before .before .before .buffer-length .ensures .1) (let p = c .before .before .before .before .before .before .pre .0 in omega arith) (c .before .before .loop .inv .1) (rw zero-add refl) refl)
 
 returns : tie.Need-returns Inv-loop μ-loop
 returns c = copied-end _ _ _ _ _ _ _ (omega arith) (c .before .loop .inv .1)
 
 pub store-kept-spec : {M : Type 1} → statement M
-store-kept-spec =
-    tie.close
-    (tie.spec
-    Inv-loop
-    μ-loop
-    buffer-length-requires
-    kept-length-requires
-    loop-holds
-    mul-buffer
-    element-copy-out-buffer
-    add-buffer
-    mul-buffer-2
-    element-write-buffer
-    add-i
-    loop-less
-    loop-again
-    returns)
+store-kept-spec = tie.close (tie.spec Inv-loop μ-loop buffer-length-requires loop-holds mul-buffer shared-slice-read-buffer add-buffer mul-buffer-2 element-write-buffer add-i loop-less loop-again returns)

@@ -20,6 +20,9 @@ plain-row-requires c κs = search needs
 enum-told : tie.Need-enum-told
 enum-told c = search needs
 
+size-by-requires : tie.Need-size-by-requires
+size-by-requires c κs = search needs
+
 row-at-requires : tie.Need-row-at-requires
 row-at-requires c κs = search needs
 
@@ -27,7 +30,7 @@ returns : tie.Need-returns
 returns c = row-refused _ _ _ _ _ (c .before .before .before .before .before .gate .ensures) _ _ _ _ (c .before .before .before .g .given .1) (c .before .number .ensures) (c .plain-row .ensures)
 
 returns-2 : tie.Need-returns-2
-returns-2 c = row-open _ _ _ _ _ (c .before .before .before .gate .ensures) _ _ (c .before .enum-told .given .1) (c .row-at .ensures)
+returns-2 c = row-open _ _ _ _ _ (c .before .before .before .before .gate .ensures) _ _ (c .before .before .enum-told .given .1) (rw (c .before .size-by .ensures) at (c .row-at .ensures))
 
 pub describe-spec : {M : Type 1} → statement M
-describe-spec = tie.close (tie.spec gate-requires enum-known-g number-requires plain-row-requires enum-told row-at-requires returns returns-2)
+describe-spec = tie.close (tie.spec gate-requires enum-known-g number-requires plain-row-requires enum-told size-by-requires row-at-requires returns returns-2)

@@ -14,6 +14,12 @@ enum-known-g c = search needs
 enum-told : tie.Need-enum-told
 enum-told c = search needs
 
+size-by-requires : tie.Need-size-by-requires
+size-by-requires c κs = search needs
+
+chunks-in-requires : tie.Need-chunks-in-requires
+chunks-in-requires c κs = search needs
+
 next-empty-requires : tie.Need-next-empty-requires
 next-empty-requires c κs = search needs
 
@@ -24,7 +30,10 @@ returns : tie.Need-returns
 returns c = empty-refused _ _ _ _ _ (c .before .before .before .gate .ensures) _ _ (c .before .g .given .1)
 
 returns-2 : tie.Need-returns-2
-returns-2 c = empty-open _ _ _ _ _ (c .before .before .before .before .gate .ensures) _ _ _ (c .before .before .enum-told .given .1) (c .before .next-empty .ensures) (c .report-of .ensures)
+returns-2 c =
+    let at-size-by = c .before .before .before in
+    empty-open _ _ _ _ _ (at-size-by .before .before .before .gate .ensures) _ _ _ (at-size-by .size-by .result) _ (at-size-by .before .enum-told .given .1)
+    (at-size-by .size-by .ensures) (c .before .before .chunks-in .ensures .0) (c .before .next-empty .ensures) (c .report-of .ensures)
 
 pub find-empty-spec : {M : Type 1} → statement M
-find-empty-spec = tie.close (tie.spec gate-requires enum-known-g enum-told next-empty-requires report-of-requires returns returns-2)
+find-empty-spec = tie.close (tie.spec gate-requires enum-known-g enum-told size-by-requires chunks-in-requires next-empty-requires report-of-requires returns returns-2)

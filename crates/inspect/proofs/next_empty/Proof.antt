@@ -12,10 +12,10 @@ use Rattle.inspect.proofs.next_empty.Statement.{statement}
 use Rattle.inspect.proofs.next_empty.Tie as tie
 
 abbrev Inv-loop : tie.InvT-loop
-Inv-loop image table count from c₀ c = (1 ≤ c) × ((d : ℕ) → 1 ≤ d → d < c → emptyBy (wordsOf image) table count from d ≡ false)
+Inv-loop image table count from size c₀ c = (1 ≤ c) × ((d : ℕ) → 1 ≤ d → d < c → emptyBy size (wordsOf image) table count from d ≡ false)
 
 abbrev μ-loop : tie.MeasureT-loop
-μ-loop image table count from c₀ c = count - c
+μ-loop image table count from size c₀ c = count - c
 
 loop-holds : tie.Need-loop-holds Inv-loop μ-loop
 loop-holds c = (omega arith, λ d l u. absurd (omega arith))
@@ -33,7 +33,7 @@ loop-less : tie.Need-loop-less Inv-loop μ-loop
 loop-less c = omega arith
 
 loop-again : tie.Need-loop-again Inv-loop μ-loop
-loop-again c = (omega arith, before-more (emptyBy (wordsOf (c .before .before .before .before .before .before .args .image .now)) (c .before .before .before .before .before .before .args .table .now) (c .before .before .before .before .before .before .args .count) (c .before .before .before .before .before .before .args .from)) 1 (c .before .before .before .loop .c) (c .before .before .before .loop .inv .1) (sym (c .before .is-empty .ensures) ∙ c .if1 .left))
+loop-again c = (omega arith, before-more (emptyBy (c .before .before .before .before .before .before .args .size) (wordsOf (c .before .before .before .before .before .before .args .image .now)) (c .before .before .before .before .before .before .args .table .now) (c .before .before .before .before .before .before .args .count) (c .before .before .before .before .before .before .args .from)) 1 (c .before .before .before .loop .c) (c .before .before .before .loop .inv .1) (sym (c .before .is-empty .ensures) ∙ c .if1 .left))
 
 returns-2 : tie.Need-returns-2 Inv-loop μ-loop
 returns-2 c = record { behind = c .before .loop .inv .0; before = c .before .loop .inv .1; here = λ h. absurd (omega arith) }

@@ -3,6 +3,7 @@
 -- Assumes nothing.
 use mathlib.Core.Path.{_≡_, sym, _∙_, ap}
 use Rattle.spec.specs.Words.{wordsOf}
+use Rattle.places.specs.Sizes.{powerOf}
 use Rattle.spec.specs.Log.{imageEntries}
 use Rattle.theory_log.specs.Fold.{foldP}
 use Rattle.log.specs.Cursor.{remaining, left}
@@ -13,16 +14,16 @@ use Rattle.log.proofs.best_of.Statement.{statement}
 use Rattle.log.proofs.best_of.Tie as tie
 
 abbrev Inv-loop : tie.InvT-loop
-Inv-loop img count key best₀ cursor₀ best cursor = foldP (pass key) nothing (imageEntries 12 count (wordsOf img)) ≡ foldP (pass key) best (remaining 12 count (wordsOf img) cursor)
+Inv-loop img count key size best₀ cursor₀ best cursor = foldP (pass key) nothing (imageEntries (powerOf size) count (wordsOf img)) ≡ foldP (pass key) best (remaining (powerOf size) count (wordsOf img) cursor)
 
 abbrev μ-loop : tie.MeasureT-loop
-μ-loop img count key best₀ cursor₀ best cursor = left count (wordsOf img) cursor
+μ-loop img count key size best₀ cursor₀ best cursor = left count (wordsOf img) cursor
 
 first-cursor-requires : tie.Need-first-cursor-requires Inv-loop μ-loop
 first-cursor-requires c κs = search needs
 
 loop-holds : tie.Need-loop-holds Inv-loop μ-loop
-loop-holds c = let a = c .before .before .args in rw (c .first-cursor .ensures, remaining-start 12 (a .count) (wordsOf (a .img .now)))
+loop-holds c = let a = c .before .before .args in rw (c .first-cursor .ensures, remaining-start (powerOf (a .size)) (a .count) (wordsOf (a .img .now)))
 
 next-in-log-requires : tie.Need-next-in-log-requires Inv-loop μ-loop
 next-in-log-requires c κs = search needs
@@ -32,14 +33,14 @@ enum-told c = search needs
 
 returns : tie.Need-returns Inv-loop μ-loop
 unfolding bestIn
-returns c = sym (ap orNothing (c .before .before .before .loop .inv ∙ fold-done _ _ _ _ (c .before .before .next-in-log .ensures) (pass _) _ (c .enum-told .given .1)))
+returns c = sym (ap orNothing (c .before .before .before .loop .inv ∙ fold-done _ _ _ _ _ (c .before .before .next-in-log .ensures) (pass _) _ (c .enum-told .given .1)))
 
 enum-told-2 : tie.Need-enum-told-2 Inv-loop μ-loop
 enum-told-2 c = search needs
 
 returns-2 : tie.Need-returns-2 Inv-loop μ-loop
 unfolding bestIn
-returns-2 c = sym (ap orNothing (c .before .before .before .loop .inv ∙ fold-wrong _ _ _ _ (c .before .before .next-in-log .ensures) (pass _) _ (c .enum-told2 .given .1)))
+returns-2 c = sym (ap orNothing (c .before .before .before .loop .inv ∙ fold-wrong _ _ _ _ _ (c .before .before .next-in-log .ensures) (pass _) _ (c .enum-told2 .given .1)))
 
 enum-known-n : tie.Need-enum-known-n Inv-loop μ-loop
 enum-known-n c = search needs
@@ -48,10 +49,10 @@ raised-requires : tie.Need-raised-requires Inv-loop μ-loop
 raised-requires c κs = search needs
 
 loop-less : tie.Need-loop-less Inv-loop μ-loop
-loop-less c = handed _ _ _ _ (c .before .before .before .before .next-in-log .ensures) _ _ _ _ _ _ _ _ (c .before .before .n .given .1) .falls
+loop-less c = handed _ _ _ _ _ (c .before .before .before .before .next-in-log .ensures) _ _ _ _ _ _ _ _ (c .before .before .n .given .1) .falls
 
 loop-again : tie.Need-loop-again Inv-loop μ-loop
-loop-again c = rw (c .raised .ensures) (c .before .before .before .before .before .loop .inv ∙ fold-entry _ _ _ _ (c .before .before .before .before .next-in-log .ensures) (pass _) _ _ _ _ _ _ _ _ _ (c .before .before .n .given .1))
+loop-again c = rw (c .raised .ensures) (c .before .before .before .before .before .loop .inv ∙ fold-entry _ _ _ _ _ (c .before .before .before .before .next-in-log .ensures) (pass _) _ _ _ _ _ _ _ _ _ (c .before .before .n .given .1))
 
 pub best-of-spec : {M : Type 1} → statement M
 best-of-spec =

@@ -16,6 +16,9 @@ enum-told c = search needs
 get-requires : tie.Need-get-requires
 get-requires c κs = search needs
 
+size-by-requires : tie.Need-size-by-requires
+size-by-requires c κs = search needs
+
 by-word-requires : tie.Need-by-word-requires
 by-word-requires c κs = search needs
 
@@ -23,7 +26,10 @@ returns : tie.Need-returns
 returns c = key-refused _ _ _ _ _ (c .before .before .before .read-gate .ensures) _ _ (c .before .g .given .1)
 
 returns-2 : tie.Need-returns-2
-returns-2 c = key-open _ _ _ _ _ (c .before .before .before .before .read-gate .ensures) _ _ _ (c .before .before .enum-told .given .1) (c .before .get .ensures) (c .by-word .ensures)
+returns-2 c =
+    let at-read-gate = c .before .before .before .before .before in
+    key-open _ _ _ _ _ (at-read-gate .read-gate .ensures) _ _ _ (c .before .before .before .enum-told .given .1)
+    (c .before .before .get .ensures) (rw (c .before .size-by .ensures) at (c .by-word .ensures))
 
 pub list-key-spec : {M : Type 1} → statement M
 list-key-spec =
@@ -33,6 +39,7 @@ list-key-spec =
     enum-known-g
     enum-told
     get-requires
+    size-by-requires
     by-word-requires
     returns
     returns-2)

@@ -13,6 +13,9 @@ enum-known-g c = search needs
 enum-told : tie.Need-enum-told
 enum-told c = search needs
 
+size-by-requires : tie.Need-size-by-requires
+size-by-requires c κs = search needs
+
 present-keys-requires : tie.Need-present-keys-requires
 present-keys-requires c κs = search needs
 
@@ -24,10 +27,10 @@ same-length c = search needs
 
 returns-2 : tie.Need-returns-2
 returns-2 c =
-    let at-enum-told = c .before .before .before .before in
+    let at-enum-told = c .before .before .before .before .before in
     let at-read-gate = at-enum-told .before .before in
     keys-open _ _ _ _ _ (at-read-gate .read-gate .ensures) _ _ _ (at-enum-told .enum-told .given .1)
-    (c .before .before .present-keys .ensures)
+    (rw (c .before .before .before .before .size-by .ensures) at (c .before .before .present-keys .ensures))
 
 pub list-keys-spec : {M : Type 1} → statement M
 list-keys-spec =
@@ -36,6 +39,7 @@ list-keys-spec =
     read-gate-requires
     enum-known-g
     enum-told
+    size-by-requires
     present-keys-requires
     returns
     same-length

@@ -10,13 +10,13 @@ use Rattle.lookup.proofs.present_keys.Statement.{statement}
 use Rattle.lookup.proofs.present_keys.Tie as tie
 
 abbrev Inv-loop : tie.InvT-loop
-Inv-loop image table out₀ slots kept₀ count₀ slot₀ out kept count slot = (length out ≡ length out₀) × (slots ≡ length table / 2) × (slot ≤ slots) × (count ≤ slot) × Slotting (wordsOf image) table out₀ out slot kept count
+Inv-loop image table out₀ size slots kept₀ count₀ slot₀ out kept count slot = (length out ≡ length out₀) × (slots ≡ length table / 2) × (slot ≤ slots) × (count ≤ slot) × Slotting size (wordsOf image) table out₀ out slot kept count
 
 abbrev μ-loop : tie.MeasureT-loop
-μ-loop image table out₀ slots kept₀ count₀ slot₀ out kept count slot = slots - slot
+μ-loop image table out₀ size slots kept₀ count₀ slot₀ out kept count slot = slots - slot
 
 loop-holds : tie.Need-loop-holds Inv-loop μ-loop
-loop-holds c = (refl, refl, omega arith, omega arith, slotting-start _ _ _)
+loop-holds c = (refl, refl, omega arith, omega arith, slotting-start (c .before .before .before .args .size) _ _ _)
 
 mul-take-slot : tie.Need-mul-take-slot Inv-loop μ-loop
 mul-take-slot c = search needs
@@ -43,7 +43,11 @@ take-slot-requires : tie.Need-take-slot-requires Inv-loop μ-loop
 take-slot-requires c κs = search needs
 
 add-count : tie.Need-add-count Inv-loop μ-loop
-add-count c = omega (arith, c .before .before .before .take-slot .ensures .grows, upto-slots _ _ _ _ _ _ _ _ (c .before .before .before .take-slot .ensures))
+add-count c =
+    let at-take-slot = c .before .before .before in
+    let at-loop = at-take-slot .before .before .before .before .before in
+    let at-start = at-loop .before .before .before .before in
+    omega (arith, at-take-slot .take-slot .ensures .grows, upto-slots (at-start .args .size) _ _ _ _ _ _ _ _ (c .before .before .before .take-slot .ensures))
 
 add-slot : tie.Need-add-slot Inv-loop μ-loop
 add-slot c = search needs
@@ -57,8 +61,8 @@ loop-again c =
     let at-loop = at-loop-test .before in
     let at-start = at-loop .before .before .before .before in
     let t = c .before .before .before .take-slot .ensures in
-    let m = upto-slots _ _ _ _ _ _ _ _ t in
-    let s = slotting-on (wordsOf (at-start .args .image .now)) (at-start .args .table .now) (at-start .args .out .now)
+    let m = upto-slots (at-start .args .size) _ _ _ _ _ _ _ _ t in
+    let s = slotting-on (at-start .args .size) (wordsOf (at-start .args .image .now)) (at-start .args .table .now) (at-start .args .out .now)
     (at-loop .loop .out) _ (at-loop .loop .slot) (at-loop .loop .kept) (at-loop .loop .count) _ _
     (at-loop .loop .inv .4) (at-loop-test .loop-test .taken) t in
     (s .sized, refl, omega arith, omega arith, s)
@@ -76,7 +80,7 @@ returns c =
     let at-loop-test = c .before .before .before .before in
     let at-loop = at-loop-test .before in
     let at-start = at-loop .before .before .before .before in
-    gathered (wordsOf (at-start .args .image .now)) (at-start .args .table .now) (at-start .args .out .now)
+    gathered (at-start .args .size) (wordsOf (at-start .args .image .now)) (at-start .args .table .now) (at-start .args .out .now)
     (at-loop .loop .out) _ (at-loop .loop .slot) (at-loop .loop .kept) (at-loop .loop .count) (at-loop .loop .inv .4)
     (at-loop-test .loop-test .left) (c .before .before .arrange .ensures)
 

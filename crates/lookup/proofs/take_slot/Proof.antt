@@ -17,7 +17,7 @@ take-in-requires : tie.Need-take-in-requires
 take-in-requires c κs = search needs
 
 returns : tie.Need-returns
-returns c = taken-none _ _ _ _ _ _ (c .before .before .by-word .ensures) _ (c .enum-told .given .1)
+returns c = taken-none (c .before .before .before .before .before .args .size) _ _ _ _ _ _ (c .before .before .by-word .ensures) _ (c .enum-told .given .1)
 
 same-length : tie.Need-same-length
 same-length c = search needs
@@ -26,7 +26,7 @@ returns-2 : tie.Need-returns-2
 returns-2 c =
     let at-enum-told2 = c .before .before .before .before in
     let at-by-word = at-enum-told2 .before .before in
-    taken-some _ _ _ _ _ _ (at-by-word .by-word .ensures) _ _ _ _ _ (at-enum-told2 .enum-told2 .given .1)
+    taken-some (at-by-word .before .before .before .args .size) _ _ _ _ _ _ (at-by-word .by-word .ensures) _ _ _ _ _ (at-enum-told2 .enum-told2 .given .1)
     (c .before .before .take-in .ensures)
 
 pub take-slot-spec : {M : Type 1} → statement M

@@ -24,7 +24,7 @@ returns : tie.Need-returns
 returns c =
     let at-if1 = c .before .before .before .before .before .before in
     let at-fill = at-if1 .before .before .before in
-    log-end _ _ _ _ _ _ _ _ _ _ _ (at-fill .fill .ensures) _ _ (c .before .before .before .examine .ensures)
+    log-end _ _ _ _ _ _ _ _ _ _ _ _ (at-fill .fill .ensures) _ _ (c .before .before .before .examine .ensures)
     (at-if1 .if1 .taken) (c .before .before .if2 .taken) _ (c .before .both .ensures) _ (c .first-refusal .ensures)
 
 same-length-2 : tie.Need-same-length-2
@@ -34,14 +34,14 @@ returns-2 : tie.Need-returns-2
 returns-2 c =
     let at-if1 = c .before .before .before .before in
     let at-fill = at-if1 .before .before .before in
-    log-block _ _ _ _ _ _ _ _ _ _ _ (at-fill .fill .ensures) _ _ (c .before .examine .ensures) (at-if1 .if1 .taken)
+    log-block _ _ _ _ _ _ _ _ _ _ _ _ (at-fill .fill .ensures) _ _ (c .before .examine .ensures) (at-if1 .if1 .taken)
     (c .if2 .left)
 
 same-length-3 : tie.Need-same-length-3
 same-length-3 c = search needs
 
 returns-3 : tie.Need-returns-3
-returns-3 c = log-wrong _ _ _ _ _ _ _ _ _ _ _ (c .before .before .before .fill .ensures) (c .if1 .left)
+returns-3 c = log-wrong _ _ _ _ _ _ _ _ _ _ _ _ (c .before .before .before .fill .ensures) (c .if1 .left)
 
 pub check-log-spec : {M : Type 1} → statement M
 check-log-spec =

@@ -28,7 +28,7 @@ returns-2 c =
     let at-start = at-lesser .before .before .before in
     let a = at-start .args in
     kept-stored (a .control) (a .setup) (a .buffer .now) (a .image .now) (at-batch-start .batch-start .result)
-    (at-lesser .lesser .result) (at-batch-start .batch-start .ensures) (at-lesser .lesser .ensures) (omega arith) _
+    (at-lesser .lesser .result) (at-batch-start .batch-start .ensures .0) (at-lesser .lesser .ensures) (omega arith) _
     (c .before .before .store-area .ensures)
 
 pub store-kept-spec : {M : Type 1} → statement M

@@ -4,11 +4,14 @@ use borrow.Author.Needs.{needs}
 use Rattle.session.proofs.format_setup.Statement.{statement}
 use Rattle.session.proofs.format_setup.Tie as tie
 
+power-of-requires : tie.Need-power-of-requires
+power-of-requires c κs = search needs
+
 no-source-requires : tie.Need-no-source-requires
 no-source-requires c κs = search needs
 
 returns : tie.Need-returns
-returns c = rw (c .no-source .ensures)
+returns c = rw (c .no-source .ensures, c .before .power-of .ensures)
 
 pub format-setup-spec : {M : Type 1} → statement M
-format-setup-spec = tie.close (tie.spec no-source-requires returns)
+format-setup-spec = tie.close (tie.spec power-of-requires no-source-requires returns)

@@ -6,6 +6,7 @@ use Rattle.spec.specs.Machine.{Delete}
 use Rattle.staging.proofs.Shows.{at-gate}
 use Rattle.staging.proofs.Admits.{named-admitted, named-room}
 use Rattle.staging.proofs.Staging.{delete-absent, delete-refused, delete-item}
+use Rattle.staging.proofs.Known.{newest-sized}
 use borrow.Author.Needs.{needs}
 use Rattle.staging.proofs.plan_delete.Statement.{statement}
 use Rattle.staging.proofs.plan_delete.Tie as tie
@@ -18,6 +19,9 @@ enum-known-g c = search needs
 
 enum-told : tie.Need-enum-told
 enum-told c = search needs
+
+size-by-requires : tie.Need-size-by-requires
+size-by-requires c κs = search needs
 
 known-of-requires : tie.Need-known-of-requires
 known-of-requires c κs = search needs
@@ -53,10 +57,11 @@ returns-2 c =
     let branch = room .before in
     let looked = branch .before in
     let known = looked .before in
-    let told = known .before in
+    let by = known .before .size-by in
+    let told = known .before .before in
     let gated = told .before .before in
     let a = gated .before .before .before .args in
-    delete-refused (a .control) (a .setup) (a .buffer .now) (a .image .now) (a .table .now) _ (gated .gate .ensures) (told .enum-told .given .1) (a .named) (a .key) _ (known .known-of .ensures) (sym (looked .is-present .ensures) ∙ branch .if1 .taken) _
+    delete-refused (a .control) (a .setup) (a .buffer .now) (a .image .now) (a .table .now) _ (gated .gate .ensures) (told .enum-told .given .1) (a .named) (a .key) _ (newest-sized (by .result) (a .setup) (a .buffer .now) (a .control .words) (a .table .now) (a .key) _ (by .ensures) (known .known-of .ensures)) (sym (looked .is-present .ensures) ∙ branch .if1 .taken) _
     (named-room _ _ _ _ _ _ _ _ (room .capacity .ensures) (asked .admit .ensures)) _ (c .before .a .given .1)
 
 returns-3 : tie.Need-returns-3
@@ -66,20 +71,22 @@ returns-3 c =
     let branch = room .before in
     let looked = branch .before in
     let known = looked .before in
-    let told = known .before in
+    let by = known .before .size-by in
+    let told = known .before .before in
     let gated = told .before .before in
     let a = gated .before .before .before .args in
-    delete-item (a .control) (a .setup) (a .buffer .now) (a .image .now) (a .table .now) _ (gated .gate .ensures) (told .enum-told .given .1) (a .named) (a .key) _ (known .known-of .ensures) (sym (looked .is-present .ensures) ∙ branch .if1 .taken) _
+    delete-item (a .control) (a .setup) (a .buffer .now) (a .image .now) (a .table .now) _ (gated .gate .ensures) (told .enum-told .given .1) (a .named) (a .key) _ (newest-sized (by .result) (a .setup) (a .buffer .now) (a .control .words) (a .table .now) (a .key) _ (by .ensures) (known .known-of .ensures)) (sym (looked .is-present .ensures) ∙ branch .if1 .taken) _
     (named-room _ _ _ _ _ _ _ _ (room .capacity .ensures) (asked .admit .ensures)) _ (c .before .a2 .given .1)
 
 returns-4 : tie.Need-returns-4
 returns-4 c =
     let looked = c .before in
     let known = looked .before in
-    let told = known .before in
+    let by = known .before .size-by in
+    let told = known .before .before in
     let gated = told .before .before in
     let a = gated .before .before .before .args in
-    delete-absent (a .control) (a .setup) (a .buffer .now) (a .image .now) (a .table .now) _ (gated .gate .ensures) (told .enum-told .given .1) (a .named) (a .key) _ (known .known-of .ensures) (sym (looked .is-present .ensures) ∙ c .if1 .left)
+    delete-absent (a .control) (a .setup) (a .buffer .now) (a .image .now) (a .table .now) _ (gated .gate .ensures) (told .enum-told .given .1) (a .named) (a .key) _ (newest-sized (by .result) (a .setup) (a .buffer .now) (a .control .words) (a .table .now) (a .key) _ (by .ensures) (known .known-of .ensures)) (sym (looked .is-present .ensures) ∙ c .if1 .left)
 
 pub plan-delete-spec : {M : Type 1} → statement M
 plan-delete-spec =
@@ -88,6 +95,7 @@ plan-delete-spec =
     gate-requires
     enum-known-g
     enum-told
+    size-by-requires
     known-of-requires
     is-present-requires
     capacity-requires

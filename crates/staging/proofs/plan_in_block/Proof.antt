@@ -5,7 +5,7 @@ use native.Mathlib.Omega.{arith}
 use Rattle.spec.specs.Machine.{Put}
 use Rattle.staging.proofs.Shows.{at-gate}
 use Rattle.staging.proofs.Admits.{named-admitted, named-room}
-use Rattle.staging.proofs.Blocks.{known-version, long-refused, large-refused, large-nowhere, large-item}
+use Rattle.staging.proofs.Blocks.{known-version, limit-is, long-refused, large-refused, large-nowhere, large-item}
 use borrow.Author.Needs.{needs}
 use Rattle.staging.proofs.plan_in_block.Statement.{statement}
 use Rattle.staging.proofs.plan_in_block.Tie as tie
@@ -19,12 +19,20 @@ enum-known-g c = search needs
 enum-told : tie.Need-enum-told
 enum-told c = search needs
 
+size-by-requires : tie.Need-size-by-requires
+size-by-requires c κs = search needs
+
+largest-value-requires : tie.Need-largest-value-requires
+largest-value-requires c κs = search needs
+
 returns : tie.Need-returns
 returns c =
-    let told = c .before in
+    let by = c .before .before .size-by in
+    let told = c .before .before .before in
     let gated = told .before .before in
     let a = gated .before .before .before .args in
-    long-refused (a .control) (a .setup) (a .buffer .now) (a .image .now) (a .table .now) _ (gated .gate .ensures) (told .enum-told .given .1) (a .named) (a .key) (a .bytes) (c .if1 .taken)
+    let most = limit-is (by .result) (a .setup) _ (by .ensures) (c .before .largest-value .ensures .0) in
+    long-refused (a .control) (a .setup) (a .buffer .now) (a .image .now) (a .table .now) _ (gated .gate .ensures) (told .enum-told .given .1) (a .named) (a .key) (a .bytes) (omega arith)
 
 known-of-requires : tie.Need-known-of-requires
 known-of-requires c κs = search needs
@@ -65,11 +73,13 @@ returns-3 c =
     let room = asked .before in
     let known = room .before in
     let fits = known .before in
-    let told = fits .before in
+    let by = fits .before .before .size-by in
+    let told = fits .before .before .before in
     let gated = told .before .before in
     let start = gated .before .before .before in
     let a = start .args in
-    large-refused (a .control) (a .setup) (a .buffer .now) (a .image .now) (a .table .now) _ (gated .gate .ensures) (told .enum-told .given .1) (a .named) (a .key) (a .bytes) _ (known-version _ _ _ _ _ (known .known-of .ensures)) (start .pre) (fits .if1 .left) _
+    let most = limit-is (by .result) (a .setup) _ (by .ensures) (fits .before .largest-value .ensures .0) in
+    large-refused (a .control) (a .setup) (a .buffer .now) (a .image .now) (a .table .now) _ (gated .gate .ensures) (told .enum-told .given .1) (a .named) (a .key) (a .bytes) _ (known-version (by .result) (a .setup) (a .buffer .now) (a .control .words) (a .table .now) (a .key) _ (by .ensures) (known .known-of .ensures)) (start .pre) (omega arith) _
     (named-room _ _ _ _ _ _ _ _ (room .capacity .ensures) (asked .admit .ensures)) _ (c .before .a .given .1)
 
 returns-4 : tie.Need-returns-4
@@ -81,11 +91,13 @@ returns-4 c =
     let room = asked .before in
     let known = room .before in
     let fits = known .before in
-    let told = fits .before in
+    let by = fits .before .before .size-by in
+    let told = fits .before .before .before in
     let gated = told .before .before in
     let start = gated .before .before .before in
     let a = start .args in
-    large-item (a .control) (a .setup) (a .buffer .now) (a .image .now) (a .table .now) _ (gated .gate .ensures) (told .enum-told .given .1) (a .named) (a .key) (a .bytes) _ (known-version _ _ _ _ _ (known .known-of .ensures)) (start .pre) (fits .if1 .left) _
+    let most = limit-is (by .result) (a .setup) _ (by .ensures) (fits .before .largest-value .ensures .0) in
+    large-item (a .control) (a .setup) (a .buffer .now) (a .image .now) (a .table .now) _ (gated .gate .ensures) (told .enum-told .given .1) (a .named) (a .key) (a .bytes) _ (known-version (by .result) (a .setup) (a .buffer .now) (a .control .words) (a .table .now) (a .key) _ (by .ensures) (known .known-of .ensures)) (start .pre) (omega arith) _
     (named-room _ _ _ _ _ _ _ _ (room .capacity .ensures) (asked .admit .ensures)) _ (admitted .a2 .given .1) _ (placed .plan-large .ensures) _ _ _ _ (met .slot .given .1)
 
 returns-5 : tie.Need-returns-5
@@ -96,11 +108,13 @@ returns-5 c =
     let room = asked .before in
     let known = room .before in
     let fits = known .before in
-    let told = fits .before in
+    let by = fits .before .before .size-by in
+    let told = fits .before .before .before in
     let gated = told .before .before in
     let start = gated .before .before .before in
     let a = start .args in
-    large-nowhere (a .control) (a .setup) (a .buffer .now) (a .image .now) (a .table .now) _ (gated .gate .ensures) (told .enum-told .given .1) (a .named) (a .key) (a .bytes) _ (known-version _ _ _ _ _ (known .known-of .ensures)) (start .pre) (fits .if1 .left) _
+    let most = limit-is (by .result) (a .setup) _ (by .ensures) (fits .before .largest-value .ensures .0) in
+    large-nowhere (a .control) (a .setup) (a .buffer .now) (a .image .now) (a .table .now) _ (gated .gate .ensures) (told .enum-told .given .1) (a .named) (a .key) (a .bytes) _ (known-version (by .result) (a .setup) (a .buffer .now) (a .control .words) (a .table .now) (a .key) _ (by .ensures) (known .known-of .ensures)) (start .pre) (omega arith) _
     (named-room _ _ _ _ _ _ _ _ (room .capacity .ensures) (asked .admit .ensures)) _ (admitted .a2 .given .1) _ (placed .plan-large .ensures) (c .enum-told2 .given .1)
 
 pub plan-in-block-spec : {M : Type 1} → statement M
@@ -110,6 +124,8 @@ plan-in-block-spec =
     gate-requires
     enum-known-g
     enum-told
+    size-by-requires
+    largest-value-requires
     returns
     known-of-requires
     capacity-requires

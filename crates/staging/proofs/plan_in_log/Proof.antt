@@ -6,6 +6,7 @@ use Rattle.spec.specs.Machine.{Put}
 use Rattle.staging.proofs.Shows.{at-gate}
 use Rattle.staging.proofs.Admits.{named-admitted, named-room}
 use Rattle.staging.proofs.Staging.{log-refused, log-item}
+use Rattle.staging.proofs.Known.{version-sized}
 use borrow.Author.Needs.{needs}
 use Rattle.staging.proofs.plan_in_log.Statement.{statement}
 use Rattle.staging.proofs.plan_in_log.Tie as tie
@@ -18,6 +19,9 @@ enum-known-g c = search needs
 
 enum-told : tie.Need-enum-told
 enum-told c = search needs
+
+size-by-requires : tie.Need-size-by-requires
+size-by-requires c κs = search needs
 
 version-of-requires : tie.Need-version-of-requires
 version-of-requires c κs = search needs
@@ -54,11 +58,12 @@ returns-2 c =
     let asked = c .before .before .before in
     let room = asked .before in
     let known = room .before in
-    let told = known .before in
+    let by = known .before .size-by in
+    let told = known .before .before in
     let gated = told .before .before in
     let start = gated .before .before .before in
     let a = start .args in
-    log-refused (a .control) (a .setup) (a .buffer .now) (a .image .now) (a .table .now) _ (gated .gate .ensures) (told .enum-told .given .1) (a .named) (a .key) _ (known .version-of .ensures) (a .bytes) (start .pre) _
+    log-refused (a .control) (a .setup) (a .buffer .now) (a .image .now) (a .table .now) _ (gated .gate .ensures) (told .enum-told .given .1) (a .named) (a .key) _ (version-sized (by .result) (a .setup) (a .buffer .now) (a .control .words) (a .table .now) (a .key) _ (by .ensures) (known .version-of .ensures)) (a .bytes) (start .pre) _
     (named-room _ _ _ _ _ _ _ _ (room .capacity .ensures) (asked .admit .ensures)) _ (c .before .a .given .1)
 
 returns-3 : tie.Need-returns-3
@@ -66,11 +71,12 @@ returns-3 c =
     let asked = c .before .before .before in
     let room = asked .before in
     let known = room .before in
-    let told = known .before in
+    let by = known .before .size-by in
+    let told = known .before .before in
     let gated = told .before .before in
     let start = gated .before .before .before in
     let a = start .args in
-    log-item (a .control) (a .setup) (a .buffer .now) (a .image .now) (a .table .now) _ (gated .gate .ensures) (told .enum-told .given .1) (a .named) (a .key) _ (known .version-of .ensures) (a .bytes) (start .pre) _
+    log-item (a .control) (a .setup) (a .buffer .now) (a .image .now) (a .table .now) _ (gated .gate .ensures) (told .enum-told .given .1) (a .named) (a .key) _ (version-sized (by .result) (a .setup) (a .buffer .now) (a .control .words) (a .table .now) (a .key) _ (by .ensures) (known .version-of .ensures)) (a .bytes) (start .pre) _
     (named-room _ _ _ _ _ _ _ _ (room .capacity .ensures) (asked .admit .ensures)) _ (c .before .a2 .given .1)
 
 pub plan-in-log-spec : {M : Type 1} → statement M
@@ -80,6 +86,7 @@ plan-in-log-spec =
     gate-requires
     enum-known-g
     enum-told
+    size-by-requires
     version-of-requires
     add-more
     add-more-2

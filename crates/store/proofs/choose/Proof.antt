@@ -141,10 +141,10 @@ module _ {M : Type 1} (𝓤 : URA M) (H : Heap 𝓤) (A : Atoms 𝓤) (W : Given
         use1 W (‵ (fat q′ T′.mir b o (Lent.parts (h .control) (h .setup) (h .buffer)))) (shown 𝓤 H A W q′ b o h) $
         assigns ! (of-opd ! (load ! (from ! (hop ! (look ! 21 refl) (fld ! refl (stop !)))) (look-in ! 0 (sub ! 0 refl (whole !))))) (from ! (stop !)) (init ! 15 refl (LL.lawful K-Control.the-type K-Control′.the-laws 𝓤 H A W .typed (h .control) _ (is-control h g) .0)) $
         assigns ! (of-opd ! (load ! (from ! (hop ! (look ! 21 refl) (fld ! refl (stop !)))) (look-in ! 0 (sub ! 1 refl (whole !))))) (from ! (stop !)) (init ! 13 refl (LL.lawful K-Setup.the-type K-Setup′.the-laws 𝓤 H A W .typed (h .setup) _ (is-setup h g) .0)) $
-        assigns ! (of-opd ! (load ! (from ! (hop ! (look ! 21 refl) (fld ! refl (stop !)))) (look-in ! 0 (sub ! 2 refl (whole !))))) (from ! (stop !)) (init ! 11 refl (array-lawful 𝓤 H A W u64 (uint-lawful 𝓤 H A W w64) 1664 .typed (h .buffer) _ (Lent.is-buffer h g) .0)) $
+        assigns ! (of-opd ! (load ! (from ! (hop ! (look ! 21 refl) (fld ! refl (stop !)))) (look-in ! 0 (sub ! 2 refl (whole !))))) (from ! (stop !)) (init ! 11 refl (array-lawful 𝓤 H A W u64 (uint-lawful 𝓤 H A W w64) 11264 .typed (h .buffer) _ (Lent.is-buffer h g) .0)) $
         use1 W (‵ (fat q′ (rawTy T′.mir) b o (mach h))) (hidden 𝓤 H A W q′ b o h) $ shuts ! tt T.the-row q′ h (mach h ∷ []) b o $
         -- the call
-        owned ! K-Control.the-row (Is K-Control.the-row) (LL.makes K-Control.the-type K-Control′.the-plain 𝓤 H A) (h .control) _ (is-control h g) $ owned ! K-Setup.the-row (Is K-Setup.the-row) (LL.makes K-Setup.the-type K-Setup′.the-plain 𝓤 H A) (h .setup) _ (is-setup h g) $ owned ! Lent.Row-buffer (Is Lent.Row-buffer) (array-makes 𝓤 H A W u64 (uint-makes 𝓤 H A W w64) 1664) (h .buffer) _ (Lent.is-buffer h g) $ nothing ! $ move ! (10 ∷ 0 ∷ []) $ fjoin ! $ move ! (11 ∷ 0 ∷ []) $ fjoin ! $ move ! (1 ∷ 0 ∷ []) $ fjoin ! $ move ! (1 ∷ 0 ∷ []) $ fjoin ! $ move ! (1 ∷ 0 ∷ []) $ fjoin ! $ nothing ! $ move ! (5 ∷ 0 ∷ []) $ join ! $ move ! (6 ∷ 0 ∷ []) $ join ! $ use2 W (raw (Core 𝓤 H A at-mem run .pre to-core)) goes $
+        owned ! K-Control.the-row (Is K-Control.the-row) (LL.makes K-Control.the-type K-Control′.the-plain 𝓤 H A) (h .control) _ (is-control h g) $ owned ! K-Setup.the-row (Is K-Setup.the-row) (LL.makes K-Setup.the-type K-Setup′.the-plain 𝓤 H A) (h .setup) _ (is-setup h g) $ owned ! Lent.Row-buffer (Is Lent.Row-buffer) (array-makes 𝓤 H A W u64 (uint-makes 𝓤 H A W w64) 11264) (h .buffer) _ (Lent.is-buffer h g) $ nothing ! $ move ! (10 ∷ 0 ∷ []) $ fjoin ! $ move ! (11 ∷ 0 ∷ []) $ fjoin ! $ move ! (1 ∷ 0 ∷ []) $ fjoin ! $ move ! (1 ∷ 0 ∷ []) $ fjoin ! $ move ! (1 ∷ 0 ∷ []) $ fjoin ! $ nothing ! $ move ! (5 ∷ 0 ∷ []) $ join ! $ move ! (6 ∷ 0 ∷ []) $ join ! $ use2 W (raw (Core 𝓤 H A at-mem run .pre to-core)) goes $
         calls-at ! fm (Core 𝓤 H A at-mem run) known to-core (and-then ! (load ! (from ! (stop !)) (look ! 10 refl)) (and-then ! (load ! (from ! (stop !)) (look ! 8 refl)) (and-then ! (load ! (from ! (stop !)) (look ! 6 refl)) (and-then ! (load ! (from ! (stop !)) (look ! 14 refl)) (and-then ! (load ! (from ! (stop !)) (look ! 12 refl)) (no-more !)))))) (λ w.
         use1 W (later (some (λ (r : Report). ((‵ (flft κ-image q-image) ⊛ ‵ (flft κ-table q-table) ⊛ ‵ ftrue) ⊛ ‵ (P.the-row .own r (w ∷ []))) ⊛ raw (ensured 𝓤 H A core.ended (core.clauses 𝓤 H A at-mem run) (κ-image, (κ-table, tt)) (h .control, (h .setup, (h .buffer, (ref-image, (ref-table, tt))))) tt r)))) (id⊢ 𝓤 _) $ await ! tt $ pick ! (λ r. split ! $
         -- what the core ensures, at some last values

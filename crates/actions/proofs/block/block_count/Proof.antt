@@ -18,7 +18,7 @@ returns : tie.Need-returns
 returns c =
     let a = c .before .before .before .args in
     let h = c .before .before .held-words in
-    count-plain (a .setup) (a .buffer .now) (h .result) (h .ensures) (c .if1 .taken)
+    count-plain (a .setup) (a .buffer .now) (h .result) (h .ensures .0) (c .if1 .taken)
 
 add-result-2 : tie.Need-add-result-2
 add-result-2 c = search needs
@@ -30,9 +30,16 @@ returns-2 : tie.Need-returns-2
 returns-2 c =
     let a = c .before .before .before .args in
     let h = c .before .before .held-words in
-    count-taking (a .setup) (a .buffer .now) (h .result) (h .ensures) (c .if1 .left)
+    count-taking (a .setup) (a .buffer .now) (h .result) (h .ensures .0) (c .if1 .left)
 
 pub block-count-spec : {M : Type 1} → statement M
 block-count-spec =
     tie.close
-    (tie.spec held-words-requires add-flushes add-result returns add-result-2 add-result-3 returns-2)
+    (tie.spec
+    held-words-requires
+    add-flushes
+    add-result
+    returns
+    add-result-2
+    add-result-3
+    returns-2)

@@ -31,7 +31,7 @@ returns : tie.Need-returns
 returns c =
     let a = c .before .before .before .before .args in
     let h = c .before .before .before .held-words in
-    shows-store (a .unit .0) (a .buffer .now) (h .result) (a .at) (h .ensures) _ (omega arith) (omega arith)
+    shows-store (a .setup) (a .unit .0) (a .buffer .now) (h .result) (a .at) (h .ensures .0) _ (omega arith) (omega arith)
 
 add-if2 : tie.Need-add-if2
 add-if2 c = search needs
@@ -43,13 +43,13 @@ returns-2 : tie.Need-returns-2
 returns-2 c =
     let a = c .before .before .before .before .args in
     let h = c .before .before .before .held-words in
-    shows-flush (a .unit .0) (a .buffer .now) (h .result) (a .at) (h .ensures) _ (omega arith) (omega arith) (omega arith)
+    shows-flush (a .setup) (a .unit .0) (a .buffer .now) (h .result) (a .at) (h .ensures .0) _ (omega arith) (omega arith) (omega arith)
 
 returns-3 : tie.Need-returns-3
 returns-3 c =
     let a = c .before .before .before .before .args in
     let h = c .before .before .before .held-words in
-    shows-past (a .unit .0) (a .buffer .now) (h .result) (a .at) (h .ensures) (omega arith)
+    shows-past (a .setup) (a .unit .0) (a .buffer .now) (h .result) (a .at) (h .ensures .0) (omega arith)
 
 pub fill-action-spec : {M : Type 1} → statement M
 fill-action-spec =

@@ -9,8 +9,14 @@ use Rattle.actions.proofs.block.hold_value.Tie as tie
 buffer-length-requires : tie.Need-buffer-length-requires
 buffer-length-requires c κs = search needs
 
+largest-value-requires : tie.Need-largest-value-requires
+largest-value-requires c κs = search needs
+
 returns : tie.Need-returns
-returns c = let a = c .before .before .before .before .args in held-none (a .buffer .now) (a .value .now) (omega arith) (omega arith)
+returns c =
+    let at-start = c .before .before .before .before .before in
+    let a = at-start .args in
+    held-none (a .size) (a .buffer .now) (a .value .now) (omega arith) (omega arith)
 
 element-write-buffer : tie.Need-element-write-buffer
 element-write-buffer c = search needs
@@ -20,10 +26,17 @@ pack-into-requires c κs = search needs
 
 returns-2 : tie.Need-returns-2
 returns-2 c =
-    let a = c .before .before .before .before .before .before .args in
-    held-more (a .buffer .now) _ (a .value .now) (omega arith) (omega arith) (c .pack-into .ensures)
+    let at-start = c .before .before .before .before .before .before .before in
+    let a = at-start .args in
+    held-more (a .size) (a .buffer .now) _ (a .value .now) (omega arith) (omega arith) (c .pack-into .ensures)
 
 pub hold-value-spec : {M : Type 1} → statement M
 hold-value-spec =
     tie.close
-    (tie.spec buffer-length-requires returns element-write-buffer pack-into-requires returns-2)
+    (tie.spec
+    buffer-length-requires
+    largest-value-requires
+    returns
+    element-write-buffer
+    pack-into-requires
+    returns-2)

@@ -9,14 +9,17 @@ use Rattle.actions.proofs.clean.clean_action.Tie as tie
 copy-count-requires : tie.Need-copy-count-requires
 copy-count-requires c κs = search needs
 
+lesser-requires : tie.Need-lesser-requires
+lesser-requires c κs = search needs
+
 append-action-requires : tie.Need-append-action-requires
 append-action-requires c κs = search needs
 
 returns : tie.Need-returns
 returns c =
-    let a = c .before .before .before .args in
-    let m = c .before .before .copy-count in
-    shows-copy (a .setup) (a .source) (a .buffer .now) _ (a .at) (m .result) (m .ensures) (omega arith) (c .append-action .ensures)
+    let a = c .before .before .before .before .args in
+    let m = c .before .before .before .copy-count in
+    shows-copy (a .setup) (a .source) (a .buffer .now) _ (a .at) (m .result) (m .ensures) (omega arith) (rw (c .before .lesser .ensures) at (c .append-action .ensures))
 
 free-action-requires : tie.Need-free-action-requires
 free-action-requires c κs = search needs
@@ -30,4 +33,10 @@ returns-2 c =
 pub clean-action-spec : {M : Type 1} → statement M
 clean-action-spec =
     tie.close
-    (tie.spec copy-count-requires append-action-requires returns free-action-requires returns-2)
+    (tie.spec
+    copy-count-requires
+    lesser-requires
+    append-action-requires
+    returns
+    free-action-requires
+    returns-2)

@@ -15,18 +15,18 @@ returns : tie.Need-returns
 returns c =
     let at-start = c .before .before .before .before .before .before in
     let a = at-start .args in
-    claimed-one (a .op) (a .placement) (a .field) _ _ (c .before .before .if2 .taken)
+    claimed-one (a .size) (a .op) (a .placement) (a .field) _ _ (c .before .before .if2 .taken)
     (c .before .before .before .if1 .taken) (c .set-bit .ensures)
 
 returns-2 : tie.Need-returns-2
 returns-2 c =
     let a = c .before .before .before .before .args in
-    no-put (a .op) (a .placement) (a .field) _ (c .before .before .buffer-length .ensures .1) (c .if2 .left)
+    no-put (a .size) (a .op) (a .placement) (a .field) _ (c .before .before .buffer-length .ensures .1) (c .if2 .left)
 
 returns-3 : tie.Need-returns-3
 returns-3 c =
     let a = c .before .before .before .args in
-    no-block (a .op) (a .placement) (a .field) _ (c .before .buffer-length .ensures .1) (c .if1 .left)
+    no-block (a .size) (a .op) (a .placement) (a .field) _ (c .before .buffer-length .ensures .1) (c .if1 .left)
 
 pub claim-spec : {M : Type 1} → statement M
 claim-spec =

@@ -14,10 +14,10 @@ use Rattle.apply.proofs.join.join.Statement.{statement}
 use Rattle.apply.proofs.join.join.Tie as tie
 
 abbrev Inv-loop : tie.InvT-loop
-Inv-loop place words known buffer₀ image table₀ end keys₀ at₀ buffer table keys at = Going (wordsOf image) buffer₀ table₀ keys₀ place at₀ end buffer table keys at
+Inv-loop place words known buffer₀ image table₀ size end keys₀ at₀ buffer table keys at = Going size (wordsOf image) buffer₀ table₀ keys₀ place at₀ end buffer table keys at
 
 abbrev μ-loop : tie.MeasureT-loop
-μ-loop place words known buffer₀ image table₀ end keys₀ at₀ buffer table keys at = end - at
+μ-loop place words known buffer₀ image table₀ size end keys₀ at₀ buffer table keys at = end - at
 
 buffer-length-requires : tie.Need-buffer-length-requires Inv-loop μ-loop
 buffer-length-requires c κs = search needs
@@ -26,10 +26,12 @@ lesser-requires : tie.Need-lesser-requires Inv-loop μ-loop
 lesser-requires c κs = search needs
 
 loop-holds : tie.Need-loop-holds Inv-loop μ-loop
-loop-holds c = going-start _ _ _ _ _ _ _ (c .before .buffer-length .ensures .1)
+loop-holds c =
+    let at-start = c .before .before .before .before .before in
+    going-start (at-start .args .size) _ _ _ _ _ _ _ (c .before .buffer-length .ensures .1)
 
-join-puts-requires : tie.Need-join-puts-requires Inv-loop μ-loop
-join-puts-requires c κs = omega arith
+join-common-requires : tie.Need-join-common-requires Inv-loop μ-loop
+join-common-requires c κs = omega arith
 
 staged-entry-requires : tie.Need-staged-entry-requires Inv-loop μ-loop
 staged-entry-requires c κs = omega arith
@@ -39,17 +41,19 @@ enum-told c = search needs
 
 same-length : tie.Need-same-length Inv-loop μ-loop
 same-length c =
-    let at-join-puts = c .before .before .before .before .before .before in
-    let at-loop = at-join-puts .before .before .before in
-    at-join-puts .join-puts .ensures .goes [] .sized ∙ at-loop .loop .inv .sized
+    let at-join-common = c .before .before .before .before .before .before in
+    let at-loop = at-join-common .before .before .before in
+    at-join-common .join-common .ensures .goes [] .sized ∙ at-loop .loop .inv .sized
 
 returns : tie.Need-returns Inv-loop μ-loop
 returns c =
-    let at-join-puts = c .before .before .before .before .before .before in
-    let at-loop = at-join-puts .before .before .before in
+    let at-join-common = c .before .before .before .before .before .before in
+    let at-loop = at-join-common .before .before .before in
     let at-lesser = at-loop .before in
-    going-joins _ _ _ _ _ _ _ _ _ _ _ _
-    (going-then _ _ _ _ _ _ _ _ _ _ _ _ _ _ _ (at-loop .loop .inv) (at-join-puts .join-puts .ensures .goes _)) _
+    let at-start = at-lesser .before .before .before .before .before in
+    going-joins (at-start .args .size) _ _ _ _ _ _ _ _ _ _ _ _
+    (going-then (at-start .args .size) _ _ _ _ _ _ _ _ _ _ _ _ _ _ _ (at-loop .loop .inv)
+    (at-join-common .join-common .ensures .goes _)) _
     (c .before .before .staged-entry .ensures) (c .enum-told .given .1) refl (at-lesser .lesser .ensures)
 
 enum-known-item : tie.Need-enum-known-item Inv-loop μ-loop
@@ -100,8 +104,8 @@ loop-less c =
     let at-weigh = c .before .before .before .before .before .before .before in
     let at-item = at-weigh .before .before .before .before in
     let at-staged-entry = at-item .before .before in
-    let at-join-puts = at-staged-entry .before .before .before .before in
-    let g = at-join-puts .join-puts .ensures .farther in
+    let at-join-common = at-staged-entry .before .before .before .before in
+    let g = at-join-common .join-common .ensures .farther in
     let f = told-fits _ _ _ _ (at-staged-entry .staged-entry .ensures) _ _ _ _ _ _ (at-item .item .given .1) in
     omega arith
 
@@ -113,11 +117,13 @@ loop-again c =
     let at-extent-of = at-single-entry .before in
     let at-item = at-extent-of .before .before in
     let at-staged-entry = at-item .before .before in
-    let at-join-puts = at-staged-entry .before .before .before .before in
-    let at-loop = at-join-puts .before .before .before in
+    let at-join-common = at-staged-entry .before .before .before .before in
+    let at-loop = at-join-common .before .before .before in
     let at-lesser = at-loop .before in
-    going-next _ _ _ _ _ _ _ _ _ _ _
-    (going-then _ _ _ _ _ _ _ _ _ _ _ _ _ _ _ (at-loop .loop .inv) (at-join-puts .join-puts .ensures .goes _)) _
+    let at-start = at-lesser .before .before .before .before .before in
+    going-next (at-start .args .size) _ _ _ _ _ _ _ _ _ _ _
+    (going-then (at-start .args .size) _ _ _ _ _ _ _ _ _ _ _ _ _ _ _ (at-loop .loop .inv)
+    (at-join-common .join-common .ensures .goes _)) _
     (at-staged-entry .staged-entry .ensures) _ _ _ _ _ _ (at-item .item .given .1)
     (let e = at-lesser .lesser .ensures in omega arith) _ _ (at-extent-of .extent-of .ensures)
     (at-single-entry .single-entry .ensures) _ (at-weigh .weigh .ensures) _ _ _ (at-join-one .join-one .ensures) _
@@ -132,7 +138,7 @@ join-spec =
     buffer-length-requires
     lesser-requires
     loop-holds
-    join-puts-requires
+    join-common-requires
     staged-entry-requires
     enum-told
     same-length

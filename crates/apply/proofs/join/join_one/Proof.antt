@@ -37,8 +37,10 @@ returns c =
     let at-renew = at-if1 .before in
     let at-word-at = at-renew .before .before in
     let at-slot-of = at-word-at .before .before in
+    let at-start = at-slot-of .before .before .before .before .before .before in
     let zero = at-if1 .if1 .taken in
-    joined-new _ _ _ _ _ _ _ _ _ _ _ _ _ (at-slot-of .slot-of .ensures) (at-word-at .word-at .ensures) (noted-new _ _ zero)
+    joined-new (at-start .args .size) _ _ _ _ _ _ _ _ _ _ _ _ _ (at-slot-of .slot-of .ensures)
+    (at-word-at .word-at .ensures) (noted-new (at-start .args .size) _ _ zero)
     (at-renew .renew .ensures) refl (c .before .before .set-slot .ensures) zero
 
 same-length-2 : tie.Need-same-length-2
@@ -48,7 +50,9 @@ returns-2 : tie.Need-returns-2
 returns-2 c =
     let at-word-at = c .before .before .before .before .before in
     let at-slot-of = at-word-at .before .before in
-    joined-full _ _ _ _ _ _ _ _ _ _ _ _ _ (at-slot-of .slot-of .ensures) (at-word-at .word-at .ensures) refl
+    let at-start = at-slot-of .before .before .before .before .before .before in
+    joined-full (at-start .args .size) _ _ _ _ _ _ _ _ _ _ _ _ _ (at-slot-of .slot-of .ensures)
+    (at-word-at .word-at .ensures) refl
     (c .before .before .before .renew .ensures) refl refl (c .before .before .if1 .taken)
     (rw (← c .before .capacity .ensures) (c .if2 .left))
 
@@ -75,8 +79,11 @@ returns-3 c =
     let at-renew = at-if1 .before in
     let at-word-at = at-renew .before .before in
     let at-slot-of = at-word-at .before .before in
-    joined-old _ _ _ _ _ _ _ _ _ _ _ _ _ (at-slot-of .slot-of .ensures) (at-word-at .word-at .ensures)
-    (at-with-entry .with-entry .ensures) (at-renew .renew .ensures) (at-set-slot2 .set-slot2 .ensures) _ (c .before .unpack .ensures)
+    let at-start = at-slot-of .before .before .before .before .before .before in
+    joined-old (at-start .args .size) _ _ _ _ _ _ _ _ _ _ _ _ _ (at-slot-of .slot-of .ensures)
+    (at-word-at .word-at .ensures)
+    (at-with-entry .with-entry .ensures) (at-renew .renew .ensures) (at-set-slot2 .set-slot2 .ensures) _
+    (c .before .unpack .ensures)
     (c .release-tops .ensures) (at-if1 .if1 .left)
 
 pub join-one-spec : {M : Type 1} → statement M
@@ -85,7 +92,8 @@ join-one-spec =
     (tie.spec
     buffer-length-requires
     slot-of-requires
-    word-at-requires renew-requires
+    word-at-requires
+    renew-requires
     capacity-requires
     set-slot-requires
     add-result

@@ -2,6 +2,7 @@
 -- Assumes nothing.
 use Rattle.apply.proofs.Puts.{put-new, put-over, put-left}
 use borrow.Author.Needs.{needs}
+use Rattle.spec.specs.declared.Size.the-variants as S
 use Rattle.apply.proofs.join.join_put.Statement.{statement}
 use Rattle.apply.proofs.join.join_put.Tie as tie
 
@@ -63,7 +64,7 @@ same-length-2 : tie.Need-same-length-2
 same-length-2 c = search needs
 
 returns-2 : tie.Need-returns-2
-returns-2 c = put-left _ _ _ _ _ _
+returns-2 c = put-left S.Small _ _ _ _ _ _
 
 capacity-requires : tie.Need-capacity-requires
 capacity-requires c κs = search needs
@@ -74,8 +75,8 @@ add-requires-2 c κs = search needs
 set-slot-requires-2 : tie.Need-set-slot-requires-2
 set-slot-requires-2 c κs = search needs
 
-add-t37 : tie.Need-add-t37
-add-t37 c = search needs
+add-t40 : tie.Need-add-t40
+add-t40 c = search needs
 
 same-length-3 : tie.Need-same-length-3
 same-length-3 c = search needs
@@ -94,13 +95,13 @@ same-length-4 : tie.Need-same-length-4
 same-length-4 c = search needs
 
 returns-4 : tie.Need-returns-4
-returns-4 c = put-left _ _ _ _ _ _
+returns-4 c = put-left S.Small _ _ _ _ _ _
 
 same-length-5 : tie.Need-same-length-5
 same-length-5 c = search needs
 
 returns-5 : tie.Need-returns-5
-returns-5 c = put-left _ _ _ _ _ _
+returns-5 c = put-left S.Small _ _ _ _ _ _
 
 pub join-put-spec : {M : Type 1} → statement M
 join-put-spec =
@@ -124,7 +125,7 @@ join-put-spec =
     capacity-requires
     add-requires-2
     set-slot-requires-2
-    add-t37
+    add-t40
     same-length-3
     returns-3
     same-length-4

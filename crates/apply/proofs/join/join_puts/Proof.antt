@@ -6,6 +6,7 @@ use mathlib.Core.Path.{refl}
 use mathlib.Core.List.{[]}
 use native.Mathlib.Omega.{arith}
 use borrow.Author.Needs.{needs}
+use Rattle.spec.specs.declared.Size.the-variants as S
 use Rattle.apply.specs.Joining.{PutsJoined}
 use Rattle.batch.proofs.Staged.{told-fits, told-short}
 use Rattle.apply.proofs.Puts.{puts-start, puts-next, puts-left}
@@ -13,7 +14,7 @@ use Rattle.apply.proofs.join.join_puts.Statement.{statement}
 use Rattle.apply.proofs.join.join_puts.Tie as tie
 
 abbrev Inv-loop : tie.InvT-loop
-Inv-loop place from end known buffer₀ table₀ at₀ keys₀ buffer table at keys = PutsJoined place end buffer₀ table₀ keys₀ at₀ buffer table keys at
+Inv-loop place from end known buffer₀ table₀ at₀ keys₀ buffer table at keys = PutsJoined S.Small place end buffer₀ table₀ keys₀ at₀ buffer table keys at
 
 abbrev μ-loop : tie.MeasureT-loop
 μ-loop place from end known buffer₀ table₀ at₀ keys₀ buffer table at keys = end - at
@@ -22,7 +23,7 @@ buffer-length-requires : tie.Need-buffer-length-requires Inv-loop μ-loop
 buffer-length-requires c κs = search needs
 
 loop-holds : tie.Need-loop-holds Inv-loop μ-loop
-loop-holds c = puts-start _ _ _ _ _ _ (c .buffer-length .ensures .1)
+loop-holds c = puts-start S.Small _ _ _ _ _ _ (c .buffer-length .ensures .1)
 
 short-at-requires : tie.Need-short-at-requires Inv-loop μ-loop
 short-at-requires c κs = omega arith
@@ -89,7 +90,7 @@ loop-again c =
     let at-s = at-extent-of .before .before in
     let at-short-at = at-s .before .before in
     let at-loop = at-short-at .before .before in
-    puts-next _ _ _ _ _ _ _ _ _ _ (at-loop .loop .inv) _ _ _ _
+    puts-next S.Small _ _ _ _ _ _ _ _ _ _ (at-loop .loop .inv) _ _ _ _
     (told-short _ _ _ _ (at-short-at .short-at .ensures) _ _ _ _ (at-s .s .given .1)) (omega arith) _
     (at-extent-of .extent-of .ensures) _ refl _ _ _
     (c .before .before .before .join-put .ensures .joins (c .if1 .taken))
@@ -98,14 +99,14 @@ same-length-2 : tie.Need-same-length-2 Inv-loop μ-loop
 same-length-2 c =
     let at-extent-of = c .before .before .before .before .before .before in
     let at-loop = at-extent-of .before .before .before .before .before .before in
-    puts-left _ _ _ _ _ _ _ _ _ _ (at-loop .loop .inv) _ _
+    puts-left S.Small _ _ _ _ _ _ _ _ _ _ (at-loop .loop .inv) _ _
     (c .before .before .before .join-put .ensures .left (c .if1 .left)) .goes [] .sized
 
 returns-2 : tie.Need-returns-2 Inv-loop μ-loop
 returns-2 c =
     let at-extent-of = c .before .before .before .before .before .before in
     let at-loop = at-extent-of .before .before .before .before .before .before in
-    puts-left _ _ _ _ _ _ _ _ _ _ (at-loop .loop .inv) _ _
+    puts-left S.Small _ _ _ _ _ _ _ _ _ _ (at-loop .loop .inv) _ _
     (c .before .before .before .join-put .ensures .left (c .if1 .left))
 
 pub join-puts-spec : {M : Type 1} → statement M

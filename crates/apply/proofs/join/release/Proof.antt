@@ -16,18 +16,18 @@ returns : tie.Need-returns
 returns c =
     let at-start = c .before .before .before .before .before .before in
     let a = at-start .args in
-    freed-both (a .op) 1 (a .placement) 1 (eqb (a .field)) _ _ (c .before .before .before .if1 .taken)
-    (c .before .before .if2 .taken) (freed-one _ _ _ (c .unset-bit .ensures))
+    freed-both (a .size) (a .op) 1 (a .placement) 1 (eqb (a .field)) _ _ (c .before .before .before .if1 .taken)
+    (c .before .before .if2 .taken) (freed-one (a .size) _ _ _ (c .unset-bit .ensures))
 
 returns-2 : tie.Need-returns-2
 returns-2 c =
     let a = c .before .before .before .before .args in
-    unlike-second (a .op) 1 (a .placement) 1 (eqb (a .field)) _ (c .before .before .buffer-length .ensures .1) (c .if2 .left)
+    unlike-second (a .size) (a .op) 1 (a .placement) 1 (eqb (a .field)) _ (c .before .before .buffer-length .ensures .1) (c .if2 .left)
 
 returns-3 : tie.Need-returns-3
 returns-3 c =
     let a = c .before .before .before .args in
-    unlike-first (a .op) 1 (a .placement) 1 (eqb (a .field)) _ (c .before .buffer-length .ensures .1) (c .if1 .left)
+    unlike-first (a .size) (a .op) 1 (a .placement) 1 (eqb (a .field)) _ (c .before .buffer-length .ensures .1) (c .if1 .left)
 
 pub release-spec : {M : Type 1} → statement M
 release-spec =

@@ -32,7 +32,7 @@ returns c =
     let at-buffer-length = c .before .before .before .before in
     let at-start = at-buffer-length .before .before .before in
     let a = at-start .args in
-    at-padding (wordsOf (a .image .now)) (a .place) _ _ (c .before .before .before .load .ensures)
+    at-padding (a .size) (wordsOf (a .image .now)) (a .place) _ _ (c .before .before .before .load .ensures)
     (c .before .before .first-of .ensures) _ (at-buffer-length .buffer-length .ensures .1) (c .enum-told .given .1)
 
 returns-2 : tie.Need-returns-2
@@ -40,7 +40,7 @@ returns-2 c =
     let at-buffer-length = c .before .before .before .before in
     let at-start = at-buffer-length .before .before .before in
     let a = at-start .args in
-    at-wrong (wordsOf (a .image .now)) (a .place) _ _ (c .before .before .before .load .ensures)
+    at-wrong (a .size) (wordsOf (a .image .now)) (a .place) _ _ (c .before .before .before .load .ensures)
     (c .before .before .first-of .ensures) _ (at-buffer-length .buffer-length .ensures .1) (c .enum-told2 .given .1)
 
 returns-3 : tie.Need-returns-3
@@ -49,7 +49,7 @@ returns-3 c =
     let at-load = at-first-of .before in
     let at-start = at-load .before .before .before .before in
     let a = at-start .args in
-    at-entry (wordsOf (a .image .now)) (a .place) _ _ (at-load .load .ensures) (at-first-of .first-of .ensures) _ _ _ _
+    at-entry (a .size) (wordsOf (a .image .now)) (a .place) _ _ (at-load .load .ensures) (at-first-of .first-of .ensures) _ _ _ _
     _ _ (c .before .before .before .first .given .1) (c .release .ensures)
 
 pub release-at-spec : {M : Type 1} → statement M

@@ -18,7 +18,10 @@ same-length : tie.Need-same-length
 same-length c = search needs
 
 returns : tie.Need-returns
-returns c = built-not _ _ _ _ _ _ _ (c .before .before .before .before .check-log .ensures) _ (c .enum-told .given .1) _
+returns c =
+    let at-check-log = c .before .before .before .before in
+    let at-start = at-check-log .before .before .before .before .before in
+    built-not (at-start .args .size) _ _ _ _ _ _ _ (at-check-log .check-log .ensures) _ (c .enum-told .given .1) _
 
 same-length-2 : tie.Need-same-length-2
 same-length-2 c = search needs
@@ -26,7 +29,8 @@ same-length-2 c = search needs
 returns-2 : tie.Need-returns-2
 returns-2 c =
     let at-check-log = c .before .before .before .before .before in
-    built _ _ _ _ _ _ _ (at-check-log .check-log .ensures) _ (c .before .verdict .given .1)
+    let at-start = at-check-log .before .before .before .before .before in
+    built (at-start .args .size) _ _ _ _ _ _ _ (at-check-log .check-log .ensures) _ (c .before .verdict .given .1)
 
 pub rebuild-spec : {M : Type 1} → statement M
 rebuild-spec =

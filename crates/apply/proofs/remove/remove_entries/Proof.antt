@@ -12,13 +12,13 @@ use Rattle.apply.proofs.remove.remove_entries.Statement.{statement}
 use Rattle.apply.proofs.remove.remove_entries.Tie as tie
 
 abbrev Inv-loop : tie.InvT-loop
-Inv-loop image table₀ keys at end from until count₀ copy₀ cursor₀ table count copy cursor = LeavesOn (wordsOf image) table₀ keys at end from until table count copy cursor
+Inv-loop image table₀ keys at end from until size count₀ copy₀ cursor₀ table count copy cursor = LeavesOn size (wordsOf image) table₀ keys at end from until table count copy cursor
 
 abbrev μ-loop : tie.MeasureT-loop
-μ-loop image table₀ keys at end from until count₀ copy₀ cursor₀ table count copy cursor = left 0 (wordsOf image) cursor
+μ-loop image table₀ keys at end from until size count₀ copy₀ cursor₀ table count copy cursor = left 0 (wordsOf image) cursor
 
 loop-holds : tie.Need-loop-holds Inv-loop μ-loop
-loop-holds c = leaves-start _ _ _ _ _ _ _
+loop-holds c = leaves-start (c .before .before .args .size) _ _ _ _ _ _ _
 
 remove-puts-requires : tie.Need-remove-puts-requires Inv-loop μ-loop
 remove-puts-requires c κs = search needs
@@ -36,8 +36,10 @@ returns : tie.Need-returns Inv-loop μ-loop
 returns c =
     let at-remove-puts = c .before .before .before .before .before .before in
     let at-loop = at-remove-puts .before .before in
-    leaves-done _ _ _ _ _ _ _ _ _ _ _
-    (leaves-run _ _ _ _ _ _ _ _ _ _ _ _ _ (at-loop .loop .inv) _ _ (at-remove-puts .remove-puts .ensures)
+    let at-start = at-loop .before .before .before in
+    leaves-done (at-start .args .size) _ _ _ _ _ _ _ _ _ _ _
+    (leaves-run (at-start .args .size) _ _ _ _ _ _ _ _ _ _ _ _ _ (at-loop .loop .inv) _ _
+    (at-remove-puts .remove-puts .ensures)
     (c .before .before .before .if1 .taken)) _ (c .before .before .next-in-log .ensures) (c .enum-told .given .1)
 
 enum-told-2 : tie.Need-enum-told-2 Inv-loop μ-loop
@@ -50,7 +52,9 @@ returns-2 : tie.Need-returns-2 Inv-loop μ-loop
 returns-2 c =
     let at-remove-puts = c .before .before .before .before .before .before in
     let at-loop = at-remove-puts .before .before in
-    leaves-not _ _ _ _ _ _ _ _ _ _ (at-remove-puts .remove-puts .ensures .sized ∙ at-loop .loop .inv .sized)
+    let at-start = at-loop .before .before .before in
+    leaves-not (at-start .args .size) _ _ _ _ _ _ _ _ _ _
+    (at-remove-puts .remove-puts .ensures .sized ∙ at-loop .loop .inv .sized)
 
 enum-known-n : tie.Need-enum-known-n Inv-loop μ-loop
 enum-known-n c = search needs
@@ -64,7 +68,7 @@ add-remove-entry c =
     let at-loop = at-next-in-log .before .before .before .before .before .before in
     let at-start = at-loop .before .before .before in
     let a = at-start .args in
-    let h = handed _ _ _ _ (at-next-in-log .next-in-log .ensures) _ _ _ _ _ _ _ _
+    let h = handed _ _ _ _ _ (at-next-in-log .next-in-log .ensures) _ _ _ _ _ _ _ _
     (c .before .before .before .n .given .1) in
     let f = h .stands .fits in
     let s = h .size in
@@ -80,7 +84,7 @@ loop-less c =
     let at-next-in-log = at-n .before .before in
     let at-remove-puts = at-next-in-log .before .before .before .before in
     let at-loop = at-remove-puts .before .before in
-    let h = handed _ _ _ _ (at-next-in-log .next-in-log .ensures) _ _ _ _ _ _ _ _ (at-n .n .given .1) .falls in
+    let h = handed _ _ _ _ _ (at-next-in-log .next-in-log .ensures) _ _ _ _ _ _ _ _ (at-n .n .given .1) .falls in
     let g = at-remove-puts .remove-puts .ensures .nearer 0 (at-loop .loop .cursor .chunk) in
     omega arith
 
@@ -94,13 +98,13 @@ loop-again c =
     let at-loop = at-remove-puts .before .before in
     let at-start = at-loop .before .before .before in
     let a = at-start .args in
-    let h = handed _ _ _ _ (at-next-in-log .next-in-log .ensures) _ _ _ _ _ _ _ _ (at-n .n .given .1) in
+    let h = handed _ _ _ _ _ (at-next-in-log .next-in-log .ensures) _ _ _ _ _ _ _ _ (at-n .n .given .1) in
     let f = h .stands .fits in
     let s = h .size in
     let n = length-wordsOf (a .image .now) in
     let b = at-start .good in
-    leaves-next _ _ _ _ _ _ _ _ _ _ _
-    (leaves-run _ _ _ _ _ _ _ _ _ _ _ _ _ (at-loop .loop .inv) _ _ (at-remove-puts .remove-puts .ensures)
+    leaves-next (a .size) _ _ _ _ _ _ _ _ _ _ _
+    (leaves-run (a .size) _ _ _ _ _ _ _ _ _ _ _ _ _ (at-loop .loop .inv) _ _ (at-remove-puts .remove-puts .ensures)
     (at-if1 .if1 .taken)) _ (at-next-in-log .next-in-log .ensures) _ _ _ _ _ _ _ _ (at-n .n .given .1) (omega arith) _
     (at-is-copied .is-copied .ensures) _ _ (c .before .before .before .remove-entry .ensures) (c .if2 .taken)
 
@@ -113,7 +117,8 @@ returns-3 c =
     let at-next-in-log = at-is-copied .before .before .before .before in
     let at-remove-puts = at-next-in-log .before .before .before .before in
     let at-loop = at-remove-puts .before .before in
-    leaves-not _ _ _ _ _ _ _ _ _ _
+    let at-start = at-loop .before .before .before in
+    leaves-not (at-start .args .size) _ _ _ _ _ _ _ _ _ _
     (c .before .before .before .remove-entry .ensures .sized ∙ at-remove-puts .remove-puts .ensures .sized
     ∙ at-loop .loop .inv .sized)
 
@@ -123,7 +128,9 @@ same-length-4 c = search needs
 returns-4 : tie.Need-returns-4 Inv-loop μ-loop
 returns-4 c =
     let at-loop = c .before .before .before .before .before in
-    leaves-not _ _ _ _ _ _ _ _ _ _ (c .before .before .before .remove-puts .ensures .sized ∙ at-loop .loop .inv .sized)
+    let at-start = at-loop .before .before .before in
+    leaves-not (at-start .args .size) _ _ _ _ _ _ _ _ _ _
+    (c .before .before .before .remove-puts .ensures .sized ∙ at-loop .loop .inv .sized)
 
 pub remove-entries-spec : {M : Type 1} → statement M
 remove-entries-spec =

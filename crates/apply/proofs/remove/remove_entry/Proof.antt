@@ -18,7 +18,11 @@ same-length : tie.Need-same-length
 same-length c = search needs
 
 returns : tie.Need-returns
-returns c = entry-none _ _ _ _ _ _ _ _ _ _ (c .before .before .before .before .slot-of .ensures) (c .before .before .word-at .ensures) (c .before .unpack .ensures) (c .if1 .taken)
+returns c =
+    let at-slot-of = c .before .before .before .before in
+    let at-start = at-slot-of .before .before .before in
+    entry-none (at-start .args .size) _ _ _ _ _ _ _ _ _ _ (at-slot-of .slot-of .ensures)
+    (c .before .before .word-at .ensures) (c .before .unpack .ensures) (c .if1 .taken)
 
 same-length-2 : tie.Need-same-length-2
 same-length-2 c = search needs
@@ -27,7 +31,8 @@ returns-2 : tie.Need-returns-2
 returns-2 c =
     let at-word-at = c .before .before .before .before in
     let at-slot-of = at-word-at .before .before in
-    entry-twins _ _ _ _ _ _ _ _ _ _ (at-slot-of .slot-of .ensures) (at-word-at .word-at .ensures)
+    let at-start = at-slot-of .before .before .before in
+    entry-twins (at-start .args .size) _ _ _ _ _ _ _ _ _ _ (at-slot-of .slot-of .ensures) (at-word-at .word-at .ensures)
     (c .before .before .before .unpack .ensures)
 
 with-copy-requires : tie.Need-with-copy-requires
@@ -52,7 +57,9 @@ returns-3 c =
     let at-unpack = at-if1 .before in
     let at-word-at = at-unpack .before in
     let at-slot-of = at-word-at .before .before in
-    entry-copied _ _ _ _ _ _ _ _ _ _ (at-slot-of .slot-of .ensures) (at-word-at .word-at .ensures)
+    let at-start = at-slot-of .before .before .before in
+    entry-copied (at-start .args .size) _ _ _ _ _ _ _ _ _ _ (at-slot-of .slot-of .ensures)
+    (at-word-at .word-at .ensures)
     (at-unpack .unpack .ensures) (at-if1 .if1 .left) (at-if2 .if2 .left) (at-if3 .if3 .taken) (at-if4 .if4 .taken) _ _ _
     (at-with-copy .with-copy .ensures) (c .before .before .before .set-slot .ensures) (c .wrapping-add-usize .ensures)
 
@@ -74,7 +81,9 @@ returns-4 c =
     let at-unpack = at-if1 .before in
     let at-word-at = at-unpack .before in
     let at-slot-of = at-word-at .before .before in
-    entry-gone _ _ _ _ _ _ _ _ _ _ (at-slot-of .slot-of .ensures) (at-word-at .word-at .ensures) (at-unpack .unpack .ensures)
+    let at-start = at-slot-of .before .before .before in
+    entry-gone (at-start .args .size) _ _ _ _ _ _ _ _ _ _ (at-slot-of .slot-of .ensures) (at-word-at .word-at .ensures)
+    (at-unpack .unpack .ensures)
     (at-if1 .if1 .left) (at-if2 .if2 .left) (at-if3 .if3 .taken) (at-if4 .if4 .left) _ _
     (c .before .before .before .remove .ensures) _ (c .one-less .ensures)
 
@@ -95,7 +104,9 @@ returns-5 c =
     let at-unpack = at-if1 .before in
     let at-word-at = at-unpack .before in
     let at-slot-of = at-word-at .before .before in
-    entry-less _ _ _ _ _ _ _ _ _ _ (at-slot-of .slot-of .ensures) (at-word-at .word-at .ensures) (at-unpack .unpack .ensures)
+    let at-start = at-slot-of .before .before .before in
+    entry-less (at-start .args .size) _ _ _ _ _ _ _ _ _ _ (at-slot-of .slot-of .ensures) (at-word-at .word-at .ensures)
+    (at-unpack .unpack .ensures)
     (at-if1 .if1 .left) (at-if2 .if2 .left) (at-if3 .if3 .left) _ _ (c .before .before .before .with-less .ensures)
     (c .before .before .set-slot2 .ensures)
 

@@ -16,13 +16,13 @@ use Rattle.apply.proofs.remove.remove_puts.Statement.{statement}
 use Rattle.apply.proofs.remove.remove_puts.Tie as tie
 
 abbrev Inv-loop : tie.InvT-loop
-Inv-loop image table₀ keys from end to count₀ copy₀ place₀ table count copy place = PutsLeft (wordsOf image) table₀ table keys from end to (record { keys = count; to = copy; single = true; at = place })
+Inv-loop image table₀ keys from end to size count₀ copy₀ place₀ table count copy place = PutsLeft size (wordsOf image) table₀ table keys from end to (record { keys = count; to = copy; single = true; at = place })
 
 abbrev μ-loop : tie.MeasureT-loop
-μ-loop image table₀ keys from end to count₀ copy₀ place₀ table count copy place = length (wordsOf image) - place
+μ-loop image table₀ keys from end to size count₀ copy₀ place₀ table count copy place = length (wordsOf image) - place
 
 loop-holds : tie.Need-loop-holds Inv-loop μ-loop
-loop-holds c = puts-start _ _ _ _ _ _
+loop-holds c = puts-start (c .before .before .args .size) _ _ _ _ _ _
 
 short-put-requires : tie.Need-short-put-requires Inv-loop μ-loop
 short-put-requires c κs = search needs
@@ -108,7 +108,7 @@ loop-again c =
     (at-s .s .given .1) in
     let r = room-entry (wordsOf (a .image .now)) (w .place) (a .end) _ _ _ _ _ _ q in
     let n = length-wordsOf (a .image .now) in
-    puts-more _ _ _ _ _ _ _ _ _ _ (w .inv) _ _ _ _ q (omega arith) _ _ (c .before .before .before .remove-entry .ensures)
+    puts-more (a .size) _ _ _ _ _ _ _ _ _ _ (w .inv) _ _ _ _ q (omega arith) _ _ (c .before .before .before .remove-entry .ensures)
     (c .if1 .taken)
 
 same-length-2 : tie.Need-same-length-2 Inv-loop μ-loop
@@ -118,7 +118,9 @@ returns-2 : tie.Need-returns-2 Inv-loop μ-loop
 returns-2 c =
     let at-remove-entry = c .before .before .before in
     let at-loop = at-remove-entry .before .before .before .before .before .before in
-    puts-not _ _ _ _ _ _ _ _ _ (at-remove-entry .remove-entry .ensures .sized ∙ at-loop .loop .inv .sized)
+    let at-start = at-loop .before .before .before in
+    puts-not (at-start .args .size) _ _ _ _ _ _ _ _ _
+    (at-remove-entry .remove-entry .ensures .sized ∙ at-loop .loop .inv .sized)
     (at-loop .loop .inv .nearer) _
 
 pub remove-puts-spec : {M : Type 1} → statement M

@@ -12,7 +12,7 @@ pack-requires : tie.Need-pack-requires
 pack-requires c κs = search needs
 
 returns : tie.Need-returns
-returns c = word-turned _ _ _ (c .before .unpack .result) (c .before .unpack .ensures) (c .pack .ensures)
+returns c = word-turned (c .before .before .args .size) _ _ _ (c .before .unpack .result) (c .before .unpack .ensures) (c .pack .ensures)
 
 pub with-copy-spec : {M : Type 1} → statement M
 with-copy-spec = tie.close (tie.spec unpack-requires pack-requires returns)

@@ -15,7 +15,7 @@ pack-requires : tie.Need-pack-requires
 pack-requires c κs = search needs
 
 returns : tie.Need-returns
-returns c = word-less _ _ _ (c .before .before .unpack .result) (c .before .before .unpack .ensures) (c .before .one-less .ensures) (c .pack .ensures)
+returns c = word-less (c .before .before .before .args .size) _ _ _ (c .before .before .unpack .result) (c .before .before .unpack .ensures) (c .before .one-less .ensures) (c .pack .ensures)
 
 pub with-less-spec : {M : Type 1} → statement M
 with-less-spec = tie.close (tie.spec unpack-requires one-less-requires pack-requires returns)

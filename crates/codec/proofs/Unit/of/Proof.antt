@@ -1,21 +1,23 @@
--- `codec::Unit::of` meets its contract: a chunk has 16 units.
+-- `codec::Unit::of` meets its contract.
 -- Assumes nothing.
-use native.Mathlib.Omega.{arith}
 use borrow.Author.Needs.{needs}
-use Rattle.spec.specs.Places.{firstUnit, unitIn, chunkUnits}
+use native.Mathlib.Omega.{arith}
 use Rattle.codec.specs.Units.{unitAt}
 use Rattle.codec.proofs.Unit.of.Statement.{statement}
 use Rattle.codec.proofs.Unit.of.Tie as tie
 
-mul-unit : tie.Need-mul-unit
-mul-unit c = search needs
+first-unit-requires : tie.Need-first-unit-requires
+first-unit-requires c κs = search needs
+
+unit-in-requires : tie.Need-unit-in-requires
+unit-in-requires c κs = search needs
 
 add-unit : tie.Need-add-unit
 add-unit c = search needs
 
 returns : tie.Need-returns
-unfolding unitAt firstUnit unitIn chunkUnits
-returns c = omega arith
+unfolding unitAt
+returns c = search needs
 
 pub of-spec : {M : Type 1} → statement M
-of-spec = tie.close (tie.spec mul-unit add-unit returns)
+of-spec = tie.close (tie.spec first-unit-requires unit-in-requires add-unit returns)

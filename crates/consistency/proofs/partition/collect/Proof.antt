@@ -5,6 +5,7 @@ use borrow.Author.Needs.{needs}
 use mathlib.Core.Path.{refl, _∙_, ap}
 use native.Mathlib.Omega.{arith}
 use lib.ListN.{length, length-replicate}
+use Rattle.places.specs.Sizes.{powerOf}
 use Rattle.spec.specs.Words.{wordsOf}
 use Rattle.log.specs.Cursor.{left}
 use Rattle.log.proofs.Walk.{handed}
@@ -14,10 +15,10 @@ use Rattle.consistency.proofs.partition.collect.Statement.{statement}
 use Rattle.consistency.proofs.partition.collect.Tie as tie
 
 abbrev Inv-loop : tie.InvT-loop
-Inv-loop image count table₀ low high keys₀ cursor₀ table keys cursor = Reached count (wordsOf image) (length table₀) table keys low high cursor
+Inv-loop image count table₀ low high size keys₀ cursor₀ table keys cursor = Reached size count (wordsOf image) (length table₀) table keys low high cursor
 
 abbrev μ-loop : tie.MeasureT-loop
-μ-loop image count table₀ low high keys₀ cursor₀ table keys cursor = left count (wordsOf image) cursor
+μ-loop image count table₀ low high size keys₀ cursor₀ table keys cursor = left count (wordsOf image) cursor
 
 clear-requires : tie.Need-clear-requires Inv-loop μ-loop
 clear-requires c κs = search needs
@@ -28,7 +29,7 @@ first-cursor-requires c κs = search needs
 loop-holds : tie.Need-loop-holds Inv-loop μ-loop
 loop-holds c =
     let at-start = c .before .before .before .before .before .before .before in
-    reached-start (at-start .args .count) (wordsOf (at-start .args .image .now)) (at-start .args .low)
+    reached-start (at-start .args .size) (at-start .args .count) (wordsOf (at-start .args .image .now)) (at-start .args .low)
     (at-start .args .high) (length (at-start .args .table .now)) _ (c .before .before .before .clear .ensures) _
     (c .first-cursor .ensures)
 
@@ -60,8 +61,8 @@ returns : tie.Need-returns Inv-loop μ-loop
 returns c =
     let at-loop = c .before .before .before .before .before in
     let at-clear = at-loop .before .before .before .before in
-    reached-done _ _ _ _ _ _ _ _
-    (reached-over _ _ _ _ _ _ _ _ _ _ (at-loop .loop .inv) _ refl _ (c .before .before .before .pass-over .ensures))
+    reached-done _ _ _ _ _ _ _ _ _
+    (reached-over _ _ _ _ _ _ _ _ _ _ _ (at-loop .loop .inv) _ refl _ (c .before .before .before .pass-over .ensures))
     (c .before .before .next-in-log .result) (c .before .before .next-in-log .ensures) _
     (ap length (at-clear .clear .ensures)) (c .enum-told .given .1)
 
@@ -78,8 +79,8 @@ returns-2 : tie.Need-returns-2 Inv-loop μ-loop
 returns-2 c =
     let at-loop = c .before .before .before .before .before in
     let at-clear = at-loop .before .before .before .before in
-    reached-full _ _ _ _ _ _ _ _
-    (reached-over _ _ _ _ _ _ _ _ _ _ (at-loop .loop .inv) _ refl _ (c .before .before .before .pass-over .ensures))
+    reached-full _ _ _ _ _ _ _ _ _
+    (reached-over _ _ _ _ _ _ _ _ _ _ _ (at-loop .loop .inv) _ refl _ (c .before .before .before .pass-over .ensures))
     (c .before .before .next-in-log .result) (c .before .before .next-in-log .ensures) _
     (ap length (at-clear .clear .ensures)) _ refl _ refl _
 
@@ -104,7 +105,7 @@ loop-less c =
     let at-loop = at-pass-over .before .before in
     let at-clear = at-loop .before .before .before .before in
     let at-start = at-clear .before .before .before .before in
-    let f = handed _ _ _ _ (at-next-in-log .next-in-log .ensures) _ _ _ _ _ _ _ _ (at-n .n .given .1) .falls in
+    let f = handed (powerOf (at-start .args .size)) _ _ _ _ (at-next-in-log .next-in-log .ensures) _ _ _ _ _ _ _ _ (at-n .n .given .1) .falls in
     let g = at-pass-over .pass-over .ensures .nearer (at-start .args .count) (at-loop .loop .cursor .chunk) in
     omega arith
 
@@ -116,11 +117,11 @@ loop-again c =
     let at-next-in-log = at-n .before .before in
     let at-pass-over = at-next-in-log .before in
     let at-loop = at-pass-over .before .before in
-    reached-next _ _ _ _ _ _ _ _
-    (reached-over _ _ _ _ _ _ _ _ _ _ (at-loop .loop .inv) _ refl _ (at-pass-over .pass-over .ensures))
+    reached-next _ _ _ _ _ _ _ _ _
+    (reached-over _ _ _ _ _ _ _ _ _ _ _ (at-loop .loop .inv) _ refl _ (at-pass-over .pass-over .ensures))
     (at-next-in-log .next-in-log .result) (at-next-in-log .next-in-log .ensures) _ _ _ _ _ _ _ _ (at-n .n .given .1)
     (at-single-entry .single-entry .result)
-    (own-alone (at-n .n .given .0 .1 .0) (at-n .n .given .0 .1 .1 .1 .0) _ _ _ _ (at-extent-of .extent-of .ensures)
+    (own-alone _ (at-n .n .given .0 .1 .0) (at-n .n .given .0 .1 .1 .1 .0) _ _ _ _ (at-extent-of .extent-of .ensures)
     (at-single-entry .single-entry .ensures)) _ _ _ (c .before .before .before .enter .ensures) (c .if1 .taken)
 
 same-length-3 : tie.Need-same-length-3 Inv-loop μ-loop
@@ -138,8 +139,8 @@ returns-3 c =
     let at-pass-over = at-next-in-log .before in
     let at-loop = at-pass-over .before .before in
     let at-clear = at-loop .before .before .before .before in
-    reached-full _ _ _ _ _ _ _ _
-    (reached-over _ _ _ _ _ _ _ _ _ _ (at-loop .loop .inv) _ refl _ (at-pass-over .pass-over .ensures))
+    reached-full _ _ _ _ _ _ _ _ _
+    (reached-over _ _ _ _ _ _ _ _ _ _ _ (at-loop .loop .inv) _ refl _ (at-pass-over .pass-over .ensures))
     (at-next-in-log .next-in-log .result) (at-next-in-log .next-in-log .ensures) _
     (ap length (at-clear .clear .ensures)) _ (c .before .before .before .enter .ensures .sized) _ (c .if1 .left) _
 

@@ -21,8 +21,8 @@ capacity-requires c κs = search needs
 set-slot-requires : tie.Need-set-slot-requires
 set-slot-requires c κs = search needs
 
-add-t22 : tie.Need-add-t22
-add-t22 c = search needs
+add-t23 : tie.Need-add-t23
+add-t23 c = search needs
 
 same-length : tie.Need-same-length
 same-length c = search needs
@@ -37,15 +37,15 @@ returns c =
     let at-if1 = at-slot-of .before .before in
     let at-is-within = at-if1 .before in
     let zero = at-if2 .if2 .taken in
-    enter-new _ _ _ _ _ _ (sym (at-is-within .is-within .ensures) ∙ at-if1 .if1 .taken) _ _ (at-slot-of .slot-of .ensures)
-    (at-word-at .word-at .ensures) _ _ (noted-new _ _ zero) (c .before .before .set-slot .ensures) zero
+    enter-new _ _ _ _ _ _ _ (sym (at-is-within .is-within .ensures) ∙ at-if1 .if1 .taken) _ _ (at-slot-of .slot-of .ensures)
+    (at-word-at .word-at .ensures) _ _ (noted-new _ _ _ zero) (c .before .before .set-slot .ensures) zero
     (rw (← at-capacity .capacity .ensures) (at-if3 .if3 .taken))
 
 same-length-2 : tie.Need-same-length-2
 same-length-2 c = search needs
 
 returns-2 : tie.Need-returns-2
-returns-2 c = enter-full _ _ _ _ _ _ _ refl
+returns-2 c = enter-full _ _ _ _ _ _ _ _ refl
 
 with-entry-requires : tie.Need-with-entry-requires
 with-entry-requires c κs = search needs
@@ -64,12 +64,12 @@ returns-3 c =
     let at-slot-of = at-word-at .before .before in
     let at-if1 = at-slot-of .before .before in
     let at-is-within = at-if1 .before in
-    enter-old _ _ _ _ _ _ (sym (at-is-within .is-within .ensures) ∙ at-if1 .if1 .taken) _ _ (at-slot-of .slot-of .ensures)
+    enter-old _ _ _ _ _ _ _ (sym (at-is-within .is-within .ensures) ∙ at-if1 .if1 .taken) _ _ (at-slot-of .slot-of .ensures)
     (at-word-at .word-at .ensures) _ _ (at-with-entry .with-entry .ensures) (c .before .before .set-slot2 .ensures)
     (at-if2 .if2 .left)
 
 returns-4 : tie.Need-returns-4
-returns-4 c = enter-other _ _ _ _ _ _ (sym (c .before .is-within .ensures) ∙ c .if1 .left)
+returns-4 c = enter-other _ _ _ _ _ _ _ (sym (c .before .is-within .ensures) ∙ c .if1 .left)
 
 pub enter-spec : {M : Type 1} → statement M
 enter-spec =
@@ -80,7 +80,7 @@ enter-spec =
     word-at-requires
     capacity-requires
     set-slot-requires
-    add-t22
+    add-t23
     same-length
     returns
     same-length-2

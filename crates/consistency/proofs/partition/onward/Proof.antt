@@ -2,8 +2,9 @@
 -- Assumes nothing.
 use borrow.Author.Needs.{needs}
 use mathlib.Core.Path.{_≡_}
-use Prim.Native.Nat.{_+_, _-_}
+use Prim.Native.Nat.{_+_, _-_, _<_}
 use native.Mathlib.Omega.{arith}
+use Rattle.places.specs.Sizes.{powerOf}
 use Rattle.spec.specs.Words.{wordsOf}
 use Rattle.consistency.specs.Passing.{Onward}
 use Rattle.consistency.proofs.Onwards.{onward-start, onward-more}
@@ -11,16 +12,16 @@ use Rattle.consistency.proofs.partition.onward.Statement.{statement}
 use Rattle.consistency.proofs.partition.onward.Tie as tie
 
 abbrev Inv-loop : tie.InvT-loop
-Inv-loop image count c₀ next₀ next = Onward count (wordsOf image) c₀ next
+Inv-loop image count c size next₀ next = Onward (powerOf size) count (wordsOf image) c next
 
 abbrev μ-loop : tie.MeasureT-loop
-μ-loop image count c₀ next₀ next = count - next .chunk
+μ-loop image count c size next₀ next = count - next .chunk
 
 chunk-cursor-requires : tie.Need-chunk-cursor-requires Inv-loop μ-loop
 chunk-cursor-requires c κs = search needs
 
 loop-holds : tie.Need-loop-holds Inv-loop μ-loop
-loop-holds c = onward-start (c .before .before .args .count) (wordsOf (c .before .before .args .image .now)) (c .before .before .args .c) (c .chunk-cursor .result) (c .chunk-cursor .ensures)
+loop-holds c = onward-start (powerOf (c .before .before .args .size)) (c .before .before .args .count) (wordsOf (c .before .before .args .image .now)) (c .before .before .args .c) (c .chunk-cursor .result) (c .chunk-cursor .ensures)
 
 returns : tie.Need-returns Inv-loop μ-loop
 returns c = c .before .before .before .before .loop .inv
@@ -44,9 +45,12 @@ loop-less c = let e = c .chunk-cursor2 .ensures .chunk in omega arith
 
 loop-again : tie.Need-loop-again Inv-loop μ-loop
 loop-again c =
-    let at-struct-known = c .before .before .before .before .before .before .before in
-    let at-loop = at-struct-known .before in
-    onward-more _ _ _ (at-loop .loop .next) (at-loop .loop .inv) (omega arith) (omega arith) _
+    let at-if1 = c .before .before .before .before .before .before in
+    let at-loop = at-if1 .before .before in
+    let a = at-loop .before .before .before .args in
+    let below : at-loop .loop .next .chunk < a .count = at-if1 .if1 .taken in
+    let more : a .count - at-loop .loop .next .chunk ≡ 1 → ⊥ = c .before .before .if3 .left in
+    onward-more (powerOf (a .size)) (a .count) _ _ (at-loop .loop .next) (at-loop .loop .inv) (omega arith) (omega arith) _
     (c .chunk-cursor2 .ensures)
 
 returns-3 : tie.Need-returns-3 Inv-loop μ-loop

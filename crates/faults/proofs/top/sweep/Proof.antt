@@ -11,10 +11,10 @@ use Rattle.faults.proofs.top.sweep.Statement.{statement}
 use Rattle.faults.proofs.top.sweep.Tie as tie
 
 abbrev Inv-loop : tie.InvT-loop
-Inv-loop image count table fits low high units₀ s₀ cursor₀ units s cursor = Going count (wordsOf image) table fits low high s₀ units₀ units s cursor
+Inv-loop image count table fits low high units₀ size s₀ cursor₀ units s cursor = Going size count (wordsOf image) table fits low high s₀ units₀ units s cursor
 
 abbrev μ-loop : tie.MeasureT-loop
-μ-loop image count table fits low high units₀ s₀ cursor₀ units s cursor = left count (wordsOf image) cursor
+μ-loop image count table fits low high units₀ size s₀ cursor₀ units s cursor = left count (wordsOf image) cursor
 
 first-cursor-requires : tie.Need-first-cursor-requires Inv-loop μ-loop
 first-cursor-requires c κs = search needs
@@ -24,7 +24,7 @@ loop-holds c =
     let at-first-cursor = c in
     let at-args = at-first-cursor .before .before .before .before in
     let a = at-args .args in
-    going-start (a .count) (wordsOf (a .image .now)) (a .table .now) (a .fits) (a .low) (a .high) (a .so) (a .units .now) _ (at-first-cursor .first-cursor .ensures)
+    going-start (a .size) (a .count) (wordsOf (a .image .now)) (a .table .now) (a .fits) (a .low) (a .high) (a .so) (a .units .now) _ (at-first-cursor .first-cursor .ensures)
 
 sub-pass-over : tie.Need-sub-pass-over Inv-loop μ-loop
 sub-pass-over c = search needs
@@ -55,8 +55,8 @@ returns c =
     let at-next-in-log = at-enum-told .before .before in
     let at-pass-over = at-next-in-log .before in
     let at-loop = at-pass-over .before .before in
-    let over = going-over _ _ _ _ _ _ _ _ _ _ _ _ _ (at-loop .loop .inv) _ refl _ (at-pass-over .pass-over .ensures) in
-    going-done _ _ _ _ _ _ _ _ _ _ _ over (at-next-in-log .next-in-log .result) (at-next-in-log .next-in-log .ensures) (at-enum-told .enum-told .given .1)
+    let over = going-over _ _ _ _ _ _ _ _ _ _ _ _ _ _ (at-loop .loop .inv) _ refl _ (at-pass-over .pass-over .ensures) in
+    going-done _ _ _ _ _ _ _ _ _ _ _ _ over (at-next-in-log .next-in-log .result) (at-next-in-log .next-in-log .ensures) (at-enum-told .enum-told .given .1)
 
 enum-told-2 : tie.Need-enum-told-2 Inv-loop μ-loop
 enum-told-2 c = search needs
@@ -72,8 +72,8 @@ returns-2 c =
     let at-next-in-log = at-enum-told2 .before .before in
     let at-pass-over = at-next-in-log .before in
     let at-loop = at-pass-over .before .before in
-    let over = going-over _ _ _ _ _ _ _ _ _ _ _ _ _ (at-loop .loop .inv) _ refl _ (at-pass-over .pass-over .ensures) in
-    going-wrong _ _ _ _ _ _ _ _ _ _ _ over (at-next-in-log .next-in-log .result) (at-next-in-log .next-in-log .ensures) (at-enum-told2 .enum-told2 .given .1)
+    let over = going-over _ _ _ _ _ _ _ _ _ _ _ _ _ _ (at-loop .loop .inv) _ refl _ (at-pass-over .pass-over .ensures) in
+    going-wrong _ _ _ _ _ _ _ _ _ _ _ _ over (at-next-in-log .next-in-log .result) (at-next-in-log .next-in-log .ensures) (at-enum-told2 .enum-told2 .given .1)
 
 enum-known-n : tie.Need-enum-known-n Inv-loop μ-loop
 enum-known-n c = search needs
@@ -88,7 +88,7 @@ loop-less c =
     let at-pass-over = at-next-in-log .before in
     let at-loop = at-pass-over .before .before in
     let at-args = at-loop .before .before .before .before .before in
-    let f = handed _ _ _ _ (at-next-in-log .next-in-log .ensures) _ _ _ _ _ _ _ _ (at-n .n .given .1) .falls in
+    let f = handed _ _ _ _ _ (at-next-in-log .next-in-log .ensures) _ _ _ _ _ _ _ _ (at-n .n .given .1) .falls in
     let g = at-pass-over .pass-over .ensures .nearer (at-args .args .count) (at-loop .loop .cursor .chunk) in
     omega arith
 
@@ -99,8 +99,8 @@ loop-again c =
     let at-next-in-log = at-n .before .before in
     let at-pass-over = at-next-in-log .before in
     let at-loop = at-pass-over .before .before in
-    let over = going-over _ _ _ _ _ _ _ _ _ _ _ _ _ (at-loop .loop .inv) _ refl _ (at-pass-over .pass-over .ensures) in
-    going-next _ _ _ _ _ _ _ _ _ _ _ over (at-next-in-log .next-in-log .result) (at-next-in-log .next-in-log .ensures) _ _ _ _ _ _ _ _ (at-n .n .given .1) _ (at-visit .visit .result) (at-visit .visit .ensures)
+    let over = going-over _ _ _ _ _ _ _ _ _ _ _ _ _ _ (at-loop .loop .inv) _ refl _ (at-pass-over .pass-over .ensures) in
+    going-next _ _ _ _ _ _ _ _ _ _ _ _ over (at-next-in-log .next-in-log .result) (at-next-in-log .next-in-log .ensures) _ _ _ _ _ _ _ _ (at-n .n .given .1) _ (at-visit .visit .result) (at-visit .visit .ensures)
 
 pub sweep-spec : {M : Type 1} → statement M
 sweep-spec =

@@ -39,7 +39,7 @@ returns c =
     let at-is-within = at-if1 .before in
     let at-args = at-is-within .before .before .before .before in
     let a = at-args .args in
-    visited-top (a .count) (wordsOf (a .image .now)) (a .table .now) (a .fits) (a .low) (a .high) (a .e) (sym (at-is-within .is-within .ensures) ∙ at-if1 .if1 .taken) (at-top-of .top-of .result) (at-top-of .top-of .ensures) (a .so) (a .units .now) (at-if2 .if2 .taken)
+    visited-top (a .size) (a .count) (wordsOf (a .image .now)) (a .table .now) (a .fits) (a .low) (a .high) (a .e) (sym (at-is-within .is-within .ensures) ∙ at-if1 .if1 .taken) (at-top-of .top-of .result) (at-top-of .top-of .ensures) (a .so) (a .units .now) (at-if2 .if2 .taken)
     (sym (at-block-fine .block-fine .ensures) ∙ at-if3 .if3 .taken) (at-compared .compared .result) (at-shared .shared .result) _ (at-compared .compared .ensures) (at-shared .shared .ensures)
 
 least-requires : tie.Need-least-requires
@@ -56,7 +56,7 @@ returns-2 c =
     let at-is-within = at-if1 .before in
     let at-args = at-is-within .before .before .before .before in
     let a = at-args .args in
-    visited-wrong (a .count) (wordsOf (a .image .now)) (a .table .now) (a .fits) (a .low) (a .high) (a .e) (sym (at-is-within .is-within .ensures) ∙ at-if1 .if1 .taken) (at-top-of .top-of .result) (at-top-of .top-of .ensures) (a .so) (a .units .now) (at-if2 .if2 .taken)
+    visited-wrong (a .size) (a .count) (wordsOf (a .image .now)) (a .table .now) (a .fits) (a .low) (a .high) (a .e) (sym (at-is-within .is-within .ensures) ∙ at-if1 .if1 .taken) (at-top-of .top-of .result) (at-top-of .top-of .ensures) (a .so) (a .units .now) (at-if2 .if2 .taken)
     (sym (at-block-fine .block-fine .ensures) ∙ at-if3 .if3 .left) (at-least .least .result) (at-least .least .ensures)
 
 returns-3 : tie.Need-returns-3
@@ -67,7 +67,7 @@ returns-3 c =
     let at-is-within = at-if1 .before in
     let at-args = at-is-within .before .before .before .before in
     let a = at-args .args in
-    visited-below (a .count) (wordsOf (a .image .now)) (a .table .now) (a .fits) (a .low) (a .high) (a .e) (sym (at-is-within .is-within .ensures) ∙ at-if1 .if1 .taken) (at-top-of .top-of .result) (at-top-of .top-of .ensures) (a .so) (a .units .now) (at-if2 .if2 .left)
+    visited-below (a .size) (a .count) (wordsOf (a .image .now)) (a .table .now) (a .fits) (a .low) (a .high) (a .e) (sym (at-is-within .is-within .ensures) ∙ at-if1 .if1 .taken) (at-top-of .top-of .result) (at-top-of .top-of .ensures) (a .so) (a .units .now) (at-if2 .if2 .left)
 
 returns-4 : tie.Need-returns-4
 returns-4 c =
@@ -75,7 +75,7 @@ returns-4 c =
     let at-is-within = at-if1 .before in
     let at-args = at-is-within .before .before .before .before in
     let a = at-args .args in
-    visited-out (a .count) (wordsOf (a .image .now)) (a .table .now) (a .fits) (a .low) (a .high) (a .e) (sym (at-is-within .is-within .ensures) ∙ at-if1 .if1 .left) (a .so) (a .units .now)
+    visited-out (a .size) (a .count) (wordsOf (a .image .now)) (a .table .now) (a .fits) (a .low) (a .high) (a .e) (sym (at-is-within .is-within .ensures) ∙ at-if1 .if1 .left) (a .so) (a .units .now)
 
 pub visit-spec : {M : Type 1} → statement M
 visit-spec =

@@ -20,4 +20,6 @@ returns : tie.Need-returns
 returns c = rw (c .count-if .ensures, c .before .both .ensures, c .before .before .before .is-chosen .ensures, c .before .before .points-into .ensures)
 
 pub count-block-spec : {M : Type 1} → statement M
-count-block-spec = tie.close (tie.spec is-chosen-requires points-into-requires both-requires count-if-requires returns)
+count-block-spec =
+    tie.close
+    (tie.spec is-chosen-requires points-into-requires both-requires count-if-requires returns)

@@ -51,4 +51,16 @@ returns c =
     )
 
 pub count-entry-spec : {M : Type 1} → statement M
-count-entry-spec = tie.close (tie.spec is-chosen-requires is-put-requires both-requires count-if-requires negate-requires both-requires-2 count-if-requires-2 negate-requires-2 count-if-requires-3 returns)
+count-entry-spec =
+    tie.close
+    (tie.spec
+    is-chosen-requires
+    is-put-requires
+    both-requires
+    count-if-requires
+    negate-requires
+    both-requires-2
+    count-if-requires-2
+    negate-requires-2
+    count-if-requires-3
+    returns)

@@ -27,8 +27,8 @@ capacity-requires c κs = search needs
 set-slot-requires : tie.Need-set-slot-requires
 set-slot-requires c κs = search needs
 
-add-t29 : tie.Need-add-t29
-add-t29 c = search needs
+add-t30 : tie.Need-add-t30
+add-t30 c = search needs
 
 is-single-requires : tie.Need-is-single-requires
 is-single-requires c κs = search needs
@@ -47,10 +47,10 @@ returns c =
     let at-if1 = at-slot-of .before .before in
     let at-start = at-if1 .before .before .before .before .before in
     let zero = at-if2 .if2 .taken in
-    entered-renewed (wordsOf (at-start .args .image .now)) _ _ _ _ _ _ _ _ _ _ _ _ _ _ (at-slot-of .slot-of .ensures)
+    entered-renewed (at-start .args .size) (wordsOf (at-start .args .image .now)) _ _ _ _ _ _ _ _ _ _ _ _ _ _ (at-slot-of .slot-of .ensures)
     (at-word-at .word-at .ensures) (at-if1 .if1 .taken) (at-renew .renew .ensures)
-    (enter-new _ _ _ _ _ _ _ _ (at-slot-of .slot-of .ensures) (at-word-at .word-at .ensures) (at-if1 .if1 .taken) _ _
-    (noted-new _ _ zero) (c .before .before .before .set-slot .ensures) _ (c .is-single .ensures) zero
+    (enter-new (at-start .args .size) _ _ _ _ _ _ _ _ (at-slot-of .slot-of .ensures) (at-word-at .word-at .ensures) (at-if1 .if1 .taken) _ _
+    (noted-new (at-start .args .size) _ _ zero) (c .before .before .before .set-slot .ensures) _ (c .is-single .ensures) zero
     (rw (← at-capacity .capacity .ensures) (at-if3 .if3 .taken)))
 
 same-length-2 : tie.Need-same-length-2
@@ -63,9 +63,9 @@ returns-2 c =
     let at-slot-of = at-word-at .before .before in
     let at-if1 = at-slot-of .before .before in
     let at-start = at-if1 .before .before .before .before .before in
-    entered-over (wordsOf (at-start .args .image .now)) _ _ _ _ _ _ _ _ _ _ _ _
+    entered-over (at-start .args .size) (wordsOf (at-start .args .image .now)) _ _ _ _ _ _ _ _ _ _ _ _
     (c .before .before .renew .ensures .kept)
-    (enter-full _ _ _ _ _ _ _ _ (at-slot-of .slot-of .ensures) (at-word-at .word-at .ensures) (at-if1 .if1 .taken)
+    (enter-full (at-start .args .size) _ _ _ _ _ _ _ _ (at-slot-of .slot-of .ensures) (at-word-at .word-at .ensures) (at-if1 .if1 .taken)
     (at-if2 .if2 .taken) (rw (← c .before .capacity .ensures) (c .if3 .left)))
 
 enter-known-requires : tie.Need-enter-known-requires
@@ -82,16 +82,16 @@ returns-3 c =
     let at-if1 = at-slot-of .before .before in
     let at-start = at-if1 .before .before .before .before .before in
     let t = c .before .before .enter-known .ensures in
-    entered-renewed (wordsOf (at-start .args .image .now)) _ _ _ _ _ _ _ _ _ _ _ _ _ _ (at-slot-of .slot-of .ensures)
+    entered-renewed (at-start .args .size) (wordsOf (at-start .args .image .now)) _ _ _ _ _ _ _ _ _ _ _ _ _ _ (at-slot-of .slot-of .ensures)
     (at-word-at .word-at .ensures) (at-if1 .if1 .taken) (t .renewed)
-    (enter-old _ _ _ _ _ _ _ _ (at-slot-of .slot-of .ensures) (at-word-at .word-at .ensures) (at-if1 .if1 .taken) _ _ refl
+    (enter-old (at-start .args .size) _ _ _ _ _ _ _ _ (at-slot-of .slot-of .ensures) (at-word-at .word-at .ensures) (at-if1 .if1 .taken) _ _ refl
     (t .put) _ (t .low) (at-if2 .if2 .left))
 
 returns-4 : tie.Need-returns-4
 returns-4 c =
     let at-start = c .before .before .before .before .before in
-    entered-over (wordsOf (at-start .args .image .now)) _ _ _ _ _ _ _ _ _ _ _ _
-    (alone-self _ (c .before .buffer-length .ensures .1)) (enter-over _ _ _ _ _ _ (c .if1 .left))
+    entered-over (at-start .args .size) (wordsOf (at-start .args .image .now)) _ _ _ _ _ _ _ _ _ _ _ _
+    (alone-self _ (c .before .buffer-length .ensures .1)) (enter-over (at-start .args .size) _ _ _ _ _ _ (c .if1 .left))
 
 pub enter-spec : {M : Type 1} → statement M
 enter-spec =
@@ -103,7 +103,7 @@ enter-spec =
     renew-requires
     capacity-requires
     set-slot-requires
-    add-t29
+    add-t30
     is-single-requires
     same-length
     returns

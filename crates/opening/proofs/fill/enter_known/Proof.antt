@@ -24,7 +24,7 @@ returns : tie.Need-returns
 returns c =
     let at-with-entry = c .before .before .before .before .before in
     let at-renew = at-with-entry .before in
-    again-is _ _ _ _ _ _ _ _ _ _ _ _ _ (at-with-entry .with-entry .ensures) (c .before .before .before .set-slot .ensures)
+    again-is _ _ _ _ _ _ _ _ _ _ _ _ _ _ (at-with-entry .with-entry .ensures) (c .before .before .before .set-slot .ensures)
     (c .is-single .ensures) (at-renew .renew .ensures)
 
 pub enter-known-spec : {M : Type 1} → statement M

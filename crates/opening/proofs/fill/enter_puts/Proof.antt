@@ -10,36 +10,30 @@ use Rattle.words.specs.Image.{length-wordsOf}
 use Rattle.theory_log.proofs.Walk.{room-entry}
 use Rattle.opening.specs.Pass.{Hastened}
 use Rattle.volatile.proofs.Shows.{own-alone}
-use Rattle.opening.proofs.Runs.{put-told, run-start, run-more, run-again}
+use Rattle.opening.proofs.Runs.{one-chunk, put-told, run-start, run-more, run-again}
 use Rattle.opening.proofs.fill.enter_puts.Statement.{statement}
 use Rattle.opening.proofs.fill.enter_puts.Tie as tie
 
 abbrev Inv-loop : tie.InvT-loop
-Inv-loop image at end table₀ buffer₀ keys fits single room count₀ lonely₀ from₀ place₀ table buffer count lonely from place = Hastened (wordsOf image) end fits table₀ keys single buffer₀ at table count lonely buffer from place
+Inv-loop image at end table₀ buffer₀ keys fits single size room count₀ lonely₀ from₀ place₀ table buffer count lonely from place = Hastened size (wordsOf image) end fits table₀ keys single buffer₀ at table count lonely buffer from place
 
 abbrev μ-loop : tie.MeasureT-loop
-μ-loop image at end table₀ buffer₀ keys fits single room count₀ lonely₀ from₀ place₀ table buffer count lonely from place = length (wordsOf image) - place
+μ-loop image at end table₀ buffer₀ keys fits single size room count₀ lonely₀ from₀ place₀ table buffer count lonely from place = length (wordsOf image) - place
 
 buffer-length-requires : tie.Need-buffer-length-requires Inv-loop μ-loop
 buffer-length-requires c κs = search needs
 
-add-if1 : tie.Need-add-if1 Inv-loop μ-loop
-add-if1 c = search needs
-
-add-if1-2 : tie.Need-add-if1-2 Inv-loop μ-loop
-add-if1-2 c = search needs
-
-add-if1-3 : tie.Need-add-if1-3 Inv-loop μ-loop
-add-if1-3 c = search needs
+is-wide-requires : tie.Need-is-wide-requires Inv-loop μ-loop
+is-wide-requires c κs = search needs
 
 returns : tie.Need-returns Inv-loop μ-loop
-returns c = run-start _ _ _ _ _ _ _ _ (c .before .buffer-length .ensures .1)
+returns c = run-start _ _ _ _ _ _ _ _ _ (c .before .before .buffer-length .ensures .1)
 
 capacity-requires : tie.Need-capacity-requires Inv-loop μ-loop
 capacity-requires c κs = search needs
 
 loop-holds : tie.Need-loop-holds Inv-loop μ-loop
-loop-holds c = run-start _ _ _ _ _ _ _ _ (c .before .before .buffer-length .ensures .1)
+loop-holds c = run-start _ _ _ _ _ _ _ _ _ (c .before .before .before .buffer-length .ensures .1)
 
 short-put-requires : tie.Need-short-put-requires Inv-loop μ-loop
 short-put-requires c κs = search needs
@@ -90,7 +84,8 @@ add-from c =
     let at-s = at-slot-of .before .before .before in
     let at-short-put = at-s .before .before in
     let at-loop = at-short-put .before .before in
-    let at-start = at-loop .before .before .before .before .before .before .before in
+    let at-buffer-length = at-loop .before .before .before .before in
+    let at-start = at-buffer-length .before .before .before .before in
     let a = at-start .args in
     let short = at-start .good .0 .0 in
     let w = at-loop .loop in
@@ -107,7 +102,8 @@ add-from-2 c =
     let at-s = at-slot-of .before .before .before in
     let at-short-put = at-s .before .before in
     let at-loop = at-short-put .before .before in
-    let at-start = at-loop .before .before .before .before .before .before .before in
+    let at-buffer-length = at-loop .before .before .before .before in
+    let at-start = at-buffer-length .before .before .before .before in
     let a = at-start .args in
     let short = at-start .good .0 .0 in
     let w = at-loop .loop in
@@ -124,7 +120,8 @@ loop-less c =
     let at-s = at-slot-of .before .before .before in
     let at-short-put = at-s .before .before in
     let at-loop = at-short-put .before .before in
-    let at-start = at-loop .before .before .before .before .before .before .before in
+    let at-buffer-length = at-loop .before .before .before .before in
+    let at-start = at-buffer-length .before .before .before .before in
     let a = at-start .args in
     let w = at-loop .loop in
     let r = room-entry (wordsOf (a .image .now)) (w .place) (a .end) _ _ _ _ _ _
@@ -146,13 +143,13 @@ loop-again c =
     let at-loop-test = at-short-put .before in
     let at-loop = at-loop-test .before in
     let at-if1 = at-loop .before .before in
-    let at-start = at-if1 .before .before .before .before .before in
+    let at-start = at-if1 .before .before .before .before .before .before in
     let a = at-start .args in
     let w = at-loop .loop in
-    run-again _ _ _ _ _ _ _ _ (at-if1 .if1 .left) _ _ _ _ _ _ (w .inv) _ _ _ _
+    run-again (a .size) _ _ _ _ _ _ _ _ (one-chunk (a .size) (a .at) (a .end) _ (at-if1 .before .is-wide .ensures) (at-if1 .if1 .left)) _ _ _ _ _ _ (w .inv) _ _ _ _
     (put-told (wordsOf (a .image .now)) (w .place) (a .end) _ (at-short-put .short-put .ensures) _ _ _ _
     (at-s .s .given .1)) _ _ (at-slot-of .slot-of .ensures) (at-word-at .word-at .ensures) _
-    (own-alone 0 (at-s .s .given .0 .1 .0) _ _ _ _ (at-extent-of .extent-of .ensures) (at-single-entry .single-entry .ensures))
+    (own-alone (a .size) 0 (at-s .s .given .0 .1 .0) _ _ _ _ (at-extent-of .extent-of .ensures) (at-single-entry .single-entry .ensures))
     (at-loop-test .loop-test .taken) (at-if2 .if2 .taken) _ (at-add .add .ensures) _ (at-weigh .weigh .ensures) _ _ _
     (c .before .before .enter-known .ensures)
 
@@ -181,7 +178,8 @@ add-place c =
     let at-s = at-slot-of .before .before .before in
     let at-short-put = at-s .before .before in
     let at-loop = at-short-put .before .before in
-    let at-start = at-loop .before .before .before .before .before .before .before in
+    let at-buffer-length = at-loop .before .before .before .before in
+    let at-start = at-buffer-length .before .before .before .before in
     let a = at-start .args in
     let w = at-loop .loop in
     let r = room-entry (wordsOf (a .image .now)) (w .place) (a .end) _ _ _ _ _ _
@@ -197,7 +195,8 @@ add-place-2 c =
     let at-s = at-slot-of .before .before .before in
     let at-short-put = at-s .before .before in
     let at-loop = at-short-put .before .before in
-    let at-start = at-loop .before .before .before .before .before .before .before in
+    let at-buffer-length = at-loop .before .before .before .before in
+    let at-start = at-buffer-length .before .before .before .before in
     let a = at-start .args in
     let w = at-loop .loop in
     let r = room-entry (wordsOf (a .image .now)) (w .place) (a .end) _ _ _ _ _ _
@@ -213,7 +212,8 @@ loop-less-2 c =
     let at-s = at-slot-of .before .before .before in
     let at-short-put = at-s .before .before in
     let at-loop = at-short-put .before .before in
-    let at-start = at-loop .before .before .before .before .before .before .before in
+    let at-buffer-length = at-loop .before .before .before .before in
+    let at-start = at-buffer-length .before .before .before .before in
     let a = at-start .args in
     let w = at-loop .loop in
     let r = room-entry (wordsOf (a .image .now)) (w .place) (a .end) _ _ _ _ _ _
@@ -235,13 +235,13 @@ loop-again-2 c =
     let at-loop = at-loop-test .before in
     let at-capacity = at-loop .before in
     let at-if1 = at-capacity .before in
-    let at-start = at-if1 .before .before .before .before .before in
+    let at-start = at-if1 .before .before .before .before .before .before in
     let a = at-start .args in
     let w = at-loop .loop in
-    run-more _ _ _ _ _ _ _ _ (at-if1 .if1 .left) _ _ _ _ _ _ (w .inv) _ _ _ _
+    run-more (a .size) _ _ _ _ _ _ _ _ (one-chunk (a .size) (a .at) (a .end) _ (at-if1 .before .is-wide .ensures) (at-if1 .if1 .left)) _ _ _ _ _ _ (w .inv) _ _ _ _
     (put-told (wordsOf (a .image .now)) (w .place) (a .end) _ (at-short-put .short-put .ensures) _ _ _ _
     (at-s .s .given .1)) _ _ (at-slot-of .slot-of .ensures) (at-word-at .word-at .ensures) _
-    (own-alone 0 (at-s .s .given .0 .1 .0) _ _ _ _ (at-extent-of2 .extent-of2 .ensures) (at-single-entry2 .single-entry2 .ensures))
+    (own-alone (a .size) 0 (at-s .s .given .0 .1 .0) _ _ _ _ (at-extent-of2 .extent-of2 .ensures) (at-single-entry2 .single-entry2 .ensures))
     (at-loop-test .loop-test .taken) (at-if2 .if2 .left) (rw (← at-capacity .capacity .ensures) (at-if3 .if3 .left)) _
     (c .before .before .set-slot .ensures)
 
@@ -258,9 +258,7 @@ enter-puts-spec =
     Inv-loop
     μ-loop
     buffer-length-requires
-    add-if1
-    add-if1-2
-    add-if1-3
+    is-wide-requires
     returns
     capacity-requires
     loop-holds

@@ -5,6 +5,7 @@ use mathlib.Core.Path.{sym, _∙_, ap}
 use native.Mathlib.Omega.{arith}
 use lib.ListN.{length-replicate, length}
 use borrow.Author.Needs.{needs}
+use Rattle.places.specs.Sizes.{powerOf}
 use Rattle.spec.specs.Words.{wordsOf}
 use Rattle.words.specs.Image.{length-wordsOf}
 use Rattle.theory_log.proofs.Walk.{room-padding, room-entry}
@@ -20,10 +21,10 @@ use Rattle.opening.proofs.fill.fill.Statement.{statement}
 use Rattle.opening.proofs.fill.fill.Tie as tie
 
 abbrev Inv-loop : tie.InvT-loop
-Inv-loop image count table₀ buffer₀ keys₀ fits₀ single₀ direct₀ chunk₀ at₀ end₀ table buffer keys fits single direct chunk at end = Passing count (wordsOf image) (length table₀) table keys fits single direct buffer 0 0 (cursorAt chunk at end) × SumsAlone buffer₀ buffer
+Inv-loop image count table₀ buffer₀ size keys₀ fits₀ single₀ direct₀ chunk₀ at₀ end₀ table buffer keys fits single direct chunk at end = Passing size count (wordsOf image) (length table₀) table keys fits single direct buffer 0 0 (cursorAt chunk at end) × SumsAlone buffer₀ buffer
 
 abbrev μ-loop : tie.MeasureT-loop
-μ-loop image count table₀ buffer₀ keys₀ fits₀ single₀ direct₀ chunk₀ at₀ end₀ table buffer keys fits single direct chunk at end = left count (wordsOf image) (cursorAt chunk at end)
+μ-loop image count table₀ buffer₀ size keys₀ fits₀ single₀ direct₀ chunk₀ at₀ end₀ table buffer keys fits single direct chunk at end = left count (wordsOf image) (cursorAt chunk at end)
 
 clear-requires : tie.Need-clear-requires Inv-loop μ-loop
 clear-requires c κs = search needs
@@ -35,7 +36,7 @@ loop-holds : tie.Need-loop-holds Inv-loop μ-loop
 loop-holds c =
     let at-clear = c .before .before .before .before in
     let at-start = at-clear .before .before .before .before in (
-      pass-start _ _ (length (at-start .args .table .now)) _ (at-clear .clear .ensures) _ _ (c .clear2 .ensures),
+      pass-start (at-start .args .size) _ _ (length (at-start .args .table .now)) _ (at-clear .clear .ensures) _ _ (c .clear2 .ensures),
       alone-self _ (c .clear2 .ensures .kept .long ∙ c .clear2 .ensures .kept .size),
     )
 
@@ -74,15 +75,15 @@ returns c =
     let at-loop = at-skip-padding .before in
     let at-clear2 = at-loop .before in
     let at-clear = at-clear2 .before .before .before .before in
-    pass-done _ _ _ _ _ _ _ _ _ _
-    (pass-paid _ _ _ _ _ _ _ _ _ _ _ _ _
+    pass-done _ _ _ _ _ _ _ _ _ _ _
+    (pass-paid _ _ _ _ _ _ _ _ _ _ _ _ _ _
     (at-enter-puts .enter-puts .ensures .passes _ _ _ _
-    (pass-on _ _ _ _ _ _ _ _ _ _ _ _ _ (at-loop .loop .inv .0) (at-skip-padding .skip-padding .ensures .same _ _)))
+    (pass-on _ _ _ _ _ _ _ _ _ _ _ _ _ _ (at-loop .loop .inv .0) (at-skip-padding .skip-padding .ensures .same _ _ _)))
     (at-add .add .ensures)) _ _ (ap length (at-clear .clear .ensures))
     (alone-then _ _ _ (at-clear2 .clear2 .ensures .kept)
     (alone-then _ _ _ (alone-then _ _ _ (at-loop .loop .inv .1) (at-enter-puts .enter-puts .ensures .kept))
     (at-add .add .ensures .kept)))
-    (next-none _ _ _ _ _ (sym (c .before .before .before .next-entry .ensures) ∙ c .before .enum-told .given .1)
+    (next-none _ _ _ _ _ _ (sym (c .before .before .before .next-entry .ensures) ∙ c .before .enum-told .given .1)
     (omega arith))
 
 sub-if2 : tie.Need-sub-if2 Inv-loop μ-loop
@@ -106,15 +107,15 @@ returns-2 c =
     let at-loop = at-skip-padding .before in
     let at-clear2 = at-loop .before in
     let at-clear = at-clear2 .before .before .before .before in
-    pass-done _ _ _ _ _ _ _ _ _ _
-    (pass-paid _ _ _ _ _ _ _ _ _ _ _ _ _
+    pass-done _ _ _ _ _ _ _ _ _ _ _
+    (pass-paid _ _ _ _ _ _ _ _ _ _ _ _ _ _
     (at-enter-puts .enter-puts .ensures .passes _ _ _ _
-    (pass-on _ _ _ _ _ _ _ _ _ _ _ _ _ (at-loop .loop .inv .0) (at-skip-padding .skip-padding .ensures .same _ _)))
+    (pass-on _ _ _ _ _ _ _ _ _ _ _ _ _ _ (at-loop .loop .inv .0) (at-skip-padding .skip-padding .ensures .same _ _ _)))
     (at-add .add .ensures)) _ _ (ap length (at-clear .clear .ensures))
     (alone-then _ _ _ (at-clear2 .clear2 .ensures .kept)
     (alone-then _ _ _ (alone-then _ _ _ (at-loop .loop .inv .1) (at-enter-puts .enter-puts .ensures .kept))
     (at-add .add .ensures .kept)))
-    (next-none _ _ _ _ _ (sym (at-next-entry .next-entry .ensures) ∙ c .before .before .enum-told .given .1)
+    (next-none _ _ _ _ _ _ (sym (at-next-entry .next-entry .ensures) ∙ c .before .before .enum-told .given .1)
     (omega arith))
 
 add-onward : tie.Need-add-onward Inv-loop μ-loop
@@ -141,7 +142,7 @@ loop-less c =
     let at-start = at-clear .before .before .before .before in
     let a = at-start .args in
     let w = at-loop .loop in
-    let f = onward-nearer (a .count) (wordsOf (a .image .now)) (w .chunk) (at-enter-puts .enter-puts .result .at) (w .end)
+    let f = onward-nearer (powerOf (a .size)) (a .count) (wordsOf (a .image .now)) (w .chunk) (at-enter-puts .enter-puts .result .at) (w .end)
     (omega arith) (c .onward .result) (c .onward .ensures) in
     let m = at-enter-puts .enter-puts .ensures .nearer (a .count) (w .chunk) in
     let k = at-skip-padding .skip-padding .ensures .nearer (a .count) (w .chunk) in
@@ -154,12 +155,12 @@ loop-again c =
     let at-enter-puts = at-add .before .before .before .before .before in
     let at-skip-padding = at-enter-puts .before .before .before in
     let at-loop = at-skip-padding .before in (
-      pass-on _ _ _ _ _ _ _ _ _ _ _ _ _
-          (pass-paid _ _ _ _ _ _ _ _ _ _ _ _ _
+      pass-on _ _ _ _ _ _ _ _ _ _ _ _ _ _
+          (pass-paid _ _ _ _ _ _ _ _ _ _ _ _ _ _
           (at-enter-puts .enter-puts .ensures .passes _ _ _ _
-          (pass-on _ _ _ _ _ _ _ _ _ _ _ _ _ (at-loop .loop .inv .0) (at-skip-padding .skip-padding .ensures .same _ _)))
+          (pass-on _ _ _ _ _ _ _ _ _ _ _ _ _ _ (at-loop .loop .inv .0) (at-skip-padding .skip-padding .ensures .same _ _ _)))
           (at-add .add .ensures))
-          (onward-same _ _ _ _ _ (omega arith) _ (c .onward .ensures)
+          (onward-same _ _ _ _ _ _ (omega arith) _ (c .onward .ensures)
           (sym (at-next-entry .next-entry .ensures) ∙ c .before .before .before .enum-told .given .1)),
       (alone-then _ _ _ (alone-then _ _ _ (at-loop .loop .inv .1) (at-enter-puts .enter-puts .ensures .kept))
           (at-add .add .ensures .kept)),
@@ -185,15 +186,15 @@ returns-3 c =
     let at-loop = at-skip-padding .before in
     let at-clear2 = at-loop .before in
     let at-clear = at-clear2 .before .before .before .before in
-    pass-wrong _ _ _ _ _ _ _ _ _ _
-    (pass-paid _ _ _ _ _ _ _ _ _ _ _ _ _
+    pass-wrong _ _ _ _ _ _ _ _ _ _ _
+    (pass-paid _ _ _ _ _ _ _ _ _ _ _ _ _ _
     (at-enter-puts .enter-puts .ensures .passes _ _ _ _
-    (pass-on _ _ _ _ _ _ _ _ _ _ _ _ _ (at-loop .loop .inv .0) (at-skip-padding .skip-padding .ensures .same _ _)))
+    (pass-on _ _ _ _ _ _ _ _ _ _ _ _ _ _ (at-loop .loop .inv .0) (at-skip-padding .skip-padding .ensures .same _ _ _)))
     (at-add .add .ensures)) _ _ (ap length (at-clear .clear .ensures))
     (alone-then _ _ _ (at-clear2 .clear2 .ensures .kept)
     (alone-then _ _ _ (alone-then _ _ _ (at-loop .loop .inv .1) (at-enter-puts .enter-puts .ensures .kept))
     (at-add .add .ensures .kept)))
-    (next-wrong _ _ _ _ _ (sym (c .before .before .next-entry .ensures) ∙ c .enum-told2 .given .1))
+    (next-wrong _ _ _ _ _ _ (sym (c .before .before .next-entry .ensures) ∙ c .enum-told2 .given .1))
 
 enum-told-3 : tie.Need-enum-told-3 Inv-loop μ-loop
 enum-told-3 c = search needs
@@ -223,7 +224,7 @@ loop-less-2 c =
     let at-start = at-clear .before .before .before .before in
     let a = at-start .args in
     let w = at-loop .loop in
-    let f = left-padding (a .count) (wordsOf (a .image .now)) (w .chunk) (at-enter-puts .enter-puts .result .at) (w .end)
+    let f = left-padding (powerOf (a .size)) (a .count) (wordsOf (a .image .now)) (w .chunk) (at-enter-puts .enter-puts .result .at) (w .end)
     (sym (c .before .before .next-entry .ensures) ∙ c .enum-told3 .given .1) in
     let m = at-enter-puts .enter-puts .ensures .nearer (a .count) (w .chunk) in
     let k = at-skip-padding .skip-padding .ensures .nearer (a .count) (w .chunk) in
@@ -235,12 +236,12 @@ loop-again-2 c =
     let at-enter-puts = at-add .before .before .before .before .before in
     let at-skip-padding = at-enter-puts .before .before .before in
     let at-loop = at-skip-padding .before in (
-      pass-on _ _ _ _ _ _ _ _ _ _ _ _ _
-          (pass-paid _ _ _ _ _ _ _ _ _ _ _ _ _
+      pass-on _ _ _ _ _ _ _ _ _ _ _ _ _ _
+          (pass-paid _ _ _ _ _ _ _ _ _ _ _ _ _ _
           (at-enter-puts .enter-puts .ensures .passes _ _ _ _
-          (pass-on _ _ _ _ _ _ _ _ _ _ _ _ _ (at-loop .loop .inv .0) (at-skip-padding .skip-padding .ensures .same _ _)))
+          (pass-on _ _ _ _ _ _ _ _ _ _ _ _ _ _ (at-loop .loop .inv .0) (at-skip-padding .skip-padding .ensures .same _ _ _)))
           (at-add .add .ensures))
-          (next-padding _ _ _ _ _ (sym (c .before .before .next-entry .ensures) ∙ c .enum-told3 .given .1)),
+          (next-padding _ _ _ _ _ _ (sym (c .before .before .next-entry .ensures) ∙ c .enum-told3 .given .1)),
       (alone-then _ _ _ (alone-then _ _ _ (at-loop .loop .inv .1) (at-enter-puts .enter-puts .ensures .kept))
           (at-add .add .ensures .kept)),
     )
@@ -309,7 +310,7 @@ loop-less-3 c =
     let at-start = at-clear .before .before .before .before in
     let a = at-start .args in
     let w = at-loop .loop in
-    let f = next-found (a .count) (wordsOf (a .image .now)) (w .chunk) (at-enter-puts .enter-puts .result .at) (w .end) _ _ _ _ _ _
+    let f = next-found (powerOf (a .size)) (a .count) (wordsOf (a .image .now)) (w .chunk) (at-enter-puts .enter-puts .result .at) (w .end) _ _ _ _ _ _
     (sym (at-next-entry .next-entry .ensures) ∙ at-s .s .given .1) .falls in
     let m = at-enter-puts .enter-puts .ensures .nearer (a .count) (w .chunk) in
     let k = at-skip-padding .skip-padding .ensures .nearer (a .count) (w .chunk) in
@@ -327,14 +328,14 @@ loop-again-3 c =
     let at-enter-puts = at-add .before .before .before .before .before in
     let at-skip-padding = at-enter-puts .before .before .before in
     let at-loop = at-skip-padding .before in (
-      pass-entered _ _ _ _ _ _ _ _ _ _
-          (pass-paid _ _ _ _ _ _ _ _ _ _ _ _ _
+      pass-entered _ _ _ _ _ _ _ _ _ _ _
+          (pass-paid _ _ _ _ _ _ _ _ _ _ _ _ _ _
           (at-enter-puts .enter-puts .ensures .passes _ _ _ _
-          (pass-on _ _ _ _ _ _ _ _ _ _ _ _ _ (at-loop .loop .inv .0) (at-skip-padding .skip-padding .ensures .same _ _)))
+          (pass-on _ _ _ _ _ _ _ _ _ _ _ _ _ _ (at-loop .loop .inv .0) (at-skip-padding .skip-padding .ensures .same _ _ _)))
           (at-add .add .ensures)) _ _ _ _ _ _ _ _
-          (next-found _ _ (at-loop .loop .chunk) _ _ _ _ _ _ _ _
+          (next-found _ _ _ (at-loop .loop .chunk) _ _ _ _ _ _ _ _
           (sym (at-next-entry .next-entry .ensures) ∙ at-s .s .given .1)) _ (at-is-direct .is-direct .ensures) _
-          (own-alone (at-s .s .given .0 .1 .0) (at-s .s .given .0 .1 .1 .1 .0) _ _ _ _ (at-extent-of .extent-of .ensures)
+          (own-alone _ (at-s .s .given .0 .1 .0) (at-s .s .given .0 .1 .1 .1 .0) _ _ _ _ (at-extent-of .extent-of .ensures)
           (at-single-entry .single-entry .ensures)) _ (at-weigh .weigh .ensures) _ _ _ _ _ (c .before .before .enter .ensures),
       alone-then _
           _ _

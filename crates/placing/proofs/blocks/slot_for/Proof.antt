@@ -28,7 +28,7 @@ returns c =
     let at-start = c .before .before .before .before .before in
     let a = at-start .args in
     let f = c .before .before .before .find-block in
-    slot-data (a .image .now) (a .count) (a .size) (a .buffer .now) (a .words) (f .result) (f .ensures) _
+    slot-data (a .size) (a .image .now) (a .count) (a .units) (a .buffer .now) (a .words) (f .result) (f .ensures) _
     (c .before .block .given .1)
 
 returns-2 : tie.Need-returns-2
@@ -39,7 +39,7 @@ returns-2 c =
     let a = at-start .args in
     let f = at-find-block .find-block in
     let g = c .before .before .before .free-chunk in
-    slot-free (a .image .now) (a .count) (a .size) (a .buffer .now) (a .words) (f .result) (f .ensures) (g .result)
+    slot-free (a .size) (a .image .now) (a .count) (a .units) (a .buffer .now) (a .words) (f .result) (f .ensures) (g .result)
     (at-enum-told .enum-told .given .1) (g .ensures) _ (c .before .free .given .1)
 
 returns-3 : tie.Need-returns-3
@@ -49,7 +49,7 @@ returns-3 c =
     let a = at-start .args in
     let f = at-find-block .find-block in
     let g = c .before .before .free-chunk in
-    slot-nowhere (a .image .now) (a .count) (a .size) (a .buffer .now) (a .words) (f .result) (f .ensures) (g .result)
+    slot-nowhere (a .size) (a .image .now) (a .count) (a .units) (a .buffer .now) (a .words) (f .result) (f .ensures) (g .result)
     (c .before .before .before .enum-told .given .1) (g .ensures) (c .enum-told2 .given .1)
 
 pub slot-for-spec : {M : Type 1} → statement M

@@ -30,7 +30,7 @@ returns : tie.Need-returns
 returns c =
     let w = c .before .before .before in
     let f = w .before .before in
-    shows-log _ _ _ _ _ _ _ _ _ _ (f .before .start-of .ensures) (f .lesser .ensures) (w .before .near-chunk .ensures) (w .wider-chunk .ensures) _ _ (omega arith) (c .before .place-at .ensures) (c .hint-of .ensures)
+    shows-log _ _ _ _ _ _ _ _ _ _ _ (f .before .start-of .ensures) (f .lesser .ensures) (w .before .near-chunk .ensures) (w .wider-chunk .ensures) _ _ (omega arith) (c .before .place-at .ensures) (c .hint-of .ensures)
 
 free-start-requires : tie.Need-free-start-requires
 free-start-requires c κs = c .before .before .before .before .start-of .ensures .low
@@ -62,7 +62,7 @@ returns-2 c =
     let g = p .before .before .before .before in
     let w = g .before .before .before in
     let f = w .before .before in
-    shows-free _ _ _ _ _ _ _ _ _ _ (f .before .start-of .ensures) (f .lesser .ensures) (w .before .near-chunk .ensures) (w .wider-chunk .ensures) _ (g .before .free-start .ensures) _ (g .free-from .ensures)
+    shows-free _ _ _ _ _ _ _ _ _ _ _ (f .before .start-of .ensures) (f .lesser .ensures) (w .before .near-chunk .ensures) (w .wider-chunk .ensures) _ (g .before .free-start .ensures) _ (g .free-from .ensures)
     _ _ _ _ _ (λ e. leb-true _ _ e) (omega arith) (p .before .before .free .given .1) (p .place-at2 .ensures) (c .before .lesser2 .ensures) (c .hint-of2 .ensures)
 
 returns-3 : tie.Need-returns-3
@@ -70,7 +70,7 @@ returns-3 c =
     let g = c .before .before .before in
     let w = g .before .before .before in
     let f = w .before .before in
-    shows-nowhere _ _ _ _ _ _ _ _ _ _ (f .before .start-of .ensures) (f .lesser .ensures) (w .before .near-chunk .ensures) (w .wider-chunk .ensures) _ (g .before .free-start .ensures) _ (g .free-from .ensures)
+    shows-nowhere _ _ _ _ _ _ _ _ _ _ _ (f .before .start-of .ensures) (f .lesser .ensures) (w .before .near-chunk .ensures) (w .wider-chunk .ensures) _ (g .before .free-start .ensures) _ (g .free-from .ensures)
     _ (omega arith) (c .before .enum-told .given .1) (c .hint-of3 .ensures)
 
 pub log-place-spec : {M : Type 1} → statement M

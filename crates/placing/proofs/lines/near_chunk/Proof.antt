@@ -11,13 +11,13 @@ has-space-requires : tie.Need-has-space-requires
 has-space-requires c κs = search needs
 
 returns : tie.Need-returns
-returns c = near-here _ _ _ _ _ (c .before .before .before .if1 .taken) (sym (c .before .has-space .ensures) ∙ c .if3 .taken)
+returns c = near-here _ _ _ _ _ _ (c .before .before .before .if1 .taken) (sym (c .before .has-space .ensures) ∙ c .if3 .taken)
 
 returns-2 : tie.Need-returns-2
-returns-2 c = near-none _ _ _ _ _ (c .before .before .before .if1 .taken) (omega arith) (sym (c .before .has-space .ensures) ∙ c .if3 .left)
+returns-2 c = near-none _ _ _ _ _ _ (c .before .before .before .if1 .taken) (omega arith) (sym (c .before .has-space .ensures) ∙ c .if3 .left)
 
 returns-3 : tie.Need-returns-3
-returns-3 c = near-past _ _ _ _ _ (c .before .if1 .taken) (omega arith)
+returns-3 c = near-past _ _ _ _ _ _ (c .before .if1 .taken) (omega arith)
 
 next-chunk-requires : tie.Need-next-chunk-requires
 next-chunk-requires c κs = search needs

@@ -6,6 +6,7 @@ use mathlib.Core.Path.{_≡_, sym, _∙_}
 use mathlib.Core.Bool.{false}
 use native.Mathlib.Omega.{arith}
 use Rattle.spec.specs.Words.{wordsOf}
+use Rattle.places.specs.Sizes.{powerOf}
 use Rattle.spec.specs.Plans.{hasSpace}
 use borrow.Author.Needs.{needs}
 use Rattle.directory.proofs.Search.{before-more}
@@ -13,10 +14,10 @@ use Rattle.placing.proofs.lines.next_chunk.Statement.{statement}
 use Rattle.placing.proofs.lines.next_chunk.Tie as tie
 
 abbrev Inv-loop : tie.InvT-loop
-Inv-loop image from count lines x c₀ c = (from ≤ c) × ((d : ℕ) → from ≤ d → d < c → hasSpace 12 (wordsOf image) lines x d ≡ false)
+Inv-loop image from count lines x size c₀ c = (from ≤ c) × ((d : ℕ) → from ≤ d → d < c → hasSpace (powerOf size) (wordsOf image) lines x d ≡ false)
 
 abbrev μ-loop : tie.MeasureT-loop
-μ-loop image from count lines x c₀ c = count - c
+μ-loop image from count lines x size c₀ c = count - c
 
 loop-holds : tie.Need-loop-holds Inv-loop μ-loop
 loop-holds c = (omega arith, λ d l u. absurd (omega arith))
@@ -41,7 +42,7 @@ loop-again c =
     let a = at-start .args in
     let at = c .before .before .before .loop in (
       omega arith,
-      before-more (hasSpace 12 (wordsOf (a .image .now)) (a .lines) (a .x)) (a .from) (at .c) (at .inv .1)
+      before-more (hasSpace (powerOf (a .size)) (wordsOf (a .image .now)) (a .lines) (a .x)) (a .from) (at .c) (at .inv .1)
           (sym (c .before .has-other-space .ensures) ∙ c .if1 .left),
     )
 

@@ -86,14 +86,17 @@ returns-3 c =
 store-batch-requires : tie.Need-store-batch-requires
 store-batch-requires c κs = search needs
 
-mul-line : tie.Need-mul-line
-mul-line c = search needs
+size-by-requires : tie.Need-size-by-requires
+size-by-requires c κs = search needs
+
+first-line-requires : tie.Need-first-line-requires
+first-line-requires c κs = search needs
 
 add-line-2 : tie.Need-add-line-2
 add-line-2 c = search needs
 
-mul-line-2 : tie.Need-mul-line-2
-mul-line-2 c = search needs
+mul-line : tie.Need-mul-line
+mul-line c = search needs
 
 sub-line : tie.Need-sub-line
 sub-line c = search needs
@@ -109,13 +112,16 @@ same-length-2 c = search needs
 
 returns-4 : tie.Need-returns-4
 returns-4 c =
-    let at-if2 = c .before .before .before .before .before in
+    let at-store-batch = c .before .before .before .before in
+    let at-if3 = at-store-batch .before .before in
+    let at-if2 = at-if3 .before in
     let at-batch-lines = at-if2 .before .before .before in
     let at-if1 = at-batch-lines .before in
     let at-is-fast-step = at-if1 .before in
     record {
-      within = λ h. run-batch _ _ _ _ _ (at-batch-lines .batch-lines .ensures) _ h _ _ _
-          (c .before .before .store-batch .ensures) (let n = at-if2 .if2 .left in omega (arith, n)) refl;
+      within = λ h. run-batch _ _ _ _ _ (at-batch-lines .batch-lines .ensures) _ h (c .before .size-by .result)
+          (c .before .size-by .ensures) _ _ _ (at-store-batch .store-batch .ensures)
+          (let n = at-if2 .if2 .left in let m = at-if3 .if3 .left in omega (arith, n)) (omega arith);
       without = λ no. absurd (no (at-is-fast-step .is-fast-step .ensures .0 (at-if1 .if1 .taken)));
     }
 
@@ -143,9 +149,10 @@ fast-run-spec =
     add-next-3
     returns-3
     store-batch-requires
-    mul-line
+    size-by-requires
+    first-line-requires
     add-line-2
-    mul-line-2
+    mul-line
     sub-line
     add-line-3
     add-next-4

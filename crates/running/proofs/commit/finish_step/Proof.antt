@@ -24,6 +24,9 @@ returns c =
       without = λ no. absurd (no (late .before .is-finishing .ensures .0 (late .if1 .taken)));
     }
 
+size-by-requires : tie.Need-size-by-requires
+size-by-requires c κs = search needs
+
 batch-start-requires : tie.Need-batch-start-requires
 batch-start-requires c κs = search needs
 
@@ -46,9 +49,10 @@ returns-2 : tie.Need-returns-2
 returns-2 c =
     let joined = c .before .before .before .before in
     let placed = joined .before .before .before .before in
-    let late = placed .before .before .before .before in
+    let late = placed .before .before .before .before .before in
     record {
-      within = λ h. finish-joins _ _ _ _ _ h _ _ _ _ _ _ (placed .batch-start .ensures) (omega arith) (joined .join .ensures) (c .fenced .ensures .0) (c .fenced .ensures .1);
+      within = λ h. finish-joins _ _ _ _ _ h _ _ _ _ (placed .before .size-by .result) _ _ (placed .before .size-by .ensures)
+          (placed .batch-start .ensures .0) (omega arith) (joined .join .ensures) (c .fenced .ensures .0) (c .fenced .ensures .1);
       without = λ no. absurd (no (late .before .is-finishing .ensures .0 (late .if1 .taken)));
     }
 
@@ -63,6 +67,7 @@ finish-step-spec =
     commit-count-requires
     ended-requires
     returns
+    size-by-requires
     batch-start-requires
     join-requires
     add-fenced

@@ -6,10 +6,11 @@ use mathlib.Core.List.{List}
 use Prim.Native.Nat.{ℕ, _+_, _-_, _*_, _≤_, min, max}
 use native.Mathlib.Omega.{arith}
 use borrow.Author.Needs.{needs}
+use Rattle.spec.specs.Places.{base}
 use Rattle.session.specs.declared.Control.{Control}
 use Rattle.session.specs.declared.Setup.{Setup}
 use Rattle.buffer.specs.Areas.{batchRoom}
-use Rattle.session.specs.State.{chunkIn, linesIn}
+use Rattle.session.specs.State.{powerIn, chunkIn, linesIn}
 use Rattle.running.specs.Fast.{StoresTo}
 use Rattle.running.proofs.Fast.{none-yet, one-word, one-zero}
 use Rattle.running.proofs.commit.store_batch.Statement.{statement}
@@ -17,7 +18,7 @@ use Rattle.running.proofs.commit.store_batch.Tie as tie
 
 abbrev Inv-loop : tie.InvT-loop
 Inv-loop buffer image₀ words stores start at₀ image at =
-    (at₀ ≤ at) × ((at ≤ max at₀ words) × ((c : Control) (k : Setup) → words ≡ min (c .words) batchRoom → start ≡ 512 * chunkIn k + 8 * linesIn k → c .next ≡ at₀ → StoresTo c k buffer image₀ image at))
+    (at₀ ≤ at) × ((at ≤ max at₀ words) × ((c : Control) (k : Setup) → words ≡ min (c .words) batchRoom → start ≡ base (powerIn k) (chunkIn k) + 8 * linesIn k → c .next ≡ at₀ → StoresTo c k buffer image₀ image at))
 
 abbrev μ-loop : tie.MeasureT-loop
 μ-loop buffer image₀ words stores start at₀ image at = words - at
@@ -25,7 +26,7 @@ abbrev μ-loop : tie.MeasureT-loop
 abbrev Inv-loop2 : tie.InvT-loop2
 Inv-loop2 buffer image₀ words stores start at₀ image at =
     (at₀ ≤ at) × ((at ≤ max at₀ stores)
-    × ((c : Control) (k : Setup) (bytes : List ℕ) → words ≡ min (c .words) batchRoom → start ≡ 512 * chunkIn k + 8 * linesIn k → StoresTo c k buffer bytes image₀ at₀ → StoresTo c k buffer bytes image at))
+    × ((c : Control) (k : Setup) (bytes : List ℕ) → words ≡ min (c .words) batchRoom → start ≡ base (powerIn k) (chunkIn k) + 8 * linesIn k → StoresTo c k buffer bytes image₀ at₀ → StoresTo c k buffer bytes image at))
 
 abbrev μ-loop2 : tie.MeasureT-loop2
 μ-loop2 buffer image₀ words stores start at₀ image at = stores - at
@@ -111,7 +112,7 @@ same-length c =
     let at-start = at-lesser .before .before in
     let a = at-start .args in
     let w = at-lesser .lesser .ensures in
-    let s = at-batch-start .batch-start .ensures in
+    let s = at-batch-start .batch-start .ensures .0 in
     (c .before .loop2 .inv .1 .1 (a .control) (a .setup) _ w s
     (c .before .before .before .loop .inv .1 .1 (a .control) (a .setup) w s refl)) .made .sized
 
@@ -122,7 +123,7 @@ returns c =
     let at-start = at-lesser .before .before in
     let a = at-start .args in
     let w = at-lesser .lesser .ensures in
-    let s = at-batch-start .batch-start .ensures in
+    let s = at-batch-start .batch-start .ensures .0 in
     let i = c .before .before .before .loop .inv in
     let j = c .before .loop2 .inv in
     let low = i .0 in

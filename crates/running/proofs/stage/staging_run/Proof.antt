@@ -57,7 +57,7 @@ returns-3 c =
     let at-is-staging = at-if1 .before in
     record {
       within = λ h. flush-ends _ _ _ _ _ _ (c .before .before .before .take-count .ensures .0)
-          (at-held-words .held-words .ensures) (omega arith) _ h _ _ (c .staged2 .ensures .0) (c .staged2 .ensures .1)
+          (at-held-words .held-words .ensures .0) (omega arith) _ h _ _ (c .staged2 .ensures .0) (c .staged2 .ensures .1)
           (omega arith);
       without = λ no. absurd (no (at-is-staging .is-staging .ensures .0 (at-if1 .if1 .taken)));
     }
@@ -82,7 +82,7 @@ returns-4 c =
     let at-is-staging = at-if1 .before in
     rw (c .at-action .ensures)
     (record {
-      within = λ h. flush-acts _ _ _ _ _ _ (at-take-count .take-count .ensures .0) (at-held-words .held-words .ensures)
+      within = λ h. flush-acts _ _ _ _ _ _ (at-take-count .take-count .ensures .0) (at-held-words .held-words .ensures .0)
           (omega arith) _ h _ (omega arith)
           (let u = c .before .before .unit-of .ensures .0 in let l = c .before .before .unit-of .ensures .1 in let w =
           c .before .word-offset .ensures in omega arith);

@@ -17,7 +17,7 @@ add-behind : tie.Need-add-behind
 add-behind c = search needs
 
 returns : tie.Need-returns
-returns c = behind-all _ _ _ _ _ _ (c .before .before .take-count .ensures .0) (c .before .held-words .ensures) (omega arith)
+returns c = behind-all _ _ _ _ _ _ (c .before .before .take-count .ensures .0) (c .before .held-words .ensures .0) (omega arith)
 
 unit-of-requires : tie.Need-unit-of-requires
 unit-of-requires c κs = search needs
@@ -40,7 +40,7 @@ returns-2 c =
     let at-start = at-take-count .before .before in
     let a = at-start .args in
     all-stored (a .control) (a .setup) (a .buffer .now) _ _ _ _ _ (at-take-count .take-count .ensures .0)
-    (at-held-words .held-words .ensures)
+    (at-held-words .held-words .ensures .0)
     (let u = at-unit-of .unit-of .ensures .0 in let l = at-unit-of .unit-of .ensures .1 in let w =
     at-word-offset .word-offset .ensures in omega arith) (omega arith) (omega arith) _
     (c .before .before .store-area .ensures)

@@ -12,16 +12,16 @@ get-requires : tie.Need-get-requires
 get-requires c κs = search needs
 
 returns : tie.Need-returns
-returns c = known-unknown _ _ _ _ _ (c .before .before .before .before .last-staged .ensures) _ (c .before .get .ensures) (c .before .before .if1 .taken) (c .if2 .taken)
+returns c = known-unknown (c .before .before .before .before .before .before .args .size) _ _ _ _ _ (c .before .before .before .before .last-staged .ensures) _ (c .before .get .ensures) (c .before .before .if1 .taken) (c .if2 .taken)
 
 unpack-requires : tie.Need-unpack-requires
 unpack-requires c κs = search needs
 
 returns-2 : tie.Need-returns-2
-returns-2 c = known-committed _ _ _ _ _ (c .before .before .before .before .before .last-staged .ensures) _ _ (c .before .before .get .ensures) (c .unpack .ensures) (c .before .before .before .if1 .taken) (c .before .if2 .left)
+returns-2 c = known-committed (c .before .before .before .before .before .before .before .args .size) _ _ _ _ _ (c .before .before .before .before .before .last-staged .ensures) _ _ (c .before .before .get .ensures) (c .unpack .ensures) (c .before .before .before .if1 .taken) (c .before .if2 .left)
 
 returns-3 : tie.Need-returns-3
-returns-3 c = known-staged _ _ _ _ _ (c .before .before .last-staged .ensures) (c .if1 .left)
+returns-3 c = known-staged (c .before .before .before .before .args .size) _ _ _ _ _ (c .before .before .last-staged .ensures) (c .if1 .left)
 
 pub known-of-spec : {M : Type 1} → statement M
 known-of-spec =

@@ -15,10 +15,10 @@ unpack-requires : tie.Need-unpack-requires
 unpack-requires c κs = search needs
 
 returns : tie.Need-returns
-returns c = version-committed _ _ _ _ _ (c .before .before .before .before .last-staged .ensures) _ _ (c .before .get .ensures) (c .unpack .ensures) (c .before .before .if1 .taken)
+returns c = version-committed (c .before .before .before .before .before .before .args .size) _ _ _ _ _ (c .before .before .before .before .last-staged .ensures) _ _ (c .before .get .ensures) (c .unpack .ensures) (c .before .before .if1 .taken)
 
 returns-2 : tie.Need-returns-2
-returns-2 c = version-staged _ _ _ _ _ (c .before .before .last-staged .ensures) (c .if1 .left)
+returns-2 c = version-staged (c .before .before .before .before .args .size) _ _ _ _ _ (c .before .before .last-staged .ensures) (c .if1 .left)
 
 pub version-of-spec : {M : Type 1} → statement M
 version-of-spec =

@@ -5,8 +5,14 @@ use borrow.Author.Needs.{needs}
 use Rattle.staging.proofs.large.plan_large.Statement.{statement}
 use Rattle.staging.proofs.large.plan_large.Tie as tie
 
+size-by-requires : tie.Need-size-by-requires
+size-by-requires c κs = search needs
+
 block-size-requires : tie.Need-block-size-requires
 block-size-requires c κs = search needs
+
+chunks-in-requires : tie.Need-chunks-in-requires
+chunks-in-requires c κs = search needs
 
 slot-for-requires : tie.Need-slot-for-requires
 slot-for-requires c κs = search needs
@@ -37,8 +43,9 @@ returns c =
     let met = c .before .before in
     let found = met .before .before in
     let sized = found .before .before in
-    let a = sized .before .before .args in
-    shows-data (a .image .now) (a .buffer .now) (a .setup) (a .words) (a .bytes) _ (found .slot-for .result) (sized .block-size .ensures) (found .slot-for .ensures) _ _ (met .slot .given .1) (c .count-for .ensures)
+    let by = sized .before .size-by in
+    let a = sized .before .before .before .args in
+    shows-data (by .result) (a .image .now) (a .buffer .now) (a .setup) (a .words) (a .bytes) _ _ (found .slot-for .result) (by .ensures) (found .before .chunks-in .ensures .0) (sized .block-size .ensures) (found .slot-for .ensures) _ _ (met .slot .given .1) (c .count-for .ensures)
 
 returns-2 : tie.Need-returns-2
 returns-2 c =
@@ -47,21 +54,25 @@ returns-2 c =
     let free = reads .before .before in
     let found = free .before .before in
     let sized = found .before .before in
-    let a = sized .before .before .args in
-    shows-free (a .image .now) (a .buffer .now) (a .setup) (a .words) (a .bytes) _ (found .slot-for .result) (sized .block-size .ensures) (found .slot-for .ensures) _ _ _ _ (free .slot2 .given .1) (makes .of .ensures) (reads .directory-word .ensures) (c .count-for2 .ensures)
+    let by = sized .before .size-by in
+    let a = sized .before .before .before .args in
+    shows-free (by .result) (a .image .now) (a .buffer .now) (a .setup) (a .words) (a .bytes) _ _ (found .slot-for .result) (by .ensures) (found .before .chunks-in .ensures .0) (sized .block-size .ensures) (found .slot-for .ensures) _ _ _ _ (free .slot2 .given .1) (makes .of .ensures) (reads .directory-word .ensures) (c .count-for2 .ensures)
 
 returns-3 : tie.Need-returns-3
 returns-3 c =
     let found = c .before .before in
     let sized = found .before .before in
-    let a = sized .before .before .args in
-    shows-nowhere (a .image .now) (a .buffer .now) (a .setup) (a .words) (a .bytes) _ (found .slot-for .result) (sized .block-size .ensures) (found .slot-for .ensures) (c .enum-told .given .1)
+    let by = sized .before .size-by in
+    let a = sized .before .before .before .args in
+    shows-nowhere (by .result) (a .image .now) (a .buffer .now) (a .setup) (a .words) (a .bytes) _ _ (found .slot-for .result) (by .ensures) (found .before .chunks-in .ensures .0) (sized .block-size .ensures) (found .slot-for .ensures) (c .enum-told .given .1)
 
 pub plan-large-spec : {M : Type 1} → statement M
 plan-large-spec =
     tie.close
     (tie.spec
+    size-by-requires
     block-size-requires
+    chunks-in-requires
     slot-for-requires
     enum-known-slot
     count-for-requires

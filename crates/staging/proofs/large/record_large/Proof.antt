@@ -5,6 +5,9 @@ use borrow.Author.Needs.{needs}
 use Rattle.staging.proofs.large.record_large.Statement.{statement}
 use Rattle.staging.proofs.large.record_large.Tie as tie
 
+size-by-requires : tie.Need-size-by-requires
+size-by-requires c κs = search needs
+
 hold-value-requires : tie.Need-hold-value-requires
 hold-value-requires c κs = search needs
 
@@ -31,16 +34,20 @@ block-setup-requires c κs = search needs
 
 returns : tie.Need-returns
 returns c =
-    let placed = c .before in
-    let added = placed .before .before in
-    let a = added .before .before .before .before .before .before .args in
-    begun (a .buffer .now) _ _ (a .setup) (a .words) (a .version) (a .key) (a .value .now) (a .unit .0) (a .old) (a .size) _ _ _ _
-    (added .before .before .before .hold-value .ensures) (added .add-entry .ensures) (placed .before .chunk .ensures) (placed .place .ensures) (c .block-setup .ensures)
+    let at-hold-value = c .before .before .before .before .before .before in
+    let at-start = at-hold-value .before .before .before .before in
+    let by = at-hold-value .before .before .size-by in
+    let a = at-start .args in
+    begun (by .result) (a .buffer .now) _ _ (a .setup) (a .words) (a .version) (a .key) (a .value .now) (a .unit .0) (a .old)
+    (a .units) _ _ _ _ (by .ensures)
+    (at-hold-value .hold-value .ensures) (c .before .before .before .add-entry .ensures)
+    (c .before .before .chunk .ensures) (c .before .place .ensures .0) (c .block-setup .ensures)
 
 pub record-large-spec : {M : Type 1} → statement M
 record-large-spec =
     tie.close
     (tie.spec
+    size-by-requires
     hold-value-requires
     sub-add-entry
     part-add-entry-start

@@ -20,7 +20,7 @@ add-requires c κs = search needs
 returns : tie.Need-returns
 returns c =
     let at-start = c .before .before .before .before .before .before .before in
-    renewed-new (wordsOf (at-start .args .image .now)) _ _ _ _ _ (c .before .before .before .unpack .ensures) _
+    renewed-new (at-start .args .size) (wordsOf (at-start .args .image .now)) _ _ _ _ _ (c .before .before .before .unpack .ensures) _
     (c .before .before .if1 .taken) (c .add .ensures)
 
 unpack-requires-2 : tie.Need-unpack-requires-2
@@ -43,7 +43,7 @@ returns-2 c =
     let at-if1 = at-unpack2 .before in
     let at-unpack = at-if1 .before in
     let at-start = at-unpack .before .before .before .before in
-    renewed-high (wordsOf (at-start .args .image .now)) _ _ _ _ _ (at-unpack .unpack .ensures) _
+    renewed-high (at-start .args .size) (wordsOf (at-start .args .image .now)) _ _ _ _ _ (at-unpack .unpack .ensures) _
     (at-unpack2 .unpack2 .ensures) (at-if1 .if1 .left) _ _ _ (at-if2 .if2 .taken) (at-weigh-at .weigh-at .ensures)
     (c .before .before .take-off .ensures) (c .add2 .ensures)
 
@@ -53,7 +53,7 @@ returns-3 c =
     let at-unpack = at-if1 .before in
     let at-buffer-length = at-unpack .before in
     let at-start = at-buffer-length .before .before .before in
-    renewed-low (wordsOf (at-start .args .image .now)) _ _ _ _ _ (at-unpack .unpack .ensures) _
+    renewed-low (at-start .args .size) (wordsOf (at-start .args .image .now)) _ _ _ _ _ (at-unpack .unpack .ensures) _
     (c .before .before .before .unpack2 .ensures) (at-if1 .if1 .left) (at-buffer-length .buffer-length .ensures .1)
     (c .if2 .left)
 

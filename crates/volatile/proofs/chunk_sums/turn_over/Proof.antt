@@ -34,7 +34,7 @@ element-write-buffer c = search needs
 returns : tie.Need-returns
 returns c =
     let at-start = c .before .before .before .before .before .before .before in
-    turned _ _ (at-start .args .chunk) (at-start .args .place) (at-start .args .words) (c .add .ensures .kept) _ _ _ _
+    turned (at-start .args .size) _ _ (at-start .args .chunk) (at-start .args .place) (at-start .args .words) (c .add .ensures .kept) _ _ _ _
     (c .before .before .before .sum-at .ensures) refl refl refl (c .add .ensures)
 
 mul-buffer-2 : tie.Need-mul-buffer-2
@@ -46,7 +46,7 @@ element-write-buffer-2 c = search needs
 returns-2 : tie.Need-returns-2
 returns-2 c =
     let at-start = c .before .before .before .before .before in
-    not-turned _ (at-start .args .chunk) (at-start .args .place) (at-start .args .words) _ _ _
+    not-turned (at-start .args .size) _ (at-start .args .chunk) (at-start .args .place) (at-start .args .words) _ _ _
     (c .before .before .before .buffer-length .ensures .1) (c .before .sum-at .ensures) refl refl (c .if1 .left)
 
 pub turn-over-spec : {M : Type 1} → statement M

@@ -10,7 +10,7 @@ weigh-extent-requires : tie.Need-weigh-extent-requires
 weigh-extent-requires c κs = search needs
 
 returns : tie.Need-returns
-returns c = at-extent (wordsOf (c .before .before .before .args .image .now)) _ _ _ (c .before .if1 .taken) (c .weigh-extent .ensures)
+returns c = at-extent (c .before .before .before .args .size) (wordsOf (c .before .before .before .args .image .now)) _ _ _ (c .before .if1 .taken) (c .weigh-extent .ensures)
 
 load-requires : tie.Need-load-requires
 load-requires c κs = search needs
@@ -36,13 +36,13 @@ weigh-requires c κs = search needs
 returns-2 : tie.Need-returns-2
 returns-2 c =
     let at-start = c .before .before .before .before .before .before in
-    at-padding (wordsOf (at-start .args .image .now)) _ _ _ _ (c .before .before .before .load .ensures)
+    at-padding (at-start .args .size) (wordsOf (at-start .args .image .now)) _ _ _ _ (c .before .before .before .load .ensures)
     (c .before .before .first-of .ensures) (c .enum-told .given .1)
 
 returns-3 : tie.Need-returns-3
 returns-3 c =
     let at-start = c .before .before .before .before .before .before in
-    at-wrong (wordsOf (at-start .args .image .now)) _ _ _ _ (c .before .before .before .load .ensures)
+    at-wrong (at-start .args .size) (wordsOf (at-start .args .image .now)) _ _ _ _ (c .before .before .before .load .ensures)
     (c .before .before .first-of .ensures) (c .enum-told2 .given .1)
 
 returns-4 : tie.Need-returns-4
@@ -50,7 +50,7 @@ returns-4 c =
     let at-first-of = c .before .before .before .before .before in
     let at-load = at-first-of .before in
     let at-start = at-load .before .before .before in
-    at-entry (wordsOf (at-start .args .image .now)) _ _ _ _ (at-load .load .ensures) (at-first-of .first-of .ensures) _
+    at-entry (at-start .args .size) (wordsOf (at-start .args .image .now)) _ _ _ _ (at-load .load .ensures) (at-first-of .first-of .ensures) _
     _ _ _ _ _ (c .before .before .before .first .given .1) (c .before .words-for .ensures .0) (c .weigh .ensures)
 
 pub weigh-at-spec : {M : Type 1} → statement M
