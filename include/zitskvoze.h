@@ -152,8 +152,8 @@
  * - A table too small for the image's keys makes a refused opening slow: up to some 70 times an accepted one, whatever
  *   the table's length. Lend one of ZKV_TABLE_WORDS_MAX words where memory allows.
  * - Stack, with chunks of either size: an opening takes some 550 KB, and so does a cleaning's last step where a key's
- *   entries stand twice; the begin of a cleaning (zkv_clean) some 270 KB, zkv_choose some 230 KB, zkv_fault some 1.6 MB.
- *   The other calls take a few KB.
+ *   entries stand twice; the begin of a cleaning (zkv_clean) some 270 KB, zkv_choose some 230 KB, zkv_fault some
+ *   1.6 MB. The other calls take a few KB.
  * - The log only grows until it is cleaned: superseded and deleted values take space until then, and known keys include
  *   deleted ones that still have an entry. Clean when time allows, or when 13 comes; it may take several cleanings
  *   until a commit finds space. Commits leave a free chunk to clean into (they take one only where three are free, two

@@ -90,7 +90,7 @@ pub extern "C" fn zkv_keys(s: &Session) -> u64
     inspect::keys(s)
 }
 
-// How many chunks the directory says are free, chunks being of the size that the header says (`directory::free_chunks`).
+// How many chunks the directory says are free, of the size that the header says (`directory::free_chunks`).
 #[no_mangle]
 pub extern "C" fn zkv_free_chunks(image: &[u8]) -> u64
     ensures { λ r. ⌜ r ≡ length (freeChunks (powerRead (wordsOf (now (image .entry)))) (chunksRead (length (now (image .entry))) (wordsOf (now (image .entry)))) (wordsOf (now (image .entry)))) ⌝ }
