@@ -1,5 +1,7 @@
 // What a report does to the image; and the actions of begun calls, one by one, made without reading the image: `append`
 // (a commit's, and the copying of a cleaning), `block` (a large value's), `clean` (a cleaning's), `format`.
+#![tactic(auto)]
+
 ghost use Rattle.spec.specs.Contract.{Changed};
 
 pub mod append;

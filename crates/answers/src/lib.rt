@@ -1,5 +1,7 @@
 // Reports, counts and what is listed of a key in plain numbers, for hosts in C: an exported function neither takes nor
 // returns an enum.
+#![tactic(auto)]
+
 ghost use Rattle.std.specs.Prelude.{◌≡◌};
 ghost use Rattle.answers.specs.Answers.{answer_of, is_given, ShownBy, VersionShown, CountedBy, bit, ListedBy};
 

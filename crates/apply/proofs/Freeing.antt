@@ -12,7 +12,7 @@ use Rattle.spec.specs.declared.FirstWord.TheVariants as F
 use Rattle.spec.specs.Log.{Entry, Entries, first_of_word, image_entries}
 use Rattle.spec.specs.Contents.{chosen}
 use Rattle.theory_log.proofs.Contents.{chosen_is}
-use Rattle.log.proofs.Stands.{image-stands}
+use Rattle.logs.proofs.Stands.{image-stands}
 use Rattle.packing.specs.declared.Info.{Info}
 use Rattle.buffer.specs.Areas.{buffer_words}
 use Rattle.places.specs.Sizes.{power_of, power-low, power-high, unit_count}

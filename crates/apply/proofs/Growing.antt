@@ -16,7 +16,7 @@ use Rattle.index.proofs.Answers.{look_in, put-insert}
 use Rattle.packing.specs.Packed.{unpack_of}
 use Rattle.buffer.specs.Bits.{has_bit}
 use Rattle.buffer.proofs.Laws.{front_kept, front-then}
-use Rattle.log.proofs.Stands.{image-stands}
+use Rattle.logs.proofs.Stands.{image-stands}
 use Rattle.volatile.specs.Sums.{weight, Summed}
 use Rattle.volatile.proofs.Sums.{summed_same}
 use Rattle.volatile.specs.Change.{Renewed}

@@ -10,11 +10,11 @@ use Rattle.theory_base.proofs.Lists.{not-both}
 use Rattle.theory_log.specs.Contents.{Mem}
 use Rattle.theory_log.proofs.Contents.{mem-filter}
 use Rattle.theory_log.proofs.Clean.{mem-placed}
-use Rattle.log.specs.declared.Next.{Next}
-use Rattle.log.specs.declared.Next.TheVariants as N
-use Rattle.log.specs.declared.Cursor.{Cursor}
-use Rattle.log.specs.Stands.{entry_in}
-use Rattle.log.specs.Cursor.{cursor_at, Advanced}
+use Rattle.logs.specs.declared.Next.{Next}
+use Rattle.logs.specs.declared.Next.TheVariants as N
+use Rattle.logs.specs.declared.Cursor.{Cursor}
+use Rattle.logs.specs.Stands.{entry_in}
+use Rattle.logs.specs.Cursor.{cursor_at, Advanced}
 use Rattle.packing.specs.declared.Info.{Info}
 use Rattle.index.specs.Index.{info_at, stop_of, get, used, insert, put_at, capacity as table_room, Spare, Removal}
 use Rattle.index.proofs.Laws.{insert-length, capacity-spare, remove-right}

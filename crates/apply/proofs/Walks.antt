@@ -8,12 +8,12 @@ use Rattle.spec.specs.declared.LogStep.TheVariants as S
 use Rattle.spec.specs.Log.{Entry, Parsed, Wrong, Entries, step_of, join, parse}
 use Rattle.theory_base.proofs.Lists.{not-both}
 use Rattle.theory_log.proofs.Parse.{cons_inv, prepend-entries}
-use Rattle.log.specs.declared.Cursor.{Cursor}
-use Rattle.log.specs.declared.Next.{Next}
-use Rattle.log.specs.declared.Next.TheVariants as N
-use Rattle.log.specs.Stands.{entry_in}
-use Rattle.log.specs.Cursor.{cursor_at, remaining, left, Advanced}
-use Rattle.log.proofs.Walk.{handed, next-found}
+use Rattle.logs.specs.declared.Cursor.{Cursor}
+use Rattle.logs.specs.declared.Next.{Next}
+use Rattle.logs.specs.declared.Next.TheVariants as N
+use Rattle.logs.specs.Stands.{entry_in}
+use Rattle.logs.specs.Cursor.{cursor_at, remaining, left, Advanced}
+use Rattle.logs.proofs.Walk.{handed, next-found}
 use Rattle.forward.proofs.Walks.{Left, from-here, none_left, not-wrong, one_left}
 use Rattle.apply.specs.Leaving.{Leaving, Marked}
 use Rattle.session.specs.Cleaned.{Stand}

@@ -9,7 +9,7 @@ use Rattle.spec.specs.Places.{max_chunks, base, word_chunk}
 use Rattle.spec.specs.Log.{Entry, Entries, placed, image_entries}
 use Rattle.spec.specs.Contents.{live_blocks}
 use Rattle.spec.specs.Opening.{Accepted, open_log}
-use Rattle.log.specs.Cursor.{cursor_at, remaining, left}
+use Rattle.logs.specs.Cursor.{cursor_at, remaining, left}
 use Rattle.buffer.specs.Bits.{has_bit}
 use Rattle.volatile.specs.Known.{Indexed}
 use Rattle.volatile.specs.Sums.{Summed}

@@ -12,7 +12,7 @@ ghost use Rattle.apply.specs.Joining.{Superseded, OneJoined, PutJoined, PutsJoin
 use batch::StagedItem;
 use buffer::{BATCH_WORDS, Buffer};
 use codec::Unit;
-use log::Short;
+use logs::Short;
 use packing::Info;
 use spec::{FirstWord, Size};
 

@@ -6,7 +6,7 @@ ghost use Rattle.apply.specs.Leaving.{less_of, turned_of};
 ghost use Rattle.apply.specs.Passes.{IsCopied, OneLeft, PutsLeft, AllLeft, Rebuilt, Emptying};
 
 use buffer::Buffer;
-use log::{Cursor, Next, Short};
+use logs::{Cursor, Next, Short};
 use opening::CheckedImage;
 use packing::Info;
 use spec::Size;
@@ -84,7 +84,7 @@ fn is_copied(image: &[u8], to: usize, until: usize, op: u64, key: u64, size: Siz
         at: to,
         end: until,
     };
-    let n = log::next_in_log(image, 0, cursor, size);
+    let n = logs::next_in_log(image, 0, cursor, size);
     match n {
         Next::Done => false,
         Next::Wrong => false,
@@ -174,7 +174,7 @@ fn remove_puts(
     let mut copy = to;
     let mut place = from;
     loop {
-        let s = log::short_put(image, place, end);
+        let s = logs::short_put(image, place, end);
         match s {
             Short::Other => {
                 return Run {
@@ -236,7 +236,7 @@ fn remove_entries(
                 at: run.at,
                 end: stop,
             };
-            let n = log::next_in_log(image, 0, here, size);
+            let n = logs::next_in_log(image, 0, here, size);
             match n {
                 Next::Done => {
                     return Removed {

@@ -14,8 +14,8 @@ use Rattle.theory_log.specs.Batch.{Kind, put, block, delete, Right}
 use Rattle.theory_log.proofs.Batch.{first-right}
 use Rattle.session.specs.State.{buffer_part}
 use Rattle.session.proofs.Part.{length_part}
-use Rattle.log.specs.declared.Short.{Short}
-use Rattle.log.specs.declared.Short.TheVariants as S
+use Rattle.logs.specs.declared.Short.{Short}
+use Rattle.logs.specs.declared.Short.TheVariants as S
 use Rattle.batch.specs.declared.StagedItem.{StagedItem}
 use Rattle.batch.specs.declared.StagedItem.TheVariants as I
 use Rattle.batch.specs.Staged.{Taken, StagedFrom, Staged, ShortStaged}

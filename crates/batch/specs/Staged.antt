@@ -4,8 +4,8 @@ use Rattle.std.specs.Prelude.{◌≡◌, List, [], ◌∷◌, ℕ, ◌+◌, ◌-
 use Rattle.spec.specs.Log.{Entry, encode_all}
 use Rattle.theory_log.specs.Batch.{AllRight}
 use Rattle.session.specs.State.{buffer_part}
-use Rattle.log.specs.declared.Short.{Short}
-use Rattle.log.specs.declared.Short.TheVariants as S
+use Rattle.logs.specs.declared.Short.{Short}
+use Rattle.logs.specs.declared.Short.TheVariants as S
 use Rattle.batch.specs.declared.StagedItem.{StagedItem}
 use Rattle.batch.specs.declared.StagedItem.TheVariants as I
 

@@ -1,4 +1,6 @@
 // The staged entries, kept in the batch of the station record's buffer as the very words that a commit writes.
+#![tactic(auto)]
+
 ghost use Rattle.std.specs.Prelude.{◌≡◌, ◌+◌, ◌/◌, ◌^◌, ◌<◌, ◌≤◌, length, get_or, drop};
 ghost use Rattle.std.proofs.Math.Seq.{slice};
 ghost use Rattle.spec.specs.Words.{packed};
@@ -14,7 +16,7 @@ ghost use Rattle.batch.specs.Staged.{Staged, ShortStaged};
 
 use buffer::{BATCH_WORDS, Buffer, FILTER, buffer_length};
 use codec::{first_of_word, first_word};
-use log::{Short, words_for};
+use logs::{Short, words_for};
 use spec::{FirstWord, LogStep};
 use words::{last_word, lesser, read_word};
 

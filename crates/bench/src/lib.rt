@@ -1,4 +1,6 @@
 // Exports for the benchmarks under bench/: the key table and the words of an image, called from C.
+#![tactic(auto)]
+
 ghost use Rattle.std.specs.Prelude.{◌≡◌, length, get_or};
 ghost use Rattle.index.specs.Index.{get, insert, zeros, used, Removal};
 ghost use Rattle.spec.specs.Words.{words_of};

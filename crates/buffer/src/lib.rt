@@ -1,4 +1,6 @@
 // The station record's buffer: its areas by name, and the set of units that start a block in use, as the bits of one.
+#![tactic(auto)]
+
 ghost use Rattle.std.specs.Prelude.{◌≡◌, true, false, length};
 ghost use Rattle.buffer.specs.Areas.{buffer_words};
 ghost use Rattle.buffer.specs.Bits.{has_bit, BitWritten, BitsCleared};

@@ -2,6 +2,8 @@
 // numbers in and out. A slice is a pointer and a count, the record a pointer, an `Answer` a struct of three 64-bit
 // numbers. None has a `requires`. Those that only read are in `capi_read`, those with a version in hand in
 // `capi_versions`: which calls share a library decides what the compiler puts into which.
+#![tactic(auto)]
+
 ghost use Rattle.spec.specs.Machine.{Put, Step, Format, Open, Delete, Commit, Abandon, Clean};
 ghost use Rattle.spec.specs.declared.Given.TheVariants.{Absent};
 ghost use Rattle.staging.specs.Staging.{PutWhere, Long};

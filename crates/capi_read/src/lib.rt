@@ -1,6 +1,8 @@
 // The public calls that only read, for a host in C: each stands for the call whose contract it cites, with plain
 // numbers in and out, as `capi` says of all. None has a `requires`. They are a library of their own: in one with those
 // that change a register choosing takes 9 % more instructions.
+#![tactic(auto)]
+
 ghost use Rattle.answers.specs.Answers.{Encodes, Shown, CountTold, ListTold};
 ghost use Rattle.std.specs.Prelude.{◌≡◌, length};
 ghost use Rattle.spec.specs.Words.{words_of};

@@ -2,6 +2,8 @@
 // with plain numbers in and out, as `capi` says of all. None has a `requires`. They are a library of their own, so that
 // in `capi` and `capi_read` the functions below a put and a look-up have one caller, and the compiler drops what these
 // calls alone need.
+#![tactic(auto)]
+
 ghost use Rattle.spec.specs.Machine.{Put, Delete};
 ghost use Rattle.spec.specs.declared.Given.TheVariants.{Number};
 ghost use Rattle.store.specs.Look.{Reported};

@@ -1,6 +1,8 @@
 // Choosing the chunk to clean: of log chunks whose kept entries fill fewer lines than are committed, the one with the
 // fewest bytes to copy; of equals the one with the most committed lines, and of those the highest number. Nothing is
 // changed.
+#![tactic(auto)]
+
 ghost use Rattle.std.specs.Prelude.{◌≡◌};
 ghost use Rattle.spec.specs.Words.{words_of};
 ghost use Rattle.spec.specs.Actions.{lines_for};

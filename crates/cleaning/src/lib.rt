@@ -1,5 +1,7 @@
 // Plan and begin of a cleaning. The plan changes neither record, image nor key table: it is a refusal, or the words
 // that are kept, the place of their copies and how many actions there are. The begin stores these words in the record.
+#![tactic(auto)]
+
 ghost use Rattle.std.specs.Prelude.{◌≡◌, ◌%◌, ◌≤◌, length};
 ghost use Rattle.spec.specs.declared.Size.TheVariants as S;
 ghost use Rattle.spec.specs.Words.{words_of};

@@ -1,5 +1,7 @@
 // Encoding and decoding of words: the header line, directory words, first words of entries, unit numbers and block
 // sizes.
+#![tactic(auto)]
+
 ghost use Rattle.std.specs.Prelude.{◌≡◌, ◌+◌, ◌-◌, ◌*◌, ◌%◌, ◌^◌, ◌<◌, ◌≤◌, min, ◌==◌, nat_le, slice_index};
 ghost use Rattle.spec.specs.Basics.{pick, both, either};
 ghost use Rattle.spec.specs.Places.{chunk_units, unit_chunk, unit_in, unit_word};

@@ -1,4 +1,6 @@
 // Plan and begin of a commit.
+#![tactic(auto)]
+
 ghost use Rattle.std.specs.Prelude.{◌≡◌};
 ghost use Rattle.spec.specs.Basics.{pick};
 ghost use Rattle.spec.specs.Machine.{Commit};

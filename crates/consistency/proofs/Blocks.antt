@@ -15,7 +15,7 @@ use Rattle.spec.specs.Places.{unit_chunk, unit_in, unit_word, chunk_units}
 use Rattle.spec.specs.Blocks.{start_tests, length_tests, block_test, block_right}
 use Rattle.spec.specs.Directory.{size_of}
 use Rattle.theory_base.proofs.Lists.{every_true}
-use Rattle.log.proofs.Shifts.{shift-bytes}
+use Rattle.logs.proofs.Shifts.{shift-bytes}
 
 pub both_true : (b : Bool) → both b true ≡ b
 both_true true = refl

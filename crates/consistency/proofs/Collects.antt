@@ -23,11 +23,11 @@ use Rattle.volatile.proofs.Info.{bounded-front}
 use Rattle.volatile.proofs.Grow.{capacity-same}
 use Rattle.volatile.proofs.Image.{image_bounded}
 use Rattle.volatile.proofs.Fill.{fill_start, fill-old, fill-new, fill_end}
-use Rattle.log.specs.declared.Cursor.{Cursor}
-use Rattle.log.specs.declared.Next.{Next}
-use Rattle.log.specs.declared.Next.TheVariants as N
-use Rattle.log.specs.Cursor.{start, cursor_at, Advanced}
-use Rattle.log.specs.Stands.{entry_in}
+use Rattle.logs.specs.declared.Cursor.{Cursor}
+use Rattle.logs.specs.declared.Next.{Next}
+use Rattle.logs.specs.declared.Next.TheVariants as N
+use Rattle.logs.specs.Cursor.{start, cursor_at, Advanced}
+use Rattle.logs.specs.Stands.{entry_in}
 use Rattle.consistency.specs.Classes.{class_of, within, marked, asked, class_in}
 use Rattle.consistency.specs.Passing.{Passed, PassedOver, Entering, Collecting}
 use Rattle.consistency.proofs.Classes.{class-bounded}

@@ -16,9 +16,9 @@ use Rattle.theory_log.proofs.Contents.{version_of, chosen-best, highest-best}
 use Rattle.packing.specs.declared.Info.{Info}
 use Rattle.index.specs.Index.{get}
 use Rattle.packing.specs.Packed.{unpack_of}
-use Rattle.log.specs.declared.Best.{Best}
-use Rattle.log.specs.Best.{best_in, best_of}
-use Rattle.log.proofs.Scan.{best-chosen}
+use Rattle.logs.specs.declared.Best.{Best}
+use Rattle.logs.specs.Best.{best_in, best_of}
+use Rattle.logs.proofs.Scan.{best-chosen}
 use Rattle.volatile.specs.Known.{Bounded}
 use Rattle.volatile.proofs.Grow.{found_none, found-chosen}
 use Rattle.volatile.proofs.Image.{image_bounded}

@@ -8,9 +8,9 @@ use lib.Seq.{slice}
 use Rattle.spec.specs.declared.LogStep.TheVariants as S
 use Rattle.spec.specs.Log.{step_of}
 use Rattle.theory_log.proofs.Walk.{step_end}
-use Rattle.log.specs.declared.Cursor.{Cursor}
-use Rattle.log.specs.Cursor.{cursor_at, remaining, left, Opened}
-use Rattle.log.proofs.Walk.{next-chunk, left-chunk}
+use Rattle.logs.specs.declared.Cursor.{Cursor}
+use Rattle.logs.specs.Cursor.{cursor_at, remaining, left, Opened}
+use Rattle.logs.proofs.Walk.{next-chunk, left-chunk}
 use Rattle.consistency.specs.Passing.{Onward}
 
 module _ (p n : ℕ) (ws : List ℕ) (c : ℕ) (r : Cursor) where

@@ -20,12 +20,12 @@ use Rattle.theory_log.specs.Contents.{Mem}
 use Rattle.theory_log.proofs.Contents.{mem-cases}
 use Rattle.theory_log.proofs.Parse.{cons_inv}
 use Rattle.theory_log.proofs.Walk.{step-first, step-short, step-fill}
-use Rattle.log.specs.declared.Cursor.{Cursor}
-use Rattle.log.specs.declared.Next.{Next}
-use Rattle.log.specs.declared.Next.TheVariants as N
-use Rattle.log.specs.Stands.{entry_in}
-use Rattle.log.specs.Cursor.{start, cursor_at, remaining, left, Handed, Advanced}
-use Rattle.log.proofs.Walk.{remaining-start, handed, next-wrong, next-padding, next-found}
+use Rattle.logs.specs.declared.Cursor.{Cursor}
+use Rattle.logs.specs.declared.Next.{Next}
+use Rattle.logs.specs.declared.Next.TheVariants as N
+use Rattle.logs.specs.Stands.{entry_in}
+use Rattle.logs.specs.Cursor.{start, cursor_at, remaining, left, Handed, Advanced}
+use Rattle.logs.proofs.Walk.{remaining-start, handed, next-wrong, next-padding, next-found}
 use Rattle.consistency.specs.Classes.{asked}
 use Rattle.consistency.specs.Passing.{Passed, PassedOver}
 

@@ -16,8 +16,8 @@ use Rattle.spec.specs.declared.FirstWord.TheVariants as F
 use Rattle.spec.specs.Log.{Entry, first_of_word, words_for, head_of, encode}
 use Rattle.spec.specs.Contents.{agree}
 use Rattle.theory_log.proofs.Stands.{head_first}
-use Rattle.log.specs.Stands.{StandsIn}
-use Rattle.log.proofs.Stands.{take-drop}
+use Rattle.logs.specs.Stands.{StandsIn}
+use Rattle.logs.proofs.Stands.{take-drop}
 use Rattle.consistency.specs.declared.Head.{Head}
 use Rattle.consistency.specs.Heads.{entry_of, same_from}
 use Rattle.consistency.specs.Pass.{AgreesWith}

@@ -23,11 +23,11 @@ use Rattle.theory_log.proofs.Tops.{all_in, in_all}
 use Rattle.buffer.specs.Bits.{has_bit, WordsKept}
 use Rattle.buffer.proofs.Laws.{kept-all, kept_then}
 use Rattle.index.specs.Index.{get}
-use Rattle.log.specs.declared.Cursor.{Cursor}
-use Rattle.log.specs.declared.Next.{Next}
-use Rattle.log.specs.declared.Next.TheVariants as N
-use Rattle.log.specs.Stands.{entry_in}
-use Rattle.log.specs.Cursor.{start, cursor_at, remaining, Advanced}
+use Rattle.logs.specs.declared.Cursor.{Cursor}
+use Rattle.logs.specs.declared.Next.{Next}
+use Rattle.logs.specs.declared.Next.TheVariants as N
+use Rattle.logs.specs.Stands.{entry_in}
+use Rattle.logs.specs.Cursor.{start, cursor_at, remaining, Advanced}
 use Rattle.volatile.specs.Check.{Live, CheckInv}
 use Rattle.volatile.specs.Known.{several}
 use Rattle.volatile.specs.Plain.{Single}

@@ -21,10 +21,10 @@ use Rattle.theory_log.specs.Contents.{Mem}
 use Rattle.theory_log.proofs.Contents.{chosen_is}
 use Rattle.theory_log.proofs.Tops.{is-top, top-chosen}
 use Rattle.buffer.specs.Bits.{has_bit}
-use Rattle.log.specs.declared.Best.{Best}
-use Rattle.log.specs.Best.{best_of}
-use Rattle.log.specs.Stands.{StandsIn}
-use Rattle.log.proofs.Stands.{image-stands, image-apart}
+use Rattle.logs.specs.declared.Best.{Best}
+use Rattle.logs.specs.Best.{best_of}
+use Rattle.logs.specs.Stands.{StandsIn}
+use Rattle.logs.proofs.Stands.{image-stands, image-apart}
 use Rattle.volatile.specs.Check.{Marks}
 use Rattle.volatile.proofs.Check.{agreed-own, agreed-other, block-bit, block-wrong, check-skip, check-top}
 use Rattle.consistency.specs.Classes.{within, class_in}

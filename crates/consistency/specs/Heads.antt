@@ -3,7 +3,7 @@
 use Rattle.std.specs.Prelude.{Bool, true, List, ℕ, zero, suc, eqb, get_or}
 use Rattle.spec.specs.Basics.{both}
 use Rattle.spec.specs.Log.{Entry}
-use Rattle.log.specs.Stands.{entry_in}
+use Rattle.logs.specs.Stands.{entry_in}
 use Rattle.consistency.specs.declared.Head.{Head}
 
 -- the entry with these parts, with so many words behind its key

@@ -11,9 +11,9 @@ use Rattle.spec.specs.Opening.{blocks_test, agree_test, apart_test}
 use Rattle.theory_log.specs.Contents.{Mem, Apart}
 use Rattle.places.specs.Sizes.{power_of, unit_count}
 use Rattle.buffer.specs.Bits.{has_bit, WordsKept}
-use Rattle.log.specs.declared.Best.{Best}
-use Rattle.log.specs.Best.{best_of}
-use Rattle.log.specs.Stands.{StandsIn}
+use Rattle.logs.specs.declared.Best.{Best}
+use Rattle.logs.specs.Best.{best_of}
+use Rattle.logs.specs.Stands.{StandsIn}
 use Rattle.volatile.specs.Known.{several, Indexed}
 use Rattle.volatile.specs.Check.{Marks, CheckInv}
 use Rattle.volatile.specs.Plain.{Single, Direct}

@@ -8,8 +8,8 @@ use Rattle.spec.specs.Log.{Entry, Entries, image_entries}
 use Rattle.spec.specs.Blocks.{pointed}
 use Rattle.theory_log.specs.Contents.{Mem}
 use Rattle.index.specs.Index.{slots, info_at, get}
-use Rattle.log.specs.declared.Cursor.{Cursor}
-use Rattle.log.specs.Cursor.{cursor_at, remaining, left, Opened}
+use Rattle.logs.specs.declared.Cursor.{Cursor}
+use Rattle.logs.specs.Cursor.{cursor_at, remaining, left, Opened}
 use Rattle.volatile.specs.Known.{own_of, Bounded, Indexed, FillInv}
 use Rattle.consistency.specs.Classes.{marked, asked, class_in}
 

@@ -2,6 +2,8 @@
 // another key, and the blocks in use as bits. A second pass looks at the entries that can tell it: values in blocks,
 // and keys with several top entries. Where the key table does not hold the keys, there is a pass for each of some
 // ranges of classes of keys, with a table of the call's own.
+#![tactic(auto)]
+
 ghost use Rattle.std.specs.Prelude.{◌≡◌, ◌+◌, ◌-◌, ◌*◌, ◌^◌, ◌≤◌, ◌<◌, true, false, ltb};
 ghost use Rattle.spec.specs.Basics.{pick, either, every};
 ghost use Rattle.spec.specs.Words.{words_of};
@@ -17,7 +19,7 @@ use buffer::{Buffer, clear_bits, has_bit, set_bit};
 use codec::Unit;
 use directory::size_of;
 use index::get;
-use log::{Best, best_of, next_entry, words_for};
+use logs::{Best, best_of, next_entry, words_for};
 use packing::unpack;
 use spec::{LogStep, Size};
 use words::{lesser, load};

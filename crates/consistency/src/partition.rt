@@ -6,7 +6,7 @@ ghost use Rattle.places.specs.Sizes.{power_of};
 ghost use Rattle.consistency.specs.Classes.{class_of, within, asked};
 ghost use Rattle.consistency.specs.Passing.{PassedOver, Onward, Entering, Collecting, OneMarked, QuietFrom, TwinsMarked};
 
-use log::{Cursor, Next};
+use logs::{Cursor, Next};
 use spec::Size;
 use words::{lesser, load};
 
@@ -96,7 +96,7 @@ pub fn pass_over(
 pub fn onward(image: &[u8], count: usize, c: usize, size: Size) -> Cursor
     ensures { Onward (power_of size) count (words_of image.now) c result }
 {
-    let mut next = log::chunk_cursor(image, c, size);
+    let mut next = logs::chunk_cursor(image, c, size);
     while next.chunk < count {
         if next.at < next.end {
             return next;
@@ -104,7 +104,7 @@ pub fn onward(image: &[u8], count: usize, c: usize, size: Size) -> Cursor
         if count - next.chunk == 1 {
             return next;
         }
-        next = log::chunk_cursor(image, next.chunk + 1, size);
+        next = logs::chunk_cursor(image, next.chunk + 1, size);
     }
     next
 }
@@ -162,12 +162,12 @@ pub fn collect(
 {
     index::clear(table);
     let mut keys: usize = 0;
-    let mut cursor = log::first_cursor();
+    let mut cursor = logs::first_cursor();
     loop {
         let chunk = cursor.chunk;
         let end = cursor.end;
         let at = pass_over(image, cursor.at, end, false, &image[0..0], low, high);
-        let n = log::next_in_log(image, count, Cursor { chunk, at, end }, size);
+        let n = logs::next_in_log(image, count, Cursor { chunk, at, end }, size);
         match n {
             Next::Done => {
                 return Collected { fits: true, keys };

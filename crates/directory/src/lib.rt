@@ -1,5 +1,7 @@
 // What the directory of an image says: the role of a chunk, its committed lines or its block size, which chunks are
 // free, and whether every word is right. Nothing is asked of the image: a word past its end reads 0.
+#![tactic(auto)]
+
 ghost use Rattle.std.specs.Prelude.{◌≡◌, ◌≤◌, length, get_or};
 ghost use Rattle.spec.specs.Basics.{pick};
 ghost use Rattle.spec.specs.Words.{words_of};

@@ -17,8 +17,8 @@ use Rattle.spec.specs.Contents.{is_top, chosen}
 use Rattle.spec.specs.Opening.{fine, agree_with}
 use Rattle.theory_base.proofs.Lists.{not-both, both_l, both_r, both-i}
 use Rattle.theory_log.specs.Contents.{Mem}
-use Rattle.log.specs.declared.Best.{Best}
-use Rattle.log.proofs.Stands.{image-low}
+use Rattle.logs.specs.declared.Best.{Best}
+use Rattle.logs.proofs.Stands.{image-low}
 use Rattle.volatile.proofs.Check.{block-bit}
 use Rattle.consistency.specs.Classes.{within, class_in}
 use Rattle.consistency.specs.declared.Head.{Head}

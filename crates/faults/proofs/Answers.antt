@@ -24,7 +24,7 @@ use Rattle.theory_base.proofs.Places.{length-allowed, size-allowed}
 use Rattle.opening.proofs.Opens.{size-said}
 use Rattle.theory_log.specs.Contents.{Mem}
 use Rattle.theory_log.proofs.Contents.{mem-filter}
-use Rattle.log.proofs.Stands.{image-low}
+use Rattle.logs.proofs.Stands.{image-low}
 use Rattle.faults.specs.declared.top.Spots.{Spots}
 use Rattle.faults.specs.Spots.{Spotted}
 use Rattle.faults.specs.Tops.{first_top, apart_from, at_one, place_or}

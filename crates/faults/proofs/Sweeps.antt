@@ -11,11 +11,11 @@ use Rattle.spec.specs.declared.Size.{Size}
 use Rattle.spec.specs.Places.{max_chunks}
 use Rattle.spec.specs.Log.{Entry, Entries, image_entries}
 use Rattle.theory_log.proofs.Contents.{mem-r}
-use Rattle.log.specs.declared.Cursor.{Cursor}
-use Rattle.log.specs.declared.Next.{Next}
-use Rattle.log.specs.declared.Next.TheVariants as N
-use Rattle.log.specs.Stands.{entry_in}
-use Rattle.log.specs.Cursor.{start, cursor_at, Advanced}
+use Rattle.logs.specs.declared.Cursor.{Cursor}
+use Rattle.logs.specs.declared.Next.{Next}
+use Rattle.logs.specs.declared.Next.TheVariants as N
+use Rattle.logs.specs.Stands.{entry_in}
+use Rattle.logs.specs.Cursor.{start, cursor_at, Advanced}
 use Rattle.consistency.specs.Classes.{class_in}
 use Rattle.consistency.specs.Passing.{Passed, PassedOver, Collecting}
 use Rattle.consistency.proofs.Passed.{passed_start, passed-done, passed-wrong, passed-split, passed-next}

@@ -21,7 +21,7 @@ use Rattle.theory_base.proofs.Lists.{not-both, both-i, pick-e}
 use Rattle.theory_log.specs.Contents.{Mem}
 use Rattle.theory_log.proofs.Contents.{mem-cases}
 use Rattle.theory_log.proofs.Tops.{is-top, top-each}
-use Rattle.log.proofs.Stands.{image-stands, image-low}
+use Rattle.logs.proofs.Stands.{image-stands, image-low}
 use Rattle.consistency.specs.declared.Head.{Head}
 use Rattle.consistency.specs.Heads.{points}
 use Rattle.faults.specs.declared.top.Joined.{Joined}

@@ -1,4 +1,6 @@
 // The place of the fault for which an opening refuses an image. Nothing is changed, and nothing is asked of the image.
+#![tactic(auto)]
+
 ghost use Rattle.std.specs.Prelude.{◌≡◌, true, [], ◌∷◌, ◌≤◌, ◌%◌, eqb, leb, ltb};
 ghost use Rattle.spec.specs.Basics.{pick, both};
 ghost use Rattle.spec.specs.Words.{words_of};
@@ -144,7 +146,7 @@ fn read_log(image: &[u8], count: usize, size: Size) -> Stop
     let mut at: usize = 0;
     let mut end: usize = 0;
     loop {
-        let s = log::next_entry(image, at, end);
+        let s = logs::next_entry(image, at, end);
         match s {
             LogStep::End => {
                 if count <= chunk + 1 {

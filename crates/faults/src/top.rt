@@ -11,7 +11,7 @@ use consistency::partition::{collect, is_within, pass_over};
 use consistency::{
     Head, OWN_WORDS, agreed, block_fine, is_enough, next_width, points, range_end, top_of,
 };
-use log::{Cursor, Next};
+use logs::{Cursor, Next};
 use places::{LARGE_UNITS, SMALL_UNITS};
 use spec::Size;
 use words::{lesser, load};
@@ -152,12 +152,12 @@ fn sweep(
     ensures { SweptAs size count (words_of image.now) table.now fits low high so units.old units.new result }
 {
     let mut s = so;
-    let mut cursor = log::first_cursor();
+    let mut cursor = logs::first_cursor();
     loop {
         let chunk = cursor.chunk;
         let end = cursor.end;
         let at = pass_over(image, cursor.at, end, false, &image[0..0], low, high);
-        let n = log::next_in_log(image, count, Cursor { chunk, at, end }, size);
+        let n = logs::next_in_log(image, count, Cursor { chunk, at, end }, size);
         match n {
             Next::Done => {
                 return s;

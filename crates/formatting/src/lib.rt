@@ -1,4 +1,6 @@
 // The begin of a formatting.
+#![tactic(auto)]
+
 ghost use Rattle.std.specs.Prelude.{◌≡◌, eqb};
 ghost use Rattle.spec.specs.Basics.{both};
 ghost use Rattle.spec.specs.Places.{length_allowed};

@@ -9,12 +9,12 @@ use Rattle.spec.specs.declared.Size.{Size}
 use Rattle.places.specs.Sizes.{power_of}
 use Rattle.spec.specs.Log.{Entry, Parsed, Wrong, Entries, join, parse}
 use Rattle.theory_log.proofs.Parse.{cons_inv, prepend-entries}
-use Rattle.log.specs.declared.Cursor.{Cursor}
-use Rattle.log.specs.declared.Next.{Next}
-use Rattle.log.specs.declared.Next.TheVariants as N
-use Rattle.log.specs.Stands.{entry_in}
-use Rattle.log.specs.Cursor.{cursor_at, remaining, Advanced}
-use Rattle.log.proofs.Walk.{handed}
+use Rattle.logs.specs.declared.Cursor.{Cursor}
+use Rattle.logs.specs.declared.Next.{Next}
+use Rattle.logs.specs.declared.Next.TheVariants as N
+use Rattle.logs.specs.Stands.{entry_in}
+use Rattle.logs.specs.Cursor.{cursor_at, remaining, Advanced}
+use Rattle.logs.proofs.Walk.{handed}
 
 -- what remains, in a walk that goes to no other chunk
 join-none : (q : Parsed) → join q (Entries []) ≡ q

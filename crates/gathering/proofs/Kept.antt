@@ -18,11 +18,11 @@ use Rattle.theory_log.proofs.Contents.{mem-l, mem-r, none_of}
 use Rattle.theory_log.proofs.Keys.{mem-known, known-mem}
 use Rattle.theory_log.proofs.Walk.{slice-long}
 use Rattle.theory_plans.proofs.Cleaning.{parse-words}
-use Rattle.log.specs.declared.Cursor.{Cursor}
-use Rattle.log.specs.declared.Next.{Next}
-use Rattle.log.specs.declared.Next.TheVariants as N
-use Rattle.log.specs.Stands.{entry_in}
-use Rattle.log.specs.Cursor.{cursor_at, Advanced}
+use Rattle.logs.specs.declared.Cursor.{Cursor}
+use Rattle.logs.specs.declared.Next.{Next}
+use Rattle.logs.specs.declared.Next.TheVariants as N
+use Rattle.logs.specs.Stands.{entry_in}
+use Rattle.logs.specs.Cursor.{cursor_at, Advanced}
 use Rattle.packing.specs.declared.Info.{Info}
 use Rattle.index.specs.Index.{get, insert, room, used, zeros, Probed}
 use Rattle.index.proofs.Laws.{has_room, insert-same, insert-length, insert-old, insert-new, insert-probed, insert-other, empty-get, empty-probed, empty-used}

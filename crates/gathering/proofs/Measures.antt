@@ -10,12 +10,12 @@ use Rattle.spec.specs.Log.{Entry, step_of, encode, encode_all}
 use Rattle.spec.specs.declared.LogStep.TheVariants as S
 use Rattle.theory_log.proofs.Contents.{mem-l, mem-r}
 use Rattle.theory_log.proofs.Parse.{cons_inv}
-use Rattle.log.specs.declared.Cursor.{Cursor}
-use Rattle.log.specs.declared.Next.{Next}
-use Rattle.log.specs.declared.Next.TheVariants as N
-use Rattle.log.specs.Stands.{entry_in}
-use Rattle.log.specs.Cursor.{cursor_at, remaining, Advanced}
-use Rattle.log.proofs.Walk.{handed, next-found}
+use Rattle.logs.specs.declared.Cursor.{Cursor}
+use Rattle.logs.specs.declared.Next.{Next}
+use Rattle.logs.specs.declared.Next.TheVariants as N
+use Rattle.logs.specs.Stands.{entry_in}
+use Rattle.logs.specs.Cursor.{cursor_at, remaining, Advanced}
+use Rattle.logs.proofs.Walk.{handed, next-found}
 use Rattle.forward.proofs.Walks.{Left, from-here, none_left, not-wrong, one_left}
 use Rattle.gathering.specs.declared.measure.Tally.{Tally}
 use Rattle.gathering.specs.Measuring.{Gatherable, Decided, KeptTest, kept_test, Room, Weighing, OneWeighed, Hastened, Measured}

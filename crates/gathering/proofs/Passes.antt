@@ -19,12 +19,12 @@ use Rattle.theory_log.proofs.Contents.{mem-l, mem-r}
 use Rattle.theory_log.proofs.Parse.{cons_inv}
 use Rattle.theory_log.proofs.Walk.{slice-long, slice_at}
 use Rattle.words.specs.Image.{length-words_of, get_or-words_of}
-use Rattle.log.specs.declared.Cursor.{Cursor}
-use Rattle.log.specs.declared.Next.{Next}
-use Rattle.log.specs.declared.Next.TheVariants as N
-use Rattle.log.specs.Stands.{entry_in, StandsIn}
-use Rattle.log.specs.Cursor.{cursor_at, remaining, left, Advanced, Handed}
-use Rattle.log.proofs.Walk.{handed, next-found}
+use Rattle.logs.specs.declared.Cursor.{Cursor}
+use Rattle.logs.specs.declared.Next.{Next}
+use Rattle.logs.specs.declared.Next.TheVariants as N
+use Rattle.logs.specs.Stands.{entry_in, StandsIn}
+use Rattle.logs.specs.Cursor.{cursor_at, remaining, left, Advanced, Handed}
+use Rattle.logs.proofs.Walk.{handed, next-found}
 use Rattle.volatile.specs.Known.{entry_count}
 use Rattle.session.specs.State.{buffer_part}
 use Rattle.session.specs.Cleaned.{kept_of, Stand}

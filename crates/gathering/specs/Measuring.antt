@@ -8,7 +8,7 @@ use Rattle.spec.specs.Basics.{filter}
 use Rattle.spec.specs.Log.{Entry, Entries, encode_all}
 use Rattle.spec.specs.Contents.{is_kept}
 use Rattle.theory_log.specs.Contents.{Mem}
-use Rattle.log.specs.Cursor.{cursor_at, remaining, left}
+use Rattle.logs.specs.Cursor.{cursor_at, remaining, left}
 use Rattle.index.specs.Index.{get}
 use Rattle.packing.specs.Packed.{unpack_of}
 use Rattle.volatile.specs.Known.{entry_count, Bounded, Indexed}

@@ -10,8 +10,8 @@ use Rattle.spec.specs.Basics.{filter}
 use Rattle.spec.specs.Words.{words_of}
 use Rattle.spec.specs.Log.{Entry, encode, encode_all, moved}
 use Rattle.theory_log.specs.Contents.{Mem}
-use Rattle.log.specs.declared.Cursor.{Cursor}
-use Rattle.log.specs.Cursor.{cursor_at, left}
+use Rattle.logs.specs.declared.Cursor.{Cursor}
+use Rattle.logs.specs.Cursor.{cursor_at, left}
 use Rattle.forward.proofs.Walks.{Left}
 use Rattle.session.specs.State.{buffer_part}
 use Rattle.session.specs.Cleaned.{kept_of}

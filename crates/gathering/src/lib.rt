@@ -1,5 +1,7 @@
 // What a cleaning keeps is gathered at its begin. The chunk's words are read once, by one loop, into memory of the
 // call's own; all else goes by that copy: a pass over its entries, and where a delete asks for it one before that.
+#![tactic(auto)]
+
 ghost use Rattle.std.specs.Prelude.{◌≡◌, ◌+◌, ◌*◌, ◌^◌, ◌<◌, ◌≤◌, length};
 ghost use Rattle.spec.specs.declared.Size.TheVariants as S;
 ghost use Rattle.spec.specs.Words.{words_of};
@@ -13,7 +15,7 @@ pub mod measure;
 
 use crate::measure::{Run, Tally, count_once, has_room, is_kept};
 use buffer::{Buffer, SECOND};
-use log::{Cursor, Next, Short};
+use logs::{Cursor, Next, Short};
 use spec::Size;
 
 // THE READING: the words from `at` to `end`, each once, from the first to the last. How many there are.
@@ -95,7 +97,7 @@ fn take_puts(
     let mut tally = so;
     let mut place = from;
     loop {
-        let s = log::short_put(copy, place, until);
+        let s = logs::short_put(copy, place, until);
         match s {
             Short::Other => {
                 return Run { tally, at: place };
@@ -134,7 +136,7 @@ fn take_counted(
     let mut tally = so;
     let mut cursor = start;
     loop {
-        let next = log::next_in_log(copy, 0, cursor, size);
+        let next = logs::next_in_log(copy, 0, cursor, size);
         match next {
             Next::Done => {
                 return tally;
@@ -257,7 +259,7 @@ fn take_all(copy: &[u8], table: &[u64], kept: &mut [u64], at: usize, n: usize, s
             at: run.at,
             end: until,
         };
-        let next = log::next_in_log(copy, 0, here, size);
+        let next = logs::next_in_log(copy, 0, here, size);
         match next {
             Next::Done => {
                 return so;

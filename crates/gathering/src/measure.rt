@@ -7,7 +7,7 @@ ghost use Rattle.spec.specs.Places.{chunk_words};
 ghost use Rattle.places.specs.Sizes.{power_of};
 ghost use Rattle.gathering.specs.Measuring.{Counting, CountedOnce, KeptTest, Room, OneWeighed, Hastened, Measured};
 
-use log::{Cursor, Next, Short};
+use logs::{Cursor, Next, Short};
 use spec::Size;
 
 // How many words are gathered, and how many entries.
@@ -25,7 +25,7 @@ fn count_keys(image: &[u8], counts: &mut [u64], at: usize, end: usize, size: Siz
     index::clear(counts);
     let mut cursor = Cursor { chunk: 0, at, end };
     loop {
-        let n = log::next_in_log(image, 0, cursor, size);
+        let n = logs::next_in_log(image, 0, cursor, size);
         match n {
             Next::Done => {
                 return;
@@ -157,7 +157,7 @@ fn add_puts(
     let mut tally = so;
     let mut place = from;
     loop {
-        let s = log::short_put(image, place, until);
+        let s = logs::short_put(image, place, until);
         match s {
             Short::Other => {
                 return Run { tally, at: place };
@@ -205,7 +205,7 @@ fn size_counted(
             at: run.at,
             end: until,
         };
-        let n = log::next_in_log(image, 0, here, size);
+        let n = logs::next_in_log(image, 0, here, size);
         match n {
             Next::Done => {
                 return so;

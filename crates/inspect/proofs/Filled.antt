@@ -19,10 +19,10 @@ use Rattle.theory_log.specs.Contents.{Mem}
 use Rattle.theory_log.specs.Fold.{fold_e, fold_p}
 use Rattle.theory_log.proofs.Contents.{none_of, chosen_is}
 use Rattle.theory_log.proofs.Places.{Rising, all_sound}
-use Rattle.log.specs.declared.Best.{Best}
-use Rattle.log.specs.Best.{best_in, best_of}
-use Rattle.log.proofs.Stands.{image-low}
-use Rattle.log.proofs.Scan.{best-chosen, best-wrong}
+use Rattle.logs.specs.declared.Best.{Best}
+use Rattle.logs.specs.Best.{best_in, best_of}
+use Rattle.logs.proofs.Stands.{image-low}
+use Rattle.logs.proofs.Scan.{best-chosen, best-wrong}
 use Rattle.inspect.specs.declared.history.KeyEntry.{KeyEntry}
 use Rattle.inspect.specs.History.{is_from, entry_with, numbered}
 use Rattle.inspect.specs.Numbers.{size_said, power_read, chunks_read}

@@ -12,10 +12,10 @@ use Rattle.spec.specs.Contents.{chosen, is_at, listed}
 use Rattle.theory_log.specs.Contents.{Mem}
 use Rattle.theory_log.specs.Fold.{fold_e}
 use Rattle.theory_log.proofs.Contents.{mem-filter}
-use Rattle.log.specs.declared.Best.{Best}
-use Rattle.log.specs.Best.{best_in, best_of}
-use Rattle.log.proofs.Stands.{image-low}
-use Rattle.log.proofs.Scan.{best-chosen}
+use Rattle.logs.specs.declared.Best.{Best}
+use Rattle.logs.specs.Best.{best_in, best_of}
+use Rattle.logs.proofs.Stands.{image-low}
+use Rattle.logs.proofs.Scan.{best-chosen}
 use Rattle.inspect.specs.declared.history.KeyEntry.{KeyEntry}
 use Rattle.inspect.specs.History.{is_from, next_of, no_entry, entry_with, numbers_of, entry_from, pass, first_in, mark_of}
 use Rattle.inspect.specs.Numbers.{size_said, power_read, chunks_read}

@@ -17,7 +17,7 @@ use Rattle.theory_base.proofs.Lists.{filter-length}
 use Rattle.theory_log.proofs.Contents.{chosen_is, none_of, mem-filter}
 use Rattle.theory_log.proofs.Kept.{parts, filter-mine}
 use Rattle.theory_log.proofs.Tops.{top-is, is-top}
-use Rattle.log.proofs.Stands.{image-apart}
+use Rattle.logs.proofs.Stands.{image-apart}
 use Rattle.theory_crash.specs.Accepted.{Ok}
 use Rattle.packing.specs.declared.Info.{Info}
 use Rattle.index.specs.Index.{get}

@@ -6,7 +6,7 @@ use Rattle.spec.specs.Basics.{pick, both, filter, first}
 use Rattle.spec.specs.Log.{Entry, image_entries}
 use Rattle.spec.specs.Contents.{chosen, is_at, entries_in}
 use Rattle.theory_log.specs.Fold.{fold_p}
-use Rattle.log.specs.declared.Best.{Best}
+use Rattle.logs.specs.declared.Best.{Best}
 use Rattle.inspect.specs.declared.history.KeyEntry.{KeyEntry}
 
 -- ## The log

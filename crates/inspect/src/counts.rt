@@ -6,7 +6,7 @@ ghost use Rattle.spec.specs.Words.{words_of};
 ghost use Rattle.inspect.specs.ChunkCounts.{chosen_by, more, points_into, count_entry, tally_by, count_block, blocks_by};
 
 use codec::Unit;
-use log::Next;
+use logs::Next;
 use spec::Size;
 
 // ONE ENTRY
@@ -97,9 +97,9 @@ pub fn count_entries(image: &[u8], table: &[u64], chunk: usize, size: Size) -> T
         deletes: 0,
         superseded: 0,
     };
-    let mut cursor = log::chunk_cursor(image, chunk, size);
+    let mut cursor = logs::chunk_cursor(image, chunk, size);
     loop {
-        let n = log::next_in_log(image, 0, cursor, size);
+        let n = logs::next_in_log(image, 0, cursor, size);
         match n {
             Next::Done => {
                 return t;
@@ -153,9 +153,9 @@ pub fn count_blocks(image: &[u8], table: &[u64], count: usize, chunk: usize, siz
     ensures { result ≡ blocks_by size (words_of image.now) table.now count chunk }
 {
     let mut used = 0;
-    let mut cursor = log::first_cursor();
+    let mut cursor = logs::first_cursor();
     loop {
-        let n = log::next_in_log(image, count, cursor, size);
+        let n = logs::next_in_log(image, count, cursor, size);
         match n {
             Next::Done => {
                 return used;

@@ -10,7 +10,7 @@ ghost use Rattle.inspect.specs.Numbers.{power_read, chunks_read};
 ghost use Rattle.inspect.specs.KeyEntries.{entries_from, EntriesListed};
 ghost use Rattle.inspect.specs.Filling.{filling, in_numbers, put, note_of, pass, Leaves};
 
-use log::Next;
+use logs::Next;
 use spec::Size;
 
 // The words of an entry: place, op, version, block, field and chosen, as in `crate::history::KeyEntry`.
@@ -91,9 +91,9 @@ fn fill(
     ensures { Leaves (fold_p (pass key from best) (filling out.old 0) (image_entries (power_of size) chunks (words_of image.now))) out.new result }
 {
     let mut count: usize = 0;
-    let mut cursor = log::first_cursor();
+    let mut cursor = logs::first_cursor();
     loop {
-        let n = log::next_in_log(image, chunks, cursor, size);
+        let n = logs::next_in_log(image, chunks, cursor, size);
         match n {
             Next::Done => {
                 return count;
@@ -128,7 +128,7 @@ pub fn entries_from(image: &[u8], key: u64, from: usize, out: &mut [u64]) -> usi
 {
     let size = crate::header::size_said(image);
     let chunks = places::chunks_in(size, image.len());
-    let best = log::best_of(image, chunks, key, size);
+    let best = logs::best_of(image, chunks, key, size);
     if best.place == 0 {
         return 0;
     }

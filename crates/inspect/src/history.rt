@@ -6,7 +6,7 @@ ghost use Rattle.places.specs.Sizes.{power_of};
 ghost use Rattle.inspect.specs.Numbers.{power_read, chunks_read};
 ghost use Rattle.inspect.specs.History.{note_of, first_in, mark_of, entry_from};
 
-use log::{Best, Next};
+use logs::{Best, Next};
 use spec::Size;
 
 // THE ENTRIES OF A KEY
@@ -71,9 +71,9 @@ fn first_in(image: &[u8], count: usize, key: u64, from: usize, size: Size) -> Ke
         field: 0,
         chosen: 0,
     };
-    let mut cursor = log::first_cursor();
+    let mut cursor = logs::first_cursor();
     loop {
-        let n = log::next_in_log(image, count, cursor, size);
+        let n = logs::next_in_log(image, count, cursor, size);
         match n {
             Next::Done => {
                 return so;
@@ -134,6 +134,6 @@ pub fn entry_from(image: &[u8], key: u64, from: usize) -> KeyEntry
     let size = crate::header::size_said(image);
     let count = places::chunks_in(size, image.len());
     let e = first_in(image, count, key, from, size);
-    let best = log::best_of(image, count, key, size);
+    let best = logs::best_of(image, count, key, size);
     mark(e, best)
 }

@@ -2,6 +2,8 @@
 // holds, its role and how many of its entries or blocks the register still goes by; the first data chunk from a number
 // on that holds no live block. Of an image alone, open or not: modules `header`, `history`, `entries`. Module `counts`
 // counts what a chunk holds.
+#![tactic(auto)]
+
 ghost use Rattle.std.specs.Prelude.{◌≡◌, length, ◌==◌};
 ghost use Rattle.spec.specs.Basics.{either};
 ghost use Rattle.inspect.specs.KnownKeys.{Known, KnownBy};

@@ -29,7 +29,7 @@ use Rattle.theory_log.proofs.Stands.{head_first}
 use Rattle.theory_log.proofs.Tops.{chosen-top}
 use Rattle.theory_crash.specs.Accepted.{Ok}
 use Rattle.theory_crash.proofs.Far.{entry-far, block-far}
-use Rattle.log.proofs.Stands.{image-stands}
+use Rattle.logs.proofs.Stands.{image-stands}
 use Rattle.places.specs.Sizes.{power_of, power-low, power-high}
 use Rattle.packing.specs.declared.Info.{Info}
 use Rattle.packing.specs.Packed.{unpack_of}

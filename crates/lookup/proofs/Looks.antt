@@ -44,8 +44,8 @@ use Rattle.theory_log.proofs.Stands.{head_first}
 use Rattle.theory_crash.specs.Accepted.{Ok}
 use Rattle.theory_crash.proofs.Opening.{opens_at}
 use Rattle.theory_crash.proofs.Blocks as Blocks
-use Rattle.log.specs.Stands.{StandsIn}
-use Rattle.log.proofs.Stands.{take-drop, image-stands}
+use Rattle.logs.specs.Stands.{StandsIn}
+use Rattle.logs.proofs.Stands.{take-drop, image-stands}
 use Rattle.packing.specs.declared.Info.{Info}
 use Rattle.packing.specs.Packed.{unpack_of, unpack-few}
 use Rattle.index.specs.Index.{get}

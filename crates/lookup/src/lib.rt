@@ -1,5 +1,7 @@
 // Answers from the register: the part of the image that holds the value of a key, or the refusal; the present keys in
 // rising order, and what is listed of each: its version, the length of its value, and whether a block has that.
+#![tactic(auto)]
+
 ghost use Rattle.std.specs.Prelude.{◌≡◌, ◌+◌, ◌*◌, ◌^◌, ◌<◌, length};
 ghost use Rattle.spec.specs.Words.{words_of};
 ghost use Rattle.lookup.specs.Look.{within, block_part, first_word, part_at, Looking, Locating, Reporting, Showing};

@@ -27,17 +27,17 @@ use Rattle.volatile.proofs.Grow.{capacity-same}
 use Rattle.volatile.proofs.Image.{image_bounded}
 use Rattle.volatile.proofs.Fill.{fill_start, fill-old, fill-new, fill-full, fill-over}
 use Rattle.volatile.proofs.Plain.{plain-start, plain-next, single-end, direct-end}
-use Rattle.log.specs.declared.Cursor.{Cursor}
-use Rattle.log.specs.declared.Next.TheVariants as N
-use Rattle.log.specs.Stands.{entry_in}
-use Rattle.log.specs.Cursor.{start, remaining, Handed}
-use Rattle.log.proofs.Walk.{remaining-start, passed_entry, passed-done, passed-wrong}
+use Rattle.logs.specs.declared.Cursor.{Cursor}
+use Rattle.logs.specs.declared.Next.TheVariants as N
+use Rattle.logs.specs.Stands.{entry_in}
+use Rattle.logs.specs.Cursor.{start, remaining, Handed}
+use Rattle.logs.proofs.Walk.{remaining-start, passed_entry, passed-done, passed-wrong}
 use Rattle.volatile.specs.Sums.{weight}
 use Rattle.volatile.specs.Change.{only, nothing, SumsAlone, Changed, Cleared, Weighed, Renewed}
 use Rattle.volatile.proofs.Laws.{cleared-summed}
 use Rattle.volatile.proofs.Weights.{right-few}
 use Rattle.volatile.proofs.Joins.{joins-behind}
-use Rattle.log.proofs.Stands.{image-stands}
+use Rattle.logs.proofs.Stands.{image-stands}
 use Rattle.opening.specs.Pass.{Entering, AgainIs, EnteredIs, Owing, Passing, Filling}
 use Rattle.opening.proofs.Sums.{owing-none, owing-summed, owing-turned, owing-paid}
 

@@ -22,18 +22,18 @@ use Rattle.index.specs.Index.{info_at, stop_of, put_at, capacity as table_room}
 use Rattle.buffer.specs.Areas.{buffer_words}
 use Rattle.volatile.specs.Known.{extent_of, alone, noted}
 use Rattle.volatile.proofs.Info.{noted-new}
-use Rattle.log.specs.declared.Short.{Short}
-use Rattle.log.specs.declared.Short.TheVariants as P
-use Rattle.log.specs.Short.{ShortAt}
-use Rattle.log.specs.Cursor.{cursor_at, left}
-use Rattle.log.proofs.Walk.{next-found}
+use Rattle.logs.specs.declared.Short.{Short}
+use Rattle.logs.specs.declared.Short.TheVariants as P
+use Rattle.logs.specs.Short.{ShortAt}
+use Rattle.logs.specs.Cursor.{cursor_at, left}
+use Rattle.logs.proofs.Walk.{next-found}
 use Rattle.spec.specs.Log.{Entry, words_for}
 use Rattle.spec.specs.Contents.{chosen}
 use Rattle.theory_log.proofs.Contents.{mem-r}
 use Rattle.theory_log.proofs.Walk.{room-entry}
 use Rattle.index.specs.Index.{get}
 use Rattle.index.proofs.Answers.{look_in}
-use Rattle.log.specs.Stands.{entry_in, StandsIn}
+use Rattle.logs.specs.Stands.{entry_in, StandsIn}
 use Rattle.volatile.specs.Known.{info_of, Bounded}
 use Rattle.volatile.proofs.Info.{bounded-front, zero-chosen}
 use Rattle.volatile.specs.Change.{only, nothing, Changed, Weighed}

@@ -5,7 +5,7 @@ use Prim.Native.Nat.{ℕ, ◌+◌, ◌<◌}
 use native.Mathlib.Omega.{arith}
 use mathlib.Core.List.{List}
 use lib.ListN.{length, get_or}
-use Rattle.log.proofs.Walk.{next-padding, left-padding}
+use Rattle.logs.proofs.Walk.{next-padding, left-padding}
 use Rattle.consistency.proofs.Passed.{padding-stands}
 use Rattle.opening.specs.Pass.{Skipped}
 

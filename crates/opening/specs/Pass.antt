@@ -12,8 +12,8 @@ use Rattle.volatile.specs.Plain.{Single, Direct, PlainInv}
 use Rattle.buffer.specs.Areas.{sums_start, sums_count}
 use Rattle.volatile.specs.Sums.{chosen_sum, Summed}
 use Rattle.volatile.specs.Change.{only, SumsAlone, Renewed}
-use Rattle.log.specs.declared.Cursor.{Cursor}
-use Rattle.log.specs.Cursor.{cursor_at, remaining, left}
+use Rattle.logs.specs.declared.Cursor.{Cursor}
+use Rattle.logs.specs.Cursor.{cursor_at, remaining, left}
 
 -- the table before and after one more entry of a key, of which it would hold `own` with this entry alone; with the
 -- numbers before and after

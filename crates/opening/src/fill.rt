@@ -8,7 +8,7 @@ ghost use Rattle.places.specs.Sizes.{power_of};
 ghost use Rattle.opening.specs.Pass.{AgainIs, EnteredIs, Hastened, Skipped, Filling};
 
 use buffer::Buffer;
-use log::Short;
+use logs::Short;
 use spec::{LogStep, Size};
 
 // ONE ENTRY
@@ -165,7 +165,7 @@ fn enter_puts(
     let mut from = at;
     let mut place = at;
     while fits {
-        let s = log::short_put(image, place, end);
+        let s = logs::short_put(image, place, end);
         match s {
             Short::Other => {
                 return PutsEntered {
@@ -253,7 +253,7 @@ pub struct Filled {
 }
 
 // The pass over the log of an image of `count` chunks, from an empty table and sums of 0. It walks as
-// `log::next_in_log` does, the common entries by a run first.
+// `logs::next_in_log` does, the common entries by a run first.
 pub fn fill(
     image: &[u8],
     count: usize,
@@ -280,7 +280,7 @@ pub fn fill(
         keys = r.keys;
         single = r.single;
         at = r.at;
-        let s = log::next_entry(image, at, end);
+        let s = logs::next_entry(image, at, end);
         match s {
             LogStep::End => {
                 if count <= chunk {

@@ -1,5 +1,7 @@
 // An opening: the refusals 1 to 7, and the volatile memory built. One pass over the entries fills key table and sums
 // (`opening::fill`); a second one, where it is needed, asks blocks and top entries (`consistency`).
+#![tactic(auto)]
+
 ghost use Rattle.std.specs.Prelude.{◌≡◌, length};
 ghost use Rattle.spec.specs.Basics.{both};
 ghost use Rattle.spec.specs.Words.{words_of};

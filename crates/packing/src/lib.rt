@@ -1,4 +1,6 @@
 // The word that the key table holds of a key: five numbers packed into 64 bits, by the size of the chunks.
+#![tactic(auto)]
+
 ghost use Rattle.std.specs.Prelude.{◌≡◌};
 ghost use Rattle.packing.specs.Packed.{widths_of, small_widths, large_widths, pack_by, unpack_by};
 

@@ -1,5 +1,7 @@
 // All that goes by the size of a chunk: how many bytes, words, lines and units it has, and where it begins. No other
 // crate has a number of these. Each function is a choice of two literals: in a loop the compiler makes it once.
+#![tactic(auto)]
+
 ghost use Rattle.std.specs.Prelude.{◌≡◌, ◌<◌, ◌≤◌, ◌^◌, ◌*◌};
 ghost use Rattle.spec.specs.Places.{chunk_bytes, chunk_words, chunk_lines, chunk_units, base, first_line, first_unit, word_chunk, unit_chunk, unit_in, chunks_in, length_allowed};
 ghost use Rattle.spec.specs.Blocks.{block_limit};

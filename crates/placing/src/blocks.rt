@@ -14,7 +14,7 @@ ghost use Rattle.placing.specs.Blocks.{met_by, StagedBlock, Spare, EachUsed, Has
 use buffer::{BATCH_WORDS, BITS, Buffer, has_bit};
 use codec::{Unit, data_word, first_of_word, role_of};
 use directory::{Found, directory_word, free_chunk, size_in};
-use log::words_for;
+use logs::words_for;
 use spec::{FirstWord, Size};
 use words::lesser;
 

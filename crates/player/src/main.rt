@@ -1,5 +1,7 @@
 // Program: plays a script of calls on one station: lends it image, key table and record, and prints what each call
 // answers. tests/scripts.py has the commands.
+#![tactic(auto)]
+
 pub mod calls;
 pub mod lines;
 pub mod memory;

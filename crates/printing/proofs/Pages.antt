@@ -32,7 +32,7 @@ use Rattle.theory_log.proofs.Contents.{Chosen, chosen_is}
 use Rattle.theory_crash.specs.Accepted.{Ok}
 use Rattle.theory_crash.proofs.Blocks.{block-fits}
 use Rattle.theory_crash.proofs.Opening.{opens-ok}
-use Rattle.log.proofs.Stands.{image-right}
+use Rattle.logs.proofs.Stands.{image-right}
 use Rattle.text.proofs.Decimals.{decimal-length, decimal-short}
 use Rattle.lookup.specs.declared.Listed.{Listed}
 use Rattle.lookup.specs.declared.Listed.TheVariants as L

@@ -1,5 +1,7 @@
 // The text that the programs `list` and `sheet` print of an image: its present keys with what is listed of each, one
 // below the other or in pages, or its refusal; line by line, and what both programs do.
+#![tactic(auto)]
+
 ghost use Rattle.std.specs.Prelude.{◌≤◌, suc, ◌≡◌, length, take};
 ghost use Rattle.text.specs.Text.{most_digits, Writes};
 ghost use Rattle.printing.specs.Lines.{refused_text, count_text, place_text, column_text, line_text, heading_text, page_text, break_text, head_text, entry_text};

@@ -1,5 +1,7 @@
 // Several steps in one call: those that store a word, as many as come next, and the one behind them. A commit (module
 // `commit`), a staging (`stage`) and a cleaning have short loops of their own.
+#![tactic(auto)]
+
 ghost use Rattle.std.specs.Prelude.{◌≡◌, true, false};
 ghost use Rattle.running.specs.Run.{is_store, RunsOn};
 ghost use Rattle.running.specs.Copying.{Copying, CleaningRun, KeptStores};

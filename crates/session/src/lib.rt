@@ -1,5 +1,7 @@
 // The station record: its types, its constructors, the state of the machine that it stands for, what record and key
 // table hold of the image, and the promise that every call makes of them.
+#![tactic(auto)]
+
 ghost use Rattle.std.specs.Prelude.{◌≡◌, ◌<◌, eqb};
 ghost use Rattle.session.specs.State.{no_source};
 ghost use Rattle.session.specs.Numbers.{closed, opened, at_action, in_phase, with_keys, ended, ended_empty, staged_more, formatting_in, empty_setup, opened_setup, format_setup, block_setup, append_setup};

@@ -1,4 +1,6 @@
 // Program: prints the block size that holds 0 to 256 units of a large chunk, one a line; 0 where there is none.
+#![tactic(auto)]
+
 ghost use Rattle.std.specs.Prelude.{◌≡◌, length, take};
 ghost use Rattle.io.specs.Counts.{IsPrefixLen};
 ghost use Rattle.text.specs.Text.{Writes};

@@ -1,4 +1,5 @@
 // The declared types that the definitions and the contracts speak of: what words say, and what calls answer.
+#![tactic(auto)]
 
 // The size of a chunk: 4,096 bytes, or 65,536. Code is told it by value, so that its numbers are literals of two cases;
 // the definitions have the power of two.

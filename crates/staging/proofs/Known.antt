@@ -21,7 +21,7 @@ use Rattle.spec.specs.declared.Size.TheVariants as S
 use Rattle.places.specs.Sizes.{power_of, power-low, power-high}
 use Rattle.theory_log.specs.Contents.{CountsOn}
 use Rattle.theory_log.proofs.Contents.{version_of, chosen-best, highest-best, chosen_is}
-use Rattle.log.proofs.Stands.{image-stands}
+use Rattle.logs.proofs.Stands.{image-stands}
 use Rattle.packing.specs.declared.Info.{Info}
 use Rattle.index.specs.Index.{get}
 use Rattle.packing.specs.Packed.{unpack_of}

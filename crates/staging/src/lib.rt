@@ -1,5 +1,7 @@
 // Staging: put, delete and abandon. A plan finds the refusal or the new item and changes nothing; the call records the
 // item, which changes the record alone.
+#![tactic(auto)]
+
 ghost use Rattle.std.specs.Prelude.{◌≡◌, true, false, ◌≤◌, ◌<◌, length};
 ghost use Rattle.spec.specs.Machine.{Put, Delete, Abandon};
 ghost use Rattle.spec.specs.declared.Given.TheVariants.{Absent, Number};

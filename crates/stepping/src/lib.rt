@@ -1,5 +1,7 @@
 // The step: the next action of the call that is begun, with the last of which key table and bits are brought up to
 // date, or the call's end. A function for each call.
+#![tactic(auto)]
+
 ghost use Rattle.std.specs.Prelude.{◌≡◌, ◌≤◌, ◌/◌, leb, length};
 ghost use Rattle.spec.specs.Machine.{Step};
 ghost use Rattle.spec.specs.declared.Report.TheVariants.{Fence, End};

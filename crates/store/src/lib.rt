@@ -2,6 +2,8 @@
 // copies the record's small parts, lends its buffer where it lies to the core that does the work, and stores the small
 // parts back. Every call is lent record, image and key table. None has a `requires`: what each answers and leaves is
 // said by `Called`.
+#![tactic(auto)]
+
 ghost use Rattle.spec.specs.Machine.{Open, Commit, Clean, Format, Put, Delete, Abandon, Step};
 ghost use Rattle.formatting.specs.Begun.{given};
 ghost use Rattle.session.specs.Promise.{Does, memory};

@@ -1,5 +1,7 @@
 // Numbers and words as text: a decimal number read, and bytes and the decimal digits of a number put behind a text in
 // lent bytes.
+#![tactic(auto)]
+
 ghost use Rattle.std.specs.Prelude.{◌≡◌, ◌+◌, ◌-◌, ◌*◌, ◌%◌, ◌^◌, ◌<◌, ◌≤◌, length, drop};
 ghost use Rattle.text.specs.Spelled.{is_digit, with_digit, spelled};
 ghost use Rattle.text.specs.Text.{most_digits, decimal, right_in, with_bytes, behind, Digits};

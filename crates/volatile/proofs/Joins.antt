@@ -8,7 +8,7 @@ use Rattle.spec.specs.Contents.{chosen, highest}
 use Rattle.theory_log.specs.Contents.{Mem}
 use Rattle.theory_log.proofs.Contents.{mem-r}
 use Rattle.theory_log.proofs.Keys.{mem-known}
-use Rattle.log.specs.Stands.{StandsIn}
+use Rattle.logs.specs.Stands.{StandsIn}
 use Rattle.volatile.specs.Known.{info_of, own_of, Small, Bounded}
 use Rattle.volatile.specs.Sums.{weight, share_in, chosen_sum}
 use Rattle.volatile.proofs.Info.{chosen-version}

@@ -9,7 +9,7 @@ use Rattle.spec.specs.declared.FirstWord.{FirstWord}
 use Rattle.spec.specs.declared.FirstWord.TheVariants as F
 use Rattle.spec.specs.Log.{Entry, first_of_word, words_for}
 use Rattle.theory_log.specs.Batch.{Kind, put, block, delete, Right}
-use Rattle.log.specs.Stands.{StandsIn}
+use Rattle.logs.specs.Stands.{StandsIn}
 use Rattle.volatile.specs.Known.{extent_of}
 use Rattle.volatile.specs.Sums.{high_half, weight_of, weight}
 use Rattle.volatile.specs.Change.{extent_weight, Weighed, WeighedAt}

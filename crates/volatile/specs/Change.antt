@@ -9,7 +9,7 @@ use Rattle.packing.specs.Packed.{widths_of}
 use Rattle.spec.specs.Basics.{pick}
 use Rattle.spec.specs.Log.{Entry}
 use Rattle.spec.specs.Contents.{chosen, known, highest}
-use Rattle.log.specs.Stands.{StandsIn}
+use Rattle.logs.specs.Stands.{StandsIn}
 use Rattle.buffer.specs.Areas.{second_room, sums_start, sums_count, buffer_words}
 use Rattle.volatile.specs.Known.{extent_of, info_of, own_of, Small, Bounded}
 use Rattle.volatile.specs.Sums.{high_half, weight_of, weight, chosen_sum, Summed}

@@ -85,7 +85,7 @@ fn weigh_at(image: &[u8], extent: u64, place: usize, size: Size) -> u64
             placement,
             version: _,
             field,
-        } => weigh(op, log::words_for(placement, field)),
+        } => weigh(op, logs::words_for(placement, field)),
     }
 }
 

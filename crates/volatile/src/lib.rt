@@ -1,5 +1,7 @@
 // What the key table, the block bits and the chunks' sums hold of an image, one entry more and one entry less, and the
 // laws by which one pass over the log builds them. Here the words of the key table; module `chunk_sums` has the sums.
+#![tactic(auto)]
+
 ghost use Rattle.std.specs.Prelude.{◌≡◌, ◌-◌, ◌==◌};
 ghost use Rattle.spec.specs.Basics.{pick};
 ghost use Rattle.volatile.specs.Known.{extent_of, alone, noted};

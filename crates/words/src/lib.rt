@@ -1,4 +1,6 @@
 // Little-endian words of an image of bytes, and the words of a value's bytes.
+#![tactic(auto)]
+
 ghost use Rattle.std.specs.Prelude.{◌≡◌, ◌+◌, ◌*◌, ◌≤◌, ◌<◌, min, leb, length, get_or};
 ghost use Rattle.spec.specs.Basics.{pick};
 ghost use Rattle.spec.specs.Words.{word_at, words_of};

@@ -4,7 +4,7 @@ use Prim.Native.Nat.{◌+◌, ◌/◌, ◌%◌}
 use mathlib.Core.Path.{◌≡◌}
 use native.Mathlib.Omega.{arith}
 use borrow.Author.Tests.{ne_eqb}
-use Rattle.log.proofs.Shifts.{fill-last}
+use Rattle.logs.proofs.Shifts.{fill-last}
 use borrow.Author.Rules.{rules}
 use Rattle.batch.proofs.fill_right.Statement.{statement}
 use Rattle.batch.proofs.fill_right.Tie as tie

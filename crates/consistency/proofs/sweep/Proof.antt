@@ -8,9 +8,9 @@ use Rattle.places.specs.Sizes.{power_of}
 use Rattle.spec.specs.Words.{words_of}
 use Rattle.words.specs.Image.{length-words_of}
 use Rattle.theory_log.proofs.Walk.{room-padding, room-entry}
-use Rattle.log.specs.declared.Next.TheVariants as N
-use Rattle.log.specs.Cursor.{cursor_at, left}
-use Rattle.log.proofs.Walk.{next-none, next-wrong, next-padding, next-found, left-padding}
+use Rattle.logs.specs.declared.Next.TheVariants as N
+use Rattle.logs.specs.Cursor.{cursor_at, left}
+use Rattle.logs.proofs.Walk.{next-none, next-wrong, next-padding, next-found, left-padding}
 use Rattle.consistency.proofs.Onwards.{onward-same, onward-nearer}
 use Rattle.consistency.proofs.Sweeps.{Going, going_start, going-over, going_on, going_done, going-wrong, going_next, going-stop}
 use Rattle.consistency.proofs.sweep.Statement.{statement}

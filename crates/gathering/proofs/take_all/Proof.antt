@@ -3,8 +3,8 @@
 use Rattle.std.proofs.Common.{sym, refl, ◌∙◌, inl, arith, rules}
 use Rattle.spec.specs.Words.{words_of}
 use Rattle.words.specs.Image.{length-words_of}
-use Rattle.log.specs.Cursor.{left}
-use Rattle.log.proofs.Walk.{handed}
+use Rattle.logs.specs.Cursor.{left}
+use Rattle.logs.proofs.Walk.{handed}
 use Rattle.gathering.specs.Reading.{Collecting}
 use Rattle.gathering.proofs.Passes.{collects-start, collects-done, collects-wrong, collects-next}
 use Rattle.gathering.proofs.take_all.Statement.{statement}

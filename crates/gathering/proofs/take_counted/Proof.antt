@@ -3,8 +3,8 @@
 use Rattle.std.proofs.Common.{sym, refl, ◌∙◌, arith, rules}
 use Rattle.spec.specs.Words.{words_of}
 use Rattle.words.specs.Image.{length-words_of}
-use Rattle.log.specs.Cursor.{left}
-use Rattle.log.proofs.Walk.{handed}
+use Rattle.logs.specs.Cursor.{left}
+use Rattle.logs.proofs.Walk.{handed}
 use Rattle.gathering.specs.Measuring.{Tells}
 use Rattle.gathering.proofs.Kept.{tells-start}
 use Rattle.gathering.proofs.Passes.{RestOn, rest-start, rest-done, rest-wrong, rest-next}

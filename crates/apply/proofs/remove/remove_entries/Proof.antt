@@ -3,8 +3,8 @@
 use Rattle.std.proofs.Common.{◌∙◌, arith, rules}
 use Rattle.spec.specs.Words.{words_of}
 use Rattle.words.specs.Image.{length-words_of}
-use Rattle.log.specs.Cursor.{left}
-use Rattle.log.proofs.Walk.{handed}
+use Rattle.logs.specs.Cursor.{left}
+use Rattle.logs.proofs.Walk.{handed}
 use Rattle.apply.proofs.Walks.{LeavesOn, leaves-start, leaves-not, leaves_run, leaves-done, leaves-next}
 use Rattle.apply.proofs.remove.remove_entries.Statement.{statement}
 use Rattle.apply.proofs.remove.remove_entries.Tie as tie

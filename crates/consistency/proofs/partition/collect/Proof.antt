@@ -7,8 +7,8 @@ use native.Mathlib.Omega.{arith}
 use lib.ListN.{length, length-replicate}
 use Rattle.places.specs.Sizes.{power_of}
 use Rattle.spec.specs.Words.{words_of}
-use Rattle.log.specs.Cursor.{left}
-use Rattle.log.proofs.Walk.{handed}
+use Rattle.logs.specs.Cursor.{left}
+use Rattle.logs.proofs.Walk.{handed}
 use Rattle.volatile.proofs.Shows.{own_alone}
 use Rattle.consistency.proofs.Collects.{Reached, reached-start, reached-over, reached-next, reached-done, reached-full}
 use Rattle.consistency.proofs.partition.collect.Statement.{statement}

@@ -4,8 +4,8 @@ use borrow.Author.Rules.{rules}
 use mathlib.Core.Path.{refl}
 use native.Mathlib.Omega.{arith}
 use Rattle.spec.specs.Words.{words_of}
-use Rattle.log.specs.Cursor.{left}
-use Rattle.log.proofs.Walk.{handed}
+use Rattle.logs.specs.Cursor.{left}
+use Rattle.logs.proofs.Walk.{handed}
 use Rattle.faults.proofs.Sweeps.{Going, going_start, going-over, going_done, going-wrong, going_next}
 use Rattle.faults.proofs.top.sweep.Statement.{statement}
 use Rattle.faults.proofs.top.sweep.Tie as tie

@@ -3,8 +3,8 @@
 -- Assumes nothing.
 use Rattle.std.proofs.Common.{length, rules}
 use Rattle.spec.specs.Words.{words_of}
-use Rattle.log.specs.Cursor.{left}
-use Rattle.log.proofs.Walk.{handed}
+use Rattle.logs.specs.Cursor.{left}
+use Rattle.logs.proofs.Walk.{handed}
 use Rattle.gathering.proofs.Kept.{CountsOn, counts_start, counts-done, counts-wrong, counts-next}
 use Rattle.gathering.proofs.measure.count_keys.Statement.{statement}
 use Rattle.gathering.proofs.measure.count_keys.Tie as tie

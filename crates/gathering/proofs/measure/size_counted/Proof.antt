@@ -2,8 +2,8 @@
 -- Assumes nothing.
 use Rattle.std.proofs.Common.{sym, ◌∙◌, arith, rules}
 use Rattle.spec.specs.Words.{words_of}
-use Rattle.log.specs.Cursor.{left}
-use Rattle.log.proofs.Walk.{handed}
+use Rattle.logs.specs.Cursor.{left}
+use Rattle.logs.proofs.Walk.{handed}
 use Rattle.gathering.specs.Measuring.{Tells}
 use Rattle.gathering.proofs.Kept.{tells-start}
 use Rattle.gathering.proofs.Measures.{MeasuresOn, measures-start, run-measures, measures-done, measures-wrong, measures-next}

@@ -5,8 +5,8 @@ use Rattle.std.proofs.Common.{◌≡◌, sym, ap, ◌∙◌, rules}
 use Rattle.spec.specs.Words.{words_of}
 use Rattle.spec.specs.Log.{image_entries}
 use Rattle.theory_log.specs.Fold.{fold_p}
-use Rattle.log.specs.Cursor.{remaining, left}
-use Rattle.log.proofs.Walk.{remaining-start, handed, fold_done, fold-wrong, fold-entry}
+use Rattle.logs.specs.Cursor.{remaining, left}
+use Rattle.logs.proofs.Walk.{remaining-start, handed, fold_done, fold-wrong, fold-entry}
 use Rattle.inspect.specs.History.{no_entry, pass, or_none, first_in}
 use Rattle.places.specs.Sizes.{power_of}
 use Rattle.inspect.proofs.history.first_in.Statement.{statement}

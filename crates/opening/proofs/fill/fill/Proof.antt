@@ -9,8 +9,8 @@ use Rattle.places.specs.Sizes.{power_of}
 use Rattle.spec.specs.Words.{words_of}
 use Rattle.words.specs.Image.{length-words_of}
 use Rattle.theory_log.proofs.Walk.{room-padding, room-entry}
-use Rattle.log.specs.Cursor.{cursor_at, left}
-use Rattle.log.proofs.Walk.{next-none, next-wrong, next-padding, next-found, left-padding}
+use Rattle.logs.specs.Cursor.{cursor_at, left}
+use Rattle.logs.proofs.Walk.{next-none, next-wrong, next-padding, next-found, left-padding}
 use Rattle.volatile.specs.Change.{SumsAlone}
 use Rattle.volatile.proofs.Laws.{alone-self, alone-then}
 use Rattle.opening.specs.Pass.{Passing}

@@ -1,14 +1,14 @@
--- `log::fill_right` meets its contract: only a value in the log that ends within a word has a fill to look at.
+-- `logs::fill_right` meets its contract: only a value in the log that ends within a word has a fill to look at.
 -- Assumes nothing.
 use Prim.Native.Nat.{◌+◌, ◌/◌, ◌%◌}
 use mathlib.Core.Path.{◌≡◌}
 use native.Mathlib.Omega.{arith}
 use borrow.Author.Tests.{ne_eqb}
 use Rattle.spec.specs.Words.{words_of}
-use Rattle.log.proofs.Shifts.{fill-last}
+use Rattle.logs.proofs.Shifts.{fill-last}
 use borrow.Author.Rules.{rules}
-use Rattle.log.proofs.fill_right.Statement.{statement}
-use Rattle.log.proofs.fill_right.Tie as tie
+use Rattle.logs.proofs.fill_right.Statement.{statement}
+use Rattle.logs.proofs.fill_right.Tie as tie
 
 returns : tie.Need-returns
 returns c = let a = c.before.before.args in rw (ne_eqb a.placement 0 (omega arith))

@@ -15,12 +15,12 @@ use Rattle.theory_log.proofs.Parse.{prepend-entries}
 use Rattle.theory_log.proofs.Image.{prepend-wrong}
 use Rattle.theory_log.proofs.Walk.{slice-more, parse-end, parse-wrong, parse-padding, parse-next, room-padding, room-entry}
 use Rattle.theory_log.proofs.Fold.{fold-cons}
-use Rattle.log.specs.declared.Cursor.{Cursor}
-use Rattle.log.specs.declared.Next.{Next}
-use Rattle.log.specs.declared.Next.TheVariants as N
-use Rattle.log.specs.Stands.{entry_in}
-use Rattle.log.specs.Cursor.{cursor_at, start, remaining, left, Opened, Handed, Advanced}
-use Rattle.log.proofs.Stands.{take-drop, found-stands}
+use Rattle.logs.specs.declared.Cursor.{Cursor}
+use Rattle.logs.specs.declared.Next.{Next}
+use Rattle.logs.specs.declared.Next.TheVariants as N
+use Rattle.logs.specs.Stands.{entry_in}
+use Rattle.logs.specs.Cursor.{cursor_at, start, remaining, left, Opened, Handed, Advanced}
+use Rattle.logs.proofs.Stands.{take-drop, found-stands}
 
 join-cons : (e : Entry) (q r : Parsed) → join (cons e q) r ≡ cons e (join q r)
 join-cons e Wrong r = refl

@@ -1,4 +1,4 @@
--- `log::chunk_cursor` meets its contract: a chunk past the image has no words, so an empty place stands for it.
+-- `logs::chunk_cursor` meets its contract: a chunk past the image has no words, so an empty place stands for it.
 -- Assumes nothing.
 use Prim.Native.Nat.{◌/◌}
 use mathlib.Core.Path.{◌≡◌, refl, sym}
@@ -7,10 +7,10 @@ use lib.ListN.{length}
 use Rattle.spec.specs.Words.{words_of}
 use Rattle.places.specs.Sizes.{power_of}
 use Rattle.words.specs.Image.{length-words_of}
-use Rattle.log.proofs.Chunks.{chunk-within, chunk-behind, chunk-past}
+use Rattle.logs.proofs.Chunks.{chunk-within, chunk-behind, chunk-past}
 use borrow.Author.Rules.{rules}
-use Rattle.log.proofs.chunk_cursor.Statement.{statement}
-use Rattle.log.proofs.chunk_cursor.Tie as tie
+use Rattle.logs.proofs.chunk_cursor.Statement.{statement}
+use Rattle.logs.proofs.chunk_cursor.Tie as tie
 
 chunks-in-requires : tie.Need-chunks-in-requires
 chunks-in-requires c κs = search rules

@@ -4,8 +4,8 @@ use Rattle.std.specs.Prelude.{◌≡◌, List, ℕ}
 use Rattle.std.proofs.Math.Seq.{slice}
 use Rattle.spec.specs.Log.{step_of}
 use Rattle.spec.specs.declared.LogStep.TheVariants as S
-use Rattle.log.specs.declared.Short.{Short}
-use Rattle.log.specs.declared.Short.TheVariants as P
+use Rattle.logs.specs.declared.Short.{Short}
+use Rattle.logs.specs.declared.Short.TheVariants as P
 
 -- what is found at word `at` of the words before `end`: a put stands there as told, and of anything else nothing is
 -- told

@@ -1,4 +1,4 @@
--- `log::next_in_log` meets its contract. The loop's invariant: the same remains from the place reached as from the
+-- `logs::next_in_log` meets its contract. The loop's invariant: the same remains from the place reached as from the
 -- cursor given, and it is no farther from the end.
 -- Assumes nothing.
 use Prim.Native.Nat.{◌≤◌}
@@ -8,11 +8,11 @@ use Rattle.spec.specs.Words.{words_of}
 use Rattle.places.specs.Sizes.{power_of}
 use Rattle.words.specs.Image.{length-words_of}
 use Rattle.theory_log.proofs.Walk.{room-padding, room-entry}
-use Rattle.log.specs.Cursor.{cursor_at, remaining, left}
-use Rattle.log.proofs.Walk.{next-none, next-wrong, next-chunk, next-padding, next-found, left-chunk, left-padding, handed-from}
+use Rattle.logs.specs.Cursor.{cursor_at, remaining, left}
+use Rattle.logs.proofs.Walk.{next-none, next-wrong, next-chunk, next-padding, next-found, left-chunk, left-padding, handed-from}
 use borrow.Author.Rules.{rules}
-use Rattle.log.proofs.next_in_log.Statement.{statement}
-use Rattle.log.proofs.next_in_log.Tie as tie
+use Rattle.logs.proofs.next_in_log.Statement.{statement}
+use Rattle.logs.proofs.next_in_log.Tie as tie
 
 abbrev invariant-loop : tie.invariant-loop
 invariant-loop img count size chunk₀ at₀ end₀ chunk at end =

@@ -1,4 +1,4 @@
--- `log::best_of` meets its contract. The loop's invariant: the pass over the whole log is the pass over what remains,
+-- `logs::best_of` meets its contract. The loop's invariant: the pass over the whole log is the pass over what remains,
 -- from the best so far.
 -- Assumes nothing.
 use mathlib.Core.Path.{◌≡◌, sym, ◌∙◌, ap}
@@ -6,12 +6,12 @@ use Rattle.spec.specs.Words.{words_of}
 use Rattle.places.specs.Sizes.{power_of}
 use Rattle.spec.specs.Log.{image_entries}
 use Rattle.theory_log.specs.Fold.{fold_p}
-use Rattle.log.specs.Cursor.{remaining, left}
-use Rattle.log.specs.Best.{nothing, pass, or_nothing, best_in}
-use Rattle.log.proofs.Walk.{remaining-start, handed, fold_done, fold-wrong, fold-entry}
+use Rattle.logs.specs.Cursor.{remaining, left}
+use Rattle.logs.specs.Best.{nothing, pass, or_nothing, best_in}
+use Rattle.logs.proofs.Walk.{remaining-start, handed, fold_done, fold-wrong, fold-entry}
 use borrow.Author.Rules.{rules}
-use Rattle.log.proofs.best_of.Statement.{statement}
-use Rattle.log.proofs.best_of.Tie as tie
+use Rattle.logs.proofs.best_of.Statement.{statement}
+use Rattle.logs.proofs.best_of.Tie as tie
 
 abbrev invariant-loop : tie.invariant-loop
 invariant-loop img count key size best₀ cursor₀ best cursor = fold_p (pass key) nothing (image_entries (power_of size) count (words_of img)) ≡ fold_p (pass key) best (remaining (power_of size) count (words_of img) cursor)

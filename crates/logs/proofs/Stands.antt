@@ -20,7 +20,7 @@ use Rattle.theory_log.proofs.Batch.{first-right}
 use Rattle.theory_log.proofs.Stands.{head_first, all-stands}
 use Rattle.theory_log.proofs.Places.{Sound, all_sound, first-inv, right-in, rising-in, rising-apart}
 use Rattle.theory_base.proofs.Places.{past-directory}
-use Rattle.log.specs.Stands.{entry_in, StandsIn}
+use Rattle.logs.specs.Stands.{entry_in, StandsIn}
 
 pub take-drop : (m n : ℕ) (l : List ℕ) → take n (drop m l) ≡ slice m (m + n) l
 take-drop zero n l = rw zero-add

@@ -1,12 +1,14 @@
 // Walking the entries of an image: what stands at a place, and the log in order.
+#![tactic(auto)]
+
 ghost use Rattle.std.specs.Prelude.{◌≡◌, ◌+◌, ◌*◌, ◌/◌, ◌≤◌, length, drop};
 ghost use Rattle.std.proofs.Math.Seq.{slice};
 ghost use Rattle.spec.specs.Words.{words_of};
 ghost use Rattle.places.specs.Sizes.{power_of};
 ghost use Rattle.spec.specs.Log.{words_for, filled, step_of};
-ghost use Rattle.log.specs.Cursor.{Opened, Advanced, start};
-ghost use Rattle.log.specs.Best.{raise, best_in};
-ghost use Rattle.log.specs.Short.{ShortAt};
+ghost use Rattle.logs.specs.Cursor.{Opened, Advanced, start};
+ghost use Rattle.logs.specs.Best.{raise, best_in};
+ghost use Rattle.logs.specs.Short.{ShortAt};
 
 use codec::first_of;
 use directory::lines_of;

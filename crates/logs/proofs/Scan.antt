@@ -14,9 +14,9 @@ use Rattle.spec.specs.Contents.{chosen, highest}
 use Rattle.theory_log.specs.Contents.{Mem}
 use Rattle.theory_log.specs.Fold.{fold_e}
 use Rattle.theory_log.proofs.Contents.{better, best, version_of, chosen-best, highest-best, chosen_is}
-use Rattle.log.specs.declared.Best.{Best}
-use Rattle.log.specs.Best.{nothing, pass, best_in, best_of}
-use Rattle.log.proofs.Stands.{image-right}
+use Rattle.logs.specs.declared.Best.{Best}
+use Rattle.logs.specs.Best.{nothing, pass, best_in, best_of}
+use Rattle.logs.proofs.Stands.{image-right}
 
 abbrev over : Best → Option Entry → Best
 over b none = b

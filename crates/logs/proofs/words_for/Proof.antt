@@ -1,10 +1,10 @@
--- `log::words_for` meets its contract: the division is split so that no sum wraps.
+-- `logs::words_for` meets its contract: the division is split so that no sum wraps.
 -- Assumes nothing.
 use native.Mathlib.Omega.{arith}
 use borrow.Author.Tests.{ne_eqb, eq-eqb}
 use borrow.Author.Rules.{rules}
-use Rattle.log.proofs.words_for.Statement.{statement}
-use Rattle.log.proofs.words_for.Tie as tie
+use Rattle.logs.proofs.words_for.Statement.{statement}
+use Rattle.logs.proofs.words_for.Tie as tie
 
 add-result : tie.Need-overflow-add-result
 add-result c = search rules

@@ -3,10 +3,10 @@
 use Rattle.std.specs.Prelude.{◌≡◌, List, [], ℕ, suc, ◌+◌, ◌-◌, ◌*◌, ◌<◌, min, length}
 use Rattle.std.proofs.Math.Seq.{slice}
 use Rattle.spec.specs.Log.{Parsed, Wrong, Entries, cons, join, parse, words_for, chunk_entries, all_from}
-use Rattle.log.specs.Stands.{entry_in, StandsIn}
-use Rattle.log.specs.declared.Cursor.{Cursor}
-use Rattle.log.specs.declared.Next.{Next}
-use Rattle.log.specs.declared.Next.TheVariants as N
+use Rattle.logs.specs.Stands.{entry_in, StandsIn}
+use Rattle.logs.specs.declared.Cursor.{Cursor}
+use Rattle.logs.specs.declared.Next.{Next}
+use Rattle.logs.specs.declared.Next.TheVariants as N
 
 -- a place of a chunk, before the end of its committed words
 abbrev pub cursor_at : (chunk at end : ℕ) → Cursor

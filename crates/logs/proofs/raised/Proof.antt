@@ -1,9 +1,9 @@
--- `log::raised` meets its contract, test by test.
+-- `logs::raised` meets its contract, test by test.
 -- Assumes nothing.
 use native.Mathlib.Omega.{arith}
 use borrow.Author.Tests.{eq-eqb, ne_eqb, lt-ltb, le-ltb}
-use Rattle.log.proofs.raised.Statement.{statement}
-use Rattle.log.proofs.raised.Tie as tie
+use Rattle.logs.proofs.raised.Statement.{statement}
+use Rattle.logs.proofs.raised.Tie as tie
 
 returns : tie.Need-returns
 returns c = let a = c.before.before.before.args in rw (eq-eqb a.k a.key (omega arith), lt-ltb a.best.version a.version (omega arith))

@@ -1,4 +1,4 @@
--- `log::short_put` meets its contract: a first word with the low bits 0001 is that of a put with its value in the log.
+-- `logs::short_put` meets its contract: a first word with the low bits 0001 is that of a put with its value in the log.
 -- Assumes nothing.
 use Prim.Native.Nat.{ℕ, ◌+◌, ◌*◌, ◌/◌, ◌%◌, ◌≤◌}
 use mathlib.Core.Path.{◌≡◌, sym, ◌∙◌, ap}
@@ -11,8 +11,8 @@ use Rattle.spec.specs.Log.{first_of_word}
 use Rattle.spec.specs.declared.FirstWord.TheVariants as F
 use Rattle.theory_log.proofs.Walk.{step-fill}
 use borrow.Author.Rules.{rules}
-use Rattle.log.proofs.short_put.Statement.{statement}
-use Rattle.log.proofs.short_put.Tie as tie
+use Rattle.logs.proofs.short_put.Statement.{statement}
+use Rattle.logs.proofs.short_put.Tie as tie
 
 first-put : (w : ℕ) → w % 16 ≡ 1 → (w / 16 % 1048576 ≡ 0 → ⊥) → w / 16777216 ≤ 256 → first_of_word w ≡ F.Entry 1 0 (w / 16 % 1048576) (w / 16777216)
 unfolding first_of_word

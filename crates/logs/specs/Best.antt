@@ -5,7 +5,7 @@ use Rattle.std.specs.Prelude.{List, ℕ, eqb, ltb}
 use Rattle.spec.specs.Basics.{pick}
 use Rattle.spec.specs.Log.{Entry, image_entries}
 use Rattle.theory_log.specs.Fold.{fold_p}
-use Rattle.log.specs.declared.Best.{Best}
+use Rattle.logs.specs.declared.Best.{Best}
 
 abbrev pub nothing : Best
 nothing = record { version = 0; place = 0 }

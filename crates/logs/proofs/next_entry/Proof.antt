@@ -1,4 +1,4 @@
--- `log::next_entry` meets its contract: each answer is what the definition says of the words from that place on.
+-- `logs::next_entry` meets its contract: each answer is what the definition says of the words from that place on.
 -- Assumes nothing.
 use Prim.Native.Nat.{◌/◌}
 use mathlib.Core.Path.{◌≡◌, sym, ◌∙◌, ap}
@@ -10,8 +10,8 @@ use Rattle.spec.specs.Log.{first_of_word}
 use Rattle.spec.specs.declared.FirstWord.TheVariants as F
 use Rattle.theory_log.proofs.Walk.{step_end, step-first, step-short, step-fill}
 use borrow.Author.Rules.{rules}
-use Rattle.log.proofs.next_entry.Statement.{statement}
-use Rattle.log.proofs.next_entry.Tie as tie
+use Rattle.logs.proofs.next_entry.Statement.{statement}
+use Rattle.logs.proofs.next_entry.Tie as tie
 
 lesser-requires : tie.Need-lesser-requires
 lesser-requires c κs = search rules
