@@ -10,7 +10,7 @@ use spec::{Refusal, Report};
 
 // A report in numbers: its kind, 0 to 10 in the order of `Report`, and its values, 0 where it has none.
 #[repr(C)]
-#[derive(Drop)]
+#[derive(Clone, Copy)]
 pub struct Answer {
     pub kind: u64,
     pub first: u64,

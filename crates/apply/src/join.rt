@@ -106,7 +106,7 @@ fn join_one(
 }
 
 // What became of a put that was to join without the image: whether it joined, and how many keys the table has then.
-#[derive(Drop)]
+#[derive(Clone, Copy)]
 struct Tried {
     joined: bool,
     keys: usize,
@@ -165,7 +165,7 @@ fn join_put(
 
 // THE BATCH
 // How far a pass came, and how many keys the table has then.
-#[derive(Drop)]
+#[derive(Clone, Copy)]
 struct Reached {
     at: usize,
     keys: usize,

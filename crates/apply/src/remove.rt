@@ -13,7 +13,7 @@ use spec::Size;
 
 // What a pass has come to: how many keys the table has, and the word at which the next copy stands; false where a key
 // has several top entries, or the log is wrong: the table is then to be built anew.
-#[derive(Drop)]
+#[derive(Clone, Copy)]
 pub struct Removed {
     pub keys: usize,
     pub to: usize,
@@ -21,7 +21,7 @@ pub struct Removed {
 }
 
 // The same behind a run of puts, and the word that it has come to.
-#[derive(Drop)]
+#[derive(Clone, Copy)]
 pub struct Run {
     pub keys: usize,
     pub to: usize,

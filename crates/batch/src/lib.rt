@@ -21,14 +21,14 @@ use spec::{FirstWord, LogStep};
 use words::{last_word, lesser, read_word};
 
 // What the last staged item of a key says, 0 and 0 where there is none.
-#[derive(Drop)]
+#[derive(Clone, Copy)]
 pub struct Latest {
     pub op: u64,
     pub version: u64,
 }
 
 // What stands at a word of the batch: `size` is the number of words to the next item.
-#[derive(Drop)]
+#[derive(Clone, Copy)]
 pub struct Item {
     pub op: u64,
     pub version: u64,
@@ -37,7 +37,7 @@ pub struct Item {
 }
 
 // What stands at a place of the staged words: an entry that ends within them, or nothing.
-#[derive(Drop)]
+#[derive(Clone, Copy)]
 pub enum StagedItem {
     Nothing,
     Entry {

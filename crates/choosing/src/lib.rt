@@ -14,7 +14,7 @@ use session::{Control, Gated, Setup};
 use spec::{Refusal, Report, Size};
 
 // The chunk that was chosen, or none.
-#[derive(Drop)]
+#[derive(Clone, Copy)]
 pub enum Choice {
     At(usize),
     Nothing,
@@ -22,7 +22,7 @@ pub enum Choice {
 
 // What choosing knows of a chunk: its committed lines, 0 unless it is a log chunk, and the words that a cleaning
 // copies.
-#[derive(Drop)]
+#[derive(Clone, Copy)]
 pub struct Candidate {
     pub chunk: usize,
     pub lines: usize,

@@ -25,7 +25,7 @@ use spec::{Refusal, Report, Size};
 
 // A cleaning's begin: turned down, or where its copies go (chunk, its directory word, its committed lines), where the
 // next commit looks for space, what the record is to hold of the cleaned chunk, and the number of actions.
-#[derive(Drop)]
+#[derive(Clone, Copy)]
 pub enum CleanPlan {
     Refused(Refusal),
     At {

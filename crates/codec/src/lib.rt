@@ -344,7 +344,7 @@ pub fn first_word(op: u64, placement: u64, version: u64, field: u64) -> u64
 
 // UNITS
 // A number of a unit of 256 bytes, counted from the image's start.
-#[derive(Drop)]
+#[derive(Clone, Copy)]
 pub struct Unit(pub u64);
 
 impl Unit {

@@ -15,7 +15,7 @@ use spec::{Refusal, Report, Size};
 
 // What a commit finds: a refusal, or where it writes (chunk, its directory word, its committed lines), where the next
 // one looks for space, and how many actions it has.
-#[derive(Drop)]
+#[derive(Clone, Copy)]
 pub enum CommitPlan {
     Refused(Refusal),
     At {

@@ -25,7 +25,7 @@ use spec::{LogStep, Size};
 use words::{lesser, load};
 
 // An entry of the log but for its value: `place` is its first word.
-#[derive(Drop)]
+#[derive(Clone, Copy)]
 pub struct Head {
     pub op: u64,
     pub placement: u64,
@@ -36,7 +36,7 @@ pub struct Head {
 }
 
 // What the pass finds: no wrong block, no top entries that disagree, no block of two keys.
-#[derive(Drop)]
+#[derive(Clone, Copy)]
 pub struct Checked {
     pub blocks: bool,
     pub agreeing: bool,

@@ -111,7 +111,7 @@ pub fn onward(image: &[u8], count: usize, c: usize, size: Size) -> Cursor
 
 // COLLECTING
 // Whether the keys fit the table so far, and how many it has.
-#[derive(Drop)]
+#[derive(Clone, Copy)]
 pub struct Collected {
     pub fits: bool,
     pub keys: usize,

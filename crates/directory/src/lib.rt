@@ -156,7 +156,7 @@ pub fn directory_fits(image: &[u8], count: usize, size: Size) -> bool
 
 // FREE CHUNKS
 // A chunk that was looked for.
-#[derive(Drop)]
+#[derive(Clone, Copy)]
 pub enum Found {
     At(usize),
     Nothing,

@@ -15,7 +15,7 @@ use spec::{LogStep, Size};
 
 // Why an opening refuses an image, and where: the word of the header, the chunk whose directory word is wrong and that
 // word, the first word of the entry; `before` is how many entries stand before it in the log.
-#[derive(Drop)]
+#[derive(Clone, Copy)]
 pub enum Fault {
     Nothing,
     Length,
@@ -130,7 +130,7 @@ fn header_fault(image: &[u8], count: usize) -> usize
 
 // 4: THE LOG
 // Where a reading of the log stops: nowhere, or at the first word of a wrong entry with so many entries before it.
-#[derive(Drop)]
+#[derive(Clone, Copy)]
 pub enum Stop {
     Nowhere,
     At { word: usize, before: usize },
@@ -238,7 +238,7 @@ pub fn fault_of(image: &[u8]) -> Fault
 // In numbers: 0 or the refusal's number; the chunk, the word of the image, and how many entries stand before it, each 0
 // where it is not said.
 #[repr(C)]
-#[derive(Drop)]
+#[derive(Clone, Copy)]
 pub struct FaultPlace {
     pub refusal: u64,
     pub chunk: u64,

@@ -17,7 +17,7 @@ use spec::Size;
 use words::{lesser, load};
 
 // The first words of the two entries, 0 where there is none.
-#[derive(Drop)]
+#[derive(Clone, Copy)]
 pub struct Spots {
     pub block: usize,
     pub tops: usize,
@@ -50,7 +50,7 @@ const SEVERAL: usize = 1;
 
 // The user of a unit, and the least place of a top entry at odds with others. The user is 0 where no top entry points
 // to the unit; where those of one key do, the least place of them; where those of several do, SEVERAL.
-#[derive(Drop)]
+#[derive(Clone, Copy)]
 pub struct Joined {
     pub user: u64,
     pub tops: usize,

@@ -11,7 +11,7 @@ use logs::{Cursor, Next, Short};
 use spec::Size;
 
 // How many words are gathered, and how many entries.
-#[derive(Drop)]
+#[derive(Clone, Copy)]
 pub struct Tally {
     pub words: usize,
     pub entries: usize,
@@ -135,7 +135,7 @@ fn add_kept(so: Tally, kept: bool, place: usize, value: usize, size: Size) -> Ta
 }
 
 // What is counted up to a word.
-#[derive(Drop)]
+#[derive(Clone, Copy)]
 pub struct Run {
     pub tally: Tally,
     pub at: usize,

@@ -65,7 +65,7 @@ fn count_if(n: u64, so: bool) -> u64
 }
 
 // A LOG CHUNK: how many of its entries are chosen puts, chosen deletes, and neither
-#[derive(Drop)]
+#[derive(Clone, Copy)]
 pub struct Tally {
     pub live: u64,
     pub deletes: u64,

@@ -14,7 +14,7 @@ use spec::Size;
 // where its value is in a block, `field` the value's length or the block's unit, `chosen` 1 where the register goes by
 // it.
 #[repr(C)]
-#[derive(Drop)]
+#[derive(Clone, Copy)]
 pub struct KeyEntry {
     pub found: u64,
     pub place: u64,

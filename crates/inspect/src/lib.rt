@@ -68,7 +68,7 @@ fn blocks_of(size: Size, units: u64) -> u64
 
 // A row in numbers: `refused` is 0, or the refusal's number with all others 0.
 #[repr(C)]
-#[derive(Drop)]
+#[derive(Clone, Copy)]
 pub struct ChunkRow {
     pub refused: u64,
     pub role: u64,

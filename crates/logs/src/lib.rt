@@ -16,7 +16,7 @@ use spec::{FirstWord, LogStep, Size};
 use words::{lesser, load};
 
 // A place in the walk of the log: the chunk, the next word to look at, and the end of the chunk's committed words.
-#[derive(Drop)]
+#[derive(Clone, Copy)]
 pub struct Cursor {
     pub chunk: usize,
     pub at: usize,
@@ -24,7 +24,7 @@ pub struct Cursor {
 }
 
 // What comes next in the log: `place` is the entry's first word, `cursor` the place behind the entry.
-#[derive(Drop)]
+#[derive(Clone, Copy)]
 pub enum Next {
     Done,
     Wrong,
@@ -42,7 +42,7 @@ pub enum Next {
 
 // A put with its value in the log that stands at a word, or anything else: for a pass that goes by the common case
 // first.
-#[derive(Drop)]
+#[derive(Clone, Copy)]
 pub enum Short {
     Put {
         version: u64,
@@ -54,7 +54,7 @@ pub enum Short {
 }
 
 // A top entry: its version and its first word, both 0 where there is none.
-#[derive(Drop)]
+#[derive(Clone, Copy)]
 pub struct Best {
     pub version: u64,
     pub place: usize,

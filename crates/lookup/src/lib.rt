@@ -13,7 +13,7 @@ use session::{Control, Gated, Setup};
 use spec::{Refusal, Report, Size};
 
 // What a look-up finds: a refusal, or the part of the image that holds the value, and its version.
-#[derive(Drop)]
+#[derive(Clone, Copy)]
 pub enum Located {
     Refused(Refusal),
     Part {
@@ -190,7 +190,7 @@ pub fn look_up_core<'a>(
 }
 
 // What is listed of a key, or why nothing is.
-#[derive(Drop)]
+#[derive(Clone, Copy)]
 pub enum Listed {
     Refused(Refusal),
     Present {
@@ -246,7 +246,7 @@ fn by_word(image: &[u8], held: u64, size: Size) -> Listed
 }
 
 // How many of the words hold a key, and whether there is one key more.
-#[derive(Drop)]
+#[derive(Clone, Copy)]
 struct Kept {
     kept: usize,
     more: usize,
@@ -289,7 +289,7 @@ pub fn present_keys(image: &[u8], table: &[u64], out: &mut [u64], size: Size) ->
 }
 
 // How many keys are present, or why that is not told.
-#[derive(Drop)]
+#[derive(Clone, Copy)]
 pub enum Counted {
     Refused(Refusal),
     Keys(usize),

@@ -56,7 +56,7 @@ fn enter_known(
 }
 
 // The table's keys, whether those of all entries so far fit, and whether each then has a single top entry.
-#[derive(Drop)]
+#[derive(Clone, Copy)]
 struct Entered {
     keys: usize,
     fits: bool,
@@ -126,7 +126,7 @@ fn is_wide(at: usize, end: usize, size: Size) -> bool
 
 // A run of the pass: how many keys the table has then, whether each has a single top entry, and how far it came. What
 // it passed from word `from` on is new and not yet in the sum of the chunk.
-#[derive(Drop)]
+#[derive(Clone, Copy)]
 struct PutsEntered {
     keys: usize,
     single: bool,
@@ -243,7 +243,7 @@ fn skip_padding(image: &[u8], at: usize, end: usize) -> usize
 // THE PASS
 // What the pass finds: whether every entry is right, whether the keys fit, whether each has a single top entry, whether
 // every value is direct, none of them in a block, and how many keys the table has.
-#[derive(Drop)]
+#[derive(Clone, Copy)]
 pub struct Filled {
     pub right: bool,
     pub fits: bool,

@@ -73,7 +73,7 @@ pub fn header_fits(image: &[u8], count: usize) -> bool
 
 // OPENING
 // Why an image is refused, or how many keys it has.
-#[derive(Drop)]
+#[derive(Clone, Copy)]
 pub enum CheckedImage {
     Refused(Refusal),
     Accepted(usize),

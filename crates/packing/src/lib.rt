@@ -7,7 +7,7 @@ ghost use Rattle.packing.specs.Packed.{widths_of, small_widths, large_widths, pa
 use spec::Size;
 
 // What the map holds of a key.
-#[derive(Drop)]
+#[derive(Clone, Copy)]
 pub struct Info {
     pub extent: u64,
     pub place: u64,

@@ -19,14 +19,14 @@ use spec::{FirstWord, Size};
 use words::lesser;
 
 // A block that was looked for, by its first unit.
-#[derive(Drop)]
+#[derive(Clone, Copy)]
 pub enum Block {
     At(Unit),
     Nothing,
 }
 
 // Where a large value goes: to a block of a data chunk, to the first block of a free chunk, or nowhere.
-#[derive(Drop)]
+#[derive(Clone, Copy)]
 pub enum Slot {
     Data(Unit),
     Free(usize),
@@ -35,7 +35,7 @@ pub enum Slot {
 
 // What stands at a word of the batch: whether it is a put whose value is in the block asked for, and the number of
 // words to the next item.
-#[derive(Drop)]
+#[derive(Clone, Copy)]
 pub struct Met {
     pub here: bool,
     pub size: usize,

@@ -12,7 +12,7 @@ use spec::Size;
 
 // Where the lines go: `committed` is the chunk's committed lines, `old` its directory word; all 0 where nothing was
 // found.
-#[derive(Drop)]
+#[derive(Clone, Copy)]
 pub struct Place {
     pub found: bool,
     pub chunk: usize,
@@ -21,7 +21,7 @@ pub struct Place {
 }
 
 // A place, and the next hint.
-#[derive(Drop)]
+#[derive(Clone, Copy)]
 pub struct Placed {
     pub place: Place,
     pub first: usize,
@@ -132,7 +132,7 @@ pub fn place_at(image: &[u8], c: usize, size: Size) -> Place
 }
 
 // Where a search starts, and whether no log chunk behind that chunk has space, and no chunk below it is free.
-#[derive(Drop)]
+#[derive(Clone, Copy)]
 pub struct Start {
     pub from: usize,
     pub sole: bool,

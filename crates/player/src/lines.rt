@@ -7,7 +7,7 @@ use text::Token;
 
 // The station's record, but for its buffer; the lengths lent; whether the last call left image, table and record as
 // they were; and whether lines are shown before they are played.
-#[derive(Drop)]
+#[derive(Clone, Copy)]
 pub struct State {
     pub control: Control,
     pub setup: Setup,

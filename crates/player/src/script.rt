@@ -2,7 +2,7 @@
 ghost use Rattle.std.specs.Prelude.{◌<◌, length};
 
 // A line: its word, the numbers behind it, and where the next line starts.
-#[derive(Drop)]
+#[derive(Clone, Copy)]
 pub struct Line {
     pub word: u64,
     pub first: text::Token,
@@ -103,7 +103,7 @@ pub fn line_at(text: &[u8], from: usize) -> Line
 
 // COMMANDS
 // What a line of a script asks for.
-#[derive(Drop)]
+#[derive(Clone, Copy)]
 pub enum Command {
     Image,
     Table,

@@ -13,7 +13,7 @@ use spec::Report;
 
 // The number of the next action after a step or a run inside a commit, which alters nothing else of the record, and its
 // report.
-#[derive(Drop)]
+#[derive(Clone, Copy)]
 pub struct Advanced {
     pub next: usize,
     pub report: Report,

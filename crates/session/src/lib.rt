@@ -15,7 +15,7 @@ use spec::{Refusal, Report, Size};
 // commit, 4 a formatting begun with nothing open, 5 one begun on an open register, 6 a cleaning), the number of its
 // next action, the staged items, their words, the known keys, and the staged keys that are not known.
 #[repr(C)]
-#[derive(Drop)]
+#[derive(Clone, Copy)]
 pub struct Control {
     pub phase: u64,
     pub next: usize,
@@ -28,7 +28,7 @@ pub struct Control {
 // What a cleaning has begun with: the chunk that it frees, that chunk's directory word and committed lines before, the
 // words that it keeps (in the buffer's second area), and how many entries these are.
 #[repr(C)]
-#[derive(Drop)]
+#[derive(Clone, Copy)]
 pub struct Source {
     pub chunk: usize,
     pub old: u64,
@@ -46,7 +46,7 @@ pub struct Source {
 // of a large value `lines` is the block's first unit in its chunk, and `fields` the block size that a free chunk is
 // taken for, 0 where the chunk has it already.
 #[repr(C)]
-#[derive(Drop)]
+#[derive(Clone, Copy)]
 pub struct Setup {
     pub image: usize,
     pub table: usize,
@@ -65,7 +65,7 @@ pub struct Setup {
 // The station record: 64-bit numbers alone, in this order, so that a host in C may lend any memory of its size. What
 // its buffer holds, area by area, stands at the head of `buffer.Areas`.
 #[repr(C)]
-#[derive(Drop)]
+#[derive(Clone, Copy)]
 pub struct Session {
     pub control: Control,
     pub setup: Setup,
@@ -339,7 +339,7 @@ pub fn append_setup(
 }
 
 // The record's small parts after a call, and its report.
-#[derive(Drop)]
+#[derive(Clone, Copy)]
 pub struct Outcome {
     pub control: Control,
     pub setup: Setup,
@@ -347,7 +347,7 @@ pub struct Outcome {
 }
 
 // The record's control after a staging, and its report: the rest of its small parts stays.
-#[derive(Drop)]
+#[derive(Clone, Copy)]
 pub struct Stepped {
     pub control: Control,
     pub report: Report,
@@ -355,14 +355,14 @@ pub struct Stepped {
 
 // LOOK-UP
 // What a call on an open register finds at first: a refusal, or none.
-#[derive(Drop)]
+#[derive(Clone, Copy)]
 pub enum Gated {
     Open,
     Refused(Refusal),
 }
 
 // THE PHASE: what is begun.
-#[derive(Drop)]
+#[derive(Clone, Copy)]
 pub enum Phase {
     Closed,
     Rest,

@@ -3,7 +3,7 @@
 
 // The size of a chunk: 4,096 bytes, or 65,536. Code is told it by value, so that its numbers are literals of two cases;
 // the definitions have the power of two.
-#[derive(Drop)]
+#[derive(Clone, Copy)]
 pub enum Size {
     Small,
     Large,
@@ -11,7 +11,7 @@ pub enum Size {
 
 // What a directory word says of its chunk: free, a log chunk with its committed lines, a data chunk with its block size
 // in units.
-#[derive(Drop)]
+#[derive(Clone, Copy)]
 pub enum Role {
     Free,
     Log(u64),
@@ -20,7 +20,7 @@ pub enum Role {
 }
 
 // What the first word of an entry says: `field` is the value's length or the pointer.
-#[derive(Drop)]
+#[derive(Clone, Copy)]
 pub enum FirstWord {
     Padding,
     Wrong,
@@ -33,7 +33,7 @@ pub enum FirstWord {
 }
 
 // What stands at a place of the log: `words` is how many words follow the key.
-#[derive(Drop)]
+#[derive(Clone, Copy)]
 pub enum LogStep {
     End,
     Padding,
@@ -50,14 +50,14 @@ pub enum LogStep {
 
 // A number that a call is told, or not: a formatting the numbers of station and centre, a staging the version that it
 // names.
-#[derive(Drop)]
+#[derive(Clone, Copy)]
 pub enum Given {
     Number(u64),
     Absent,
 }
 
 // Why a call is turned down, 1 to 17 in the order of the rules' table.
-#[derive(Drop)]
+#[derive(Clone, Copy)]
 pub enum Refusal {
     ImageLength,
     NotOpen,
@@ -80,7 +80,7 @@ pub enum Refusal {
 
 // What a call answers. `Begun` has the number of actions, `End` the entries copied (0 but for a cleaning),
 // `Part` the first byte and the length of the part of the image that holds a value, and the value's version.
-#[derive(Drop)]
+#[derive(Clone, Copy)]
 pub enum Report {
     Refused(Refusal),
     Begun(usize),

@@ -11,7 +11,7 @@ use spec::{FirstWord, Given, Refusal, Size};
 
 // What is known of a key: the highest version, staged items counted, 0 where it has none; whether it is staged, and
 // then the operation of its last staged item; else the place of its chosen entry.
-#[derive(Drop)]
+#[derive(Clone, Copy)]
 pub struct Newest {
     pub version: u64,
     pub staged: bool,
@@ -91,7 +91,7 @@ pub fn is_present(image: &[u8], known: Newest) -> bool
 }
 
 // Whether one more item is staged: a refusal, or the number of staged keys that are not known, then.
-#[derive(Drop)]
+#[derive(Clone, Copy)]
 pub enum Admission {
     Refused(Refusal),
     Admitted(usize),

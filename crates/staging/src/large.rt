@@ -18,7 +18,7 @@ use words::lesser;
 // THE PLAN
 // Where a large value goes: to the block at this unit; `units` is 0 if its chunk is a data chunk, else the chunk, whose
 // directory word is `old`, is taken for blocks of so many units; with so many actions. Or nowhere.
-#[derive(Drop)]
+#[derive(Clone, Copy)]
 pub enum LargePlan {
     At {
         unit: Unit,
@@ -83,7 +83,7 @@ pub fn plan_large(
 
 // THE RECORD
 // What a staging of a large value leaves: the setup and the staged words.
-#[derive(Drop)]
+#[derive(Clone, Copy)]
 pub struct Large {
     pub setup: Setup,
     pub words: usize,

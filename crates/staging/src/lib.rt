@@ -92,7 +92,7 @@ fn one_more(control: Control, words: usize, fresh: usize) -> Stepped
 // PUT
 // What a staging with no action finds: a refusal, or the version of its item and how many staged keys are not known
 // then.
-#[derive(Drop)]
+#[derive(Clone, Copy)]
 pub enum ItemPlan {
     Refused(Refusal),
     Item { version: u64, fresh: usize },
@@ -163,7 +163,7 @@ fn put_in_log(
 
 // What a staging in a block finds: a refusal, or the version of its item, how many staged keys are not known then, and
 // where the value goes (`staging::large::LargePlan`).
-#[derive(Drop)]
+#[derive(Clone, Copy)]
 pub enum BlockPlan {
     Refused(Refusal),
     Item {

@@ -8,7 +8,7 @@ ghost use Rattle.text.specs.Text.{most_digits, decimal, right_in, with_bytes, be
 
 // What stands at a place of a line, and where the text goes on behind it: a word's letters or a number; `given` if
 // there is one.
-#[derive(Drop)]
+#[derive(Clone, Copy)]
 pub struct Token {
     pub given: bool,
     pub value: u64,

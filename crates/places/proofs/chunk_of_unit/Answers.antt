@@ -1,0 +1,14 @@
+-- `places::chunk_of_unit` meets its contract.
+-- Assumes nothing.
+use native.Mathlib.Omega.{arith}
+use Rattle.spec.specs.Places.{unit_chunk, chunk_units}
+use borrow.Author.Rules.{rules}
+use Rattle.places.proofs.chunk_of_unit.Goals as goal
+
+pub returns-in-Small : goal.returns-in-Small
+unfolding unit_chunk chunk_units
+returns-in-Small c = let e = c.in-Small.is in rw e (omega arith)
+
+pub returns-in-Large : goal.returns-in-Large
+unfolding unit_chunk chunk_units
+returns-in-Large c = let e = c.in-Large.is in rw e (omega arith)

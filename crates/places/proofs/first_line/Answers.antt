@@ -1,0 +1,14 @@
+-- `places::first_line` meets its contract.
+-- Assumes nothing.
+use native.Mathlib.Omega.{arith}
+use Rattle.spec.specs.Places.{first_line, chunk_lines}
+use borrow.Author.Rules.{rules}
+use Rattle.places.proofs.first_line.Goals as goal
+
+pub returns-in-Small : goal.returns-in-Small
+unfolding first_line chunk_lines
+returns-in-Small c = let e = c.in-Small.is in rw e (omega arith)
+
+pub returns-in-Large : goal.returns-in-Large
+unfolding first_line chunk_lines
+returns-in-Large c = let e = c.in-Large.is in rw e (omega arith)

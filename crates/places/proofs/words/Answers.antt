@@ -1,0 +1,14 @@
+-- `places::words` meets its contract.
+-- Assumes nothing.
+use native.Mathlib.Omega.{arith}
+use Rattle.spec.specs.Places.{chunk_words}
+use borrow.Author.Rules.{rules}
+use Rattle.places.proofs.words.Goals as goal
+
+pub returns-in-Small : goal.returns-in-Small
+unfolding chunk_words
+returns-in-Small c = let e = c.in-Small.is in rw e (omega arith)
+
+pub returns-in-Large : goal.returns-in-Large
+unfolding chunk_words
+returns-in-Large c = let e = c.in-Large.is in rw e (omega arith)
