@@ -16,7 +16,7 @@ use Rattle.spec.specs.Contents.{capacity, tops, chosen}
 use Rattle.spec.specs.Actions.{format_of, blank_of, fill_of, append_of, commit_of, body_of, padded, free_of, block_of}
 use Rattle.spec.specs.Plans.{Plan, Refuse, Begin, plan_put, slot_for}
 use Rattle.spec.specs.declared.Given.TheVariants as G
-use Rattle.examples.specs.Shown.{Shown, Words, Number, Row, ◌is◌, all_hold}
+use Rattle.examples.specs.Shown.{Shown, Words, Row, ◌is◌, all_hold}
 
 -- the words stored, the lines flushed and the number of fences
 abbrev stored : List Action → List ℕ

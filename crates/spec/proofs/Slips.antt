@@ -11,7 +11,7 @@ use Rattle.spec.specs.Places.{base_power, base, first_line, first_unit, chunk_by
 use Rattle.spec.specs.Medium.{Action, run, cut, settled_at}
 use Rattle.spec.specs.Header.{header_test, fields_test, power_said}
 use Rattle.spec.specs.Directory.{role_of, lines_of, size_of, size_for, is_size, directory_right}
-use Rattle.spec.specs.Log.{Entry, first_of_word, step_of}
+use Rattle.spec.specs.Log.{first_of_word, step_of}
 use Rattle.spec.specs.Blocks.{block_test}
 use Rattle.spec.specs.Contents.{Held, Absent, Value, same_held, chosen, tops, capacity, contents, entries_in, kept_in}
 use Rattle.spec.specs.Opening.{Opening, Refused, Accepted, opening}

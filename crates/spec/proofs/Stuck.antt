@@ -3,7 +3,7 @@
 -- copies are, has nothing to copy and could be freed. A commit that is begun first goes behind the copies, and from
 -- then on every commit and every cleaning is refused with 13.
 -- Assumes nothing.
-use mathlib.Core.Bool.{Bool, true, false}
+use mathlib.Core.Bool.{Bool, false}
 use mathlib.Core.Option.{Option, none, some}
 use mathlib.Core.List.{List, [], ◌∷◌, ◌++◌}
 use Prim.Native.Nat.{ℕ, zero, suc, ◌+◌, ◌*◌}

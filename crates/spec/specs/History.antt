@@ -1,7 +1,7 @@
 -- Demand 3: every list of calls and power cuts, on memory as the calls left it, and in the desk book.
 -- What a call does in a world is `Called`, the very predicate that each public function ensures.
 -- Assumes nothing.
-use Rattle.std.specs.Prelude.{◌≡◌, Bool, true, false, List, [], ◌∷◌, ◌++◌, ℕ, ◌+◌, ◌≤◌, eqb, length}
+use Rattle.std.specs.Prelude.{◌≡◌, Bool, true, false, List, [], ◌∷◌, ◌++◌, ℕ, ◌≤◌, eqb, length}
 use Rattle.std.proofs.Math.Option.{Option, none, some}
 use Rattle.spec.specs.Basics.{pick}
 use Rattle.spec.specs.Words.{words_of, AreBytes}

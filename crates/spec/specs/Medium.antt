@@ -19,7 +19,7 @@
 --       forgets what was fenced, another formatting of the image. A killed process counts as a cut that kept every
 --       newest word, once the whole image was written back and fenced.
 -- Assumes nothing.
-use Rattle.std.specs.Prelude.{◌≡◌, ◌⊎◌, List, [], ◌∷◌, ◌++◌, map, ℕ, suc, ◌+◌, eqb, get_or}
+use Rattle.std.specs.Prelude.{◌≡◌, ◌⊎◌, List, [], ◌∷◌, ◌++◌, map, ℕ, suc, eqb, get_or}
 use Rattle.spec.specs.Basics.{pick}
 use Rattle.spec.specs.Places.{line_of}
 

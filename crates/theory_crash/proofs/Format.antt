@@ -1,6 +1,6 @@
 -- Formatting, action by action, from any medium.
 -- Assumes nothing.
-use mathlib.Core.Path.{◌≡◌, refl, sym, ◌∙◌, ap}
+use mathlib.Core.Path.{◌≡◌, refl, sym, ◌∙◌, ap, subst}
 use mathlib.Core.Logic.{◌⊎◌, inl, inr}
 use mathlib.Core.Bool.{Bool, true, false}
 use mathlib.Core.List.{List, [], ◌∷◌, ◌++◌}
@@ -214,7 +214,7 @@ module _ (p : ℕ) (lo : 12 ≤ p) (hi : p ≤ 16) (n : ℕ) (least : 4 ≤ n) (
         two (inr q) = inr (can-from m xs (W.can-length s1 xs t ∙ W.length-apply (Store 0 v) m) (λ k u. each k u (ℕ_discrete k 0)))
           where
             each : (k : ℕ) → k < length m → Dec (k ≡ 0) → Among (get_or xs k 0) (values (cell_at m k))
-            each k u (yes e) = rw e q
+            each k u (yes e) = subst (λ (i : ℕ). Among (get_or xs i 0) (values (cell_at m i))) (sym e) q
             each k u (no e) = rw (W.keeps-store 0 v m k u e) at (W.can-at s1 xs t k (rw W.length-apply u))
 
   first : Through B Zero (first_word_of 0) m₀

@@ -1,6 +1,6 @@
 -- The medium at rest: under a power cut, and under actions that spare the support.
 -- Assumes nothing.
-use mathlib.Core.Path.{◌≡◌, refl, sym, ◌∙◌, ap, ap₂}
+use mathlib.Core.Path.{◌≡◌, refl, sym, ◌∙◌, ap, ap₂, subst}
 use mathlib.Core.Logic.{◌⊎◌, inl, inr}
 use mathlib.Core.Bool.{Bool, true, false}
 use mathlib.Core.List.{List, [], ◌∷◌}
@@ -35,7 +35,10 @@ pub can-set : (m : Medium) (k x : ℕ) → Among x (values (cell_at m k)) → Ca
 can-set m k x t = can-from m (set (latest m) k x) (length-set (latest m) k x ∙ W.length-latest m) (λ j l. go j l (ℕ_discrete j k))
   where
     go : (j : ℕ) → j < length m → Dec (j ≡ k) → Among (get_or (set (latest m) k x) j 0) (values (cell_at m j))
-    go j l (yes e) = rw (e, get_or-set_same (latest m) k x 0 (rw (W.length-latest m, ← e) l)) t
+    go j l (yes e) =
+        let within : k < length (latest m) = omega (arith, W.length-latest m) in
+        let same : get_or (set (latest m) k x) j 0 ≡ x = ap (λ (i : ℕ). get_or (set (latest m) k x) i 0) e ∙ get_or-set_same (latest m) k x 0 within in
+        subst (λ (w : ℕ). Among w (values (cell_at m j))) (sym same) (subst (λ (i : ℕ). Among x (values (cell_at m i))) (sym e) t)
     go j l (no e) = rw (get_or-set_other (latest m) k j x 0 e) (inl (W.get_or-latest m j))
 
 pub can-latest : (m : Medium) → CanCutTo m (latest m)

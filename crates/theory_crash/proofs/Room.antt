@@ -11,22 +11,22 @@ use lib.ListN.{length, get_or}
 use lib.Seq.{slice_empty}
 use Rattle.spec.specs.Basics.{filter}
 use Rattle.spec.specs.Places.{base, first_line, chunk_lines, directory_word, line_of, max_chunks, unit_chunk, unit_word}
-use Rattle.spec.specs.Medium.{Cell, fresh, values, added, marked, drained, Action, Store, Flush, Fence, step, Medium, apply, run, latest, settled_at, cell_at, Mem as Among, CanCutTo}
-use Rattle.spec.specs.Directory.{role_of, lines_in, size_in, is_free, is_log, is_role, role_at, lines_of, size_of, directory_right, log_word, data_word, freed_word}
+use Rattle.spec.specs.Medium.{Cell, fresh, values, added, drained, Action, Store, Flush, Fence, step, Medium, apply, run, latest, cell_at, Mem as Among, CanCutTo}
+use Rattle.spec.specs.Directory.{role_of, size_in, is_free, role_at, lines_of, size_of, directory_right, log_word, data_word, freed_word}
 use Rattle.spec.specs.Log.{Entry, Entries, chunk_entries}
-use Rattle.spec.specs.Contents.{is_kept, kept_in, entries_in}
+use Rattle.spec.specs.Contents.{is_kept, kept_in}
 use Rattle.spec.specs.Actions.{lines_for, padded, writes, flushes, seal_of, body_of, commit_of, append_of, free_of, take_of, block_of}
 use Rattle.spec.specs.Unstuck.{Roomy}
 use Rattle.theory_base.proofs.Words as W
 use Rattle.theory_base.proofs.Through.{Through, Each, Quiet, quiet_step, through-kept, through-map}
 use Rattle.theory_base.proofs.Places.{base-low, unit-place}
-use Rattle.theory_log.proofs.Directory.{lines-is, size_is, role-log, role-data, role-freed}
-use Rattle.theory_log.proofs.Kept.{Parts, parts, kept-is}
-use Rattle.theory_crash.specs.Accepted.{Ok, Support}
+use Rattle.theory_log.proofs.Directory.{lines-is, size_is, role-log, role-freed}
+use Rattle.theory_log.proofs.Kept.{parts, kept-is}
+use Rattle.theory_crash.specs.Accepted.{Ok}
 use Rattle.theory_crash.specs.Rest.{AtRest, CutsTo}
 use Rattle.theory_crash.proofs.Directory.{free-says, word-free, right-role}
 use Rattle.theory_crash.proofs.Cells.{each_append, each_map, each-writes, each-flushes, Avoids, avoids-run, Spares, spares-avoids, seal-spares}
-use Rattle.theory_crash.proofs.Rest.{can-from, now-quiet, only, rest-now, word-in-medium}
+use Rattle.theory_crash.proofs.Rest.{can-from, now-quiet, only, word-in-medium}
 use Rattle.theory_crash.proofs.Stage.{block-spares}
 
 -- EVERY POSSIBLE DIRECTORY WORD of chunk z is such.

@@ -18,10 +18,10 @@ use Rattle.spec.specs.Places.{chunks_in, size_allowed}
 use Rattle.spec.specs.Medium.{Action, Store, Flush, Fence}
 use Rattle.spec.specs.Log.{Entry}
 use Rattle.spec.specs.Actions.{format_of}
-use Rattle.spec.specs.Reports.{as_report, is_refused}
+use Rattle.spec.specs.Reports.{as_report}
 use Rattle.spec.specs.Plans.{Task, Staging, Committing, Cleaning}
 use Rattle.spec.specs.Machine.{Call, Format, Open, Put, Delete, Commit, Abandon, LookUp, Choose, Clean, Step, State, Closed, Rest, Busy, Formatting, is_unfinished, is_open, items_of, state_power, count_of, gate, gated, next_report, step_answer, stepped, next, format_answer}
-use Rattle.spec.specs.Contract.{Called, SteppedOn, CountAt, Refuses, Begins, StagesIn, CommitsIn, CleansIn, Ends}
+use Rattle.spec.specs.Contract.{SteppedOn, CountAt, Refuses, Begins, StagesIn, CommitsIn, CleansIn, Ends}
 use Rattle.spec.specs.declared.Given.{Given}
 use Rattle.spec.specs.declared.Refusal.{Refusal}
 use Rattle.spec.specs.declared.Refusal.TheVariants as N

@@ -1,28 +1,25 @@
 -- A cleaning is fixed at its begin: from the contracts of its begin and of a step alone.
 -- Assumes nothing.
-use mathlib.Core.Path.{◌≡◌, refl, sym, ◌∙◌, ap}
+use mathlib.Core.Path.{◌≡◌, sym, ◌∙◌, ap}
 use mathlib.Core.Logic.{◌⊎◌, inl, inr}
 use mathlib.Core.Bool.{Bool, true, false}
 use mathlib.Core.Option.{Option, none, some}
-use mathlib.Core.List.{List, [], ◌∷◌, ◌++◌, map}
-use Prim.Native.Nat.{ℕ, suc, ◌≤◌}
+use mathlib.Core.List.{List, []}
+use Prim.Native.Nat.{ℕ}
 use native.Mathlib.Omega.{arith}
 use lib.Dec.{eqb}
-use lib.ListN.{length, take}
-use Rattle.spec.specs.Basics.{pick, both, negate}
+use lib.ListN.{length}
+use Rattle.spec.specs.Basics.{pick, both}
 use Rattle.spec.specs.Words.{words_of}
 use Rattle.spec.specs.Places.{chunks_in}
 use Rattle.spec.specs.Medium.{Action}
-use Rattle.spec.specs.Log.{Entry}
 use Rattle.spec.specs.Contents.{entries_in}
-use Rattle.spec.specs.Reports.{is_refused}
-use Rattle.spec.specs.Plans.{Task, Olds, Cleaning, Plan, Refuse, Begin, plan_clean, planned}
+use Rattle.spec.specs.Plans.{Olds, Cleaning, Plan, Refuse, Begin, plan_clean, planned}
 use Rattle.spec.specs.Machine.{Clean, State, Closed, Rest, Busy, Formatting, items_of, state_power, gate, gated, begun, answer, next}
-use Rattle.spec.specs.Contract.{Called, Exact, Refuses, Begins, CleansIn, SteppedOn}
-use Rattle.spec.specs.Fixed.{all_reports, FixedAt, Fixed}
+use Rattle.spec.specs.Contract.{Exact, Refuses, Begins, CleansIn}
+use Rattle.spec.specs.Fixed.{FixedAt, Fixed}
 use Rattle.spec.specs.declared.Refusal.{Refusal}
 use Rattle.spec.specs.declared.Refusal.TheVariants as N
-use Rattle.spec.specs.declared.Report.{Report}
 use Rattle.spec.specs.declared.Report.TheVariants as R
 use Rattle.theory_histories.proofs.Ends.{never-refused, busy-goes, ends-so-far, ends-whole}
 

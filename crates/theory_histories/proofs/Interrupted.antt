@@ -11,12 +11,11 @@ use native.Mathlib.Omega.{arith}
 use lib.ListN.{length}
 use Rattle.spec.specs.Words.{words_of, AreBytes}
 use Rattle.spec.specs.Places.{is_power, base, chunks_in, length_allowed, size_allowed}
-use Rattle.spec.specs.Medium.{Medium, Action, latest, cut, settled_at, CanCutTo}
+use Rattle.spec.specs.Medium.{Medium, Action, latest, settled_at, CanCutTo}
 use Rattle.spec.specs.Contents.{capacity}
-use Rattle.spec.specs.Opening.{Opening, Refused}
 use Rattle.spec.specs.Actions.{format_of}
 use Rattle.spec.specs.Reports.{medium_after}
-use Rattle.spec.specs.Machine.{Format, Open, State, Closed, Formatting, opened, is_open}
+use Rattle.spec.specs.Machine.{Format, Open, State, Closed, Formatting, is_open}
 use Rattle.spec.specs.Book.{new_book, nothing, note_open}
 use Rattle.spec.specs.Contract.{Called}
 use Rattle.spec.specs.History.{World, Stepped, Shows, world, after_call}

@@ -20,7 +20,7 @@ use Prim.Native.Nat.{ℕ}
 use native.Mathlib.Omega.{arith}
 use lib.ListN.{length, set}
 use Rattle.spec.specs.Words.{words_of}
-use Rattle.spec.specs.Medium.{Medium, Store, Flush, Fence, latest, settled_at}
+use Rattle.spec.specs.Medium.{Medium, Flush, Fence, latest, settled_at}
 use Rattle.spec.specs.Reports.{medium_after, is_refused}
 use Rattle.spec.specs.Machine.{State}
 use Rattle.spec.specs.Book.{Book, note_open}

@@ -33,7 +33,7 @@ use Rattle.spec.specs.Log.{Entry}
 use Rattle.spec.specs.Blocks.{pointed}
 use Rattle.spec.specs.Contents.{Held, entries_in, chosen}
 use Rattle.spec.specs.Reports.{as_report, medium_after, is_refused}
-use Rattle.spec.specs.Plans.{Task, Plan, Refuse, Begin, plan_put, plan_delete, plan_commit, plan_clean, planned, chosen_or, chosen_chunk, part_of, part_or, Olds, olds_of, put_back, look_up}
+use Rattle.spec.specs.Plans.{Task, Plan, Refuse, Begin, plan_put, plan_delete, plan_commit, plan_clean, planned, chosen_or, chosen_chunk, part_of, part_or, Olds, olds_of, look_up}
 use Rattle.spec.specs.Machine.{Call, Put, Delete, Commit, Abandon, LookUp, Choose, Clean, Step, State, Closed, Rest, Busy, Formatting, gate, read_gate, read_words, items_of, state_power, begun, gated, count_of, items_then, emptied, answer, next}
 use Rattle.spec.specs.Book.{Item, Book, done_batch, note}
 use Rattle.spec.specs.History.{unfinished_after, shows}

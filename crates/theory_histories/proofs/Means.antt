@@ -3,7 +3,7 @@
 -- Assumes nothing.
 use mathlib.Core.Path.{◌≡◌, refl, sym, ◌∙◌, ap}
 use mathlib.Core.Bool.{Bool, true, false}
-use mathlib.Core.Logic.{◌⊎◌, inl, inr, ⊎_elim}
+use mathlib.Core.Logic.{inl, inr, ⊎_elim}
 use mathlib.Core.Option.{Option, none, some}
 use mathlib.Core.List.{List, [], ◌∷◌, ◌++◌}
 use Prim.Native.Nat.{ℕ, ◌*◌}
@@ -14,14 +14,14 @@ use Rattle.spec.specs.Words.{words_of, AreBytes}
 use Rattle.spec.specs.Places.{is_power, base, chunks_in, size_allowed}
 use Rattle.spec.specs.Header.{header_power}
 use Rattle.spec.specs.Actions.{format_of}
-use Rattle.spec.specs.Medium.{Medium, Action, Store, Flush, Fence, latest, settled_at}
+use Rattle.spec.specs.Medium.{Medium, latest, settled_at}
 use Rattle.spec.specs.Log.{Entry}
 use Rattle.spec.specs.Contents.{Held, contents, contents_by, meaning, entries_in, listed}
 use Rattle.spec.specs.Reports.{medium_after, is_refused}
 use Rattle.spec.specs.Machine.{Call, Format, Open, Put, Delete, Commit, Abandon, LookUp, Choose, Clean, Step, State, Closed, Rest, Busy, Formatting, gate, items_of, gated, refused_by, is_unfinished, is_opening, kind_of, step_answer, answer}
 use Rattle.spec.specs.Book.{Item, Book, new_book, nothing, done_item, done_items, done_batch, note, is_end}
 use Rattle.spec.specs.Contract.{Changed, Refuses, Called}
-use Rattle.spec.specs.History.{meant, Lent, World, SameLent, Stands, Stepped, unfinished_after, after_call, world}
+use Rattle.spec.specs.History.{meant, World, SameLent, Stands, Stepped, after_call, world}
 use Rattle.spec.specs.Means.{does, MayBegin, Untouching, Right, Along, AsCallsLeft, Demand2}
 use Rattle.spec.specs.declared.Given.{Given}
 use Rattle.spec.specs.declared.Refusal.{Refusal}
@@ -32,8 +32,7 @@ use Rattle.theory_base.proofs.Places.{size-allowed}
 use Rattle.theory_base.proofs.Words as W
 use Rattle.theory_plans.specs.Standing.{Standing}
 use Rattle.theory_plans.specs.Laws.{Laws}
-use Rattle.theory_histories.proofs.Kept as K
-use Rattle.theory_histories.proofs.Kept.{StandsBy, Holds}
+use Rattle.theory_histories.proofs.Kept.{Holds}
 use Rattle.theory_histories.proofs.Events as E
 use Rattle.theory_histories.proofs.Invariant.{Either, HeldAt, Inv, false-true}
 use Rattle.theory_histories.proofs.Starts as Start

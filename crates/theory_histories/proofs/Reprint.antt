@@ -24,7 +24,6 @@ use Rattle.spec.specs.Book.{Book, done_batch, new_book, nothing}
 use Rattle.spec.specs.Contract.{Called, Ready, part_bytes}
 use Rattle.spec.specs.History.{Event, Lent, World, SameLent, Stepped, shows, meant_by, meant, world}
 use Rattle.spec.specs.Reprint.{MayRead, Fences, Early, Reprints, Reprinted, OneOfTheCuts, Leads, AlwaysACut}
-use Rattle.spec.specs.declared.Refusal.TheVariants as N
 use Rattle.spec.specs.declared.Report.{Report}
 use Rattle.spec.specs.declared.Report.TheVariants as R
 use Rattle.theory_base.proofs.Places.{size-allowed}

@@ -16,8 +16,8 @@ use Rattle.spec.specs.Header.{header_power}
 use Rattle.spec.specs.Log.{Entry}
 use Rattle.spec.specs.Opening.{Accepted, opening}
 use Rattle.spec.specs.Reports.{is_refused}
-use Rattle.spec.specs.Machine.{Call, Format, Open, Put, Delete, Commit, Abandon, LookUp, Choose, Clean, Step, State, Closed, Rest, Busy, Formatting, is_unfinished, answer, next}
-use Rattle.spec.specs.Contract.{Changed, Again, Ready, Exact, Called}
+use Rattle.spec.specs.Machine.{Call, Format, Open, Put, Delete, Commit, Abandon, LookUp, Choose, Clean, Step, State, Closed, Rest, Busy, Formatting, is_unfinished, next}
+use Rattle.spec.specs.Contract.{Changed, Ready, Exact, Called}
 use Rattle.spec.specs.Book.{Item, Book}
 use Rattle.spec.specs.History.{World, SameLent}
 use Rattle.spec.specs.Reopening.{Same, Alike, Reopens, Reopened, ReopenedAfter}

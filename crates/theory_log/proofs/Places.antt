@@ -4,7 +4,7 @@ use mathlib.Core.Path.{◌≡◌, refl, sym, ◌∙◌, ap}
 use mathlib.Core.Logic.{inl, inr}
 use mathlib.Core.Bool.{Bool, true, false}
 use mathlib.Core.List.{List, [], ◌∷◌, ◌++◌}
-use Prim.Native.Nat.{ℕ, zero, suc, ◌+◌, ◌-◌, ◌*◌, ◌/◌, ◌%◌, ◌^◌, ◌<◌, ◌≤◌}
+use Prim.Native.Nat.{ℕ, zero, suc, ◌+◌, ◌*◌, ◌/◌, ◌%◌, ◌^◌, ◌<◌, ◌≤◌}
 use native.Mathlib.Nat.{add-zero}
 use native.Mathlib.Omega.{arith}
 use lib.Dec.{eqb, leb, ltb}
@@ -15,7 +15,7 @@ use Rattle.spec.specs.declared.FirstWord.TheVariants as F
 use Rattle.spec.specs.declared.LogStep.{LogStep}
 use Rattle.spec.specs.declared.LogStep.TheVariants as S
 use Rattle.spec.specs.Basics.{pick, filter}
-use Rattle.spec.specs.Log.{parts_of, first_of_word, words_for, filled, step_of, Entry, Wrong, Entries, after, parse, head_of, chunk_entries, all_from}
+use Rattle.spec.specs.Log.{parts_of, first_of_word, words_for, filled, step_of, Entry, Entries, after, parse, head_of, chunk_entries, all_from}
 use Rattle.spec.specs.Places.{base, chunk_words}
 use Rattle.spec.specs.Directory.{lines_of}
 use Rattle.theory_log.specs.Batch.{Kind, put, block, delete, Right, AllRight}

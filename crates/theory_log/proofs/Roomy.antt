@@ -4,20 +4,20 @@
 use mathlib.Core.Path.{◌≡◌, refl, sym, ◌∙◌, ap}
 use mathlib.Core.Logic.{◌⊎◌, inl, inr}
 use mathlib.Core.Bool.{Bool, true, false}
-use mathlib.Core.Option.{Option, none, some}
+use mathlib.Core.Option.{some}
 use mathlib.Core.List.{List, [], ◌∷◌}
-use Prim.Native.Nat.{ℕ, suc, ◌+◌, ◌≤◌, ◌<◌}
+use Prim.Native.Nat.{ℕ, suc, ◌≤◌, ◌<◌}
 use native.Mathlib.Omega.{arith}
 use lib.Dec.{eqb}
-use borrow.Author.Tests.{eq-eqb, ne_eqb, eqb-true, eqb-false}
-use Rattle.spec.specs.Basics.{pick, both, either, negate, filter, first}
-use Rattle.spec.specs.Places.{base, chunk_words, word_chunk}
+use borrow.Author.Tests.{eq-eqb, ne_eqb, eqb-true}
+use Rattle.spec.specs.Basics.{pick, either, negate, filter, first}
+use Rattle.spec.specs.Places.{word_chunk}
 use Rattle.spec.specs.Log.{Entry, moved}
 use Rattle.spec.specs.Contents.{highest, is_top_of, tops, chosen, known, in_chunk, elsewhere, is_at, is_kept, kept_in}
 use Rattle.theory_base.proofs.Lists.{both-i, both_l, both_r}
 use Rattle.theory_base.proofs.Places.{word-place, base-apart}
-use Rattle.theory_log.specs.Contents.{Mem, Top, Apart}
-use Rattle.theory_log.proofs.Contents.{mem-filter, filter-mem, Chosen, chosen_is}
+use Rattle.theory_log.specs.Contents.{Mem, Top}
+use Rattle.theory_log.proofs.Contents.{mem-filter, filter-mem, chosen_is}
 use Rattle.theory_log.proofs.Clean.{is-at}
 use Rattle.theory_log.proofs.Keys.{known-mem, mem-known}
 use Rattle.theory_log.proofs.Places.{Rising, rising-in, rising-apart}

@@ -14,7 +14,7 @@ use Rattle.spec.specs.declared.FirstWord.TheVariants as F
 use Rattle.spec.specs.declared.LogStep.{LogStep}
 use Rattle.spec.specs.declared.LogStep.TheVariants as S
 use Rattle.spec.specs.Basics.{pick}
-use Rattle.spec.specs.Log.{parts_of, first_of_word, step_of, Entry, Wrong, Entries, after, parse, encode, chunk_entries, all_from}
+use Rattle.spec.specs.Log.{parts_of, first_of_word, step_of, Entry, Entries, after, parse, encode, chunk_entries, all_from}
 use Rattle.spec.specs.Places.{base}
 use Rattle.spec.specs.Directory.{lines_of}
 use Rattle.theory_log.specs.Contents.{Mem}

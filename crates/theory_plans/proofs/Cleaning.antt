@@ -18,7 +18,7 @@ use Rattle.spec.specs.Basics.{pick, both, negate, filter, any}
 use Rattle.spec.specs.Places.{base, chunk_lines, unit_chunk, directory_word, max_chunks}
 use Rattle.spec.specs.Medium.{Action, Medium, latest, Mem as Among}
 use Rattle.spec.specs.Directory.{is_free, is_log, role_at, lines_of, size_of, freed_word}
-use Rattle.spec.specs.Log.{Entry, Wrong, Entries, step_of, after, parse, encode, encode_all}
+use Rattle.spec.specs.Log.{Entry, Entries, step_of, after, parse, encode, encode_all}
 use Rattle.spec.specs.Blocks.{pointed}
 use Rattle.spec.specs.Contents.{Held, is_top, capacity, keys_of, entries_in, live_blocks, is_kept, kept_in}
 use Rattle.spec.specs.Actions.{lines_for}

@@ -76,6 +76,7 @@ module _ (p n table : ℕ) (ws : List ℕ) (es items : List Entry) (m : Medium) 
       go : Mem f items ⊎ Mem f (e ∷ []) → Mem f items ⊎ (f ≡ e)
       go (inl u) = inl u
       go (inr (inl q)) = inr q
+      go (inr (inr none)) = elim none [ ]
 
   few-more : (length more ≤ max_items) × (8 * length (encode_all more) ≤ max_batch_bytes)
   few-more =

@@ -34,7 +34,7 @@ use Rattle.theory_base.proofs.Places.{base-low, lines-least, units-least, unit-a
 use Rattle.theory_base.proofs.Sizes as Z
 use Rattle.theory_base.proofs.Words as W
 use Rattle.theory_base.proofs.Through.{Through, Each, through-map}
-use Rattle.theory_log.proofs.Directory.{lines-is, size_is, role-data}
+use Rattle.theory_log.proofs.Directory.{lines-is, role-data}
 use Rattle.theory_crash.specs.Accepted.{Ok}
 use Rattle.theory_crash.specs.Rest.{Holds, Cuts, CutsTo}
 use Rattle.theory_crash.specs.Stage as B

@@ -1,16 +1,14 @@
 -- Where room comes from: a formatting leaves it, a roomy image that opening accepts or a cut leaves has it; and a
 -- medium that stands with it is not stuck.
 -- Assumes nothing.
-use mathlib.Core.Path.{◌≡◌, refl, sym, ◌∙◌, ap, ap₂}
+use mathlib.Core.Path.{◌≡◌, refl, ap₂}
 use mathlib.Core.Logic.{inl, inr}
-use mathlib.Core.Bool.{true}
 use mathlib.Core.List.{List, [], ◌∷◌}
 use Prim.Native.Nat.{ℕ, ◌≤◌, ◌<◌}
 use native.Mathlib.Omega.{arith}
 use lib.ListN.{length, get_or}
-use Rattle.spec.specs.Places.{base, directory_word, max_chunks}
-use Rattle.spec.specs.Medium.{fresh, Medium, run, latest, settled_at, cell_at, CanCutTo}
-use Rattle.spec.specs.Directory.{is_free, role_of}
+use Rattle.spec.specs.Places.{base, directory_word}
+use Rattle.spec.specs.Medium.{Medium, run, latest, settled_at, CanCutTo}
 use Rattle.spec.specs.Log.{Entry}
 use Rattle.spec.specs.Contents.{Held}
 use Rattle.spec.specs.Actions.{format_of}
@@ -22,7 +20,7 @@ use Rattle.theory_base.proofs.Places.{base-low}
 use Rattle.theory_crash.proofs.Directory.{role-zero}
 use Rattle.theory_crash.proofs.Format.{format-fresh}
 use Rattle.theory_crash.proofs.Rest.{rest-long, rest-cut}
-use Rattle.theory_crash.proofs.Room.{Says, says-fresh, IsFree, RoomyCuts, Room, can-latest, free-roomy}
+use Rattle.theory_crash.proofs.Room.{Says, says-fresh, IsFree, Room, can-latest, free-roomy}
 use Rattle.theory_plans.specs.Standing.{Standing}
 use Rattle.theory_plans.proofs.Unstuck.{roomy-unstuck}
 

@@ -1,29 +1,29 @@
 -- A roomy image is not stuck: a free chunk stands, or choosing names a chunk that cleaning only frees; and cleaning
 -- takes whatever chunk choosing names.
 -- Assumes nothing.
-use mathlib.Core.Path.{◌≡◌, refl, sym, ◌∙◌, ap}
+use mathlib.Core.Path.{◌≡◌, refl, sym, ◌∙◌, ap, subst}
 use mathlib.Core.Logic.{◌⊎◌, inl, inr}
 use mathlib.Core.Bool.{Bool, true, false}
 use mathlib.Core.Option.{Option, none, some}
 use mathlib.Core.List.{List, [], ◌∷◌, ◌++◌}
-use Prim.Native.Nat.{ℕ, zero, suc, ◌+◌, ◌-◌, ◌*◌, ◌≤◌, ◌<◌}
+use Prim.Native.Nat.{ℕ, zero, suc, ◌+◌, ◌-◌, ◌≤◌, ◌<◌}
 use native.Mathlib.Omega.{arith}
 use native.Mathlib.Decide.{dec_lt}
 use lib.Dec.{eqb, leb, ltb}
 use lib.ListN.{length, get_or}
-use borrow.Author.Tests.{le-leb, lt-ltb, leb-true, ltb-true, ltb-false, eqb-true}
-use Rattle.spec.specs.Basics.{pick, both, either, negate, is_empty, up_from, filter, first}
+use borrow.Author.Tests.{le-leb, lt-ltb, ltb-true, ltb-false, eqb-true}
+use Rattle.spec.specs.Basics.{pick, both, negate, up_from, filter, first}
 use Rattle.spec.specs.Places.{directory_word, max_chunks}
 use Rattle.spec.specs.Medium.{Action, Medium, run, latest, settled_at, Mem as Among}
-use Rattle.spec.specs.Directory.{is_free, is_log, role_at, role_of, lines_of, size_of, free_chunks, freed_word}
+use Rattle.spec.specs.Directory.{is_free, is_log, role_at, lines_of, size_of, free_chunks, freed_word}
 use Rattle.spec.specs.Log.{Entry, encode_all}
-use Rattle.spec.specs.Contents.{entries_in, listed, kept_in}
+use Rattle.spec.specs.Contents.{kept_in}
 use Rattle.spec.specs.Actions.{lines_for, free_of}
-use Rattle.spec.specs.Plans.{Task, Cleaning, Olds, old_of, Plan, Begin, free_chunk, has_space, or_else, log_place, append_to, in_use, free, clean_to, clean_log, clean_data, plan_clean, copy_words, worth_cleaning, is_better, better, best, chosen_chunk}
-use Rattle.spec.specs.Unstuck.{FreeStands, Roomy, Freeable, Cleanable, Unstuck}
+use Rattle.spec.specs.Plans.{Cleaning, Olds, old_of, Plan, Begin, free_chunk, has_space, or_else, log_place, append_to, in_use, free, clean_log, plan_clean, copy_words, worth_cleaning, is_better, best, chosen_chunk}
+use Rattle.spec.specs.Unstuck.{FreeStands, Roomy, Unstuck}
 use Rattle.spec.specs.declared.Role.{Role}
 use Rattle.spec.specs.declared.Role.TheVariants as R
-use Rattle.theory_base.proofs.Lists.{both-i, both_l, both_r, either-no, either-cases, not-both}
+use Rattle.theory_base.proofs.Lists.{both-i, both_l, either-no, either-cases}
 use Rattle.theory_log.proofs.Directory.{lines-is, size_is, role-freed}
 use Rattle.theory_crash.specs.Accepted.{Ok}
 use Rattle.theory_base.proofs.Words as W
@@ -136,7 +136,7 @@ module _ (p : ℕ) (ws : List ℕ) (es : List Entry) where
 
   list-named : (n : ℕ) (cs : List ℕ) (c : ℕ) → best p ws es none cs ≡ some c → Among c cs
   list-named n [] c h = absurd (let z : ◌≡◌ {A = ℕ} 0 1 = cc in omega arith)
-  list-named n (x ∷ cs) c h = let r = best-least cs x in let s : r.0 ≡ c = cc in rw (← s) r.1.1.1.1
+  list-named n (x ∷ cs) c h = let r = best-least cs x in let s : r.0 ≡ c = cc in subst (λ (d : ℕ). (d ≡ x) ⊎ Among d cs) s r.1.1.1.1
 
   worth-named : (n c : ℕ) → Among c (filter (worth_cleaning p ws es) (up_from 1 (n - 1))) → Named n c
   worth-named n c m =

@@ -1,15 +1,15 @@
 -- What holds between calls: the medium at rest, with the contents that the desk book says, and the staged items ready
 -- to be committed.
 -- Assumes nothing.
-use Rattle.std.specs.Prelude.{◌≡◌, true, List, [], ◌∷◌, ◌++◌, map, ℕ, ◌*◌, ◌≤◌, length}
+use Rattle.std.specs.Prelude.{◌≡◌, true, List, [], ◌++◌, map, ℕ, ◌*◌, ◌≤◌, length}
 use Rattle.spec.specs.Basics.{distinct}
-use Rattle.spec.specs.Medium.{Cell, Medium, cell_at, latest, Action}
+use Rattle.spec.specs.Medium.{Medium, cell_at, latest, Action}
 use Rattle.spec.specs.Log.{Entry, encode_all}
 use Rattle.spec.specs.Blocks.{pointed}
 use Rattle.spec.specs.Contents.{Held, contents_by, meaning, capacity}
 use Rattle.spec.specs.Opening.{fine}
-use Rattle.spec.specs.Plans.{Task, Staging, Committing, Cleaning, Olds, put_back, max_items, max_batch_bytes}
-use Rattle.spec.specs.Book.{Item, done_items}
+use Rattle.spec.specs.Plans.{Olds, put_back, max_items, max_batch_bytes}
+use Rattle.spec.specs.Book.{Item}
 use Rattle.theory_log.specs.Batch.{AllRight}
 use Rattle.theory_log.specs.Contents.{Mem, Top, CountsOn}
 use Rattle.theory_base.proofs.PutBack.{AreLow}

@@ -1,8 +1,8 @@
 -- The image's bytes after a store of a word, and the laws of such a store: the word is read back, every other is as it
 -- was, and the image is as long.
 -- Assumes nothing.
-use Rattle.std.specs.Prelude.{◌≡◌, refl, List, [], ◌∷◌, ◌++◌, ℕ, suc, ◌+◌, ◌*◌, ◌/◌, ◌%◌, ◌^◌, ◌<◌, ◌≤◌, length, get_or, set}
-use Rattle.std.proofs.Common.{sym, ◌∙◌, ap, arith}
+use Rattle.std.specs.Prelude.{◌≡◌, refl, List, ℕ, suc, ◌+◌, ◌*◌, ◌/◌, ◌%◌, ◌^◌, ◌<◌, ◌≤◌, length, get_or, set}
+use Rattle.std.proofs.Common.{arith}
 use Rattle.spec.specs.Words.{joined, word_at, eight_bytes}
 use Rattle.words.specs.Overlay.{overlay, length-overlay, get_or-overlay-outside, get_or-overlay-inside}
 

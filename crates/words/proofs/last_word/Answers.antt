@@ -1,11 +1,11 @@
 -- `words::last_word` meets its contract. The loop's invariant: the bytes from `at` on are joined; there are at most
 -- seven, and 0 stands behind them.
 -- Assumes nothing.
-use mathlib.Core.Path.{◌≡◌, refl, sym, ◌∙◌, ap}
+use mathlib.Core.Path.{◌≡◌, sym, ◌∙◌, ap}
 use mathlib.Core.List.{List}
 use Prim.Native.Nat.{ℕ, ◌≤◌, ◌<◌, ◌+◌, ◌-◌, ◌*◌, ◌^◌}
 use native.Mathlib.Omega.{arith}
-use lib.ListN.{length, get_or, get_or-eq_default}
+use lib.ListN.{length, get_or}
 use borrow.Author.Rules.{rules}
 use Rattle.spec.specs.Words.{AreBytes, joined, word_at}
 use Rattle.words.proofs.last_word.Invariants.{joined_from, past}

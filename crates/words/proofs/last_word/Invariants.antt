@@ -1,11 +1,9 @@
 -- The loops of `words::last_word`.
-use mathlib.Core.Path.{◌≡◌, refl, sym, ◌∙◌, ap}
+use mathlib.Core.Path.{◌≡◌}
 use mathlib.Core.List.{List}
-use Prim.Native.Nat.{ℕ, ◌≤◌, ◌<◌, ◌+◌, ◌-◌, ◌*◌, ◌^◌}
-use native.Mathlib.Omega.{arith}
+use Prim.Native.Nat.{ℕ, ◌≤◌, ◌+◌}
 use lib.ListN.{length, get_or, get_or-eq_default}
-use borrow.Author.Rules.{rules}
-use Rattle.spec.specs.Words.{AreBytes, joined, word_at}
+use Rattle.spec.specs.Words.{joined}
 use Rattle.words.proofs.last_word.Given as goal
 
 -- eight bytes from a byte on; one past the end counts as 0

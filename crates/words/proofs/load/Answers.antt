@@ -1,6 +1,5 @@
 -- `words::load` meets its contract: inside the image it reads the word, past the end it answers 0.
 -- Assumes nothing.
-use borrow.Author.Rules.{rules}
 use mathlib.Core.Path.{◌∙◌, sym}
 use native.Mathlib.Omega.{arith}
 use Rattle.words.specs.Image.{get_or-words_of, get_or-words_of-past}

@@ -1,6 +1,5 @@
 -- `words::save` meets its contract: inside the image it stores the word, past the end it does nothing.
 -- Assumes nothing.
-use borrow.Author.Rules.{rules}
 use native.Mathlib.Omega.{arith}
 use Rattle.words.specs.Image.{saved-inside, saved-past}
 use Rattle.words.proofs.save.Goals as goal

@@ -1,6 +1,5 @@
 -- `words::store_word` meets its contract: eight stores, each of one byte of the number.
 -- Assumes nothing.
-use borrow.Author.Rules.{rules}
 use native.Mathlib.Omega.{arith}
 use lib.ListN.{length-set}
 use Rattle.words.specs.Store.{set_word-stores}
