@@ -1,7 +1,7 @@
 -- The set of units that start a block in use, as bits of the station record's buffer, and what it is to change it.
 -- `Areas` says where they stand.
 -- Assumes nothing.
-use Rattle.std.specs.Prelude.{◌≡◌, Bool, true, false, List, ℕ, ◌+◌, ◌/◌, ◌%◌, ◌^◌, ◌≤◌, ◌<◌, eqb, ltb, length, get_or}
+use Rattle.std.specs.Prelude.{◌≡◌, Bool, false, List, ℕ, ◌+◌, ◌/◌, ◌%◌, ◌^◌, ◌≤◌, ◌<◌, eqb, ltb, length, get_or}
 use Rattle.spec.specs.Basics.{both}
 use Rattle.spec.specs.declared.Size.{Size}
 use Rattle.buffer.specs.Areas.{bits_start, bits_end, sums_start, buffer_words}

@@ -1,9 +1,9 @@
 -- Directory words: what is said of each role's word, made and read.
 -- Assumes nothing.
-use Rattle.std.proofs.Common.{◌≡◌, ℕ, zero, suc, ◌+◌, ◌*◌, ◌/◌, ◌%◌, ◌<◌, ◌≤◌, Bool, true, false, sym, refl, ap, ◌∙◌, subst, arith, eq-eqb, ne_eqb, le-leb}
+use Rattle.std.proofs.Common.{◌≡◌, ℕ, ◌+◌, ◌*◌, ◌/◌, ◌%◌, ◌≤◌, Bool, true, false, sym, refl, subst, arith, ne_eqb, le-leb}
 use native.Mathlib.Decide.{dec_le, ℕ_discrete}
 use borrow.Author.Tests.{lt-leb}
-use Rattle.spec.specs.Basics.{pick, both}
+use Rattle.spec.specs.Basics.{pick}
 use Rattle.spec.specs.Places.{chunk_lines}
 use Rattle.spec.specs.Directory.{is_size, role_by, role_of, log_word, data_word, freed_word}
 use Rattle.spec.specs.declared.Role.{Role}

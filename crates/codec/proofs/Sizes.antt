@@ -2,7 +2,7 @@
 -- of the two divisions, and of the small table that it is the smallest that fits, is shown by a computed test of each;
 -- for every chunk power `theory_base` shows the latter of the two divisions.
 -- Assumes nothing.
-use Rattle.std.proofs.Common.{◌≡◌, ℕ, zero, suc, ◌+◌, ◌-◌, ◌*◌, ◌/◌, ◌%◌, ◌^◌, ◌<◌, ◌≤◌, Bool, true, false, T, eqb, leb, List, [], ◌∷◌, length, get_or, sym, refl, ap, ◌∙◌, arith, eqb→eq, leb→le, ne_eqb, eqb-true, le-leb, leb-true}
+use Rattle.std.proofs.Common.{◌≡◌, ℕ, ◌+◌, ◌*◌, ◌/◌, ◌<◌, ◌≤◌, Bool, true, false, T, eqb, leb, List, [], ◌∷◌, get_or, sym, refl, ◌∙◌, arith, eqb→eq, leb→le, ne_eqb, le-leb}
 use native.Mathlib.Decide.{dec_lt, dec_le}
 use borrow.Author.Tests.{lt-leb}
 use Rattle.spec.specs.Basics.{pick, both, either, all, up_from}

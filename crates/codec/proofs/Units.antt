@@ -1,6 +1,6 @@
 -- The unit at a place of a chunk, where there is room for both.
 -- Assumes nothing.
-use Rattle.std.proofs.Common.{◌≡◌, ℕ, ◌+◌, ◌%◌, ◌^◌, ◌<◌, mod-eq_of_lt}
+use Rattle.std.proofs.Common.{◌≡◌, ℕ, ◌+◌, ◌^◌, ◌<◌, mod-eq_of_lt}
 use Rattle.spec.specs.Places.{first_unit, unit_in, chunk_units}
 use Rattle.codec.specs.Units.{unit_at}
 

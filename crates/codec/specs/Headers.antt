@@ -1,11 +1,10 @@
 -- The header line: its given fields one by one, the check word, and that what a formatting writes is right.
 -- Assumes nothing.
-use Rattle.std.specs.Prelude.{◌≡◌, ℕ, zero, suc, ◌+◌, ◌-◌, ◌*◌, ◌/◌, ◌%◌, ◌^◌, ◌<◌, ◌≤◌, Bool, true, false, List, [], ◌∷◌, ◌++◌, ◌==◌, ◌≢◌, slice_index, refl}
+use Rattle.std.specs.Prelude.{◌≡◌, ℕ, zero, suc, ◌+◌, ◌-◌, ◌%◌, ◌<◌, Bool, true, false, [], ◌∷◌, ◌==◌, ◌≢◌, slice_index, refl}
 use Rattle.std.proofs.Math.Path.{sym}
 use Rattle.std.proofs.Common.{◌∙◌, ap, arith}
 use borrow.Author.Tests.{eq-eqb, ne_eqb}
-use Rattle.spec.specs.Basics.{pick, both, either}
-use Rattle.spec.specs.Header.{word_values, fields_test, header_test, power_field, header_map, fields_of, sum, check_word, header_tail, header_words}
+use Rattle.spec.specs.Header.{word_values, fields_test, header_test, power_field, header_map, fields_of, check_word, header_tail, header_words}
 use Rattle.spec.specs.declared.Given.{Given}
 use Rattle.spec.specs.declared.Given.TheVariants as G
 

@@ -8,7 +8,6 @@ use native.Mathlib.Nat.{zero-add, suc-add}
 use native.Mathlib.Omega.{arith}
 use lib.ListN.{length, get_or, take, drop, length-take, length-drop, take-append-drop}
 use lib.Seq.{slice, take-nil, drop-cons, drop-drop, get_or-take, get_or-drop, length-slice}
-use Rattle.spec.specs.declared.FirstWord.TheVariants as F
 use Rattle.spec.specs.declared.LogStep.TheVariants as S
 use Rattle.spec.specs.Places.{base}
 use Rattle.spec.specs.Log.{Entry, Entries, words_for, filled, step_of, head_of, encode, image_entries}

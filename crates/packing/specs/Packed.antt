@@ -7,8 +7,8 @@
 --     version | 20     | 20     | that entry's
 --     entries | 17     | 21     | how many entries of the key are committed
 --     several | 1      | 1      | 1 if the key has several top entries
-use Rattle.std.specs.Prelude.{◌≡◌, refl, ℕ, ◌+◌, ◌*◌, ◌/◌, ◌%◌, ◌≤◌, ◌<◌}
-use Rattle.std.proofs.Common.{sym, ◌∙◌, ap, mod-lt, mod-eq_of_lt, zero-add, add-zero, div-one, mul-pos, arith}
+use Rattle.std.specs.Prelude.{◌≡◌, ℕ, ◌+◌, ◌*◌, ◌/◌, ◌%◌, ◌<◌}
+use Rattle.std.proofs.Common.{◌∙◌, ap, mod-lt, mod-eq_of_lt, zero-add, div-one, mul-pos, arith}
 use Rattle.std.proofs.Math.Nat.{div-eq_of_lt, mod-add-div, add-mul-div_left, add-mul-mod_self_left, mod-one, mod-mod}
 use Rattle.spec.specs.declared.Size.{Size}
 use Rattle.spec.specs.declared.Size.TheVariants as S

@@ -6,7 +6,7 @@ use Rattle.spec.specs.declared.Size.{Size}
 use Rattle.spec.specs.declared.Size.TheVariants as S
 use Rattle.spec.specs.Basics.{pick, both, all, is_in}
 use Rattle.spec.specs.Log.{Entry, moved}
-use Rattle.spec.specs.Places.{base_power, max_chunks, chunk_units, first_unit, unit_chunk}
+use Rattle.spec.specs.Places.{max_chunks, chunk_units, first_unit, unit_chunk}
 use Rattle.spec.specs.Blocks.{pointed, start_tests, length_tests, block_test, block_right}
 use Rattle.spec.specs.Contents.{is_top, highest, chosen, agree, live_blocks}
 use Rattle.spec.specs.Opening.{fine, blocks_test, agree_with, agree_test, apart_test}

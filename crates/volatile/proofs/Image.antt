@@ -8,9 +8,9 @@ use Rattle.places.specs.Sizes.{power_of, power-low, power-high}
 use Rattle.packing.specs.Packed.{widths_of}
 use Rattle.spec.specs.declared.LogStep.{LogStep}
 use Rattle.spec.specs.declared.LogStep.TheVariants as S
-use Rattle.spec.specs.Places.{base_power, chunk_words, base, max_chunks}
+use Rattle.spec.specs.Places.{chunk_words, base, max_chunks}
 use Rattle.spec.specs.Directory.{lines_of}
-use Rattle.spec.specs.Log.{Entry, Wrong, Entries, step_of, after, parse, chunk_entries, all_from, image_entries}
+use Rattle.spec.specs.Log.{Entry, Entries, step_of, after, parse, chunk_entries, all_from, image_entries}
 use Rattle.theory_base.proofs.Places.{base-low, base-next, lines-words}
 use Rattle.theory_log.specs.Batch.{Kind, put, block, delete}
 use Rattle.theory_log.specs.Contents.{Apart}

@@ -5,7 +5,6 @@ use mathlib.Core.Option.{none, some}
 use Rattle.spec.specs.declared.Size.{Size}
 use Rattle.spec.specs.Log.{Entry}
 use Rattle.spec.specs.Contents.{chosen, highest}
-use Rattle.theory_log.specs.Contents.{Mem}
 use Rattle.theory_log.proofs.Contents.{mem-r}
 use Rattle.theory_log.proofs.Keys.{mem-known}
 use Rattle.logs.specs.Stands.{StandsIn}

@@ -1,19 +1,18 @@
 -- The laws of a change of sums: nothing, a store to one sum, one change after another; and what it makes of the sums of
 -- entries.
 -- Assumes nothing.
-use Rattle.std.proofs.Common.{◌≡◌, ℕ, ◌+◌, ◌*◌, ◌/◌, ◌%◌, ◌^◌, ◌<◌, ◌≤◌, Bool, true, false, eqb, List, [], length, get_or, set, sym, refl, ap, ◌∙◌, subst, arith, length-set, get_or-set_other, get_or-set_same, eq-eqb, ne_eqb, eqb-true}
+use Rattle.std.proofs.Common.{◌≡◌, ℕ, ◌+◌, ◌/◌, ◌%◌, ◌^◌, ◌<◌, ◌≤◌, eqb, List, [], length, get_or, set, sym, refl, ap, ◌∙◌, subst, arith, length-set, get_or-set_other, get_or-set_same, eq-eqb, ne_eqb}
 use mathlib.Core.Logic.{by_cases}
-use mathlib.Core.Option.{Option, none, some}
+use mathlib.Core.Option.{some}
 use native.Mathlib.Nat.{mod-add-mod}
-use native.Mathlib.Decide.{ℕ_discrete, dec_lt}
+use native.Mathlib.Decide.{ℕ_discrete}
 use Rattle.spec.specs.declared.Size.{Size}
 use Rattle.spec.specs.declared.Size.TheVariants as S
 use Rattle.places.specs.Sizes.{power_of}
 use Rattle.packing.specs.Packed.{widths_of}
 use Rattle.spec.specs.Basics.{pick}
-use Rattle.spec.specs.Places.{base_power, chunk_words, word_chunk}
+use Rattle.spec.specs.Places.{chunk_words, word_chunk}
 use Rattle.spec.specs.Log.{Entry}
-use Rattle.spec.specs.Contents.{chosen}
 use Rattle.buffer.specs.Bits.{has_bit, FrontKept}
 use Rattle.buffer.proofs.Laws.{bits-agree}
 use Rattle.buffer.specs.Areas.{sums_start, sums_count, buffer_words}

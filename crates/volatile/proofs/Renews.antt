@@ -1,18 +1,18 @@
 -- What the code shows of an entry that joins: one law for each return.
 -- Assumes nothing.
-use Rattle.std.proofs.Common.{◌≡◌, ℕ, ◌+◌, ◌%◌, ◌<◌, ◌≤◌, List, length, sym, refl, ap, ◌∙◌, arith}
-use mathlib.Core.Option.{Option, none, some}
+use Rattle.std.proofs.Common.{◌≡◌, ℕ, ◌+◌, ◌%◌, ◌<◌, ◌≤◌, List, length, sym, ap, ◌∙◌, arith}
+use mathlib.Core.Option.{none, some}
 use Rattle.spec.specs.declared.Size.{Size}
 use Rattle.spec.specs.Log.{Entry}
 use Rattle.spec.specs.Contents.{chosen, highest}
 use Rattle.packing.specs.declared.Info.{Info}
 use Rattle.packing.specs.Packed.{widths_of, unpack_of, extent-few, place-few}
-use Rattle.volatile.specs.Known.{extent_of, info_of, own_of}
+use Rattle.volatile.specs.Known.{extent_of, info_of}
 use Rattle.volatile.proofs.Info.{said, chosen-version, own-says, zero-chosen, nonzero-chosen}
 use Rattle.buffer.specs.Areas.{buffer_words}
-use Rattle.volatile.specs.Sums.{weight, share_in, chosen_sum, Summed}
+use Rattle.volatile.specs.Sums.{weight, share_in, chosen_sum}
 use Rattle.volatile.proofs.Sums.{sum-turned}
-use Rattle.volatile.specs.Change.{only, nothing, SumsAlone, Changed, WeighedAt, Renewing, Renewed}
+use Rattle.volatile.specs.Change.{only, nothing, Changed, WeighedAt, Renewing, Renewed}
 use Rattle.volatile.proofs.Laws.{alone-self, changed_then, changed-summed, share-only}
 
 module _ (size : Size) (ws b : List ℕ) (old own w : ℕ) where

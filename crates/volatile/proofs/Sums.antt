@@ -1,7 +1,7 @@
 -- The laws of sums over keys, each key once: the list of keys does not matter, as long as it has every key that adds
 -- something; and what one key more or another chosen entry does to a chunk's sum.
 -- Assumes nothing.
-use Rattle.std.proofs.Common.{◌≡◌, ℕ, ◌+◌, ◌≤◌, Bool, true, false, eqb, ◌⊎◌, List, [], ◌∷◌, get_or, sym, refl, ap, ◌∙◌, inl, inr, arith, eq-eqb, ne_eqb, eqb-true}
+use Rattle.std.proofs.Common.{◌≡◌, ℕ, ◌+◌, ◌≤◌, Bool, true, false, eqb, List, [], ◌∷◌, get_or, sym, refl, ap, subst, ◌∙◌, inl, inr, arith, eq-eqb, ne_eqb}
 use mathlib.Core.Logic.{by_cases}
 use mathlib.Core.Option.{Option, none, some}
 use native.Mathlib.Decide.{ℕ_discrete}
@@ -36,7 +36,7 @@ sum-but f g k (x ∷ ks) o (inl q) h =
     let same = sum_same f g ks (λ j m. h j (λ e. o.0 (rw (e ∙ q) at m))) in
     rw q (omega arith)
 sum-but f g k (x ∷ ks) o (inr m) h =
-    let a = h x (λ e. o.0 (rw (sym e) at m)) in
+    let a = h x (λ e. o.0 (subst (λ y. Among y ks) (sym e) m)) in
     let b = sum-but f g k ks o.1 m h in
     omega arith
 

@@ -1,8 +1,6 @@
 -- What the code shows of an entry's weight.
 -- Assumes nothing.
-use Rattle.std.proofs.Common.{◌≡◌, ℕ, ◌+◌, ◌-◌, ◌*◌, ◌/◌, ◌%◌, ◌^◌, ◌<◌, ◌≤◌, List, length, get_or, sym, refl, ap, ◌∙◌, arith, eq-eqb, ne_eqb}
-use mathlib.Core.Logic.{by_cases}
-use native.Mathlib.Decide.{ℕ_discrete}
+use Rattle.std.proofs.Common.{◌≡◌, ℕ, ◌+◌, ◌*◌, ◌/◌, ◌<◌, ◌≤◌, List, length, get_or, sym, refl, ap, ◌∙◌, arith, eq-eqb, ne_eqb}
 use Rattle.spec.specs.declared.Size.{Size}
 use Rattle.spec.specs.declared.Size.TheVariants as S
 use Rattle.spec.specs.declared.FirstWord.{FirstWord}
@@ -11,7 +9,7 @@ use Rattle.spec.specs.Log.{Entry, first_of_word, words_for}
 use Rattle.theory_log.specs.Batch.{Kind, put, block, delete, Right}
 use Rattle.logs.specs.Stands.{StandsIn}
 use Rattle.volatile.specs.Known.{extent_of}
-use Rattle.volatile.specs.Sums.{high_half, weight_of, weight}
+use Rattle.volatile.specs.Sums.{high_half}
 use Rattle.volatile.specs.Change.{extent_weight, Weighed, WeighedAt}
 
 -- THE WEIGHT of so many words

@@ -1,10 +1,10 @@
 -- What changes of the sums: by an entry that joins, and all of them.
 -- Assumes nothing.
-use Rattle.std.specs.Prelude.{◌≡◌, ℕ, ◌+◌, ◌-◌, ◌*◌, ◌/◌, ◌%◌, ◌^◌, ◌<◌, ◌≤◌, true, List, [], ◌∷◌, ◌++◌, length, ◌==◌, ◌≢◌, slice_index}
+use Rattle.std.specs.Prelude.{◌≡◌, ℕ, ◌+◌, ◌-◌, ◌*◌, ◌/◌, ◌%◌, ◌^◌, ◌<◌, ◌≤◌, true, List, length, ◌==◌, ◌≢◌, slice_index}
 use Rattle.std.proofs.Math.Option.{some}
 use Rattle.spec.specs.declared.Size.{Size}
 use Rattle.places.specs.Sizes.{power_of}
-use Rattle.spec.specs.Places.{base_power, word_chunk}
+use Rattle.spec.specs.Places.{word_chunk}
 use Rattle.packing.specs.Packed.{widths_of}
 use Rattle.spec.specs.Basics.{pick}
 use Rattle.spec.specs.Log.{Entry}

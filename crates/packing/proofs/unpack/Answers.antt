@@ -1,6 +1,5 @@
 -- `packing::unpack` meets its contract.
 -- Assumes nothing.
-use borrow.Author.Rules.{rules}
 use Rattle.packing.proofs.unpack.Goals as goal
 
 pub returns-in-Small : goal.returns-in-Small

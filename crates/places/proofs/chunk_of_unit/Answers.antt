@@ -2,7 +2,6 @@
 -- Assumes nothing.
 use native.Mathlib.Omega.{arith}
 use Rattle.spec.specs.Places.{unit_chunk, chunk_units}
-use borrow.Author.Rules.{rules}
 use Rattle.places.proofs.chunk_of_unit.Goals as goal
 
 pub returns-in-Small : goal.returns-in-Small

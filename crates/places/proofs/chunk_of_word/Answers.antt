@@ -2,7 +2,6 @@
 -- Assumes nothing.
 use native.Mathlib.Omega.{arith}
 use Rattle.spec.specs.Places.{word_chunk, chunk_words}
-use borrow.Author.Rules.{rules}
 use Rattle.places.proofs.chunk_of_word.Goals as goal
 
 pub returns-in-Small : goal.returns-in-Small

@@ -2,7 +2,6 @@
 -- Assumes nothing.
 use native.Mathlib.Omega.{arith}
 use Rattle.spec.specs.Places.{chunks_in, chunk_bytes}
-use borrow.Author.Rules.{rules}
 use Rattle.places.proofs.chunks_in.Goals as goal
 
 pub returns-in-Small : goal.returns-in-Small

@@ -2,7 +2,6 @@
 -- Assumes nothing.
 use native.Mathlib.Omega.{arith}
 use Rattle.spec.specs.Places.{first_line, chunk_lines}
-use borrow.Author.Rules.{rules}
 use Rattle.places.proofs.first_line.Goals as goal
 
 pub returns-in-Small : goal.returns-in-Small

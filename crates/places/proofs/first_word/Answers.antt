@@ -2,7 +2,6 @@
 -- Assumes nothing.
 use native.Mathlib.Omega.{arith}
 use Rattle.spec.specs.Places.{base, chunk_words}
-use borrow.Author.Rules.{rules}
 use Rattle.places.proofs.first_word.Goals as goal
 
 pub overflow_mul-result : goal.overflow_mul-result

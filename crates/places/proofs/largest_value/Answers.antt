@@ -3,7 +3,6 @@
 use native.Mathlib.Omega.{arith}
 use Rattle.spec.specs.Places.{chunk_units}
 use Rattle.spec.specs.Blocks.{block_limit}
-use borrow.Author.Rules.{rules}
 use Rattle.places.proofs.largest_value.Goals as goal
 
 pub returns-in-Small : goal.returns-in-Small

@@ -1,7 +1,6 @@
 -- `places::length_allowed` meets its contract.
 -- Assumes nothing.
 use native.Mathlib.Omega.{arith}
-use borrow.Author.Rules.{rules}
 use Rattle.places.proofs.Lengths.{too_few, too_many, small, large}
 use Rattle.places.proofs.length_allowed.Goals as goal
 

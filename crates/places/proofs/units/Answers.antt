@@ -2,7 +2,6 @@
 -- Assumes nothing.
 use native.Mathlib.Omega.{arith}
 use Rattle.spec.specs.Places.{chunk_units}
-use borrow.Author.Rules.{rules}
 use Rattle.places.proofs.units.Goals as goal
 
 pub returns-in-Small : goal.returns-in-Small

@@ -1,0 +1,10 @@
+-- The loops of `index::slot_of`.
+use Prim.Native.Nat.{◌≤◌}
+use Rattle.index.proofs.Probing.{Probing}
+use Rattle.index.proofs.slot_of.Given as goal
+
+abbrev pub invariant-loop-left : goal.invariant-loop-left
+invariant-loop-left l = Probing l.table l.key l.n l.s l.left × (l.left ≤ l.n)
+
+abbrev pub decreases-loop-left : goal.decreases-loop-left
+decreases-loop-left l = l.left
