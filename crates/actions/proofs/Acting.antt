@@ -11,7 +11,7 @@ use lib.ListN.{length, drop, length-append}
 use borrow.Author.Tests.{eq-eqb, ne_eqb}
 use Rattle.spec.specs.Basics.{pick}
 use Rattle.spec.specs.Places.{directory_word, line_of}
-use Rattle.spec.specs.Medium.{Action, Store, Flush, Fence}
+use Rattle.spec.specs.Medium.{Action, Flush, Fence}
 use Rattle.spec.specs.Directory.{freed_word}
 use Rattle.spec.specs.Actions.{lines_for, free_of}
 use Rattle.spec.specs.Reports.{as_report}

@@ -2,7 +2,7 @@
 -- Assumes nothing.
 use Prim.Native.Nat.{ℕ, ◌+◌, ◌/◌, ◌≤◌, ◌<◌, min}
 use native.Mathlib.Omega.{arith}
-use Rattle.spec.specs.Places.{chunk_words, chunk_lines, chunk_units, base, first_line, first_unit, unit_in}
+use Rattle.spec.specs.Places.{chunk_words, chunk_units, base, first_unit, unit_in}
 use Rattle.spec.specs.Blocks.{block_limit}
 use Rattle.spec.specs.declared.Size.{Size}
 use Rattle.spec.specs.declared.Size.TheVariants as S

@@ -2,7 +2,7 @@
 -- Assumes nothing.
 use mathlib.Core.Path.{◌≡◌, ◌∙◌}
 use mathlib.Core.List.{List, [], ◌∷◌}
-use Prim.Native.Nat.{ℕ, ◌+◌, ◌-◌, ◌*◌, ◌<◌, ◌≤◌, min}
+use Prim.Native.Nat.{ℕ, ◌+◌, ◌*◌, ◌<◌, ◌≤◌, min}
 use native.Mathlib.Decide.{dec_lt, ℕ_discrete}
 use native.Mathlib.Omega.{arith}
 use lib.ListN.{length, drop}
@@ -13,7 +13,6 @@ use Rattle.spec.specs.Actions.{lines_for}
 use Rattle.spec.specs.Reports.{run_words}
 use Rattle.session.specs.declared.Control.{Control}
 use Rattle.session.specs.declared.Setup.{Setup}
-use Rattle.spec.specs.declared.Report.TheVariants as R
 use Rattle.buffer.specs.Areas.{batch_room}
 use Rattle.session.specs.State.{power_in, batch_words, chunk_in, lines_in, commit_actions}
 use Rattle.session.proofs.Part.{staged-length}

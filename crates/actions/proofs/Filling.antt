@@ -2,16 +2,13 @@
 -- Assumes nothing.
 use mathlib.Core.Path.{◌≡◌, refl, sym, ◌∙◌, ap}
 use mathlib.Core.Logic.{by_cases}
-use mathlib.Core.Bool.{Bool, true, false}
-use mathlib.Core.List.{List, [], ◌∷◌, ◌++◌}
-use Prim.Native.Nat.{ℕ, zero, suc, ◌+◌, ◌-◌, ◌*◌, ◌/◌, ◌%◌, ◌^◌, ◌<◌, ◌≤◌, min}
+use mathlib.Core.List.{List, ◌++◌}
+use Prim.Native.Nat.{ℕ, suc, ◌+◌, ◌-◌, ◌/◌, ◌%◌, ◌^◌, ◌<◌, ◌≤◌, min}
 use native.Mathlib.Omega.{arith}
 use native.Mathlib.Decide.{ℕ_discrete}
 use borrow.Author.Tests.{eq-eqb, ne_eqb}
-use lib.Dec.{eqb}
 use lib.ListN.{length, get_or, length-append, get_or-eq_default}
-use Rattle.spec.specs.Basics.{pick}
-use Rattle.spec.specs.Places.{first_unit, unit_in, unit_word, line_of, directory_word}
+use Rattle.spec.specs.Places.{unit_word, line_of}
 use Rattle.spec.specs.Medium.{Action, Store, Flush, Fence}
 use Rattle.spec.specs.Directory.{data_word}
 use Rattle.spec.specs.Blocks.{block_limit}
@@ -25,13 +22,13 @@ use Rattle.codec.specs.Units.{unit_at}
 use Rattle.codec.proofs.Units.{unit-of}
 use Rattle.buffer.specs.Areas.{second_start, second_room}
 use Rattle.session.specs.declared.Setup.{Setup}
-use Rattle.session.specs.State.{size_in, power_in, buffer_part, chunk_in}
+use Rattle.session.specs.State.{size_in, power_in, chunk_in}
 use Rattle.session.proofs.Part.{length_part, part-word}
 use Rattle.theory_crash.proofs.Cells.{length-writes, length-flushes}
 use Rattle.actions.specs.Nth.{nth, nth_report}
 use Rattle.actions.proofs.Bounds.{unit-few, held-few}
 use Rattle.actions.proofs.Nth.{nth-writes, nth-flushes, nth-front, nth-back}
-use Rattle.session.specs.State.{most_bytes, held_count, held_words, unit_of, taken_by, block_actions, behind_all}
+use Rattle.session.specs.State.{most_bytes, held_count, held_words, unit_of, block_actions, behind_all}
 
 -- THE BLOCK, by number
 module _ (u : ℕ) (words : List ℕ) where

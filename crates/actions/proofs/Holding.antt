@@ -1,8 +1,8 @@
 -- A value in the second area of the buffer: the code's stores lay its length and its words over it.
 -- Assumes nothing.
-use mathlib.Core.Path.{◌≡◌, refl, sym, ◌∙◌, ap}
+use mathlib.Core.Path.{◌≡◌, refl, ◌∙◌, ap}
 use mathlib.Core.List.{List, [], ◌∷◌}
-use Prim.Native.Nat.{ℕ, suc, ◌+◌, ◌-◌, ◌/◌, ◌≤◌, ◌<◌, min}
+use Prim.Native.Nat.{ℕ, suc, ◌+◌, ◌/◌, ◌≤◌, ◌<◌}
 use native.Mathlib.Omega.{arith}
 use lib.ListN.{length, get_or, set}
 use Rattle.spec.specs.Words.{packed}
@@ -13,7 +13,6 @@ use Rattle.words.specs.Overlay.{overlay, length-overlay, get_or-overlay-outside,
 use Rattle.words.proofs.Values.{length-packed}
 use Rattle.buffer.specs.Areas.{second_start, bits_start, buffer_words}
 use Rattle.buffer.proofs.Laws.{bits-agree}
-use Rattle.session.specs.declared.Setup.{Setup}
 use Rattle.session.specs.State.{buffer_part, most_bytes, held_count, held_words}
 use Rattle.actions.specs.Staging.{Kept}
 use Rattle.actions.proofs.Bounds.{value-few}

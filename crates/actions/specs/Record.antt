@@ -1,6 +1,6 @@
 -- How many actions a cleaning has, by the words that it keeps, and the record at its begin.
 -- Assumes nothing.
-use Rattle.std.specs.Prelude.{Bool, true, false, List, [], ◌++◌, ℕ, ◌+◌, ◌*◌, ◌/◌, ◌%◌, min, eqb, get_or, drop}
+use Rattle.std.specs.Prelude.{List, ℕ, ◌+◌, ◌*◌, min, eqb, get_or}
 use Rattle.spec.specs.Basics.{pick}
 use Rattle.spec.specs.Places.{directory_word}
 use Rattle.spec.specs.Directory.{lines_of}

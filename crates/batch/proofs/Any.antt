@@ -5,7 +5,7 @@ use mathlib.Core.Bool.{Bool, true, false}
 use mathlib.Core.List.{List, [], ◌∷◌}
 use Prim.Native.Nat.{ℕ, zero, suc, ◌+◌, ◌≤◌, ◌<◌, min}
 use native.Mathlib.Omega.{arith}
-use lib.ListN.{length, get_or, take, drop, length-take, drop_of_length-le}
+use lib.ListN.{length, get_or, take, length-take, drop_of_length-le}
 use lib.Seq.{slice}
 use Rattle.spec.specs.Basics.{negate, is_empty}
 use Rattle.spec.specs.Log.{Entry, Parsed, Wrong, Entries, cons, parse, step_of}

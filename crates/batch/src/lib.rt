@@ -15,7 +15,7 @@ ghost use Rattle.batch.specs.Added.{Added};
 ghost use Rattle.batch.specs.Staged.{Staged, ShortStaged};
 
 use buffer::{BATCH_WORDS, Buffer, FILTER, buffer_length};
-use codec::{first_of_word, first_word};
+use codec::{first_of, first_word};
 use logs::{Short, words_for};
 use spec::{FirstWord, LogStep};
 use words::{last_word, lesser, read_word};

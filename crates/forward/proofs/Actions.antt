@@ -1,18 +1,18 @@
 -- The words when a cleaning's actions are done: those that it copies stand in their lines, and beside the directory
 -- nothing else has changed.
 -- Assumes nothing.
-use mathlib.Core.Path.{◌≡◌, refl, sym, ◌∙◌, ap}
+use mathlib.Core.Path.{◌≡◌, refl, ◌∙◌, ap}
 use mathlib.Core.Logic.{◌⊎◌, inl, inr}
 use mathlib.Core.List.{List, [], ◌∷◌, ◌++◌}
 use Prim.Native.Nat.{ℕ, zero, suc, ◌+◌, ◌-◌, ◌*◌, ◌≤◌, ◌<◌}
 use native.Mathlib.Omega.{arith}
-use lib.ListN.{length, get_or, set, replicate, length-set}
+use lib.ListN.{length, get_or, set, length-set}
 use lib.Seq.{slice, length-slice, ext_get_or, get_or-set_other}
 use Rattle.spec.specs.declared.Size.{Size}
 use Rattle.places.specs.Sizes.{power_of}
-use Rattle.spec.specs.Places.{base, directory_word, first_line, line_of}
+use Rattle.spec.specs.Places.{base, directory_word, first_line}
 use Rattle.spec.specs.Directory.{log_word, freed_word}
-use Rattle.spec.specs.Medium.{Action, Store, Flush, Fence}
+use Rattle.spec.specs.Medium.{Action, Fence}
 use Rattle.spec.specs.Actions.{writes, flushes, lines_for, padded, body_of, seal_of, commit_of, append_of, free_of}
 use Rattle.spec.specs.Reports.{as_report, words_after, run_words}
 use Rattle.theory_log.proofs.Walk.{slice_at}

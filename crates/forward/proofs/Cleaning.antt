@@ -6,19 +6,18 @@ use mathlib.Core.Logic.{◌⊎◌, inl, inr}
 use mathlib.Core.Bool.{true, false}
 use mathlib.Core.Option.{some}
 use mathlib.Core.List.{List, [], ◌∷◌, ◌++◌}
-use Prim.Native.Nat.{ℕ, ◌+◌, ◌-◌, ◌*◌, ◌/◌, ◌≤◌, ◌<◌}
+use Prim.Native.Nat.{ℕ, ◌+◌, ◌*◌, ◌/◌, ◌≤◌, ◌<◌}
 use native.Mathlib.Omega.{arith}
 use native.Mathlib.Decide.{dec_lt, ℕ_discrete}
 use lib.ListN.{length, get_or, set, length-set}
 use lib.Seq.{slice, slice_empty, get_or-set_same, get_or-set_other}
 use Rattle.spec.specs.declared.Size.{Size}
 use Rattle.places.specs.Sizes.{power_of, power-low, power-high}
-use Rattle.spec.specs.Places.{chunk_words, chunk_lines, base, directory_word, chunks_in}
+use Rattle.spec.specs.Places.{chunk_lines, base, directory_word, chunks_in}
 use Rattle.spec.specs.Medium.{Cell, Action, Store, Flush, Fence, Medium, apply, run, latest, cell_at, settled_at}
 use Rattle.spec.specs.Directory.{is_free, is_log, role_at, lines_of, size_of, freed_word}
-use Rattle.spec.specs.Log.{Entry, encode_all, placed}
+use Rattle.spec.specs.Log.{Entry, encode_all}
 use Rattle.spec.specs.Contents.{Held, contents_by, meaning, keys_of, capacity, is_kept, kept_in}
-use Rattle.spec.specs.Opening.{Accepted, opening}
 use Rattle.spec.specs.Actions.{lines_for, padded, commit_of, append_of, free_of}
 use Rattle.spec.specs.declared.Role.{Role}
 use Rattle.spec.specs.declared.Role.TheVariants as R

@@ -2,26 +2,25 @@
 -- image is accepted, and its entries are those before with the batch placed among them.
 -- Assumes nothing.
 use mathlib.Core.Path.{◌≡◌, refl, sym, ◌∙◌, ap, subst}
-use mathlib.Core.Bool.{Bool, true, false}
+use mathlib.Core.Bool.{true}
 use mathlib.Core.Logic.{◌⊎◌, inl, inr}
 use mathlib.Core.Option.{some}
 use mathlib.Core.List.{List, [], ◌∷◌, ◌++◌, map-append}
 use Prim.Native.Nat.{ℕ, suc, ◌+◌, ◌*◌, ◌/◌, ◌≤◌, ◌<◌}
 use native.Mathlib.Omega.{arith}
-use lib.Dec.{eqb}
-use lib.ListN.{length, get_or, length-set}
+use lib.ListN.{length, get_or}
 use Rattle.spec.specs.declared.Size.{Size}
 use Rattle.places.specs.Sizes.{power_of, power-low, power-high}
-use Rattle.spec.specs.Basics.{both, distinct}
-use Rattle.spec.specs.Places.{base_power, chunk_lines, base, directory_word, chunks_in, max_chunks}
-use Rattle.spec.specs.Medium.{Cell, Action, Store, Flush, Fence, Medium, apply, run, latest, cell_at, settled_at}
+use Rattle.spec.specs.Basics.{distinct}
+use Rattle.spec.specs.Places.{chunk_lines, base, directory_word, chunks_in, max_chunks}
+use Rattle.spec.specs.Medium.{Cell, Action, Medium, run, cell_at, settled_at}
 use Rattle.spec.specs.Directory.{lines_of}
 use Rattle.spec.specs.Log.{Entry, encode_all, moved, placed}
 use Rattle.spec.specs.Blocks.{pointed}
 use Rattle.spec.specs.Contents.{Held, highest, contents_by, meaning, keys_of, capacity}
-use Rattle.spec.specs.Opening.{Accepted, opening, fine}
+use Rattle.spec.specs.Opening.{fine}
 use Rattle.spec.specs.Actions.{lines_for, commit_of, append_of}
-use Rattle.spec.specs.Reports.{as_report, words_after, run_words}
+use Rattle.spec.specs.Reports.{run_words}
 use Rattle.spec.specs.Plans.{old_of, log_place}
 use Rattle.theory_base.proofs.Words as W
 use Rattle.theory_base.proofs.Places.{lines-least}

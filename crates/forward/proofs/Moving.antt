@@ -1,10 +1,10 @@
 -- A cleaning whose actions are done: what is kept stands in one chunk.
 -- Assumes nothing.
-use mathlib.Core.Path.{◌≡◌, refl, sym, ◌∙◌, ap}
+use mathlib.Core.Path.{◌≡◌, sym, ◌∙◌, ap}
 use mathlib.Core.Logic.{◌⊎◌, inl, inr}
 use mathlib.Core.Bool.{true, false}
-use mathlib.Core.List.{List, [], ◌∷◌, ◌++◌}
-use Prim.Native.Nat.{ℕ, suc, ◌+◌, ◌*◌, ◌/◌, ◌≤◌, ◌<◌}
+use mathlib.Core.List.{List, [], ◌∷◌}
+use Prim.Native.Nat.{ℕ, suc, ◌+◌, ◌*◌, ◌≤◌, ◌<◌}
 use native.Mathlib.Omega.{arith}
 use lib.ListN.{length, replicate, length-append}
 use borrow.Author.Tests.{eq-eqb, ne_eqb}
@@ -17,7 +17,7 @@ use Rattle.theory_base.proofs.Places.{words-least, words-most, base-next, chunk-
 use Rattle.theory_log.specs.Contents.{Mem}
 use Rattle.theory_log.proofs.Walk.{slice-long}
 use Rattle.volatile.proofs.Image.{base-most}
-use Rattle.session.specs.Cleaned.{kept_of, copies_of, after, Moves}
+use Rattle.session.specs.Cleaned.{kept_of, after, Moves}
 use Rattle.forward.specs.Freed.{Freed}
 use Rattle.forward.proofs.Freed.{outside}
 

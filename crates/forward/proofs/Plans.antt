@@ -7,15 +7,14 @@ use Prim.Native.Nat.{ℕ, ◌/◌, ◌≤◌}
 use native.Mathlib.Omega.{arith}
 use lib.ListN.{length, get_or}
 use Rattle.spec.specs.declared.Size.{Size}
-use Rattle.places.specs.Sizes.{power_of, power-low, power-high}
+use Rattle.places.specs.Sizes.{power_of}
 use Rattle.spec.specs.Words.{AreBytes, packed}
-use Rattle.spec.specs.Places.{base_power, chunks_in, directory_word, first_unit}
+use Rattle.spec.specs.Places.{chunks_in, directory_word, first_unit}
 use Rattle.spec.specs.Medium.{Action}
 use Rattle.spec.specs.Log.{Entry}
 use Rattle.spec.specs.Blocks.{block_limit, block_size}
 use Rattle.spec.specs.Directory.{is_size}
 use Rattle.spec.specs.Actions.{take_of, block_of}
-use Rattle.spec.specs.Opening.{Accepted, opening}
 use Rattle.spec.specs.Plans.{Slot, InData, InFree, Nowhere, Staging, Begin, entry, slot_for, stage_large}
 use Rattle.theory_base.proofs.Sizes.{block_size_lem}
 use Rattle.theory_crash.specs.Stage.{BlockWords}

@@ -1,17 +1,15 @@
 -- What look-up reads while a call is on its way: after every action the words with the old directory words put back are
 -- accepted with the entries of the begin.
 -- Assumes nothing.
-use mathlib.Core.Path.{◌≡◌, refl, sym, ◌∙◌, ap}
+use mathlib.Core.Path.{◌≡◌, ◌∙◌, ap}
 use mathlib.Core.List.{List, [], ◌∷◌}
-use Prim.Native.Nat.{ℕ, ◌*◌, ◌/◌, ◌≤◌}
-use native.Mathlib.Omega.{arith}
+use Prim.Native.Nat.{ℕ, ◌/◌}
 use lib.ListN.{length}
 use Rattle.spec.specs.declared.Size.{Size}
 use Rattle.places.specs.Sizes.{power_of, power-low, power-high}
-use Rattle.spec.specs.Places.{base_power, base, chunks_in}
+use Rattle.spec.specs.Places.{chunks_in}
 use Rattle.spec.specs.Medium.{Action, Store, Flush, Fence, Medium, apply, latest, settled_at}
 use Rattle.spec.specs.Log.{Entry}
-use Rattle.spec.specs.Opening.{Accepted, opening}
 use Rattle.spec.specs.Reports.{as_report, words_after}
 use Rattle.spec.specs.Plans.{Olds, put_back}
 use Rattle.theory_base.proofs.Words as W
@@ -21,7 +19,7 @@ use Rattle.theory_crash.proofs.Frame.{frame-ok}
 use Rattle.session.proofs.OpensRight.{opens-right, right-opens}
 use Rattle.theory_crash.proofs.Rest.{latest-quiet}
 use Rattle.theory_base.proofs.PutBack.{AreOf}
-use Rattle.theory_crash.proofs.View.{Seen, Shy, seen-through}
+use Rattle.theory_crash.proofs.View.{Shy, seen-through}
 use Rattle.session.specs.Fits.{Opens, Shown}
 
 latest-after : (a : Action) (m : Medium) → latest (apply a m) ≡ words_after (as_report a) (latest m)

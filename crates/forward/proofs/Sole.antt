@@ -5,13 +5,13 @@ use mathlib.Core.Logic.{inl, inr}
 use mathlib.Core.Bool.{Bool, true, false}
 use mathlib.Core.Option.{Option, none, some}
 use mathlib.Core.List.{List, [], ◌∷◌, ◌++◌}
-use Prim.Native.Nat.{ℕ, suc, ◌+◌, ◌≤◌, ◌<◌}
+use Prim.Native.Nat.{ℕ, suc, ◌+◌, ◌≤◌}
 use native.Mathlib.Omega.{arith}
 use lib.Dec.{eqb, leb}
 use lib.ListN.{length, length-append}
 use borrow.Author.Tests.{eqb-true, eqb-false, eq-eqb, ne_eqb, le-leb}
 use Rattle.spec.specs.declared.Size.{Size}
-use Rattle.spec.specs.Basics.{pick, both, filter}
+use Rattle.spec.specs.Basics.{pick, filter}
 use Rattle.spec.specs.Log.{Entry, moved, placed}
 use Rattle.spec.specs.Contents.{highest, is_top_of, tops, chosen}
 use Rattle.theory_base.proofs.Lists.{both_l, both_r, both-i, filter-append}

@@ -5,15 +5,15 @@ use mathlib.Core.Path.{◌≡◌, refl, sym, ◌∙◌, ap}
 use mathlib.Core.Logic.{◌⊎◌, inl, inr, ⊎_elim}
 use mathlib.Core.Bool.{Bool, true, false}
 use mathlib.Core.List.{List, [], ◌∷◌, ◌++◌}
-use Prim.Native.Nat.{ℕ, suc, ◌+◌, ◌*◌, ◌/◌, ◌≤◌, ◌<◌}
+use Prim.Native.Nat.{ℕ, ◌+◌, ◌*◌, ◌/◌, ◌≤◌, ◌<◌}
 use native.Mathlib.Omega.{arith}
 use native.Mathlib.Decide.{ℕ_discrete}
 use lib.ListN.{length, get_or, length-set}
 use Rattle.spec.specs.declared.Size.{Size}
 use Rattle.places.specs.Sizes.{power_of, power-low, power-high}
 use Rattle.spec.specs.Basics.{both}
-use Rattle.spec.specs.Words.{AreBytes, packed}
-use Rattle.spec.specs.Places.{base_power, chunk_units, base, first_unit, unit_chunk, unit_word, directory_word, chunks_in, max_chunks}
+use Rattle.spec.specs.Words.{packed}
+use Rattle.spec.specs.Places.{base, first_unit, unit_chunk, unit_word, directory_word, chunks_in, max_chunks}
 use Rattle.spec.specs.Medium.{Cell, Action, Store, Flush, Fence, Medium, apply, run, latest, cell_at, settled_at}
 use Rattle.spec.specs.Directory.{is_size, role_of, size_in, is_log, is_free, role_at, size_of, data_word}
 use Rattle.spec.specs.declared.Role.{Role}
@@ -21,7 +21,7 @@ use Rattle.spec.specs.declared.Role.TheVariants as R
 use Rattle.spec.specs.Log.{Entry}
 use Rattle.spec.specs.Blocks.{pointed}
 use Rattle.spec.specs.Contents.{Held, contents_by, meaning, keys_of, capacity}
-use Rattle.spec.specs.Opening.{Accepted, opening, fine}
+use Rattle.spec.specs.Opening.{fine}
 use Rattle.spec.specs.Actions.{take_of, block_of}
 use Rattle.spec.specs.Reports.{as_report, words_after, run_words}
 use Rattle.spec.specs.Plans.{entry, InData, InFree, slot_for, has_space}

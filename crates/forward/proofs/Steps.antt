@@ -1,13 +1,11 @@
 -- What the record says of memory in a staging of a large value: as it is begun, from step to step, and at its end.
 -- Assumes nothing.
-use mathlib.Core.Path.{◌≡◌, refl, sym, ◌∙◌, ap}
+use mathlib.Core.Path.{◌≡◌, sym, ◌∙◌}
 use mathlib.Core.List.{List, [], ◌∷◌, ◌++◌}
 use Prim.Native.Nat.{ℕ, ◌+◌, ◌≤◌, ◌<◌}
 use native.Mathlib.Omega.{arith}
 use lib.ListN.{length, get_or, drop}
-use Rattle.spec.specs.declared.Size.{Size}
 use Rattle.spec.specs.Basics.{distinct}
-use Rattle.spec.specs.Places.{base_power, chunks_in}
 use Rattle.spec.specs.Medium.{Action}
 use Rattle.spec.specs.Log.{Entry, encode_all}
 use Rattle.spec.specs.Contents.{capacity}

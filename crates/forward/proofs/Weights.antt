@@ -4,7 +4,7 @@ use mathlib.Core.Path.{◌≡◌, refl, sym, ◌∙◌, ap}
 use mathlib.Core.Logic.{inl, inr}
 use mathlib.Core.Bool.{Bool, true, false}
 use mathlib.Core.Option.{Option, none, some}
-use mathlib.Core.List.{List, [], ◌∷◌, ◌++◌, map}
+use mathlib.Core.List.{List, [], ◌∷◌}
 use Prim.Native.Nat.{ℕ, ◌+◌, ◌*◌, ◌≤◌}
 use native.Mathlib.Nat.{mul-add}
 use native.Mathlib.Omega.{arith}
@@ -14,7 +14,6 @@ use borrow.Author.Tests.{eq-eqb}
 use Rattle.spec.specs.declared.Size.{Size}
 use Rattle.places.specs.Sizes.{power_of}
 use Rattle.spec.specs.Basics.{pick, both, either, filter}
-use Rattle.spec.specs.Medium.{Mem as Among}
 use Rattle.spec.specs.Log.{Entry, encode_all}
 use Rattle.spec.specs.Contents.{chosen, known, keys_of, in_chunk, is_kept}
 use Rattle.theory_base.proofs.Lists.{Once, is_in-mem, both_l}
@@ -24,7 +23,7 @@ use Rattle.theory_log.proofs.Keys.{key_list, key-mem, mem-key, mem-known, keys-k
 use Rattle.theory_log.proofs.Clean.{is-at}
 use Rattle.theory_log.proofs.Places.{Rising}
 use Rattle.volatile.specs.Sums.{high_half, share_in, sum_over, chosen_sum}
-use Rattle.volatile.proofs.Sums.{sum-plus, sum-lists, Covers, keys-once, keys-cover}
+use Rattle.volatile.proofs.Sums.{sum-plus, sum-lists, Covers, keys-once}
 use Rattle.forward.specs.Once.{OneEach}
 use Rattle.forward.proofs.Sole.{once-filter}
 

@@ -1,22 +1,13 @@
 -- Memory while a large value is staged, looking forward: what the words are when the staging's actions are done.
 -- Assumes nothing.
-use Rattle.std.specs.Prelude.{◌≡◌, List, [], ◌++◌, ℕ, ◌+◌, ◌/◌, ◌≤◌, ◌<◌, length}
+use Rattle.std.specs.Prelude.{◌≡◌, List, [], ℕ, ◌/◌, length}
 use Rattle.spec.specs.declared.Size.{Size}
 use Rattle.places.specs.Sizes.{power_of}
-use Rattle.spec.specs.Basics.{distinct}
-use Rattle.spec.specs.Places.{base_power, chunks_in}
+use Rattle.spec.specs.Places.{chunks_in}
 use Rattle.spec.specs.Medium.{Action}
-use Rattle.spec.specs.Log.{Entry, encode_all}
-use Rattle.spec.specs.Contents.{capacity}
-use Rattle.spec.specs.Opening.{Accepted, opening}
+use Rattle.spec.specs.Log.{Entry}
 use Rattle.spec.specs.Reports.{run_words}
-use Rattle.spec.specs.Plans.{max_items}
-use Rattle.session.specs.declared.Control.{Control}
-use Rattle.session.specs.declared.Session.{Session}
-use Rattle.theory_log.specs.Batch.{AllRight}
-use Rattle.theory_log.specs.Contents.{CountsOn}
-use Rattle.session.specs.State.{batch_words}
-use Rattle.session.specs.Fits.{Opens, key_list, ItemsFit, Built, Hint, Shown}
+use Rattle.session.specs.Fits.{Opens, ItemsFit, Hint, Shown}
 
 -- what the actions of a staging do to words at rest with the entries es
 pub record Ahead (sz : Size) (bytes table : ℕ) (ws : List ℕ) (es items : List Entry) (acts : List Action) : Type 0 where

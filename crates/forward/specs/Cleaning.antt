@@ -8,7 +8,6 @@ use Rattle.session.specs.Fits.{Opens}
 use Rattle.spec.specs.Places.{directory_word, chunks_in}
 use Rattle.spec.specs.Log.{Entry}
 use Rattle.spec.specs.Contents.{kept_in}
-use Rattle.spec.specs.Opening.{Accepted, opening}
 use Rattle.session.specs.Cleaned.{kept_of, after}
 use Rattle.forward.specs.Freed.{Freed}
 

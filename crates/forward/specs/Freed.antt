@@ -1,6 +1,6 @@
 -- A cleaning whose actions are done: the image at its begin, and the image now.
 -- Assumes nothing.
-use Rattle.std.specs.Prelude.{◌≡◌, List, ◌++◌, ℕ, ◌+◌, ◌*◌, ◌≤◌, ◌<◌, length, get_or, replicate}
+use Rattle.std.specs.Prelude.{◌≡◌, List, ◌++◌, ℕ, ◌+◌, ◌*◌, ◌≤◌, ◌<◌, get_or, replicate}
 use Rattle.std.proofs.Math.Seq.{slice}
 use Rattle.spec.specs.declared.Size.{Size}
 use Rattle.places.specs.Sizes.{power_of}

@@ -6,7 +6,7 @@ use mathlib.Core.Logic.{by_cases, ⊎_elim}
 use mathlib.Core.Bool.{Bool, true, false}
 use mathlib.Core.List.{List}
 use Prim.Native.Nat.{ℕ, zero, suc, ◌+◌, ◌-◌, ◌*◌, ◌/◌, ◌%◌, ◌^◌, ◌≤◌, ◌<◌}
-use native.Mathlib.Nat.{mul_assoc, mul-zero, pow-suc, div-add-mod', mul-add-div_right, mul-add-mod_self_right, div-div-eq-div-mul, zero-mul, zero-div, mod-lt}
+use native.Mathlib.Nat.{mul_assoc, mul-zero, pow-suc, div-add-mod', mul-add-div_right, mul-add-mod_self_right, div-div-eq-div-mul, zero-mul}
 use native.Mathlib.Omega.{arith}
 use native.Mathlib.Decide.{ℕ_discrete}
 use borrow.Author.Tests.{eq-eqb, eqb-true}

@@ -3,16 +3,16 @@
 use mathlib.Core.Path.{◌≡◌, refl, sym, ◌∙◌, ap}
 use mathlib.Core.Logic.{by_cases}
 use mathlib.Core.Bool.{Bool, true, false}
-use mathlib.Core.Option.{Option, none, some}
+use mathlib.Core.Option.{none, some}
 use mathlib.Core.List.{List, [], ◌∷◌, ◌++◌}
-use Prim.Native.Nat.{ℕ, zero, suc, ◌+◌, ◌-◌, ◌*◌, ◌/◌, ◌%◌, ◌^◌, ◌≤◌, ◌<◌, min}
-use native.Mathlib.Nat.{mul_comm, mul-suc, mul-zero, add-zero, mul-le-mul_left, mul-le-mul_right, div-mul-le_self, div-zero, zero-mul, div-le_self}
+use Prim.Native.Nat.{ℕ, suc, ◌+◌, ◌-◌, ◌*◌, ◌/◌, ◌%◌, ◌^◌, ◌≤◌, ◌<◌, min}
+use native.Mathlib.Nat.{mul_comm, mul-suc, mul-zero, mul-le-mul_left, mul-le-mul_right, div-mul-le_self, div-zero, div-le_self}
 use native.Mathlib.Omega.{arith}
 use native.Mathlib.Decide.{ℕ_discrete}
 use borrow.Author.Tests.{eq-eqb, ne_eqb, eqb-true, leb-true}
 use lib.Dec.{eqb, leb}
 use lib.ListN.{length, get_or}
-use Rattle.spec.specs.Basics.{pick, both, negate, filter, first, is_in, up_from}
+use Rattle.spec.specs.Basics.{pick, both, filter, first, up_from}
 use Rattle.spec.specs.Words.{words_of}
 use Rattle.spec.specs.Places.{chunk_bytes, chunk_units, chunk_lines, first_unit, unit_chunk, unit_word, directory_word, chunks_in}
 use Rattle.spec.specs.Directory.{is_size, role_of, size_in, size_of, size_for}

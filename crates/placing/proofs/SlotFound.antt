@@ -1,15 +1,13 @@
 -- What the answers of the searches say: where the definitions find a block, a free chunk, or nothing.
 -- Assumes nothing.
 use mathlib.Core.Path.{◌≡◌, refl, sym, ◌∙◌, ap}
-use mathlib.Core.Bool.{true}
 use mathlib.Core.Option.{Option, none, some}
 use mathlib.Core.List.{List}
-use Prim.Native.Nat.{ℕ, ◌/◌, ◌≤◌, ◌<◌, min}
+use Prim.Native.Nat.{ℕ, ◌≤◌, min}
 use native.Mathlib.Omega.{arith}
 use lib.ListN.{length}
 use Rattle.spec.specs.Words.{words_of}
 use Rattle.spec.specs.Places.{chunks_in}
-use Rattle.spec.specs.Directory.{role_at, is_free}
 use Rattle.spec.specs.Log.{Entry}
 use Rattle.spec.specs.Plans.{free_chunk, or_free, slot_for}
 use Rattle.spec.specs.declared.Size.{Size}
@@ -23,7 +21,6 @@ use Rattle.directory.proofs.Answer as P
 use Rattle.theory_plans.proofs.LogPlace.{free-chunk}
 use Rattle.placing.specs.declared.blocks.Block.{Block}
 use Rattle.placing.specs.declared.blocks.Block.TheVariants as B
-use Rattle.placing.specs.declared.blocks.Slot.{Slot}
 use Rattle.placing.specs.declared.blocks.Slot.TheVariants as S
 use Rattle.placing.specs.Blocks.{Says, first_spare, unit, block_by, InImage, BlockFound, slot_by, SlotFound}
 

@@ -7,24 +7,20 @@ use mathlib.Core.List.{List, [], ◌∷◌, ◌++◌, map}
 use Prim.Native.Nat.{ℕ, suc, ◌+◌, ◌-◌, ◌≤◌, ◌<◌, min}
 use native.Mathlib.Omega.{arith}
 use lib.Dec.{eqb}
-use lib.ListN.{length, get_or}
+use lib.ListN.{get_or}
 use Rattle.spec.specs.Basics.{pick, both, either, negate, filter, is_in}
-use Rattle.spec.specs.Log.{Entry, first_of_word, words_for, head_of, encode_all}
+use Rattle.spec.specs.Log.{Entry, first_of_word, head_of, encode_all}
 use Rattle.spec.specs.Blocks.{pointed}
 use Rattle.spec.specs.Contents.{pointers, live_blocks}
 use Rattle.spec.specs.declared.FirstWord.{FirstWord}
 use Rattle.spec.specs.declared.FirstWord.TheVariants as F
-use Rattle.theory_log.specs.Batch.{AllRight}
 use Rattle.theory_log.proofs.Batch.{first-right}
 use Rattle.buffer.specs.Areas.{batch_room}
 use Rattle.session.specs.State.{buffer_part}
-use Rattle.session.proofs.Part.{length_part}
-use Rattle.buffer.specs.Bits.{has_bit}
-use Rattle.batch.specs.declared.Item.{Item}
 use Rattle.batch.specs.Items.{StagedIn, item_by}
 use Rattle.batch.proofs.Pass.{Reached, reached-start, reached-end, reached-next}
 use Rattle.placing.specs.declared.blocks.Met.{Met}
-use Rattle.placing.specs.Blocks.{met_by, Says, spare}
+use Rattle.placing.specs.Blocks.{met_by, spare}
 
 -- THE TEST OF ONE ENTRY, as the code asks it
 pub both-no : (a b c : Bool) → a ≡ false → both (both a b) c ≡ false

@@ -12,7 +12,7 @@ ghost use Rattle.buffer.specs.Areas.{batch_room};
 ghost use Rattle.placing.specs.Blocks.{met_by, StagedBlock, Spare, EachUsed, HasBits, ToLookAt, BlockFound, SlotFound};
 
 use buffer::{BATCH_WORDS, BITS, Buffer, has_bit};
-use codec::{Unit, data_word, first_of_word, role_of};
+use codec::{Unit, data_word, first_of, role_of};
 use directory::{Found, directory_word, free_chunk, size_in};
 use logs::words_for;
 use spec::{FirstWord, Size};

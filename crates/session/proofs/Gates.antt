@@ -16,9 +16,7 @@ use Rattle.spec.specs.Basics.{pick, both, either}
 use Rattle.spec.specs.Words.{words_of}
 use Rattle.spec.specs.Medium.{Action}
 use Rattle.spec.specs.Log.{Entry}
-use Rattle.spec.specs.Places.{base_power}
-use Rattle.spec.specs.Opening.{Accepted, opening}
-use Rattle.spec.specs.Plans.{Task, Staging, Committing, Cleaning, Olds, olds_of, read_by}
+use Rattle.spec.specs.Plans.{Task, Staging, Committing, Cleaning, Olds, olds_of}
 use Rattle.spec.specs.Machine.{Call, Format, Open, Put, Delete, Commit, Abandon, LookUp, Choose, Clean, Step, State, Closed, Rest, Busy, Formatting, gate, read_gate, read_words, answer, next, refusals, refused_by, is_opening, kind_of}
 use Rattle.spec.specs.Contract.{MemRefusal, Anyway, Again, Ready, Kept, Barred, Called}
 use Rattle.session.specs.declared.Control.{Control}

@@ -4,7 +4,7 @@
 use mathlib.Core.Path.{◌≡◌, refl}
 use mathlib.Core.List.{List}
 use Prim.Native.Nat.{ℕ}
-use lib.ListN.{length, replicate, length-replicate}
+use lib.ListN.{replicate, length-replicate}
 use Rattle.spec.specs.Machine.{Closed}
 use Rattle.session.specs.declared.Session.{Session}
 use Rattle.session.specs.State.{no_source, state_at, state_of}

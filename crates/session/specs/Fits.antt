@@ -1,7 +1,7 @@
 -- Memory as the calls left it: what record and key table hold of the image's words. They are what a fresh opening of
 -- the same image would build, and the staged items beside.
 -- Assumes nothing.
-use Rattle.std.specs.Prelude.{◌≡◌, true, false, List, [], ◌∷◌, ◌++◌, map, ℕ, ◌+◌, ◌*◌, ◌/◌, ◌%◌, ◌≤◌, ◌<◌, eqb, length, get_or}
+use Rattle.std.specs.Prelude.{◌≡◌, true, false, List, [], ◌∷◌, ◌++◌, map, ℕ, ◌+◌, ◌*◌, ◌/◌, ◌%◌, ◌≤◌, ◌<◌, length, get_or}
 use Rattle.spec.specs.Basics.{is_in, distinct}
 use Rattle.spec.specs.Places.{base, chunk_lines, chunks_in}
 use Rattle.spec.specs.Header.{header_power}

@@ -2,7 +2,6 @@
 -- call cites it.
 -- Assumes nothing.
 use Rattle.std.specs.Prelude.{List, ℕ}
-use Rattle.spec.specs.declared.Size.{Size}
 use Rattle.spec.specs.Machine.{Call}
 use Rattle.spec.specs.Contract.{Called}
 use Rattle.spec.specs.declared.Report.{Report}

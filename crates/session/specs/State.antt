@@ -15,7 +15,7 @@
 --   setup         | in a staging with actions, chunk: the block's chunk; lines: the block's first unit there; fields: 0
 --                 | if that is a data chunk already, else it is free, its directory word is old, and it is taken for
 --                 | blocks of so many units
-use Rattle.std.specs.Prelude.{Bool, true, false, List, [], ◌∷◌, ◌++◌, map, ℕ, zero, suc, ◌+◌, ◌*◌, ◌/◌, ◌%◌, ◌^◌, min, eqb, length, get_or, drop}
+use Rattle.std.specs.Prelude.{true, false, List, [], ◌∷◌, ◌++◌, map, ℕ, zero, suc, ◌+◌, ◌/◌, ◌%◌, ◌^◌, min, eqb, get_or, drop}
 use Rattle.spec.specs.Basics.{pick}
 use Rattle.spec.specs.Places.{first_unit, unit_in, chunks_in}
 use Rattle.spec.specs.Medium.{Action}

@@ -1,0 +1,13 @@
+-- The loops of `batch::pack_into`.
+use Prim.Native.Nat.{◌≤◌, ◌-◌}
+use mathlib.Core.Path.{◌≡◌}
+use lib.ListN.{take}
+use Rattle.spec.specs.Words.{packed}
+use Rattle.words.specs.Overlay.{overlay}
+use Rattle.batch.proofs.pack_into.Given as goal
+
+abbrev pub invariant-loop-i : goal.invariant-loop-i
+invariant-loop-i l = (l.i ≤ l.whole) × (l.buffer ≡ overlay l.initial.buffer l.at (take l.i (packed l.value)))
+
+abbrev pub decreases-loop-i : goal.decreases-loop-i
+decreases-loop-i l = l.whole - l.i

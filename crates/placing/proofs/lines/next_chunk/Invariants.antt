@@ -1,0 +1,14 @@
+-- The loops of `placing::lines::next_chunk`.
+use Prim.Native.Nat.{ℕ, ◌≤◌, ◌<◌, ◌-◌}
+use mathlib.Core.Path.{◌≡◌}
+use mathlib.Core.Bool.{false}
+use Rattle.spec.specs.Words.{words_of}
+use Rattle.places.specs.Sizes.{power_of}
+use Rattle.spec.specs.Plans.{has_space}
+use Rattle.placing.proofs.lines.next_chunk.Given as goal
+
+abbrev pub invariant-loop-c : goal.invariant-loop-c
+invariant-loop-c l = (l.from ≤ l.c) × ((d : ℕ) → l.from ≤ d → d < l.c → has_space (power_of l.size) (words_of l.image) l.lines l.x d ≡ false)
+
+abbrev pub decreases-loop-c : goal.decreases-loop-c
+decreases-loop-c l = l.count - l.c
