@@ -1,6 +1,6 @@
 -- The laws of a batch that joins: what is left of it at the beginning, after one more item, and at the end.
 -- Assumes nothing.
-use Rattle.std.proofs.Common.{◌≡◌, ℕ, ◌+◌, ◌-◌, ◌<◌, ◌≤◌, min, Bool, true, false, eqb, ◌⊎◌, List, [], ◌∷◌, ◌++◌, length, get_or, sym, refl, ap, ◌∙◌, inl, inr, add-zero, arith}
+use Rattle.std.proofs.Common.{◌≡◌, ℕ, ◌+◌, ◌-◌, ◌<◌, ◌≤◌, min, Bool, true, false, eqb, ◌⊎◌, List, [], ◌∷◌, ◌++◌, length, get_or, sym, refl, ap, subst, ◌∙◌, inl, inr, add-zero, arith}
 use lib.Seq.{append_snoc}
 use Rattle.spec.specs.declared.Size.{Size}
 use Rattle.spec.specs.declared.Size.TheVariants as S
@@ -61,7 +61,7 @@ items-next size n ws xs ys x at es counts fit = record {
         let o : e ≡ x = fit.own e x (inr m) (inl refl) p (sym (ap pointed r) ∙ q) (z ∙ ap (λ (y : Entry). y.field) r) in
         let l = counts-later (x ∷ (xs ++ ys)) es counts.1 e m in
         let h = below-highest x.key (x ∷ (xs ++ ys)) x (inl refl) refl in
-        let k : highest x.key (x ∷ (xs ++ ys)) < x.version = rw o at l in
+        let k : highest x.key (x ∷ (xs ++ ys)) < x.version = subst (λ (y : Entry). highest y.key (x ∷ (xs ++ ys)) < y.version) o l in
         omega arith
     go e f m p q z (inr t) = fit.dead e f (inr m) t.1 p q z
 

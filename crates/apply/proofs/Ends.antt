@@ -1,13 +1,12 @@
 -- The whole pass: what the code shows at a cleaning's last fence.
 -- Assumes nothing.
-use Rattle.std.proofs.Common.{◌≡◌, ℕ, Bool, true, List, ◌++◌, length, sym, refl, ap, ◌∙◌, arith}
+use Rattle.std.proofs.Common.{◌≡◌, ℕ, Bool, true, List, ◌++◌, ◌∙◌, arith}
 use Rattle.spec.specs.declared.Size.{Size}
 use Rattle.places.specs.Sizes.{power_of}
 use Rattle.spec.specs.Places.{word_chunk}
 use Rattle.spec.specs.Log.{Entry}
 use Rattle.spec.specs.Basics.{is_in}
 use Rattle.spec.specs.Contents.{is_kept, live_blocks}
-use Rattle.spec.specs.Opening.{Accepted}
 use Rattle.spec.specs.declared.Refusal.{Refusal}
 use Rattle.opening.specs.declared.CheckedImage.{CheckedImage}
 use Rattle.opening.specs.declared.CheckedImage.TheVariants as J

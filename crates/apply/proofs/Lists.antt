@@ -1,6 +1,6 @@
 -- The entries before and after a cleaning, key by key: what is chosen, how many entries there are, and the live blocks.
 -- Assumes nothing.
-use Rattle.std.proofs.Common.{◌≡◌, ℕ, suc, ◌+◌, ◌<◌, ◌≤◌, Bool, true, false, eqb, ◌⊎◌, List, [], ◌∷◌, ◌++◌, length, sym, refl, ap, ◌∙◌, inl, inr, arith, eq-eqb}
+use Rattle.std.proofs.Common.{◌≡◌, ℕ, suc, ◌+◌, ◌≤◌, Bool, true, false, eqb, ◌⊎◌, List, [], ◌∷◌, ◌++◌, sym, refl, ap, ◌∙◌, inl, inr, arith, eq-eqb}
 use mathlib.Core.Logic.{by_cases}
 use mathlib.Core.Option.{Option, none, some}
 use native.Mathlib.Decide.{ℕ_discrete}
@@ -12,7 +12,7 @@ use Rattle.spec.specs.Contents.{chosen, known, is_kept, live_blocks}
 use Rattle.theory_base.proofs.Lists.{not-both, both_l, either-no, either_l, either_r}
 use Rattle.theory_log.specs.Contents.{Mem, Top, Apart}
 use Rattle.theory_log.proofs.Contents.{mem-l, mem-r, mem-filter, filter-mem, chosen_is, none_of, chosen_none}
-use Rattle.theory_log.proofs.Keys.{mem-known, known-mem}
+use Rattle.theory_log.proofs.Keys.{mem-known}
 use Rattle.theory_log.proofs.Clean.{mem-placed, placed-mem, is-at}
 use Rattle.theory_log.proofs.Tops.{chosen-top, top-chosen}
 use Rattle.theory_log.proofs.Places.{Rising, rising-from, rising-apart}
@@ -24,7 +24,7 @@ use Rattle.volatile.proofs.Info.{said, info-chosen, info-none, info-says, info-n
 use Rattle.volatile.proofs.Live.{mem-between, mem-around, Holder, live-holder, holder-live}
 use Rattle.session.specs.Cleaned.{before, kept_of, copies_of, after, Cleaned, Stand}
 use Rattle.forward.specs.Once.{OneEach}
-use Rattle.apply.specs.Leaving.{Singles, Single, NoneKept, owed, Told, Awaits, Leaving}
+use Rattle.apply.specs.Leaving.{Singles, Single, NoneKept, Told, Awaits, Leaving}
 use Rattle.forward.proofs.Sole.{single-sole, sole-chosen, sole-single, once-filter, once-placed, once-same, count-append, count_no, count-one, count-placed, info-without}
 
 module _ (size : Size) (xs mid ys as' bs : List Entry) (at : ℕ) (t : Cleaned size xs mid ys as' bs at) where

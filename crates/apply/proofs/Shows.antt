@@ -1,6 +1,6 @@
 -- What the code shows of one word and of one entry: one law for each return.
 -- Assumes nothing.
-use Rattle.std.proofs.Common.{◌≡◌, ℕ, ◌+◌, ◌-◌, ◌%◌, ◌<◌, ◌≤◌, Bool, true, false, eqb, ◌⊎◌, List, [], ◌∷◌, length, sym, refl, ap, ◌∙◌, inl, inr, arith, eqb-true}
+use Rattle.std.proofs.Common.{◌≡◌, ℕ, ◌+◌, ◌-◌, ◌%◌, Bool, true, false, eqb, ◌⊎◌, List, [], ◌∷◌, length, sym, refl, ap, ◌∙◌, inl, inr, arith, eqb-true}
 use borrow.Author.Tests.{eqb-false}
 use Rattle.spec.specs.declared.Size.{Size}
 use Rattle.places.specs.Sizes.{power_of}
@@ -16,13 +16,13 @@ use Rattle.logs.specs.declared.Cursor.{Cursor}
 use Rattle.logs.specs.Stands.{entry_in}
 use Rattle.logs.specs.Cursor.{cursor_at, Advanced}
 use Rattle.packing.specs.declared.Info.{Info}
-use Rattle.index.specs.Index.{info_at, stop_of, get, used, insert, put_at, capacity as table_room, Spare, Removal}
+use Rattle.index.specs.Index.{info_at, stop_of, get, insert, put_at, Spare, Removal}
 use Rattle.index.proofs.Laws.{insert-length, capacity-spare, remove-right}
 use Rattle.index.proofs.Answers.{look_in, put-insert}
 use Rattle.packing.specs.Packed.{pack_of, unpack_of}
 use Rattle.volatile.proofs.Grow.{capacity-same}
 use Rattle.session.specs.Cleaned.{Stand}
-use Rattle.apply.specs.Leaving.{fewer, less_of, turned, turned_of, Leaving, Marked}
+use Rattle.apply.specs.Leaving.{fewer, less_of, turned, turned_of}
 use Rattle.apply.specs.Passes.{IsCopied, OneLeft}
 use Rattle.apply.proofs.Steps.{zero-says, leaves-absent, leaves-gone, leaves-less, leaves-copied, kept-known, kept-place, kept_by, to_low}
 use Rattle.forward.proofs.Walks.{from-here, none_left, not-wrong, one_left}

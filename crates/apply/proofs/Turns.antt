@@ -1,8 +1,7 @@
 -- The sums before and after a cleaning, key by key: the chunk's chosen entries are gone, and those of them that are
 -- kept stand where the copies stand.
 -- Assumes nothing.
-use Rattle.std.proofs.Common.{◌≡◌, ℕ, ◌+◌, ◌-◌, ◌*◌, ◌%◌, ◌<◌, ◌≤◌, Bool, true, false, eqb, ◌⊎◌, List, [], ◌∷◌, ◌++◌, length, sym, refl, ap, ◌∙◌, inl, inr, arith, eq-eqb, ne_eqb, eqb-true}
-use mathlib.Core.Logic.{by_cases}
+use Rattle.std.proofs.Common.{◌≡◌, ℕ, ◌+◌, ◌-◌, ◌*◌, ◌%◌, ◌<◌, Bool, true, false, eqb, ◌⊎◌, List, [], ◌∷◌, ◌++◌, length, sym, refl, ap, ◌∙◌, inl, inr, arith, ne_eqb, eqb-true}
 use mathlib.Core.Option.{Option, none, some}
 use native.Mathlib.Nat.{add-mul-mod_self_left}
 use Rattle.spec.specs.declared.Size.{Size}
@@ -10,7 +9,7 @@ use Rattle.spec.specs.declared.Size.TheVariants as S
 use Rattle.places.specs.Sizes.{power_of}
 use Rattle.spec.specs.Basics.{pick, either}
 use Rattle.spec.specs.Places.{chunk_words, word_chunk}
-use Rattle.spec.specs.Log.{Entry, moved, encode_all}
+use Rattle.spec.specs.Log.{Entry, moved}
 use Rattle.spec.specs.Contents.{chosen, known, keys_of, in_chunk, is_kept}
 use Rattle.theory_base.proofs.Lists.{not-both, either-no, is_in-mem}
 use Rattle.theory_log.specs.Contents.{Mem}

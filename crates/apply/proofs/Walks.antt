@@ -1,20 +1,20 @@
 -- The pass over the words of a chunk: at the beginning, after one more entry, and at the end.
 -- Assumes nothing.
-use Rattle.std.proofs.Common.{◌≡◌, ℕ, suc, ◌+◌, ◌<◌, ◌≤◌, Bool, true, false, ◌⊎◌, List, [], ◌∷◌, ◌++◌, length, sym, refl, ap, ◌∙◌, inl, inr, append-nil, arith}
+use Rattle.std.proofs.Common.{◌≡◌, ℕ, ◌+◌, ◌<◌, ◌≤◌, Bool, true, false, List, ◌∷◌, length, sym, refl, ◌∙◌, inl, arith}
 use lib.Seq.{slice}
 use Rattle.spec.specs.declared.Size.{Size}
 use Rattle.places.specs.Sizes.{power_of}
 use Rattle.spec.specs.declared.LogStep.TheVariants as S
-use Rattle.spec.specs.Log.{Entry, Parsed, Wrong, Entries, step_of, join, parse}
+use Rattle.spec.specs.Log.{Entry, step_of}
 use Rattle.theory_base.proofs.Lists.{not-both}
-use Rattle.theory_log.proofs.Parse.{cons_inv, prepend-entries}
+use Rattle.theory_log.proofs.Parse.{cons_inv}
 use Rattle.logs.specs.declared.Cursor.{Cursor}
 use Rattle.logs.specs.declared.Next.{Next}
 use Rattle.logs.specs.declared.Next.TheVariants as N
 use Rattle.logs.specs.Stands.{entry_in}
 use Rattle.logs.specs.Cursor.{cursor_at, remaining, left, Advanced}
 use Rattle.logs.proofs.Walk.{handed, next-found}
-use Rattle.forward.proofs.Walks.{Left, from-here, none_left, not-wrong, one_left}
+use Rattle.forward.proofs.Walks.{Left, from-here, none_left, one_left}
 use Rattle.apply.specs.Leaving.{Leaving, Marked}
 use Rattle.session.specs.Cleaned.{Stand}
 use Rattle.apply.specs.declared.remove.Removed.{Removed}

@@ -2,7 +2,7 @@
 -- kept take their places. `es` are the entries before, `mid` those of the chunk, `left` those of them that are still to
 -- leave, and `out` the entries of the new image, which knows the chunk no more.
 -- Assumes nothing.
-use Rattle.std.specs.Prelude.{◌≡◌, ℕ, ◌+◌, ◌-◌, ◌<◌, ◌≤◌, Bool, true, false, ◌⊎◌, List, [], ◌∷◌, ◌++◌, length, ◌≢◌}
+use Rattle.std.specs.Prelude.{◌≡◌, ℕ, ◌+◌, ◌-◌, ◌<◌, ◌≤◌, Bool, true, false, ◌⊎◌, List, ◌∷◌, length, ◌≢◌}
 use Rattle.std.proofs.Math.Option.{none, some}
 use Rattle.spec.specs.declared.Size.{Size}
 use Rattle.spec.specs.Basics.{filter}

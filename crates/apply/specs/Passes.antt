@@ -1,7 +1,7 @@
 -- What the pass over the entries of a chunk does to the key table: one entry, a run of puts, and all of them, at a
 -- cleaning's last fence.
 -- Assumes nothing.
-use Rattle.std.specs.Prelude.{◌≡◌, ℕ, ◌+◌, ◌<◌, ◌≤◌, Bool, true, List, [], ◌∷◌, ◌++◌, length}
+use Rattle.std.specs.Prelude.{◌≡◌, ℕ, ◌+◌, ◌<◌, ◌≤◌, Bool, true, List, [], ◌∷◌, length}
 use Rattle.spec.specs.declared.Size.{Size}
 use Rattle.places.specs.Sizes.{power_of}
 use Rattle.spec.specs.Basics.{is_in, filter}

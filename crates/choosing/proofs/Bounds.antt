@@ -16,7 +16,7 @@ use Rattle.spec.specs.Basics.{filter}
 use Rattle.spec.specs.Places.{base, chunk_words}
 use Rattle.spec.specs.Directory.{lines_of}
 use Rattle.spec.specs.Log.{Entry, encode_all}
-use Rattle.spec.specs.Contents.{chosen, known, keys_of, in_chunk, is_kept, kept_in}
+use Rattle.spec.specs.Contents.{chosen, keys_of, in_chunk, is_kept, kept_in}
 use Rattle.spec.specs.Plans.{copy_words}
 use Rattle.theory_base.proofs.Lists.{not-both}
 use Rattle.theory_base.proofs.Places.{words-most, lines-words}
@@ -29,11 +29,11 @@ use Rattle.theory_log.proofs.Walk.{slice-long}
 use Rattle.theory_crash.specs.Accepted.{Ok}
 use Rattle.theory_plans.proofs.Cleaning.{parse-words, filter-words}
 use Rattle.buffer.specs.Areas.{sums_start, sums_count}
-use Rattle.volatile.specs.Sums.{high_half, sum_over, chosen_sum, Summed}
+use Rattle.volatile.specs.Sums.{high_half, chosen_sum, Summed}
 use Rattle.volatile.proofs.Sums.{sum_same}
 use Rattle.volatile.proofs.Live.{mem-between}
 use Rattle.forward.proofs.Freed.{lines-few}
-use Rattle.forward.proofs.Weights.{put_words, delete_words, copied_deletes, Weights, weights}
+use Rattle.forward.proofs.Weights.{delete_words, copied_deletes, Weights, weights}
 use Rattle.gathering.proofs.Sizes.{gathered-kept}
 
 -- every chosen entry's key is known

@@ -1,7 +1,7 @@
 -- The call: what the gate lets through and the begin shows is what the contract says.
 -- Assumes nothing.
 use mathlib.Core.Path.{◌≡◌, refl, sym, ◌∙◌, ap, subst}
-use mathlib.Core.Logic.{◌⊎◌, inl, inr}
+use mathlib.Core.Logic.{inl, inr}
 use mathlib.Core.Option.{none, some}
 use mathlib.Core.List.{List, []}
 use Prim.Native.Nat.{ℕ, suc}
@@ -13,8 +13,8 @@ use Rattle.spec.specs.Places.{chunks_in}
 use Rattle.spec.specs.Medium.{Action}
 use Rattle.spec.specs.Log.{Entry}
 use Rattle.spec.specs.Contents.{listed, entries_in}
-use Rattle.spec.specs.Plans.{Cleaning, Begin, Refuse, planned, plan_clean}
-use Rattle.spec.specs.Machine.{Clean, State, Rest, Busy, gate, refused_by, items_of, state_power, next}
+use Rattle.spec.specs.Plans.{Cleaning, Begin, planned, plan_clean}
+use Rattle.spec.specs.Machine.{Clean, State, Busy, gate, refused_by, items_of, state_power, next}
 use Rattle.spec.specs.Contract.{Exact}
 use Rattle.session.specs.declared.Control.{Control}
 use Rattle.session.specs.declared.Setup.{Setup}

@@ -5,18 +5,17 @@ use mathlib.Core.Logic.{inl, inr}
 use mathlib.Core.Bool.{Bool, true, false}
 use mathlib.Core.Option.{none, some}
 use mathlib.Core.List.{List, [], ◌∷◌}
-use Prim.Native.Nat.{ℕ, zero, suc, ◌+◌, ◌-◌, ◌%◌, ◌≤◌, ◌<◌}
+use Prim.Native.Nat.{ℕ, zero, suc, ◌+◌, ◌%◌, ◌≤◌, ◌<◌}
 use native.Mathlib.Omega.{arith}
 use native.Mathlib.Decide.{ℕ_discrete}
-use lib.Dec.{eqb, leb}
-use borrow.Author.Tests.{eq-eqb, ne_eqb, eqb-true, le-leb}
+use lib.Dec.{eqb}
+use borrow.Author.Tests.{eq-eqb, eqb-true}
 use Rattle.spec.specs.declared.Size.{Size}
 use Rattle.spec.specs.declared.Size.TheVariants as Z
 use Rattle.places.specs.Sizes.{power_of}
-use Rattle.spec.specs.Basics.{both, either, any, is_in}
-use Rattle.spec.specs.Places.{chunk_lines, chunk_units, first_unit, unit_chunk}
+use Rattle.spec.specs.Basics.{either, any, is_in}
+use Rattle.spec.specs.Places.{chunk_units, first_unit, unit_chunk}
 use Rattle.spec.specs.Medium.{Mem as Among}
-use Rattle.spec.specs.Directory.{is_log, role_at, lines_of}
 use Rattle.spec.specs.Log.{Entry}
 use Rattle.spec.specs.Contents.{live_blocks}
 use Rattle.spec.specs.Plans.{has_space, free_chunk, log_place, has_live}

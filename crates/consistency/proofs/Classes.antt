@@ -11,7 +11,7 @@ use lib.Dec.{eqb, leb, ltb}
 use lib.ListN.{length}
 use borrow.Author.Tests.{ne_eqb, leb-true, ltb-true, le-leb, lt-ltb}
 use Rattle.spec.specs.declared.Size.{Size}
-use Rattle.spec.specs.Basics.{pick, both, larger, filter, first}
+use Rattle.spec.specs.Basics.{pick, larger, filter, first}
 use Rattle.spec.specs.Log.{Entry}
 use Rattle.spec.specs.Contents.{highest, is_top_of, tops, chosen}
 use Rattle.theory_base.proofs.Lists.{not-both, both_l, both_r, both-i, filter-all, filter-length}

@@ -6,7 +6,6 @@ use mathlib.Core.Option.{Option, none, some}
 use mathlib.Core.List.{List}
 use Prim.Native.Nat.{ℕ}
 use native.Mathlib.Decide.{ℕ_discrete}
-use native.Mathlib.Omega.{arith}
 use Rattle.spec.specs.declared.Size.{Size}
 use Rattle.spec.specs.declared.Size.TheVariants as S
 use Rattle.places.specs.Sizes.{power_of, power-low, power-high}

@@ -32,7 +32,7 @@ use Rattle.volatile.specs.Check.{Live, CheckInv}
 use Rattle.volatile.specs.Known.{several}
 use Rattle.volatile.specs.Plain.{Single}
 use Rattle.volatile.proofs.Plain.{low-single, single-agrees}
-use Rattle.consistency.specs.Classes.{within, marked, asked, class_in}
+use Rattle.consistency.specs.Classes.{within, marked, class_in}
 use Rattle.consistency.specs.Passing.{Passed, PassedOver, TwinsMarked}
 use Rattle.consistency.proofs.Classes.{class-several}
 use Rattle.consistency.proofs.Passed.{passed_start, passed-done, passed-wrong, passed-split, passed-next}

@@ -11,7 +11,7 @@ use lib.Dec.{eqb}
 use lib.ListN.{length}
 use borrow.Author.Tests.{eqb-true, ne_eqb, le-leb, lt-leb}
 use Rattle.spec.specs.Basics.{pick, both}
-use Rattle.spec.specs.Places.{is_power, length_allowed, size_allowed, chunks_in}
+use Rattle.spec.specs.Places.{length_allowed, size_allowed, chunks_in}
 use Rattle.spec.specs.declared.Size.{Size}
 use Rattle.spec.specs.declared.Size.TheVariants as S
 use Rattle.places.specs.Sizes.{power_of, size_by}

@@ -1,7 +1,7 @@
 -- The pass that gathers from the copy: the reading, what is left from a cursor on, at the beginning, after one more
 -- entry, and at the end.
 -- Assumes nothing.
-use Rattle.std.proofs.Common.{◌≡◌, ℕ, zero, suc, ◌+◌, ◌-◌, ◌*◌, ◌/◌, ◌<◌, ◌≤◌, min, Bool, true, false, eqb, ◌⊎◌, List, [], ◌∷◌, ◌++◌, length, get_or, take, drop, set, sym, refl, ap, ◌∙◌, inl, inr, append-nil, add-zero, add-suc, zero-add, arith, length-set, get_or-set_other, get_or-set_same, ext_get_or}
+use Rattle.std.proofs.Common.{◌≡◌, ℕ, zero, suc, ◌+◌, ◌-◌, ◌*◌, ◌/◌, ◌<◌, ◌≤◌, min, Bool, true, false, eqb, List, [], ◌∷◌, length, get_or, take, drop, set, sym, refl, ap, ◌∙◌, inl, inr, append-nil, add-zero, zero-add, arith, length-set, get_or-set_other, get_or-set_same, ext_get_or}
 use mathlib.Core.Logic.{by_cases}
 use native.Mathlib.Decide.{ℕ_discrete}
 use lib.Seq.{slice}
@@ -14,23 +14,21 @@ use Rattle.spec.specs.declared.LogStep.{LogStep}
 use Rattle.spec.specs.declared.LogStep.TheVariants as S
 use Rattle.spec.specs.Log.{Entry, Parsed, Wrong, Entries, cons, after, step_of, parse, moved, encode}
 use Rattle.theory_base.proofs.Places.{words-most, bytes-words}
-use Rattle.theory_log.specs.Contents.{Mem}
-use Rattle.theory_log.proofs.Contents.{mem-l, mem-r}
 use Rattle.theory_log.proofs.Parse.{cons_inv}
 use Rattle.theory_log.proofs.Walk.{slice-long, slice_at}
 use Rattle.words.specs.Image.{length-words_of, get_or-words_of}
 use Rattle.logs.specs.declared.Cursor.{Cursor}
 use Rattle.logs.specs.declared.Next.{Next}
 use Rattle.logs.specs.declared.Next.TheVariants as N
-use Rattle.logs.specs.Stands.{entry_in, StandsIn}
-use Rattle.logs.specs.Cursor.{cursor_at, remaining, left, Advanced, Handed}
+use Rattle.logs.specs.Stands.{entry_in}
+use Rattle.logs.specs.Cursor.{cursor_at, remaining, Advanced, Handed}
 use Rattle.logs.proofs.Walk.{handed, next-found}
 use Rattle.volatile.specs.Known.{entry_count}
 use Rattle.session.specs.State.{buffer_part}
-use Rattle.session.specs.Cleaned.{kept_of, Stand}
-use Rattle.forward.proofs.Walks.{Left, from-here, none_left, not-wrong, one_left}
+use Rattle.session.specs.Cleaned.{Stand}
+use Rattle.forward.proofs.Walks.{from-here, none_left, not-wrong}
 use Rattle.gathering.specs.declared.measure.Tally.{Tally}
-use Rattle.gathering.specs.Measuring.{Gatherable, Counted, Decided, KeptTest, kept_test}
+use Rattle.gathering.specs.Measuring.{Decided, KeptTest, kept_test}
 use Rattle.gathering.proofs.SizeWords.{kept-words}
 use Rattle.gathering.specs.Reading.{ChunkRead, lifted, Owing, OneTaken, Collecting, PutsTaken, Walked, RestTaken, Collected}
 

@@ -15,7 +15,7 @@ use Rattle.spec.specs.Log.{Entry, Entries, image_entries}
 use Rattle.spec.specs.Contents.{listed, keys_of, capacity, entries_in}
 use Rattle.theory_base.proofs.Lists.{filter-length}
 use Rattle.theory_base.proofs.PutBack.{Past, past-flip}
-use Rattle.spec.specs.Machine.{state_power, read_gate}
+use Rattle.spec.specs.Machine.{read_gate}
 use Rattle.session.specs.declared.Control.{Control}
 use Rattle.session.specs.declared.Setup.{Setup}
 use Rattle.spec.specs.declared.Size.{Size}

@@ -13,7 +13,6 @@ use Rattle.spec.specs.declared.Size.{Size}
 use Rattle.places.specs.Sizes.{power_of, power-low, power-high}
 use Rattle.spec.specs.Basics.{pick, both}
 use Rattle.spec.specs.Log.{Entry, Parsed, Wrong, Entries, prepend, image_entries}
-use Rattle.spec.specs.Blocks.{pointed}
 use Rattle.theory_base.proofs.Lists.{not-both, both_l, both_r}
 use Rattle.theory_log.specs.Contents.{Mem}
 use Rattle.theory_log.proofs.Contents.{mem-l, mem-r, chosen_is}

@@ -1,6 +1,6 @@
 -- What an opening finds of an image, and the key table, block bits and sums that it leaves where the image is accepted.
 -- Assumes nothing.
-use Rattle.std.specs.Prelude.{◌≡◌, Bool, List, ℕ, ◌*◌, ◌≤◌, length}
+use Rattle.std.specs.Prelude.{◌≡◌, Bool, List, ℕ, ◌≤◌, length}
 use Rattle.spec.specs.declared.Size.{Size}
 use Rattle.places.specs.Sizes.{power_of, size_by}
 use Rattle.spec.specs.Basics.{pick, is_in}

@@ -5,20 +5,18 @@ use mathlib.Core.Path.{◌≡◌, refl, sym, ◌∙◌, ap, subst}
 use mathlib.Core.Logic.{by_cases}
 use mathlib.Core.Bool.{false}
 use mathlib.Core.List.{List}
-use Prim.Native.Nat.{ℕ, zero, suc, ◌+◌, ◌-◌, ◌*◌, ◌/◌, ◌%◌, ◌^◌, ◌≤◌, ◌<◌, min}
+use Prim.Native.Nat.{ℕ, zero, suc, ◌+◌, ◌-◌, ◌%◌, ◌^◌, ◌≤◌, ◌<◌}
 use native.Mathlib.Omega.{arith}
 use native.Mathlib.Decide.{dec_lt, ℕ_discrete}
-use lib.Dec.{eqb}
 use lib.ListN.{length, get_or}
 use borrow.Author.Tests.{eq-eqb, ne_eqb}
 use Rattle.spec.specs.Places.{unit_word, line_of}
-use Rattle.spec.specs.Actions.{lines_for, take_of, block_of}
+use Rattle.spec.specs.Actions.{lines_for, block_of}
 use Rattle.spec.specs.Machine.{Step}
 use Rattle.spec.specs.Contract.{Changed}
 use Rattle.buffer.specs.Areas.{second_start}
 use Rattle.session.specs.declared.Control.{Control}
 use Rattle.session.specs.declared.Setup.{Setup}
-use Rattle.session.specs.declared.Session.{Session}
 use Rattle.spec.specs.declared.Report.{Report}
 use Rattle.spec.specs.declared.Report.TheVariants as R
 use Rattle.words.specs.Image.{Saved}
@@ -26,12 +24,12 @@ use Rattle.session.specs.State.{held_count, held_words, chunk_in, unit_of, block
 use Rattle.actions.specs.Nth.{nth_report}
 use Rattle.actions.proofs.Performed.{changed-store, changed-length}
 use Rattle.actions.proofs.Filling as B
-use Rattle.stepping.proofs.Shows.{staging-acts, staging-ends, stored}
+use Rattle.stepping.proofs.Shows.{staging-acts, staging-ends}
 use Rattle.running.specs.Run.{Runs, is_store, RunsOn}
-use Rattle.running.specs.Stores.{area_word, Filled, Before}
+use Rattle.running.specs.Stores.{area_word, Filled}
 use Rattle.running.specs.Fast.{InStaging}
 use Rattle.running.specs.Staging.{take_count, BlockStores, StagingRun}
-use Rattle.running.proofs.Run.{stored-first, store_is, unchanged}
+use Rattle.running.proofs.Run.{stored-first, unchanged}
 use Rattle.running.proofs.Stores.{before-none, filled-length, filled_runs}
 use Rattle.session.specs.Promise.{Does, memory, memory_of}
 use Rattle.session.specs.Numbers.{at_action, in_phase, ended}

@@ -1,6 +1,6 @@
 -- Words saved one behind the other are the stores of a run, where each is the next action of the call that is begun.
 -- Assumes nothing.
-use mathlib.Core.Path.{◌≡◌, refl, sym, ◌∙◌, ap, subst}
+use mathlib.Core.Path.{◌≡◌, refl, ◌∙◌, ap, subst}
 use mathlib.Core.List.{List}
 use Prim.Native.Nat.{ℕ, zero, suc, ◌+◌, ◌-◌, ◌≤◌, ◌<◌}
 use native.Mathlib.Omega.{arith}
@@ -17,7 +17,6 @@ use Rattle.buffer.specs.Areas.{second_start}
 use Rattle.running.specs.Stores.{area_word, Filled, Before}
 use Rattle.running.proofs.Run.{stored-first}
 use Rattle.session.specs.Promise.{Does, memory}
-use Rattle.session.specs.Numbers.{at_action}
 
 -- THE LOOP: what is saved so far, with whatever is saved behind it, is one row
 module _ (value : ℕ → ℕ) (start : ℕ) where

@@ -1,10 +1,8 @@
 -- Several steps taken in one call: those that store a word, as many as come next, and then one that stores none, whose
 -- report is told.
 -- Assumes nothing.
-use Rattle.std.specs.Prelude.{◌≡◌, Bool, true, false, List, ℕ, zero, suc}
+use Rattle.std.specs.Prelude.{◌≡◌, Bool, true, false, ℕ, zero, suc}
 use Rattle.spec.specs.Machine.{Step}
-use Rattle.session.specs.declared.Control.{Control}
-use Rattle.session.specs.declared.Session.{Session}
 use Rattle.spec.specs.declared.Report.{Report}
 use Rattle.spec.specs.declared.Report.TheVariants as R
 use Rattle.session.specs.Promise.{Memory, Does}

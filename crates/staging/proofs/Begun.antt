@@ -10,7 +10,7 @@ use lib.ListN.{length, get_or, length-append}
 use borrow.Author.Tests.{le-leb, ne_eqb}
 use Rattle.spec.specs.Basics.{pick, both}
 use Rattle.spec.specs.Words.{words_of, packed}
-use Rattle.spec.specs.Places.{chunk_bytes, chunk_units, chunks_in, first_unit, unit_chunk, unit_in, directory_word}
+use Rattle.spec.specs.Places.{chunk_units, chunks_in, first_unit, unit_chunk, unit_in, directory_word}
 use Rattle.spec.specs.Log.{Entry}
 use Rattle.spec.specs.Blocks.{block_limit, block_size}
 use Rattle.spec.specs.Plans.{Staging, Begin, entry, InData, InFree, slot_for, stage_large}

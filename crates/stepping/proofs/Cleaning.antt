@@ -1,9 +1,9 @@
 -- What a step of a cleaning shows is what the contract of a step says.
 -- Assumes nothing.
 use mathlib.Core.Path.{◌≡◌, refl, ◌∙◌, ap}
-use mathlib.Core.Logic.{◌⊎◌, inl, inr}
+use mathlib.Core.Logic.{inl, inr}
 use mathlib.Core.List.{List, [], ◌∷◌}
-use Prim.Native.Nat.{ℕ, ◌+◌, ◌<◌}
+use Prim.Native.Nat.{ℕ, ◌+◌}
 use lib.ListN.{length, drop}
 use Rattle.spec.specs.Words.{words_of}
 use Rattle.spec.specs.Medium.{Action}
@@ -17,7 +17,6 @@ use Rattle.spec.specs.declared.Report.{Report}
 use Rattle.session.specs.State.{power_in, clean_olds, batch_words, batch_items, clean_actions, state_at}
 use Rattle.session.specs.Fits.{CleanFits, RestFits, Fits, Reads}
 use Rattle.actions.specs.Nth.{nth}
-use Rattle.actions.specs.Record.{clean_count}
 use Rattle.actions.proofs.Acting.{clean-next, clean-done}
 use Rattle.stepping.specs.Moves.{Acts, Over, CleanStepped}
 use Rattle.actions.proofs.States.{busy, at-6, step-acts, step-ends}

@@ -1,6 +1,6 @@
 -- The record after an action of a cleaning; where the code finds the words of the cleaned chunk and their copies.
 -- Assumes nothing.
-use Rattle.std.specs.Prelude.{◌≡◌, List, ℕ, ◌+◌, ◌*◌, ◌/◌, ◌≤◌, min, length}
+use Rattle.std.specs.Prelude.{◌≡◌, ℕ, ◌+◌, ◌*◌, min}
 use Rattle.spec.specs.Places.{base}
 use Rattle.spec.specs.Actions.{lines_for}
 use Rattle.session.specs.declared.Control.{Control}

@@ -1,6 +1,6 @@
 -- What a step of a cleaning does to record, image and key table.
 -- Assumes nothing.
-use Rattle.std.specs.Prelude.{◌≡◌, ◌⊎◌, List, [], ℕ, ◌+◌, ◌/◌, ◌≤◌, ◌<◌, length, drop}
+use Rattle.std.specs.Prelude.{◌≡◌, ◌⊎◌, List, [], ℕ, ◌+◌, ◌≤◌, ◌<◌, length, drop}
 use Rattle.spec.specs.Places.{chunks_in}
 use Rattle.spec.specs.Words.{words_of}
 use Rattle.spec.specs.Contract.{Changed}

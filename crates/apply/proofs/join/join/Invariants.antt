@@ -1,0 +1,11 @@
+-- The loops of `apply::join::join`.
+use Rattle.std.proofs.Common.{◌-◌}
+use Rattle.spec.specs.Words.{words_of}
+use Rattle.apply.specs.Joining.{Going}
+use Rattle.apply.proofs.join.join.Given as goal
+
+abbrev pub invariant-loop-op : goal.invariant-loop-op
+invariant-loop-op l = Going l.size (words_of l.image) l.initial.buffer l.initial.table l.initial.keys l.place l.initial.at l.end l.buffer l.table l.keys l.at
+
+abbrev pub decreases-loop-op : goal.decreases-loop-op
+decreases-loop-op l = l.end - l.at

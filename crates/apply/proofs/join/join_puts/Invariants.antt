@@ -1,0 +1,11 @@
+-- The loops of `apply::join::join_puts`.
+use Rattle.std.proofs.Common.{◌-◌}
+use Rattle.spec.specs.declared.Size.TheVariants as S
+use Rattle.apply.specs.Joining.{PutsJoined}
+use Rattle.apply.proofs.join.join_puts.Given as goal
+
+abbrev pub invariant-loop-version : goal.invariant-loop-version
+invariant-loop-version l = PutsJoined S.Small l.place l.end l.initial.buffer l.initial.table l.initial.keys l.initial.at l.buffer l.table l.keys l.at
+
+abbrev pub decreases-loop-version : goal.decreases-loop-version
+decreases-loop-version l = l.end - l.at

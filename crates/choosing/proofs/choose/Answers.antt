@@ -1,0 +1,17 @@
+-- `choosing::choose` meets its contract. The loop's invariant: the best of the chunks below c.
+-- Assumes nothing.
+use native.Mathlib.Omega.{arith}
+use Rattle.choosing.proofs.Loop.{looked-start, looked-next, looked-nothing, looked-found}
+use Rattle.choosing.proofs.choose.Goals as goal
+
+pub loop-c-init : goal.loop-c-init
+loop-c-init c = looked-start _ _ _ _ _
+
+pub loop-c-preserved : goal.loop-c-preserved
+loop-c-preserved c = looked-next _ _ _ _ _ _ _ c.loop-c.invariant (omega arith) _ c.better_at-best.ensures
+
+pub returns-then-best-eq0 : goal.returns-then-best-eq0
+returns-then-best-eq0 c = looked-nothing _ _ _ _ _ _ _ c.loop-c.invariant (omega arith) c.if-best-eq0.true
+
+pub returns : goal.returns
+returns c = looked-found _ _ _ _ _ _ _ c.loop-c.invariant (omega arith) c.if-best-eq0.false

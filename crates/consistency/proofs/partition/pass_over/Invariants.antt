@@ -1,0 +1,11 @@
+-- The loops of `consistency::partition::pass_over`.
+use Prim.Native.Nat.{◌-◌}
+use Rattle.spec.specs.Words.{words_of}
+use Rattle.consistency.specs.Passing.{PassedOver}
+use Rattle.consistency.proofs.partition.pass_over.Given as goal
+
+abbrev pub invariant-loop-place : goal.invariant-loop-place
+invariant-loop-place l = PassedOver (words_of l.image) l.end l.single l.marks l.low l.high l.at l.place
+
+abbrev pub decreases-loop-place : goal.decreases-loop-place
+decreases-loop-place l = l.stop - l.place

@@ -1,0 +1,10 @@
+-- `consistency::takes_marks` meets its contract. Assumes nothing.
+use mathlib.Core.Path.{◌≡◌}
+use mathlib.Core.Bool.{true, false}
+use Rattle.consistency.proofs.takes_marks.Goals as goal
+
+pub returns-then-single : goal.returns-then-single
+returns-then-single c = let t : c.args.single ≡ true = c.if-single.true in rw t
+
+pub returns : goal.returns
+returns c = let t : c.args.single ≡ false = c.if-single.false in rw t

@@ -1,0 +1,10 @@
+-- The loops of `gathering::read_chunk`.
+use Rattle.std.proofs.Common.{◌-◌, ◌≤◌, length}
+use Rattle.gathering.proofs.Passes.{Reads}
+use Rattle.gathering.proofs.read_chunk.Given as goal
+
+abbrev pub invariant-loop-i : goal.invariant-loop-i
+invariant-loop-i l = (l.i ≤ l.bytes) × Reads (length l.initial.copy) l.image l.copy l.from l.i
+
+abbrev pub decreases-loop-i : goal.decreases-loop-i
+decreases-loop-i l = l.bytes - l.i
