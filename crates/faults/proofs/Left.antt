@@ -14,7 +14,7 @@ use Rattle.spec.specs.Places.{base, chunk_words}
 use Rattle.spec.specs.Directory.{lines_of}
 use Rattle.spec.specs.declared.LogStep.{LogStep}
 use Rattle.spec.specs.declared.LogStep.TheVariants as S
-use Rattle.spec.specs.Log.{Entry, Parsed, Wrong, Entries, cons, prepend, join, step_of, after, parse, all_from, image_entries}
+use Rattle.spec.specs.Log.{Entry, Parsed, cons, prepend, join, step_of, after, parse, all_from, image_entries}
 use Rattle.theory_log.proofs.Parse.{found}
 use Rattle.theory_log.proofs.Walk.{slice-more, entry_at}
 use Rattle.faults.specs.declared.Stop.{Stop}

@@ -1,6 +1,6 @@
 -- What the passes over ranges of classes find of the top entries, in whatever order they meet them.
 -- Assumes nothing.
-use Rattle.std.specs.Prelude.{◌≡◌, Bool, true, false, List, [], ◌∷◌, ◌++◌, ℕ, ◌+◌, ◌*◌, ◌≤◌, ◌<◌, min, eqb, length, get_or}
+use Rattle.std.specs.Prelude.{◌≡◌, Bool, true, false, List, [], ◌∷◌, ◌++◌, ℕ, ◌+◌, ◌≤◌, ◌<◌, min, eqb, length, get_or}
 use Rattle.spec.specs.Basics.{pick, both, negate}
 use Rattle.spec.specs.Places.{max_chunks}
 use Rattle.spec.specs.declared.Size.{Size}

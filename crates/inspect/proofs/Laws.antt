@@ -67,8 +67,9 @@ module _ (key from : ℕ) (all : List Entry) where
           let a : e.at ≡ y.place = ap (λ (x : KeyEntry). x.place) i in
           let f = leb-true from e.at (both_r (eqb e.key key) (leb from e.at) t) in
           let l = low in
-          let same = same_from key (suc e.at) from (suc e.at) hi es r.1 (omega arith) (omega arith) in
-          (omega arith, rw (← a, not-from key (suc e.at) e (omega arith), same))
+          let gone : rows (suc y.place) (e ∷ es) ≡ rows (suc y.place) es = rw (not-from key (suc y.place) e (omega arith)) in
+          let same = same_from key (suc y.place) from (suc e.at) hi es r.1 (omega arith) (omega arith) in
+          (omega arith, gone ∙ ap (map (numbered key all)) same)
 
 pub entries-behind : (p : ℕ) → 12 ≤ p → p ≤ 16 → (n : ℕ) (ws : List ℕ) (key from k : ℕ) (y : KeyEntry) → first (drop k (entries_from p n ws key from)) ≡ some y
     → entries_from p n ws key (suc y.place) ≡ drop (suc k) (entries_from p n ws key from)

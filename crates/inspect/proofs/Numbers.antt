@@ -1,9 +1,8 @@
 -- What the code shows of the header's numbers, and that they are those that a formatting was told.
 -- Assumes nothing.
-use Rattle.std.proofs.Common.{◌≡◌, ℕ, Bool, true, false, eqb, List, ◌∷◌, ◌++◌, get_or, sym, refl, ap, ◌∙◌}
-use Rattle.spec.specs.Basics.{pick, both}
+use Rattle.std.proofs.Common.{◌≡◌, ℕ, Bool, true, false, List, ◌∷◌, ◌++◌, get_or, sym, refl, ap, ◌∙◌}
 use Rattle.spec.specs.Places.{is_power, chunks_in}
-use Rattle.spec.specs.Header.{header_right, header_power, bit_of, power_bit, power_field, header_map, header_tail}
+use Rattle.spec.specs.Header.{header_right, header_power, power_bit, power_field, header_map, header_tail}
 use Rattle.spec.specs.declared.Size.{Size}
 use Rattle.spec.specs.declared.Size.TheVariants as S
 use Rattle.spec.specs.declared.Given.{Given}

@@ -1,12 +1,12 @@
 -- What the code shows of a chunk and of a search, and the answers of the calls on chunks.
 -- Assumes nothing.
-use Rattle.std.proofs.Common.{◌≡◌, ℕ, ◌-◌, ◌/◌, ◌<◌, ◌≤◌, Bool, true, false, eqb, ltb, leb, ◌⊎◌, List, [], ◌∷◌, length, sym, refl, ap, ◌∙◌, subst, inl, inr, arith, ltb-true, le-ltb, lt-ltb, le-leb, leb-true}
+use Rattle.std.proofs.Common.{◌≡◌, ℕ, ◌-◌, ◌<◌, ◌≤◌, Bool, true, false, eqb, ltb, leb, ◌⊎◌, List, [], ◌∷◌, length, sym, refl, ap, ◌∙◌, subst, inl, inr, arith, ltb-true, le-ltb, lt-ltb, le-leb, leb-true}
 use mathlib.Core.Logic.{by_cases}
 use mathlib.Core.Option.{none, some}
 use native.Mathlib.Decide.{dec_lt}
 use borrow.Author.Tests.{lt-leb}
 use Rattle.spec.specs.declared.Size.{Size}
-use Rattle.places.specs.Sizes.{power_of, power-low, power-high}
+use Rattle.places.specs.Sizes.{power_of}
 use Rattle.spec.specs.Basics.{pick, both, filter, first, up_from}
 use Rattle.spec.specs.Words.{words_of}
 use Rattle.spec.specs.Places.{chunks_in}

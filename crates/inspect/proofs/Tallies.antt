@@ -187,6 +187,7 @@ found-any t (e ∷ es) h = go (t e) refl (found-any t es) h
     go false q r k = let x = r k in (x.0, inr x.1, x.2)
 
 any_found : (t : Entry → Bool) (es : List Entry) (e : Entry) → Mem e es → t e ≡ true → any t es ≡ true
+any_found t [] e m h = absurd m
 any_found t (x ∷ es) e (inl q) h = rw (← q, h)
 any_found t (x ∷ es) e (inr m) h = rw (any_found t es e m h) (go (t x))
   where

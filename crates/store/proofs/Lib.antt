@@ -1,4 +1,3 @@
-pub mod Lent
 pub mod Runs
 pub mod Alike
 pub mod Listings

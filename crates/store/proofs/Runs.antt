@@ -3,17 +3,15 @@
 -- And the fast path is a step, a run, or nothing. The calls that only read (counts, lists, look-ups, choosings) leave
 -- record, image and table alone by their types.
 -- Assumes nothing.
-use mathlib.Core.Path.{◌≡◌, refl}
+use mathlib.Core.Path.{refl}
 use mathlib.Core.Logic.{◌⊎◌, inl, inr}
 use mathlib.Core.List.{List, [], ◌∷◌, ◌++◌}
 use Prim.Native.Nat.{ℕ, zero, suc}
-use lib.ListN.{length}
 use Rattle.spec.specs.Medium.{Medium}
 use Rattle.spec.specs.Reports.{medium_after}
 use Rattle.spec.specs.History.{Stepped}
 use Rattle.session.specs.declared.Control.{Control}
 use Rattle.session.specs.declared.Setup.{Setup}
-use Rattle.session.specs.declared.Session.{Session}
 use Rattle.spec.specs.declared.Report.{Report}
 use Rattle.spec.specs.declared.Report.TheVariants as R
 use Rattle.session.specs.State.{state_of}

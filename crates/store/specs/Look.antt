@@ -1,11 +1,10 @@
 -- What a look-up through the station record answers. The record, the image and the table are as they were.
 -- Assumes nothing.
-use Rattle.std.specs.Prelude.{◌≡◌, List, ℕ, ◌+◌, ◌≤◌, length}
+use Rattle.std.specs.Prelude.{◌≡◌, List, ℕ, length}
 use Rattle.spec.specs.Machine.{LookUp}
 use Rattle.spec.specs.Contract.{part_bytes}
 use Rattle.session.specs.declared.Session.{Session}
 use Rattle.spec.specs.declared.Report.{Report}
-use Rattle.spec.specs.declared.Report.TheVariants as R
 use Rattle.lookup.specs.declared.Located.{Located}
 use Rattle.lookup.specs.Look.{report_of, InImage, number_of, version_of}
 use Rattle.session.specs.Promise.{Does, memory}
