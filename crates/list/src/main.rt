@@ -1,6 +1,8 @@
 // Program: prints the present keys of the image on standard input with what is listed of each, or why it is refused.
 #![tactic(auto)]
 
-fn main() {
-    printing::print_list();
+use std::process::ExitCode;
+
+fn main(rt: HostRuntime) -> ExitCode {
+    printing::print_list(&rt)
 }

@@ -4,6 +4,7 @@ use crate::script::{Command, Line};
 use buffer::Buffer;
 use session::{Control, Outcome, Setup, Stepped};
 use spec::{Given, Report};
+use std::io;
 use text::Token;
 
 // THE CALLS
@@ -193,12 +194,13 @@ fn is_last(report: Report) -> bool {
 
 // Steps up to an end, idle or a refusal: how many, and the sum over their reports. No call has 1,000 actions.
 fn run(
+    rt: &impl Print,
     c: Control,
     setup: Setup,
     buffer: &mut Buffer,
     image: &mut [u8],
     table: &mut [u64],
-) -> Outcome {
+) -> io::Result<Outcome> {
     let mut control = c;
     let mut steps: u64 = 0;
     let mut sum: u64 = 0;
@@ -209,23 +211,24 @@ fn run(
         steps += 1;
         sum = crate::output::report_sum(sum, report);
         if is_last(report) {
-            crate::output::two(b"ran", steps, sum);
-            return Outcome {
+            crate::output::two(rt, "ran", steps, sum)?;
+            return Ok(Outcome {
                 control,
                 setup,
                 report,
-            };
+            });
         }
     }
-    Outcome {
+    Ok(Outcome {
         control,
         setup,
         report: Report::Fence,
-    }
+    })
 }
 
 // The call that a command names, a step where it names no other.
 pub fn asked(
+    rt: &impl Print,
     c: Control,
     s: Setup,
     buffer: &mut Buffer,
@@ -233,8 +236,8 @@ pub fn asked(
     table: &mut [u64],
     command: Command,
     l: Line,
-) -> Outcome {
-    match command {
+) -> io::Result<Outcome> {
+    let outcome = match command {
         Command::Open => opening::open_core(c, s, buffer, image, table),
         Command::Format => format(c, s, buffer, image, table, l),
         Command::Put => put(c, s, buffer, image, table, l),
@@ -245,7 +248,8 @@ pub fn asked(
         Command::Abandon => staging::abandon_core(c, s, buffer, image, table),
         Command::Choose => choose(c, s, buffer, image, table),
         Command::Clean => clean(c, s, buffer, image, table, l),
-        Command::Run => run(c, s, buffer, image, table),
+        Command::Run => run(rt, c, s, buffer, image, table)?,
         _ => changed(s, stepping::step_core(c, s, buffer, image, table)),
-    }
+    };
+    Ok(outcome)
 }

@@ -3,6 +3,7 @@ use crate::script::{Command, Line};
 use buffer::{BUFFER_WORDS, Buffer};
 use session::{Control, Setup};
 use spec::Report;
+use std::io;
 use text::Token;
 
 // The station's record, but for its buffer; the lengths lent; whether the last call left image, table and record as
@@ -29,8 +30,8 @@ pub fn new_state() -> State {
 }
 
 // THE LENT MEMORY
-pub fn bad() {
-    crate::output::text(b"bad\n");
+pub fn bad(rt: &impl Print) -> io::Result<()> {
+    crate::output::text(rt, b"bad\n")
 }
 
 // An image of so many bytes, all zero; 327,680 at most.
@@ -52,23 +53,23 @@ fn lend_table(state: State, words: u64) -> State {
     s
 }
 
-fn image_line(state: State, image: &mut [u8], bytes: Token) -> State {
+fn image_line(rt: &impl Print, state: State, image: &mut [u8], bytes: Token) -> io::Result<State> {
     if 327680 < bytes.value {
-        bad();
-        return state;
+        bad(rt)?;
+        return Ok(state);
     }
-    crate::output::one(b"image", bytes.value);
-    lend_image(state, image, bytes.value)
+    crate::output::one(rt, "image", bytes.value)?;
+    Ok(lend_image(state, image, bytes.value))
 }
 
-fn table_line(state: State, table: &mut [u64], words: Token) -> State {
+fn table_line(rt: &impl Print, state: State, table: &mut [u64], words: Token) -> io::Result<State> {
     if 8192 < words.value {
-        bad();
-        return state;
+        bad(rt)?;
+        return Ok(state);
     }
-    crate::output::one(b"table", words.value);
+    crate::output::one(rt, "table", words.value)?;
     crate::memory::zero_words(table);
-    lend_table(state, words.value)
+    Ok(lend_table(state, words.value))
 }
 
 fn lend_line(state: State, image: &mut [u8], bytes: Token, words: Token) -> State {
@@ -76,17 +77,17 @@ fn lend_line(state: State, image: &mut [u8], bytes: Token, words: Token) -> Stat
 }
 
 // A record with nothing open.
-fn record_line(state: State, buffer: &mut Buffer) -> State {
+fn record_line(rt: &impl Print, state: State, buffer: &mut Buffer) -> io::Result<State> {
     *buffer = [0; BUFFER_WORDS];
-    crate::output::text(b"record\n");
-    State {
+    crate::output::text(rt, b"record\n")?;
+    Ok(State {
         control: session::closed(),
         setup: session::empty_setup(),
         bytes: state.bytes,
         words: state.words,
         kept: true,
         aloud: state.aloud,
-    }
+    })
 }
 
 // Words of the image become a value, behind the station's back.
@@ -106,44 +107,50 @@ fn fill_line(bytes: usize, image: &mut [u8], from: Token, count: Token, value: T
     );
 }
 
-fn poke_line(bytes: usize, image: &mut [u8], word: Token, value: Token) {
+fn poke_line(
+    rt: &impl Print,
+    bytes: usize,
+    image: &mut [u8],
+    word: Token,
+    value: Token,
+) -> io::Result<()> {
     let w = word.value as usize;
     if bytes / 8 <= w {
-        bad();
-        return;
+        return bad(rt);
     }
     fill_lent(bytes, image, w, 1, value.value);
-    crate::output::text(b"poke\n");
+    crate::output::text(rt, b"poke\n")
 }
 
-fn word_line(bytes: usize, image: &[u8], word: Token) {
+fn word_line(rt: &impl Print, bytes: usize, image: &[u8], word: Token) -> io::Result<()> {
     if bytes <= image.len() {
         let value = words::load(&image[0..bytes], word.value as usize);
-        crate::output::two(b"word", word.value, value);
+        return crate::output::two(rt, "word", word.value, value);
     }
+    Ok(())
 }
 
-fn sum_line(bytes: usize, image: &[u8]) {
+fn sum_line(rt: &impl Print, bytes: usize, image: &[u8]) -> io::Result<()> {
     if bytes <= image.len() {
         let sum = crate::output::image_sum(&image[0..bytes]);
-        crate::output::one(b"sum", sum);
+        return crate::output::one(rt, "sum", sum);
     }
+    Ok(())
 }
 
 // The known keys of an open register.
-fn keys_line(c: Control) {
+fn keys_line(rt: &impl Print, c: Control) -> io::Result<()> {
     if c.phase == 0 {
-        crate::output::one(b"refused", 2);
-        return;
+        return crate::output::one(rt, "refused", 2);
     }
-    crate::output::one(b"keys", c.keys as u64);
+    crate::output::one(rt, "keys", c.keys as u64)
 }
 
-fn kept_line(kept: bool) {
+fn kept_line(rt: &impl Print, kept: bool) -> io::Result<()> {
     if kept {
-        crate::output::text(b"kept\n");
+        crate::output::text(rt, b"kept\n")
     } else {
-        crate::output::text(b"changed\n");
+        crate::output::text(rt, b"changed\n")
     }
 }
 
@@ -160,37 +167,48 @@ fn start_of(report: Report) -> u64 {
 }
 
 // Where the value's part starts, its length and its sum, and behind them its version where it is asked for.
-fn look(c: Control, s: Setup, image: &[u8], table: &[u64], key: u64, with_version: bool) {
+fn look(
+    rt: &impl Print,
+    c: Control,
+    s: Setup,
+    image: &[u8],
+    table: &[u64],
+    key: u64,
+    with_version: bool,
+) -> io::Result<()> {
     let mut answer: u64 = 0;
     let mut version: u64 = 0;
     let value = lookup::look_up_core(c, s, image, table, key, &mut answer, &mut version);
     if answer != 0 {
-        crate::output::one(b"refused", answer);
-        return;
+        return crate::output::one(rt, "refused", answer);
     }
     let start = start_of(lookup::find(c, s, image, table, key));
     let sum = crate::output::value_sum(value);
     if with_version {
-        crate::output::four(b"value", start, value.len() as u64, sum, version);
-        return;
+        return crate::output::four(rt, "value", start, value.len() as u64, sum, version);
     }
-    crate::output::three(b"value", start, value.len() as u64, sum);
+    crate::output::three(rt, "value", start, value.len() as u64, sum)
 }
 
 // The value's length, its sum and its first bytes.
-fn show_value(c: Control, s: Setup, image: &[u8], table: &[u64], key: u64) {
+fn show_value(
+    rt: &impl Print,
+    c: Control,
+    s: Setup,
+    image: &[u8],
+    table: &[u64],
+    key: u64,
+) -> io::Result<()> {
     let mut answer: u64 = 0;
     let mut version: u64 = 0;
     let value = lookup::look_up_core(c, s, image, table, key, &mut answer, &mut version);
     if answer == 11 {
-        crate::output::one(b"absent", key);
-        return;
+        return crate::output::one(rt, "absent", key);
     }
     if answer != 0 {
-        crate::output::one(b"refused", answer);
-        return;
+        return crate::output::one(rt, "refused", answer);
     }
-    crate::output::value(key, value, crate::output::value_sum(value));
+    crate::output::value(rt, key, value, crate::output::value_sum(value))
 }
 
 // A look-up is lent nothing that it could change.
@@ -200,12 +218,20 @@ fn untouched(state: State) -> State {
     s
 }
 
-fn look_line(state: State, image: &[u8], table: &[u64], key: Token, with_version: bool) {
+fn look_line(
+    rt: &impl Print,
+    state: State,
+    image: &[u8],
+    table: &[u64],
+    key: Token,
+    with_version: bool,
+) -> io::Result<()> {
     let bytes = state.bytes;
     let words = state.words;
     if bytes <= image.len() {
         if words <= table.len() {
-            look(
+            return look(
+                rt,
                 state.control,
                 state.setup,
                 &image[0..bytes],
@@ -215,14 +241,22 @@ fn look_line(state: State, image: &[u8], table: &[u64], key: Token, with_version
             );
         }
     }
+    Ok(())
 }
 
-fn show_line(state: State, image: &[u8], table: &[u64], key: Token) {
+fn show_line(
+    rt: &impl Print,
+    state: State,
+    image: &[u8],
+    table: &[u64],
+    key: Token,
+) -> io::Result<()> {
     let bytes = state.bytes;
     let words = state.words;
     if bytes <= image.len() {
         if words <= table.len() {
-            show_value(
+            return show_value(
+                rt,
                 state.control,
                 state.setup,
                 &image[0..bytes],
@@ -231,6 +265,7 @@ fn show_line(state: State, image: &[u8], table: &[u64], key: Token) {
             );
         }
     }
+    Ok(())
 }
 
 fn read_aloud(state: State) -> State {
@@ -241,50 +276,61 @@ fn read_aloud(state: State) -> State {
 
 // ONE LINE
 // A line that shows something, or alters the image behind the station's back.
-fn shown(state: State, image: &mut [u8], table: &[u64], command: Command, l: Line) {
+fn shown(
+    rt: &impl Print,
+    state: State,
+    image: &mut [u8],
+    table: &[u64],
+    command: Command,
+    l: Line,
+) -> io::Result<()> {
     let bytes = state.bytes;
     let first = l.first;
     match command {
-        Command::Poke => poke_line(bytes, image, first, l.second),
-        Command::Fill => fill_line(bytes, image, first, l.second, l.third),
-        Command::Word => word_line(bytes, image, first),
-        Command::Sum => sum_line(bytes, image),
-        Command::Keys => keys_line(state.control),
-        Command::Kept => kept_line(state.kept),
-        Command::Look => look_line(state, image, table, first, false),
-        Command::LookVersion => look_line(state, image, table, first, true),
-        Command::Show => show_line(state, image, table, first),
-        _ => bad(),
+        Command::Poke => poke_line(rt, bytes, image, first, l.second),
+        Command::Fill => {
+            fill_line(bytes, image, first, l.second, l.third);
+            Ok(())
+        }
+        Command::Word => word_line(rt, bytes, image, first),
+        Command::Sum => sum_line(rt, bytes, image),
+        Command::Keys => keys_line(rt, state.control),
+        Command::Kept => kept_line(rt, state.kept),
+        Command::Look => look_line(rt, state, image, table, first, false),
+        Command::LookVersion => look_line(rt, state, image, table, first, true),
+        Command::Show => show_line(rt, state, image, table, first),
+        _ => bad(rt),
     }
 }
 
 // A line that lends the station something else, or how it is played; any other is shown.
 pub fn lent_anew(
+    rt: &impl Print,
     state: State,
     buffer: &mut Buffer,
     image: &mut [u8],
     table: &mut [u64],
     command: Command,
     l: Line,
-) -> State {
+) -> io::Result<State> {
     let first = l.first;
     match command {
-        Command::Image => image_line(state, image, first),
-        Command::Table => table_line(state, table, first),
-        Command::Lend => lend_line(state, image, first, l.second),
-        Command::Record => record_line(state, buffer),
-        Command::Aloud => read_aloud(state),
+        Command::Image => image_line(rt, state, image, first),
+        Command::Table => table_line(rt, state, table, first),
+        Command::Lend => Ok(lend_line(state, image, first, l.second)),
+        Command::Record => record_line(rt, state, buffer),
+        Command::Aloud => Ok(read_aloud(state)),
         Command::Look => {
-            shown(state, image, table, command, l);
-            untouched(state)
+            shown(rt, state, image, table, command, l)?;
+            Ok(untouched(state))
         }
         Command::LookVersion => {
-            shown(state, image, table, command, l);
-            untouched(state)
+            shown(rt, state, image, table, command, l)?;
+            Ok(untouched(state))
         }
         _ => {
-            shown(state, image, table, command, l);
-            state
+            shown(rt, state, image, table, command, l)?;
+            Ok(state)
         }
     }
 }

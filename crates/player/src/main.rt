@@ -13,16 +13,18 @@ use crate::script::{Command, Line};
 use buffer::{BUFFER_WORDS, Buffer};
 use session::{Control, Outcome, Setup};
 use spec::Report;
+use std::io;
 
 // A call on the lent parts of image and table.
 fn lent(
+    rt: &impl Print,
     state: State,
     buffer: &mut Buffer,
     image: &mut [u8],
     table: &mut [u64],
     command: Command,
     l: Line,
-) -> Outcome {
+) -> io::Result<Outcome> {
     let bytes = state.bytes;
     let words = state.words;
     let control = state.control;
@@ -30,6 +32,7 @@ fn lent(
     if bytes <= image.len() {
         if words <= table.len() {
             return calls::asked(
+                rt,
                 control,
                 setup,
                 buffer,
@@ -40,11 +43,11 @@ fn lent(
             );
         }
     }
-    Outcome {
+    Ok(Outcome {
         control,
         setup,
         report: Report::Idle,
-    }
+    })
 }
 
 // What a refused call leaves: the record as it was, and image and table.
@@ -92,30 +95,32 @@ fn is_opening(command: Command) -> bool {
 }
 
 // Shows what a call answered; and `changed` where it was refused and did not leave what a refused call leaves.
-fn answered(report: Report, cleaning: bool, kept: bool) {
-    output::report(report, cleaning);
+fn answered(rt: &impl Print, report: Report, cleaning: bool, kept: bool) -> io::Result<()> {
+    output::report(rt, report, cleaning)?;
     if calls::is_refused(report) {
         if kept {
-            return;
+            return Ok(());
         }
-        output::text(b"changed\n");
+        return output::text(rt, b"changed\n");
     }
+    Ok(())
 }
 
 fn call(
+    rt: &impl Print,
     state: State,
     buffer: &mut Buffer,
     image: &mut [u8],
     table: &mut [u64],
     command: Command,
     l: Line,
-) -> State {
+) -> io::Result<State> {
     let old_buffer = *buffer;
     let mut old_image: [u8; 327680] = [0; 327680];
     let mut old_table: [u64; 8192] = [0; 8192];
     memory::copy_bytes(image, &mut old_image);
     memory::copy_words(table, &mut old_table);
-    let a = lent(state, buffer, image, table, command, l);
+    let a = lent(rt, state, buffer, image, table, command, l)?;
     let report = a.report;
     let control = a.control;
     let setup = a.setup;
@@ -133,46 +138,47 @@ fn call(
         let memory = same_memory(image, &old_image, table, &old_table);
         record & memory
     };
-    answered(report, state.control.phase == 6, kept);
-    State {
+    answered(rt, report, state.control.phase == 6, kept)?;
+    Ok(State {
         control,
         setup,
         bytes: state.bytes,
         words: state.words,
         kept,
         aloud: state.aloud,
-    }
+    })
 }
 
 // THE SCRIPT
 // A line that starts with `#` is shown as it is.
-fn note_line(text: &[u8], from: usize, next: usize) {
+fn note_line(rt: &impl Print, text: &[u8], from: usize, next: usize) -> io::Result<()> {
     if from < next {
         if next <= text.len() {
             if text[from] == b'#' {
-                output::text(&text[from..next]);
-                return;
+                return output::text(rt, &text[from..next]);
             }
         }
     }
-    lines::bad();
+    lines::bad(rt)
 }
 
 // A line as it stands, where lines are shown.
-fn echo(aloud: bool, text: &[u8], from: usize, next: usize) {
+fn echo(rt: &impl Print, aloud: bool, text: &[u8], from: usize, next: usize) -> io::Result<()> {
     if aloud {
         if from < next {
             if next <= text.len() {
                 if text[from] != b'#' {
-                    output::text(b"> ");
-                    output::text(&text[from..next]);
+                    output::text(rt, b"> ")?;
+                    return output::text(rt, &text[from..next]);
                 }
             }
         }
     }
+    Ok(())
 }
 
 fn turn(
+    rt: &impl Print,
     state: State,
     buffer: &mut Buffer,
     image: &mut [u8],
@@ -180,41 +186,48 @@ fn turn(
     text: &[u8],
     at: usize,
     l: Line,
-) -> State {
+) -> io::Result<State> {
     let command = script::command_of(l.word);
-    echo(state.aloud, text, at, l.next);
+    echo(rt, state.aloud, text, at, l.next)?;
     if script::is_call(command) {
-        return call(state, buffer, image, table, command, l);
+        return call(rt, state, buffer, image, table, command, l);
     }
     if l.word == 0 {
-        note_line(text, at, l.next);
-        return state;
+        note_line(rt, text, at, l.next)?;
+        return Ok(state);
     }
-    lines::lent_anew(state, buffer, image, table, command, l)
+    lines::lent_anew(rt, state, buffer, image, table, command, l)
 }
 
 // Every line of a script, on a station with nothing open and nothing lent.
-fn play_lines(text: &[u8], buffer: &mut Buffer, image: &mut [u8], table: &mut [u64]) {
+fn play_lines(
+    rt: &impl Print,
+    text: &[u8],
+    buffer: &mut Buffer,
+    image: &mut [u8],
+    table: &mut [u64],
+) -> io::Result<()> {
     let mut state = lines::new_state();
     let mut at = 0;
     while at < text.len() {
         let l = script::line_at(text, at);
-        state = turn(state, buffer, image, table, text, at, l);
+        state = turn(rt, state, buffer, image, table, text, at, l)?;
         at = l.next;
     }
+    Ok(())
 }
 
 // Plays a script.
-pub fn play(text: &[u8]) {
+pub fn play(rt: &impl Print, text: &[u8]) -> io::Result<()> {
     let mut image: [u8; 327680] = [0; 327680];
     let mut table: [u64; 8192] = [0; 8192];
     let mut buffer: Buffer = [0; BUFFER_WORDS];
-    play_lines(text, &mut buffer, &mut image, &mut table);
+    play_lines(rt, text, &mut buffer, &mut image, &mut table)
 }
 
 // Plays the script on standard input: images that are opened, with the values of keys, then the rules' worked cases.
-fn main() {
+fn main(rt: HostRuntime) -> io::Result<()> {
     let mut text: [u8; 524288] = [0; 524288];
-    let n = io::read_full(0, &mut text);
-    play(&text[..n]);
+    let n = text::read_full(&mut rt.reader(), &mut text);
+    play(&rt, &text[..n])
 }

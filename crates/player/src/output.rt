@@ -1,54 +1,43 @@
 // What a call answers, as a line of text; and sums over words, bytes and reports, modulo 2^64.
 use spec::Report;
+use std::io;
 
-pub fn text(line: &[u8]) {
-    io::write_all(1, line);
+pub fn text(rt: &impl Print, line: &[u8]) -> io::Result<()> {
+    rt.write_all(line)
 }
 
-fn line_feed() {
-    io::write_all(1, b"\n");
+fn line_feed(rt: &impl Print) -> io::Result<()> {
+    println!(rt)
 }
 
 // A word and a number behind it.
-pub fn one(word: &[u8], number: u64) {
-    io::write_all(1, word);
-    io::write_all(1, b" ");
-    io::print_decimal(1, number);
-    line_feed();
+pub fn one(rt: &impl Print, word: &str, number: u64) -> io::Result<()> {
+    println!(rt; "{word} {number}")
 }
 
-pub fn two(word: &[u8], first: u64, second: u64) {
-    io::write_all(1, word);
-    io::write_all(1, b" ");
-    io::print_decimal(1, first);
-    io::write_all(1, b" ");
-    io::print_decimal(1, second);
-    line_feed();
+pub fn two(rt: &impl Print, word: &str, first: u64, second: u64) -> io::Result<()> {
+    println!(rt; "{word} {first} {second}")
 }
 
-pub fn three(word: &[u8], first: u64, second: u64, third: u64) {
-    io::write_all(1, word);
-    io::write_all(1, b" ");
-    io::print_decimal(1, first);
-    io::write_all(1, b" ");
-    two_numbers(second, third);
+pub fn three(rt: &impl Print, word: &str, first: u64, second: u64, third: u64) -> io::Result<()> {
+    print!(rt; "{word} {first} ")?;
+    two_numbers(rt, second, third)
 }
 
-pub fn four(word: &[u8], first: u64, second: u64, third: u64, fourth: u64) {
-    io::write_all(1, word);
-    io::write_all(1, b" ");
-    io::print_decimal(1, first);
-    io::write_all(1, b" ");
-    io::print_decimal(1, second);
-    io::write_all(1, b" ");
-    two_numbers(third, fourth);
+pub fn four(
+    rt: &impl Print,
+    word: &str,
+    first: u64,
+    second: u64,
+    third: u64,
+    fourth: u64,
+) -> io::Result<()> {
+    print!(rt; "{word} {first} {second} ")?;
+    two_numbers(rt, third, fourth)
 }
 
-fn two_numbers(first: u64, second: u64) {
-    io::print_decimal(1, first);
-    io::write_all(1, b" ");
-    io::print_decimal(1, second);
-    line_feed();
+fn two_numbers(rt: &impl Print, first: u64, second: u64) -> io::Result<()> {
+    println!(rt; "{first} {second}")
 }
 
 fn wide(b: u8) -> u64 {
@@ -56,58 +45,52 @@ fn wide(b: u8) -> u64 {
 }
 
 // The first bytes of a value, sixteen at most, in hexadecimal digits.
-fn first_bytes(value: &[u8]) {
+fn first_bytes(rt: &impl Print, value: &[u8]) -> io::Result<()> {
     let mut i = 0;
     while i < 16 {
         if value.len() <= i {
             break;
         }
-        io::print_hex(1, wide(value[i]), 2);
+        print!(rt; "{:02x}", value[i])?;
         i += 1;
     }
-    line_feed();
+    line_feed(rt)
 }
 
 // A key's value: its length, its sum and its first bytes.
-pub fn value(key: u64, bytes: &[u8], sum: u64) {
-    io::write_all(1, b"value ");
-    io::print_decimal(1, key);
-    io::write_all(1, b" ");
-    io::print_decimal(1, bytes.len() as u64);
-    io::write_all(1, b" ");
-    io::print_decimal(1, sum);
+pub fn value(rt: &impl Print, key: u64, bytes: &[u8], sum: u64) -> io::Result<()> {
+    print!(rt; "value {key} {} {sum}", bytes.len())?;
     if bytes.len() > 0 {
-        io::write_all(1, b" ");
+        print!(rt; " ")?;
     }
-    first_bytes(bytes);
+    first_bytes(rt, bytes)
 }
 
 // The end of a cleaning shows the entries copied.
-fn end(count: u64, cleaning: bool) {
+fn end(rt: &impl Print, count: u64, cleaning: bool) -> io::Result<()> {
     if cleaning {
-        one(b"end", count);
-        return;
+        return one(rt, "end", count);
     }
-    text(b"end\n");
+    text(rt, b"end\n")
 }
 
-pub fn report(report: Report, cleaning: bool) {
+pub fn report(rt: &impl Print, report: Report, cleaning: bool) -> io::Result<()> {
     match report {
-        Report::Refused(n) => one(b"refused", session::number(n)),
-        Report::Begun(actions) => one(b"begun", actions as u64),
-        Report::Store { word, value } => two(b"store", word as u64, value),
-        Report::Flush(line) => one(b"flush", line as u64),
-        Report::Fence => text(b"fence\n"),
-        Report::End(count) => end(count as u64, cleaning),
-        Report::Idle => text(b"idle\n"),
-        Report::Opened => text(b"opened\n"),
-        Report::Abandoned => text(b"abandoned\n"),
-        Report::Chosen(chunk) => one(b"chunk", chunk as u64),
+        Report::Refused(n) => one(rt, "refused", session::number(n)),
+        Report::Begun(actions) => one(rt, "begun", actions as u64),
+        Report::Store { word, value } => two(rt, "store", word as u64, value),
+        Report::Flush(line) => one(rt, "flush", line as u64),
+        Report::Fence => text(rt, b"fence\n"),
+        Report::End(count) => end(rt, count as u64, cleaning),
+        Report::Idle => text(rt, b"idle\n"),
+        Report::Opened => text(rt, b"opened\n"),
+        Report::Abandoned => text(rt, b"abandoned\n"),
+        Report::Chosen(chunk) => one(rt, "chunk", chunk as u64),
         Report::Part {
             start,
             length,
             version,
-        } => three(b"part", start as u64, length as u64, version),
+        } => three(rt, "part", start as u64, length as u64, version),
     }
 }
 

@@ -10,10 +10,8 @@ use native.Mathlib.Numerals.{add-one}
 use native.Mathlib.Omega.{arith}
 use lib.ListN.{length, take, get_or, length-append, length-take}
 use lib.Seq.{length-take-le, take_all, take-suc}
-use types.Run.{OneOf, miss}
-use denote.Enum.Declared.{tag_of}
 use borrow.Author.Tests.{eq-eqb}
-use Rattle.io.specs.Counts.{IsPrefixLen}
+use Rattle.std.specs.Counts.{IsPrefixLen}
 use Rattle.spec.specs.Words.{words_of}
 use Rattle.spec.specs.Places.{chunk_bytes, chunks_in, length_allowed, any_allowed}
 use Rattle.spec.specs.Header.{header_power}
@@ -28,7 +26,6 @@ use Rattle.spec.specs.declared.Refusal.{Refusal}
 use Rattle.spec.specs.declared.Refusal.TheVariants as N
 use Rattle.spec.specs.declared.Report.{Report}
 use Rattle.spec.specs.declared.Report.TheVariants as R
-use Rattle.spec.specs.contracts.Report as type
 use Rattle.words.specs.Image.{length-words_of}
 use Rattle.theory_crash.proofs.Opening.{opens_at}
 use Rattle.buffer.specs.Areas.{buffer_words}
@@ -156,23 +153,6 @@ lines-length paged ws es i (x ∷ ks) =
 from_start : (out out' : List ℕ) (r : ℕ) (xs : List ℕ) → Writes out out' 0 r xs → length xs ≤ length out → take r out' ≡ xs
 from_start out out' r xs w l = (w.writes [] (record { long = refl; room = omega arith; is = refl }) (omega arith)).is
 
--- the numbers of the variants of a report but for a refusal's
-abbrev pub others : List ℕ
-others = 1 ∷ 2 ∷ 3 ∷ 4 ∷ 5 ∷ 6 ∷ 7 ∷ 8 ∷ 9 ∷ 10 ∷ []
-
-not-refused : (r : Report) (n : Refusal) → OneOf others (tag_of type.the_type r) → r ≡ R.Refused n → ⊥
-not-refused (R.Refused m) n k e = miss others 0 tt k
-not-refused (R.Begun a) n k e = let z : ◌≡◌ {A = ℕ} 0 1 = cc in omega arith
-not-refused (R.Store w v) n k e = let z : ◌≡◌ {A = ℕ} 0 1 = cc in omega arith
-not-refused (R.Flush l) n k e = let z : ◌≡◌ {A = ℕ} 0 1 = cc in omega arith
-not-refused R.Fence n k e = let z : ◌≡◌ {A = ℕ} 0 1 = cc in omega arith
-not-refused (R.End m) n k e = let z : ◌≡◌ {A = ℕ} 0 1 = cc in omega arith
-not-refused R.Idle n k e = let z : ◌≡◌ {A = ℕ} 0 1 = cc in omega arith
-not-refused R.Opened n k e = let z : ◌≡◌ {A = ℕ} 0 1 = cc in omega arith
-not-refused R.Abandoned n k e = let z : ◌≡◌ {A = ℕ} 0 1 = cc in omega arith
-not-refused (R.Chosen c) n k e = let z : ◌≡◌ {A = ℕ} 0 1 = cc in omega arith
-not-refused (R.Part a m v) n k e = let z : ◌≡◌ {A = ℕ} 0 1 = cc in omega arith
-
 module _ (paged : Bool) (c₀ : Control) (k₀ : Setup) (c : Control) (k : Setup) (bytes table table' buffer buffer' keys out out' : List ℕ) (report : Report)
     (h : Does Open (memory (session_of c₀ k₀ buffer) bytes table) (memory (session_of c k buffer') bytes table') report) (r : ℕ) where
   abbrev verdict : Opening
@@ -190,9 +170,9 @@ module _ (paged : Bool) (c₀ : Control) (k₀ : Setup) (c : Control) (k : Setup
       go (Refused m) q = let z : m ≡ n = cc in ap refused_text z
       go (Accepted es) q = absurd (let z : ◌≡◌ {A = ℕ} 0 1 = cc in omega arith)
 
-  pub image-opened : OneOf others (tag_of type.the_type report) → Register c k paged bytes table' keys out out' r → Image paged bytes table buffer keys out out' r
+  pub image-opened : ((n : Refusal) → report ≡ R.Refused n → ⊥) → Register c k paged bytes table' keys out out' r → Image paged bytes table buffer keys out out' r
   unfolding image_text next
-  image-opened tag w = record {
+  image-opened other w = record {
     sized = w.sized;
     inside = w.inside;
     prints = λ proper room long. let x = h.exact proper in go verdict refl x.answered x.became x.fits room long;
@@ -201,7 +181,7 @@ module _ (paged : Bool) (c₀ : Control) (k₀ : Setup) (c : Control) (k : Setup
       go : (o : Opening) → verdict ≡ o → report ≡ opened o → state_of (session_of c k buffer') ≡ next Open (state_of (session_of c₀ k₀ buffer)) (words_of bytes) (length bytes) (length table)
           → Fits (session_of c k buffer') (words_of bytes) table' → capacity (length table) ≤ length keys → most_text paged (capacity (length table)) ≤ length out
           → take r out' ≡ opened_text paged (words_of bytes) o
-      go (Refused n) v a b f room long = absurd (not-refused report n tag a)
+      go (Refused n) v a b f room long = absurd (other n a)
       go (Accepted es) v a b f room long =
           let g : gate (state_at c k buffer') (length bytes) (length table') ≡ none = rw (b, v, h.sized, eq-eqb (length bytes) (length bytes) refl, eq-eqb (length table) (length table) refl) in
           let o : Opened c k bytes table' = (buffer', g, f) in

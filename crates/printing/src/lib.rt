@@ -5,13 +5,15 @@
 ghost use Rattle.std.specs.Prelude.{◌≤◌, suc, ◌≡◌, length, take};
 ghost use Rattle.text.specs.Text.{most_digits, Writes};
 ghost use Rattle.printing.specs.Lines.{refused_text, count_text, place_text, column_text, line_text, heading_text, page_text, break_text, head_text, entry_text};
-ghost use Rattle.io.specs.Counts.{IsPrefixLen};
+ghost use Rattle.std.specs.Counts.{IsPrefixLen};
 ghost use Rattle.printing.specs.Print.{image_text, read_most, table_words, text_bytes, Key, Keys, Register, Image};
 
 use buffer::{BUFFER_WORDS, Buffer};
 use lookup::{Counted, Listed};
 use session::{Control, Setup};
 use spec::{Refusal, Report};
+use std::io::Read;
+use std::process::ExitCode;
 
 // The sheet's columns, and the rows of a page.
 const KEY_COLUMNS: usize = 20;
@@ -257,33 +259,33 @@ fn image_text(image: &[u8], paged: bool, out: &mut [u8]) -> usize
     list_image(image, &mut table, &mut buffer, &mut keys, paged, out)
 }
 
-// Reads standard input; how many bytes. There is room for one byte more than an image may have.
-fn read_image(image: &mut [u8]) -> usize
+// Reads an image; how many bytes. There is room for one byte more than an image may have.
+fn read_image<R: Read>(input: &mut R, image: &mut [u8]) -> usize
     requires { length image.old ≡ suc read_most }
     ensures { IsPrefixLen result image.new }
 {
-    io::read_full(0, image)
+    text::read_full(input, image)
 }
 
-// Prints the text of the image on standard input. A program of the kit has no exit status: where not all could be
-// printed, standard error says so, under the program's name.
-fn print(paged: bool, name: &[u8]) {
+// Prints the text of the image on standard input. Where not all could be printed, standard error says so, under the
+// program's name, and the exit status is that of a failure.
+fn print(rt: &(impl Input + Print + Eprint), paged: bool, name: &str) -> ExitCode {
     let mut image: [u8; READ_BYTES] = [0; READ_BYTES];
     let mut out: [u8; TEXT_BYTES] = [0; TEXT_BYTES];
-    let n = read_image(&mut image);
+    let n = read_image(&mut rt.reader(), &mut image);
     let end = image_text(&image[..n], paged, &mut out);
-    if io::write_all(1, &out[..end]) {
-        return;
+    if rt.write_all(&out[..end]).is_ok() {
+        return ExitCode::SUCCESS;
     }
-    io::write_all(2, name);
-    io::write_all(2, b": not all of it could be printed\n");
+    let _ = eprint!(rt; "{name}: not all of it could be printed\n");
+    ExitCode::FAILURE
 }
 
 // THE PROGRAMS.
-pub fn print_list() {
-    print(false, b"list");
+pub fn print_list(rt: &(impl Input + Print + Eprint)) -> ExitCode {
+    print(rt, false, "list")
 }
 
-pub fn print_sheet() {
-    print(true, b"sheet");
+pub fn print_sheet(rt: &(impl Input + Print + Eprint)) -> ExitCode {
+    print(rt, true, "sheet")
 }

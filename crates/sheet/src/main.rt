@@ -2,6 +2,8 @@
 // refused.
 #![tactic(auto)]
 
-fn main() {
-    printing::print_sheet();
+use std::process::ExitCode;
+
+fn main(rt: HostRuntime) -> ExitCode {
+    printing::print_sheet(&rt)
 }

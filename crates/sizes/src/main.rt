@@ -2,11 +2,12 @@
 #![tactic(auto)]
 
 ghost use Rattle.std.specs.Prelude.{◌≡◌, length, take};
-ghost use Rattle.io.specs.Counts.{IsPrefixLen};
+ghost use Rattle.std.specs.Counts.{IsPrefixLen};
 ghost use Rattle.text.specs.Text.{Writes};
 ghost use Rattle.sizes.specs.Table.{line_text, table_text, text_bytes};
 
 use spec::Size;
+use std::process::ExitCode;
 
 // The units of a large chunk and one more: so many lines.
 const LINES: usize = 257;
@@ -37,12 +38,13 @@ fn put_table(out: &mut [u8]) -> usize
     end
 }
 
-// A program of the kit has no exit status: where not all could be printed, standard error says so.
-fn main() {
+// Where not all could be printed, standard error says so, and the exit status is that of a failure.
+fn main(rt: HostRuntime) -> ExitCode {
     let mut out: [u8; TEXT_BYTES] = [0; TEXT_BYTES];
     let end = put_table(&mut out);
-    if io::write_all(1, &out[..end]) {
-        return;
+    if rt.write_all(&out[..end]).is_ok() {
+        return ExitCode::SUCCESS;
     }
-    io::write_all(2, b"sizes: not all of it could be printed\n");
+    let _ = eprint!(rt; "sizes: not all of it could be printed\n");
+    ExitCode::FAILURE
 }

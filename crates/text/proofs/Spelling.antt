@@ -1,6 +1,6 @@
 -- What a text spells from a place on: by its byte there, and at its end.
 -- Assumes nothing.
-use Rattle.std.proofs.Common.{◌≡◌, ℕ, suc, ◌+◌, ◌*◌, ◌%◌, ◌^◌, ◌<◌, ◌≤◌, Bool, true, false, List, length, get_or, drop, refl, ap, add-one, arith, drop_of_length-le, drop-cons}
+use Rattle.std.proofs.Common.{◌≡◌, ℕ, ◌+◌, ◌*◌, ◌%◌, ◌^◌, ◌<◌, ◌≤◌, true, false, List, length, get_or, drop, ap, add-one, arith, drop_of_length-le, drop-cons}
 use native.Mathlib.Nat.{mod-add-mod, add-mod-mod}
 use Rattle.text.specs.Spelled.{is_digit, with_digit, spelled}
 

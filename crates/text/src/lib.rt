@@ -1,10 +1,14 @@
 // Numbers and words as text: a decimal number read, and bytes and the decimal digits of a number put behind a text in
-// lent bytes.
+// lent bytes; and lent bytes filled from an input.
 #![tactic(auto)]
 
-ghost use Rattle.std.specs.Prelude.{◌≡◌, ◌+◌, ◌-◌, ◌*◌, ◌%◌, ◌^◌, ◌<◌, ◌≤◌, length, drop};
+ghost use Rattle.std.specs.Prelude.{◌≡◌, ◌+◌, ◌-◌, ◌*◌, ◌%◌, ◌^◌, ◌<◌, ◌≤◌, length, take, drop};
+ghost use Rattle.std.specs.Counts.{IsPrefixLen};
+ghost use Rattle.std.specs.Io.KnownBytes.{Consumes};
 ghost use Rattle.text.specs.Spelled.{is_digit, with_digit, spelled};
 ghost use Rattle.text.specs.Text.{most_digits, decimal, right_in, with_bytes, behind, Digits};
+
+use std::io::Read;
 
 // What stands at a place of a line, and where the text goes on behind it: a word's letters or a number; `given` if
 // there is one.
@@ -139,4 +143,31 @@ pub fn put_decimal(text: &mut [u8], at: usize, number: u64) -> usize
     ensures { (result ≡ behind text.old at (decimal number)) × (text.new ≡ with_bytes text.old at (decimal number)) }
 {
     put_right(text, at, number, 0)
+}
+
+// One read into lent bytes; how many bytes, 0 where it fails.
+fn read_some<R: Read>(input: &mut R, bytes: &mut [u8]) -> usize
+    ensures prefix_len { IsPrefixLen result bytes.new }
+    ensures read { Consumes (R.remaining input.old) (R.remaining input.new) (take result bytes.new) }
+{
+    match input.read(bytes) {
+        Ok(n) => n,
+        Err(_) => 0,
+    }
+}
+
+// Reads until the lent bytes are full, the input ends or a read fails; how many bytes.
+pub fn read_full<R: Read>(input: &mut R, bytes: &mut [u8]) -> usize
+    ensures prefix_len { IsPrefixLen result bytes.new }
+    ensures read { Consumes (R.remaining input.old) (R.remaining input.new) (take result bytes.new) }
+{
+    let mut done = 0;
+    while done < bytes.len() {
+        let n = read_some(input, &mut bytes[done..]);
+        if n == 0 {
+            break;
+        }
+        done += n;
+    }
+    done
 }

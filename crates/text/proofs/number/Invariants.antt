@@ -1,0 +1,10 @@
+-- The loops of `text::number`.
+use Rattle.std.proofs.Common.{◌≡◌, ◌-◌, length, drop}
+use Rattle.text.specs.Spelled.{spelled}
+use Rattle.text.proofs.number.Given as goal
+
+abbrev pub invariant-loop-at : goal.invariant-loop-at
+invariant-loop-at l = spelled (drop l.from l.text) 0 ≡ spelled (drop l.at l.text) l.value
+
+abbrev pub decreases-loop-at : goal.decreases-loop-at
+decreases-loop-at l = length l.text - l.at
