@@ -3,6 +3,6 @@
 #   bench/blocks.sh [ROUNDS]
 set -e
 make -s -C host archive
-mkdir -p target/bench
-gcc -std=c11 -O2 -Wall -Wextra -Iinclude -Ihost -o target/bench/blocks bench/blocks.c target/staticlib/libregister.a
-target/bench/blocks "$@"
+mkdir -p bench/build
+gcc -std=c11 -O2 -Wall -Wextra -Iinclude -Ihost -o bench/build/blocks bench/blocks.c host/build/libregister.a
+bench/build/blocks "$@"

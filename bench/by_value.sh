@@ -7,19 +7,22 @@ set -eu
 work=$(mktemp -d)
 trap 'rm -rf "$work"' EXIT
 mkdir -p "$work/crates/by_value/src"
-echo 'by_value:' > "$work/crates.txt"
+echo 'by_value staticlib:' > "$work/crates.txt"
 {
     echo '// A step that changes two numbers of a record: by value, and with the buffer lent.'
+    echo '#![tactic(auto)]'
+    echo
     for size in 1683 10623; do
         cat <<END
 #[repr(C)]
+#[derive(Clone, Copy)]
 pub struct Record$size {
     pub next: u64,
     pub kind: u64,
     pub buffer: [u64; $size],
 }
 
-#[no_mangle]
+#[unsafe(no_mangle)]
 pub extern "C" fn step_$size(r: Record$size) -> Record$size {
     let mut s = r;
     let at = r.next % 512;
@@ -32,12 +35,13 @@ END
     done
     cat <<'END'
 #[repr(C)]
+#[derive(Clone, Copy)]
 pub struct Control {
     pub next: u64,
     pub kind: u64,
 }
 
-#[no_mangle]
+#[unsafe(no_mangle)]
 pub extern "C" fn step_lent(c: Control, buffer: &[u64]) -> Control {
     let at = c.next % 512;
     if buffer.len() == 0 {
@@ -111,6 +115,6 @@ int main(void)
     return 0;
 }
 END
-(cd "$work" && rt staticlib by_value > log 2>&1) || { tail -n 20 "$work/log" >&2; exit 1; }
-gcc -std=gnu11 -O2 -Wall -Wextra -Werror "$work/time.c" "$work/target/staticlib/libby_value.a" -o "$work/time"
+(cd "$work/crates/by_value" && rt lib > "$work/log" 2>&1) || { tail -n 20 "$work/log" >&2; exit 1; }
+gcc -std=gnu11 -O2 -Wall -Wextra -Werror "$work/time.c" "$work/crates/by_value/out/libby_value.a" -o "$work/time"
 "$work/time"

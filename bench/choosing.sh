@@ -3,6 +3,6 @@
 # root.
 set -e
 make -s -C host archive
-mkdir -p target/bench
-gcc -O2 -Wall -Iinclude -o target/bench/choosing bench/choosing.c target/staticlib/libregister.a
-target/bench/choosing
+mkdir -p bench/build
+gcc -O2 -Wall -Iinclude -o bench/build/choosing bench/choosing.c host/build/libregister.a
+bench/build/choosing

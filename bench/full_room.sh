@@ -3,9 +3,9 @@
 # runs it. Run from the repository root.
 set -e
 make -s -C host archive
-mkdir -p target/bench
+mkdir -p bench/build
 for keys in ${*:-28000 30000 32000 32700}; do
     gcc -O2 -Wall -Iinclude -Ihost -DROOM_CHUNKS=504 -DROOM_TABLE=131072 -DROOM_KEYS="$keys" -DROOM_WARM_UP=300000 -DPLAIN_BITS=17 \
-        -o target/bench/full_room bench/full_room.c host/bench_clean.c target/staticlib/libregister.a
-    target/bench/full_room
+        -o bench/build/full_room bench/full_room.c host/bench_clean.c host/build/libregister.a
+    bench/build/full_room
 done

@@ -148,7 +148,7 @@ static void shuffle(uint64_t *keys)
 
 // ---- Probes: how many slots a look-up reads on average ----
 
-// The slot at which the proved table starts, as its definition `hashOf` says.
+// The slot at which the proved table starts, as its definition `hash_of` says.
 static size_t rattle_hash(uint64_t key)
 {
     uint32_t low = (uint32_t)key * 0xFF274DFFu;

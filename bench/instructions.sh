@@ -1,6 +1,7 @@
 #!/usr/bin/env bash
 # Counts the instructions of the public calls (callgrind) and compares them with the kept figures, bench/instructions.txt:
-# more than 3 % above one of them is an error. They do not depend on the machine's speed. No part of the gate.
+# more than 3 % above one of them is an error. They do not depend on the machine's speed. No part of the gate. The kept
+# figures are of the library as the older kit compiled it.
 # A row has the instructions inside the calls, and those with the loop of the driver around them. Clearing the key table is
 # one instruction of the processor, which callgrind counts once for each byte: an opening's figure is without it.
 #   bench/instructions.sh            compare
@@ -8,14 +9,14 @@
 set -euo pipefail
 cd "$(dirname "${BASH_SOURCE[0]}")/.."
 [ -f /usr/include/valgrind/callgrind.h ] || { apt-get update && apt-get install -y valgrind; } >&2
-[ -f target/staticlib/libregister.a ] || make -s -C host archive
-mkdir -p target/bench
-gcc -std=c11 -O2 -Wall -Wextra -Iinclude -o target/bench/instructions bench/instructions.c target/staticlib/libregister.a
+[ -f host/build/libregister.a ] || make -s -C host archive
+mkdir -p bench/build
+gcc -std=c11 -O2 -Wall -Wextra -Iinclude -o bench/build/instructions bench/instructions.c host/build/libregister.a
 kept=bench/instructions.txt
 now=$(mktemp)
 trap 'rm -f "$now" "$now.out" "$now.ops"' EXIT
 while read -r row what; do
-    valgrind --tool=callgrind --instr-atstart=no --callgrind-out-file="$now.out" target/bench/instructions "$row" \
+    valgrind --tool=callgrind --instr-atstart=no --callgrind-out-file="$now.out" bench/build/instructions "$row" \
         > "$now.ops" 2> /dev/null
     total=$(awk '/^totals:/ {print $2; exit}' "$now.out")
     inside=$(callgrind_annotate --inclusive=yes --threshold=100 "$now.out" 2> /dev/null \

@@ -3,6 +3,6 @@
 #   bench/large.sh [RUNS]
 set -e
 make -s -C host archive
-mkdir -p target/bench
-gcc -std=c11 -O2 -Wall -Wextra -Iinclude -Ihost -o target/bench/large bench/large.c target/staticlib/libregister.a
-target/bench/large "$@"
+mkdir -p bench/build
+gcc -std=c11 -O2 -Wall -Wextra -Iinclude -Ihost -o bench/build/large bench/large.c host/build/libregister.a
+bench/build/large "$@"

@@ -3,6 +3,6 @@
 # repository root.
 set -e
 make -s -C host archive
-mkdir -p target/bench
-gcc -O2 -Wall -Iinclude -o target/bench/opening bench/opening.c target/staticlib/libregister.a
-target/bench/opening
+mkdir -p bench/build
+gcc -O2 -Wall -Iinclude -o bench/build/opening bench/opening.c host/build/libregister.a
+bench/build/opening

@@ -3,6 +3,6 @@
 # it. Run from the repository root.
 set -e
 make -s -C host archive
-mkdir -p target/bench
-gcc -O2 -Wall -Iinclude -o target/bench/second_pass bench/second_pass.c target/staticlib/libregister.a
-target/bench/second_pass
+mkdir -p bench/build
+gcc -O2 -Wall -Iinclude -o bench/build/second_pass bench/second_pass.c host/build/libregister.a
+bench/build/second_pass

@@ -4,7 +4,7 @@ python3 tests/definitions.py SEED COUNT [--only PATTERN] [--show N] [--keep] [--
 
 Makes COUNT images (whole, damaged in each clause, foreign, after power cuts) with calls and histories of calls, and beside them numbers,
 logs, media and desk books, and look-ups between the steps of each call; writes what the model says of each as a fact of a throw-away
-crate over a copy of crates/spec; has `rt check` compute them. A fact that does not hold is named, the first N (2) with both values, and
+crate over a copy of crates/spec; has `rt all check` compute them. A fact that does not hold is named, the first N (2) with both values, and
 the exit status is 1. So it is where no call was refused with one of the numbers in force (unless --only is given).
 --only checks the facts whose names have the pattern; --keep leaves the throw-away repository behind and says where it is; --spec takes
 another copy of crates/spec.
@@ -42,7 +42,7 @@ class Repository:
                 found = re.findall(r'^\s*unfoldable (?:abbrev )?pub (\S+)', h.read(), re.M)
             names[file[:-5]] = sorted({*names.get(file[:-5], []), *found})
             self.unfolding += found
-        self.uses = codes.USES + ''.join(f'use Rattle·spec.specs.{m}.{{{", ".join(some)}}}\n' for m, some in names.items() if some)
+        self.uses = codes.USES + ''.join(f'use Rattle.spec.specs.{m}.{{{", ".join(some)}}}\n' for m, some in names.items() if some)
 
     def write(self, path, text):
         path = os.path.join(self.folder, path)
@@ -72,14 +72,20 @@ class Repository:
             self.write(f'crates/{c}/proofs/Lib.antt', ''.join(f'pub mod {name}\n' for crate, name in where if crate == c))
             self.write(f'crates/{c}/src/lib.rt', '// Nothing: the proofs beside this file are checked.\n')
         self.write('crates.txt', 'spec:\ncodes: spec\n' + ''.join(f'{c}: spec codes\n' for c in self.crates))
-        run = subprocess.run(['rt', 'check'], cwd=self.folder, stdout=subprocess.PIPE, stderr=subprocess.STDOUT, text=True, env={**os.environ, 'RT_CUT': '0'})
-        failed = []
-        for c, name, line, what in re.findall(r'crates/(\w+)/proofs/(\w+)\.antt:(\d+):\d+: error:?(.*)', run.stdout):
-            fact = next((f for at, f in where.get((c, name), []) if at <= int(line) < at + 3), None)
+        run = subprocess.run(['rt', 'all', 'check'], cwd=self.folder, stdout=subprocess.PIPE, stderr=subprocess.STDOUT, text=True)
+        failed, crate = [], None
+        for said in run.stdout.split('\n'):
+            head, at = re.fullmatch(r'== (\w+)', said), re.match(r'\./proofs/(\w+)\.antt:(\d+):\d+: error:?(.*)', said)
+            if head:
+                crate = head[1]
+            if not at:
+                continue
+            fact = next((f for line, f in where.get((crate, at[1]), []) if line <= int(at[2]) < line + 3), None)
             if fact and fact not in failed:
-                fact.note = ' (the prover stopped at its step limit)' if 'step limit' in what else ''
+                fact.note = ' (the prover stopped at its step limit)' if 'step limit' in at[3] else ''
                 failed.append(fact)
-        if run.returncode == 0 and not run.stdout.rstrip().endswith(f'rt: ok, {len(self.crates) + 2} crates proved'):
+        crates = len(self.crates) + 2
+        if run.returncode == 0 and not run.stdout.rstrip().endswith(f'{crates} of {crates} crates ok'):
             return 2, failed, run.stdout
         return run.returncode, failed, run.stdout
 
@@ -119,7 +125,7 @@ class Asking:
             fact = self.shortest(fact)
             begin = len(fact.code) - len(fact.parts[-1][1])
         size = self.number(f'length ({fact.text})')
-        agree = self.hold([f'eqb (getD ({fact.text}) {j} {WORD}) {fact.code[j]}' for j in range(begin, len(fact.code))])
+        agree = self.hold([f'eqb (get_or ({fact.text}) {j} {WORD}) {fact.code[j]}' for j in range(begin, len(fact.code))])
         at = begin + agree.index(False) if False in agree else len(fact.code)
         before = 0
         for name, code in fact.parts:
@@ -156,7 +162,7 @@ def main():
         repository = Repository(args.spec, os.path.join(folder, 'repository'))
         status, failed, said = repository.check([(s, [(f, test_of(f)) for f in s.facts if f in sheet_of]) for s in sheets if s in sheet_of.values()])
         if status and not failed:
-            print(f'{said[-6000:]}\ndefinitions: the prover refused something else than a fact (rt check: {status})')
+            print(f'{said[-6000:]}\ndefinitions: the prover refused something else than a fact (rt all check: {status})')
             return 1
         for f in failed:
             print(f'{f.name}: not what the model says{f.note}. {sheet_of[f].kind}')

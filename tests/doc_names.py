@@ -8,7 +8,7 @@ tests/doc_names.py --unmark     takes them out: a patch made without the numbers
 
 Looked up, in backquotes: `crate::function` in src/lib.rt or src/main.rt of that crate; `crate::module::function` in its
 src/module.rt; `Module.name` in crates/spec/specs; `crate.Module` and `crate.Module.name` in the specs or proofs of that
-crate; paths below crates, tests, docs, host, include, tools, bench, .ci. So are links. A crate that crates.txt does not
+crate, and `Rattle.crate.specs.Module.name` or `.proofs.` as the code cites it; paths below crates, tests, docs, host, include, tools, bench, .ci. So are links. A crate that crates.txt does not
 have is missing too, and so is one of crates.txt that the table of rooms in docs/ARCHITECTURE.md lacks. A paragraph behind `<!-- archive -->` or `<!-- list -->` speaks of what is to come and is passed
 over; behind `<!-- names of that time -->` only links are looked up, to the end of the file.
 
@@ -34,7 +34,7 @@ BEFORE = r'\s*(?:(?:abbrev|unfoldable|pub|record|data|ruleset) )*'
 DECLARES = re.compile(BEFORE + r'(?P<name>\w[^\s(){}]*)(?: [({].*[)}])? :(?:\s|$)')
 TOPS = ('crates', 'tests', 'docs', 'host', 'include', 'tools', 'bench', '.ci')
 with open('crates.txt', encoding='utf-8') as lines:
-    CRATES = {line.split(':')[0] for line in lines if ':' in line and not line.startswith('#')}
+    CRATES = {line.split(':')[0].split()[0] for line in lines if ':' in line and not line.startswith('#')}
 
 
 def read(path):
@@ -66,6 +66,12 @@ def missing(token):
         if not m[2] and os.path.exists(f'crates/{m[1]}/src/{m[3]}.rt'):
             return None
         return None if has_function(m[1], [m[2]] if m[2] else ['lib', 'main'], m[3]) else 'no such function or module'
+    m = re.fullmatch(r'Rattle\.([a-z_]+)\.(specs|proofs)\.([A-Z]\w*)(?:\.(\S+))?', token)
+    if m:
+        file = f'crates/{m[1]}/{m[2]}/{m[3]}.antt'
+        if m[1] not in CRATES or not os.path.exists(file):
+            return 'no such module'
+        return None if m[4] is None or has_name([file], m[4]) else 'no such name in the module'
     m = re.fullmatch(r'([a-z_]+)\.([A-Z]\w*)(?:\.(\S+))?', token)
     if m and m[1] != 'crate':
         if m[1] not in CRATES:

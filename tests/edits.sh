@@ -5,21 +5,15 @@
 #   tests/edits.sh CRATE..    these
 set -euo pipefail
 cd "$(dirname "${BASH_SOURCE[0]}")/.."
-root=$PWD
 [ "${1:-}" != --help ] || { sed -n '2,5p' "$0"; exit 0; }
 crates=("$@")
 [ ${#crates[@]} -gt 0 ] || crates=($(ls tests/edits))
 work=$(mktemp -d)
 trap 'rm -rf "$work"' EXIT
-cp -a crates crates.txt "$work"
-[ ! -d target ] || cp -a target "$work"
-rm -rf "$work"/crates/*/must-fail
-cd "$work"
-failed=0
+tar -c --exclude=out --exclude=must-fail crates crates.txt $([ ! -e HANDLES ] || echo HANDLES) | tar -x -C "$work"
 for c in "${crates[@]}"; do
-    [ -d "$root/tests/edits/$c" ] || { echo "no edits of $c" >&2; exit 2; }
-    cp -a "$root/tests/edits/$c" "crates/$c/must-fail"
-    rt must-fail "$c" || failed=1
-    rm -rf "crates/$c/must-fail"
+    [ -d "tests/edits/$c" ] || { echo "no edits of $c" >&2; exit 2; }
+    cp -a "tests/edits/$c" "$work/crates/$c/must-fail"
 done
-exit $failed
+cd "$work"
+rt must-fail "${crates[@]}"

@@ -3,11 +3,11 @@
 # elsewhere; host/hello.c builds against it by pkg-config alone, static and shared, and runs; uninstall leaves nothing.
 # `make test` runs the gate, and a build without the kit says what is missing.
 #
-# tests/install.sh [ARCHIVE]        target/staticlib/libregister.a; needs gcc, make, pkg-config
+# tests/install.sh [ARCHIVE]        host/build/libregister.a; needs gcc, make, pkg-config
 set -euo pipefail
 cd "$(dirname "$0")/.."
 fail() { echo "install: $*" >&2; exit 1; }
-archive=$(realpath "${1:-target/staticlib/libregister.a}")
+archive=$(realpath "${1:-host/build/libregister.a}")
 work=$(mktemp -d)
 trap 'rm -rf "$work"' EXIT
 root=$work/root prefix=/opt/register

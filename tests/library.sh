@@ -8,7 +8,7 @@
 set -euo pipefail
 cd "$(dirname "$0")/.."
 fail() { echo "library: $*" >&2; exit 1; }
-library=$PWD/host/build/libzitskvoze.a archive=$PWD/target/staticlib/libregister.a zkv=$PWD/host/build/zkv
+library=$PWD/host/build/libzitskvoze.a archive=$PWD/host/build/libregister.a zkv=$PWD/host/build/zkv
 for needed in "$library" "$archive" "$zkv"; do
     [ -e "$needed" ] || { echo "$needed is missing: run make -C host" >&2; exit 2; }
 done

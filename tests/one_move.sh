@@ -3,10 +3,10 @@
 # word: looks at the compiled archive (objdump, tests/stores.py), and watches the image instruction by instruction
 # (tests/one_move.c). Both are first shown to find a store in parts.
 #
-# tests/one_move.sh [ARCHIVE]       target/staticlib/libregister.a if none is named; needs gcc, objdump, Python 3
+# tests/one_move.sh [ARCHIVE]       host/build/libregister.a if none is named; needs gcc, objdump, Python 3
 set -eu
 cd "$(dirname "$0")/.."
-archive=${1:-target/staticlib/libregister.a}
+archive=${1:-host/build/libregister.a}
 [ -f "$archive" ] || { echo "$archive is missing: run make -C host archive" >&2; exit 2; }
 work=$(mktemp -d)
 trap 'rm -rf "$work"' EXIT

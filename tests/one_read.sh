@@ -2,10 +2,10 @@
 # The begin of a cleaning reads each word of its chunk at most once, from the first to the last (tests/one_read.c). First
 # shown to find a second reading.
 #
-# tests/one_read.sh [ARCHIVE]       target/staticlib/libregister.a if none is named; needs gcc
+# tests/one_read.sh [ARCHIVE]       host/build/libregister.a if none is named; needs gcc
 set -eu
 cd "$(dirname "$0")/.."
-archive=${1:-target/staticlib/libregister.a}
+archive=${1:-host/build/libregister.a}
 [ -f "$archive" ] || { echo "$archive is missing: run make -C host archive" >&2; exit 2; }
 work=$(mktemp -d)
 trap 'rm -rf "$work"' EXIT

@@ -9,8 +9,8 @@ missing=()
 [ -f /usr/include/libpmemobj.h ] || missing+=(libpmemobj-dev)
 [ ${#missing[@]} -eq 0 ] || { apt-get update && apt-get install -y "${missing[@]}"; } >&2
 make -C host build/libzitskvoze.a >&2
-mkdir -p target/bench
-gcc -std=gnu11 -O2 -Wall -Wextra -Iinclude -Ihost -o target/bench/peers bench/peers/*.c host/build/libzitskvoze.a -llmdb -lpmemobj
+mkdir -p bench/build
+gcc -std=gnu11 -O2 -Wall -Wextra -Iinclude -Ihost -o bench/build/peers bench/peers/*.c host/build/libzitskvoze.a -llmdb -lpmemobj
 folder=$(mktemp -d /dev/shm/peers.XXXXXX)
 trap 'rm -rf "$folder"' EXIT
-PMEM_IS_PMEM_FORCE=1 target/bench/peers "$folder" "${1:-12}"
+PMEM_IS_PMEM_FORCE=1 bench/build/peers "$folder" "${1:-12}"

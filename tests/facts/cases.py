@@ -450,7 +450,7 @@ def image_sheet(seed, index):
     keys, m = make(rng, index)
     ws, table = m.words, m.start[1]
     sheet = Sheet(f'image{index:03}', f'An image, {kind}', ws)
-    sheet.add('opening', f'openingCode (opening {len(ws) * 8} words {table})', opening_code(ws, len(ws) * 8, table))
+    sheet.add('opening', f'opening_code (opening {len(ws) * 8} words {table})', opening_code(ws, len(ws) * 8, table))
     try:
         v = View(ws, len(ws) * 8, 10 ** 6)
     except Refused:
@@ -479,9 +479,9 @@ def image_sheet(seed, index):
 def meaning_facts(rng, sheet, v, keys, table):
     """What an accepted image means: its keys, its places, what each cleaning does."""
     ws, n = v.words, v.count
-    b, known, entries = len(ws) * 8, len(v.by_key), f'(entriesIn {v.geo.power} {n} words)'
+    b, known, entries = len(ws) * 8, len(v.by_key), f'(entries_in {v.geo.power} {n} words)'
     tables = [rng.choice([4 * known + 3, 4 * known]), max(0, 4 * known - 1)]
-    sheet.add_parts('tables', f'each (λ t. openingCode (opening {b} words t)) {listed(tables)}', [(f'table of {t} words', opening_code(ws, b, t)) for t in tables])
+    sheet.add_parts('tables', f'each (λ t. opening_code (opening {b} words t)) {listed(tables)}', [(f'table of {t} words', opening_code(ws, b, t)) for t in tables])
     asked, parts = list(keys) + [UNKNOWN], []
     for k in asked:
         e, value = v.chosen(k) if k in v.tops else None, v.look_up(k)
@@ -489,9 +489,9 @@ def meaning_facts(rng, sheet, v, keys, table):
         start = (e.tail * 32 + 1) * 8 if e and e.block else (at + 2) * 8
         code = [e.version if e else 0, len(v.tops.get(k, [])), int(e is not None), at] + held_code(value)
         parts.append((f'key {k}', code + report_code(('refused', 11) if value is None else ('part', start, len(value), e.version))))
-    sheet.add_parts('keys', f'keyCodes {listed(asked)} words {entries}', parts)
+    sheet.add_parts('keys', f'key_codes {listed(asked)} words {entries}', parts)
     some = rng.sample(asked, 2)
-    sheet.add_parts('contents', f'each (λ k. heldCode (contents {v.geo.power} {n} words k)) {listed(some)}', [(f'key {k}', held_code(v.look_up(k))) for k in some])
+    sheet.add_parts('contents', f'each (λ k. held_code (contents {v.geo.power} {n} words k)) {listed(some)}', [(f'key {k}', held_code(v.look_up(k))) for k in some])
     st = Station()
     st.open(ws, 10 ** 6)
     try:
@@ -499,7 +499,7 @@ def meaning_facts(rng, sheet, v, keys, table):
     except Refused:
         best = [0, 0]
     live = [e.tail for e in v.entries if e.op == 1 and e.block and e in v.tops[e.key]]
-    sheet.add('whole', f'wholeCode {v.geo.power} {n} words {entries}', [known, sum(v.by_key), sum_of(live), sum_of(v.free_chunks())] + best)
+    sheet.add('whole', f'whole_code {v.geo.power} {n} words {entries}', [known, sum(v.by_key), sum_of(live), sum_of(v.free_chunks())] + best)
     parts = []
     for c in range(n + 1):
         st.pending = None
@@ -509,18 +509,18 @@ def meaning_facts(rng, sheet, v, keys, table):
         except Refused as r:
             refused(r.number, 'clean')
             parts.append((f'chunk {c}', [0, r.number]))
-    sheet.add_parts('cleanings', f'cleanCodes {v.geo.power} {n} words {entries} {listed(range(n + 1))}', parts)
+    sheet.add_parts('cleanings', f'clean_codes {v.geo.power} {n} words {entries} {listed(range(n + 1))}', parts)
 
 
 def length_fact(rng, sheet, ws, table):
     b = len(ws) * 8
     lengths = [rng.choice([b - 1, b + 8, 12288, 0, 505 * 4096]), rng.choice([b + 4096, 504 * 4096, 196608, 262144, 512 * 4096])]
-    sheet.add_parts('lengths', f'each (λ b. openingCode (opening b words {table})) {listed(lengths)}', [(f'{c} bytes', opening_code(ws, c, table)) for c in lengths])
+    sheet.add_parts('lengths', f'each (λ b. opening_code (opening b words {table})) {listed(lengths)}', [(f'{c} bytes', opening_code(ws, c, table)) for c in lengths])
 
 
 def shown_fact(rng, sheet, v, keys):
     k = rng.choice(keys + list(v.tops))
-    sheet.add('shows', f'shownCode (shows (lookUp words (entriesIn {v.geo.power} {v.count} words) {k}) (bytesOf words))', held_code(v.look_up(k)))
+    sheet.add('shows', f'shown_code (shows (look_up words (entries_in {v.geo.power} {v.count} words) {k}) (bytes_of words))', held_code(v.look_up(k)))
 
 
 def damage_facts(rng, sheet, ws):
@@ -529,7 +529,7 @@ def damage_facts(rng, sheet, ws):
         new = list(ws)
         for w, x in pokes:
             new[w] = x
-        sheet.add(f'damage-{name}', f'openingCode (opening {b} {poked_text(pokes)} {table})', opening_code(new, b, table))
+        sheet.add(f'damage-{name}', f'opening_code (opening {b} {poked_text(pokes)} {table})', opening_code(new, b, table))
 
 
 def staged_on(rng, ws, table, keys, n, value=None):
@@ -660,7 +660,7 @@ def cut_fact(rng, sheet, ws, keys, table):
     parts.append(('what is read', [sum_of(med.latest())]))
     left = med.cut(lambda w, v: newest_first(v, picks[w % len(picks)]))
     parts += [('the image left', [sum_of(left)]), ('its opening', opening_code(left, len(ws) * 8, table))]
-    sheet.add_parts('cut', f'cutCode {listed(at)} {listed(picks)} {len(ws) * 8} {table} (run {actions_text(acts)} (settledAt words))', parts)
+    sheet.add_parts('cut', f'cut_code {listed(at)} {listed(picks)} {len(ws) * 8} {table} (run {actions_text(acts)} (settled_at words))', parts)
 
 
 # ---- facts beside the images
@@ -669,14 +669,14 @@ def example_sheet():
     """The numbers that come with the rules, written here as they were given: worked by hand, and the examples of refusals."""
     empty = header_words(4) + [0] * 2040
     s = Sheet('examples', 'Examples of the rules', empty)
-    s.add('header', 'headerWords 12 16 G.Absent G.Absent', [1, 16, 0, 0, 0, 0, 0, 18446744073709551599])
-    s.add('directory', '(logWord 0 2 ∷ dataWord 0 3 ∷ [])', [513, 770])
+    s.add('header', 'header_words 12 16 G.Absent G.Absent', [1, 16, 0, 0, 0, 0, 0, 18446744073709551599])
+    s.add('directory', '(log_word 0 2 ∷ data_word 0 3 ∷ [])', [513, 770])
     entries = ['entry 1 0 1 5 7 []', 'entry 1 0 1 0 7 []', 'entry 2 0 2 0 7 []', 'entry 1 1 1 48 7 []']
-    s.add('entries', f'map headOf {listed(entries)}', [83886097, 17, 34, 805306389])
-    s.add('sizes', 'map (blockSize 12) (257 ∷ 504 ∷ 505 ∷ 4088 ∷ [])', [2, 2, 3, 16])
+    s.add('entries', f'map head_of {listed(entries)}', [83886097, 17, 34, 805306389])
+    s.add('sizes', 'map (block_size 12) (257 ∷ 504 ∷ 505 ∷ 4088 ∷ [])', [2, 2, 3, 16])
 
     def opens(n, length, *pokes):
-        s.add(f'refusal-{n}', f'openingCode (opening {length} {poked_text(pokes)} 64)', [0, n])
+        s.add(f'refusal-{n}', f'opening_code (opening {length} {poked_text(pokes)} 64)', [0, n])
         refused(n, 'open')
 
     def calls(name, answer, c, items=(), pokes=(), table=64, busy=''):
@@ -853,7 +853,7 @@ def large_sheets(seed, n):
     m.do('look', 7)
     m.history(sheets[0])
     for j, b in enumerate((327680, 262144, 196608, 16384, 327680 + 4096)):
-        sheets[0].add(f'opening-{j}', f'openingCode (opening {b} words 64)', opening_code(sheets[0].words, b, 64))
+        sheets[0].add(f'opening-{j}', f'opening_code (opening {b} words 64)', opening_code(sheets[0].words, b, 64))
 
     def goes_on(name, *calls):
         new = Machine(m.memory, 64)
@@ -875,7 +875,7 @@ def large_sheets(seed, n):
         ws = ours(rng, count, keys, 12, large=True, power=16)
         v = View(ws, len(ws) * 8, 10 ** 6)
         sheets.append(Sheet(f'large-image{j}', 'An image of large chunks', ws))
-        sheets[-1].add('opening', f'openingCode (opening {len(ws) * 8} words 64)', opening_code(ws, len(ws) * 8, 64))
+        sheets[-1].add('opening', f'opening_code (opening {len(ws) * 8} words 64)', opening_code(ws, len(ws) * 8, 64))
         meaning_facts(rng, sheets[-1], v, keys, 64)
         call_facts(rng, sheets[-1], ws, keys, 64, 3)
         m = Machine(ws, 64)
@@ -890,21 +890,21 @@ def number_sheet(seed):
     s = Sheet('numbers', 'Sizes, roles, headers, bytes')
     for low in range(257, 4089, 958):
         n = min(958, 4089 - low)
-        s.add(f'block-sizes-{low}', f'(sumOf 0 (map (λ n. blockSize 12 (n + {low})) (upFrom 0 {n})) ∷ [])', [sum_of(block_size(x) for x in range(low, low + n))])
-    s.add('sizes', 'map (λ s. bit (isSize 12 s)) (upFrom 0 40)', [int(x in SIZES) for x in range(40)])
-    s.add('limit', '(blockLimit 12 ∷ [])', [SIZES[-1] * 256 - 8])
+        s.add(f'block-sizes-{low}', f'(sum_of 0 (map (λ n. block_size 12 (n + {low})) (up_from 0 {n})) ∷ [])', [sum_of(block_size(x) for x in range(low, low + n))])
+    s.add('sizes', 'map (λ s. bit (is_size 12 s)) (up_from 0 40)', [int(x in SIZES) for x in range(40)])
+    s.add('limit', '(block_limit 12 ∷ [])', [SIZES[-1] * 256 - 8])
     xs = [0, 1, 3, 4, 7, 8, 15, 16, 262143, 262144, 262147, 2 ** 40] + [rng.randrange(300000) for _ in range(5)]
     s.add('capacity', f'map capacity {listed(xs)}', [capacity(x) for x in xs])
     xs = [0, 1, 4095, 4096, 12288, 16383, 16384, 16385, 16392, 20480, 504 * 4096, 504 * 4096 + 1, 505 * 4096, 2 ** 40] + [4096 * rng.randrange(600) for _ in range(5)]
-    s.add('lengths', f'map (λ b. bit (lengthAllowed 12 b)) {listed(xs)}', [int(RULES.length_allowed(x, 12)) for x in xs])
+    s.add('lengths', f'map (λ b. bit (length_allowed 12 b)) {listed(xs)}', [int(RULES.length_allowed(x, 12)) for x in xs])
     xs += [65536 * rng.randrange(600) for _ in range(5)] + [65536 * n for n in (3, 4, 504, 505)]
-    s.add('large-lengths', f'map (λ b. bit (lengthAllowed 16 b)) {listed(xs)}', [int(RULES.length_allowed(x, 16)) for x in xs])
-    s.add('any-lengths', f'map (λ b. bit (anyAllowed b)) {listed(xs)}', [int(RULES.length_allowed(x)) for x in xs])
+    s.add('large-lengths', f'map (λ b. bit (length_allowed 16 b)) {listed(xs)}', [int(RULES.length_allowed(x, 16)) for x in xs])
+    s.add('any-lengths', f'map (λ b. bit (any_allowed b)) {listed(xs)}', [int(RULES.length_allowed(x)) for x in xs])
     powers = [rng.choice([11, 12, 12, 13, 16, 16, 17]) for _ in xs]
-    s.add('told-powers', listed(f'bit (sizeAllowed {p} {x})' for p, x in zip(powers, xs)), [int(p in RULES.powers and RULES.length_allowed(x, p)) for p, x in zip(powers, xs)])
+    s.add('told-powers', listed(f'bit (size_allowed {p} {x})' for p, x in zip(powers, xs)), [int(p in RULES.powers and RULES.length_allowed(x, p)) for p, x in zip(powers, xs)])
     xs = [0, 1, 2, 3, 257, 256, 513, 514, 770, 1 | 64 << 8, 1 | 65 << 8, 2 | 16 << 8, 2 | 17 << 8, WORD - 1, 1 << 63]
     xs += [rng.choice([0, 1, 2, 3, 5, 6, 130, rng.randrange(256)]) | rng.choice([*range(10), 16, 63, 64, 65, rng.randrange(100)]) << 8 for _ in range(40)]
-    s.add_parts('roles', f'each (λ w. roleCode (roleOf 12 w)) {listed(xs)}', [(f'word {x}', RULES.role(x, CHUNKS) or (3, 0)) for x in xs])
+    s.add_parts('roles', f'each (λ w. role_code (role_of 12 w)) {listed(xs)}', [(f'word {x}', RULES.role(x, CHUNKS) or (3, 0)) for x in xs])
     text, parts = [], []
     for _ in range(30):
         n, p = rng.choice([4, 16, 504]), rng.choice([12, 16])
@@ -914,22 +914,22 @@ def number_sheet(seed):
         if rng.random() < .8:
             h[7] = -sum(h[:7]) % WORD
         b = n << rng.choice([p, p, p, 28 - p])
-        text.append(f'headerCode {b} {listed(h)}')
+        text.append(f'header_code {b} {listed(h)}')
         parts.append((f'{n} chunks, {b} bytes, {h}', header_said(h, b)))
     s.add_parts('headers', ' ++ '.join(f'({x})' for x in text), parts)
-    s.add('large-sizes', 'map (sizeFor 16) (upFrom 2 255)', GEOMETRY[16].table[2:])
-    s.add('large-is-size', 'map (λ s. bit (isSize 16 s)) (upFrom 0 300)', [int(x in GEOMETRY[16].sizes) for x in range(300)])
-    s.add('large-limit', '(blockLimit 16 ∷ [])', [GEOMETRY[16].limit])
+    s.add('large-sizes', 'map (size_for 16) (up_from 2 255)', GEOMETRY[16].table[2:])
+    s.add('large-is-size', 'map (λ s. bit (is_size 16 s)) (up_from 0 300)', [int(x in GEOMETRY[16].sizes) for x in range(300)])
+    s.add('large-limit', '(block_limit 16 ∷ [])', [GEOMETRY[16].limit])
     xs = [1, 257, 1 | 64 << 8, 1 | 65 << 8, 1 | 1024 << 8, 1 | 1025 << 8] + [2 | n << 8 for n in (0, 1, 2, 16, 20, 21, 51, 52, 255, 256, 257)]
-    s.add_parts('large-roles', f'each (λ w. roleCode (roleOf 16 w)) {listed(xs)}', [(f'word {x}', RULES.role(x, GEOMETRY[16]) or (3, 0)) for x in xs])
+    s.add_parts('large-roles', f'each (λ w. role_code (role_of 16 w)) {listed(xs)}', [(f'word {x}', RULES.role(x, GEOMETRY[16]) or (3, 0)) for x in xs])
     for j in range(4):
         p, n, a, b = rng.choice([12, 16]), rng.choice([4, 5, 16, 504]), rng.choice([None, 0, rng.getrandbits(64)]), rng.choice([None, 0, rng.getrandbits(64)])
-        s.add(f'header-{j}', f'headerWords {p} {n} {given_text(a)} {given_text(b)}', header_words(n, a, b, p))
-        s.add(f'format-{j}', f'actionsCode (formatOf {p} {n} {given_text(a)} {given_text(b)})', actions_code(format_actions(header_words(n, a, b, p))))
+        s.add(f'header-{j}', f'header_words {p} {n} {given_text(a)} {given_text(b)}', header_words(n, a, b, p))
+        s.add(f'format-{j}', f'actions_code (format_of {p} {n} {given_text(a)} {given_text(b)})', actions_code(format_actions(header_words(n, a, b, p))))
         value = bytes(rng.randrange(256) for _ in range(rng.choice([0, 1, 7, 8, 9, 15, 31])))
         s.add(f'packed-{j}', f'packed {listed(value)}', words_of(value))
-        s.add(f'bytes-{j}', f'valueBytes {len(value)} (packed {listed(value)})', value)
-        s.add(f'words-{j}', f'wordsOf {listed(value)}', [int.from_bytes(value[i:i + 8], 'little') for i in range(0, len(value) - 7, 8)])
+        s.add(f'bytes-{j}', f'value_bytes {len(value)} (packed {listed(value)})', value)
+        s.add(f'words-{j}', f'words_of {listed(value)}', [int.from_bytes(value[i:i + 8], 'little') for i in range(0, len(value) - 7, 8)])
     return s
 
 
@@ -960,7 +960,7 @@ def log_sheet(seed, count):
             code = [1] + entries_code([of_entry(v, e) for e in v._parse(0, lines)])
         except Refused:
             code = [0]
-        s.add(str(j), f'parsedCode (entriesOf {listed(ws)} 0 {lines})', code)
+        s.add(str(j), f'parsed_code (entries_of {listed(ws)} 0 {lines})', code)
     return s
 
 
@@ -979,7 +979,7 @@ def medium_sheet(seed, count):
         parts = [(f'word {w}', [len(v)] + v[::-1]) for w, v in enumerate(map(med.possible, range(len(med.now))))]
         parts += [('by reports', [sum_of(x for _, c in parts for x in c)]), ('what is read', med.latest())]
         parts.append(('after the cut', med.cut(lambda w, v: newest_first(v, picks[w % len(picks)]))))
-        s.add_parts(str(j), f'mediaCode {listed(ws)} {actions_text(acts)} {listed(picks)}', parts)
+        s.add_parts(str(j), f'media_code {listed(ws)} {actions_text(acts)} {listed(picks)}', parts)
     return s
 
 
@@ -990,13 +990,13 @@ def book_sheet(seed, count):
         keys = rng.sample(range(9), 3)
         register = {k: pattern(k, rng.randrange(4)) for k in keys if rng.random() < .6}
         b, text = Book(register), listed(f'item {k} (Value (pattern {k} {len(v)}))' for k, v in register.items())
-        text = f'(newBook (doneItems {text} nothing))'
+        text = f'(new_book (done_items {text} nothing))'
         for _ in range(rng.choice([2, 6, 12, 20])):
             text = book_event(rng, keys, b, text)
         code = [x for k in keys for x in held_code(b.register.get(k))]
         code += [x for k, v in b.tray for x in [k] + held_code(v)] + [99]
         code += [0] if b.batch is None else [1] + [x for k, v in b.batch for x in [k] + held_code(v)] + [99]
-        s.add(str(j), f'bookCode {listed(keys)} {text}', code)
+        s.add(str(j), f'book_code {listed(keys)} {text}', code)
     return s
 
 
@@ -1021,10 +1021,10 @@ def book_event(rng, keys, b, text):
         return f'(note {call_text(c)} {report_text(r if taken else no)} {text})'
     if x < .85:
         b.cut()
-        return f'(noteCut {text})'
+        return f'(note_cut {text})'
     if x < .92:
         assert b.opened(b.done(b.register, b.batch or []) if taken else b.register)
-        return f'(noteOpen {"true" if taken else "false"} {text})'
+        return f'(note_open {"true" if taken else "false"} {text})'
     c, r = rng.choice([(('look', k), ('part', 4112, 5, 1)), (('look', k), no), (('choose',), ('chosen', 2)), (('choose',), no),
                        (('clean', 1), ('begun', 3)), (('clean', 1), no), (('format', None, 3), no), (('open',), no)])
     return f'(note {call_text(c)} {report_text(r)} {text})'

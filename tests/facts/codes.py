@@ -4,39 +4,35 @@ from register_model import Refused, WORD
 
 CODES = '''-- Numbers for what the definitions give, so that they can be compared.
 -- Assumes nothing.
-use mathlib.Core.Bool.{Bool, true, false}
-use mathlib.Core.Option.{Option, none, some}
-use mathlib.Core.List.{List, [], _∷_, _++_, map}
-use Prim.Native.Nat.{ℕ, zero, suc, _+_, _*_, _/_, _%_}
-use lib.Dec.{eqb}
-use lib.ListN.{length, getD, take, replicate}
-use Rattle·spec.specs.Basics.{pick, both, isIn}
-use Rattle·spec.specs.Places.{chunksIn, sizeAllowed}
-use Rattle·spec.specs.Header.{headerRight, headerPower, sum}
-use Rattle·spec.specs.Words.{bytesOf}
-use Rattle·spec.specs.Medium.{Action, Store, Flush, Fence, Cell, Medium, values, cellAt, run, latest, cut, settledAt}
-use Rattle·spec.specs.Directory.{freeChunks}
-use Rattle·spec.specs.Log.{Entry, Parsed, Wrong, Entries}
-use Rattle·spec.specs.Contents.{Held, Absent, Value, highest, tops, chosen, meaning, contentsBy, keysOf, liveBlocks}
-use Rattle·spec.specs.Opening.{Opening, Refused, Accepted, opening}
-use Rattle·spec.specs.Plans.{Olds, Task, Staging, Committing, Cleaning, Plan, Refuse, Begin}
-use Rattle·spec.specs.Machine.{Call, Step, State, Closed, Rest, Busy, Formatting}
-use Rattle·spec.specs.Reports.{number, numbersOf, wordsAfter, mediumAfter, asReport}
-use Rattle·spec.specs.Plans.{planClean, chosenChunk, lookUp}
-use Rattle·spec.specs.Machine.{answer, next, barred, refusals, stepsLeft}
-use Rattle·spec.specs.Book.{Item, Book}
-use Rattle·spec.specs.History.{shows}
-use Rattle·spec.specs.declared.Role.{Role}
-use Rattle·spec.specs.declared.Role.the-variants as L
-use Rattle·spec.specs.declared.Report.{Report}
-use Rattle·spec.specs.declared.Report.the-variants as R
+use Rattle.std.specs.Prelude.{Bool, true, false, List, [], ◌∷◌, ◌++◌, map, ℕ, zero, suc, ◌+◌, ◌*◌, ◌/◌, ◌%◌, eqb, length, get_or, take, replicate}
+use Rattle.std.proofs.Math.Option.{Option, none, some}
+use Rattle.spec.specs.Basics.{pick, both, is_in}
+use Rattle.spec.specs.Places.{chunks_in, size_allowed}
+use Rattle.spec.specs.Header.{header_right, header_power, sum}
+use Rattle.spec.specs.Words.{bytes_of}
+use Rattle.spec.specs.Medium.{Action, Store, Flush, Fence, Cell, Medium, values, cell_at, run, latest, cut, settled_at}
+use Rattle.spec.specs.Directory.{free_chunks}
+use Rattle.spec.specs.Log.{Entry, Parsed, Wrong, Entries}
+use Rattle.spec.specs.Contents.{Held, Absent, Value, highest, tops, chosen, meaning, contents_by, keys_of, live_blocks}
+use Rattle.spec.specs.Opening.{Opening, Refused, Accepted, opening}
+use Rattle.spec.specs.Plans.{Olds, Task, Staging, Committing, Cleaning, Plan, Refuse, Begin}
+use Rattle.spec.specs.Machine.{Call, Step, State, Closed, Rest, Busy, Formatting}
+use Rattle.spec.specs.Reports.{number, numbers_of, words_after, medium_after, as_report}
+use Rattle.spec.specs.Plans.{plan_clean, chosen_chunk, look_up}
+use Rattle.spec.specs.Machine.{answer, next, barred, refusals, steps_left}
+use Rattle.spec.specs.Book.{Item, Book}
+use Rattle.spec.specs.History.{shows}
+use Rattle.spec.specs.declared.Role.{Role}
+use Rattle.spec.specs.declared.Role.TheVariants as L
+use Rattle.spec.specs.declared.Report.{Report}
+use Rattle.spec.specs.declared.Report.TheVariants as R
 
 abbrev pub mix : ℕ → ℕ → ℕ
 mix s x = (1099511628211 * s + x + 1) % 18446744073709551616
 
-abbrev pub sumOf : ℕ → List ℕ → ℕ
-sumOf s [] = s
-sumOf s (x ∷ xs) = sumOf (mix s x) xs
+abbrev pub sum_of : ℕ → List ℕ → ℕ
+sum_of s [] = s
+sum_of s (x ∷ xs) = sum_of (mix s x) xs
 
 abbrev pub same : List ℕ → List ℕ → Bool
 same [] [] = true
@@ -60,134 +56,134 @@ abbrev pub pattern : ℕ → ℕ → List ℕ
 pattern f zero = []
 pattern f (suc n) = f % 256 ∷ pattern (suc f) n
 
-abbrev pub actionSum : ℕ → List Action → ℕ
-actionSum s [] = s
-actionSum s (Store w v ∷ rest) = actionSum (mix (mix (mix s 1) w) v) rest
-actionSum s (Flush l ∷ rest) = actionSum (mix (mix s 2) l) rest
-actionSum s (Fence ∷ rest) = actionSum (mix s 3) rest
+abbrev pub action_sum : ℕ → List Action → ℕ
+action_sum s [] = s
+action_sum s (Store w v ∷ rest) = action_sum (mix (mix (mix s 1) w) v) rest
+action_sum s (Flush l ∷ rest) = action_sum (mix (mix s 2) l) rest
+action_sum s (Fence ∷ rest) = action_sum (mix s 3) rest
 
-abbrev pub actionsCode : List Action → List ℕ
-actionsCode acts = length acts ∷ actionSum 0 acts ∷ []
+abbrev pub actions_code : List Action → List ℕ
+actions_code acts = length acts ∷ action_sum 0 acts ∷ []
 
-abbrev pub entryCode : Entry → List ℕ
-entryCode e = e .op ∷ e .placement ∷ e .version ∷ e .field ∷ e .key ∷ e .at ∷ length (e .value) ∷ e .value
+abbrev pub entry_code : Entry → List ℕ
+entry_code e = e.op ∷ e.placement ∷ e.version ∷ e.field ∷ e.key ∷ e.at ∷ length (e.value) ∷ e.value
 
-abbrev pub entrySum : ℕ → List Entry → ℕ
-entrySum s [] = s
-entrySum s (e ∷ es) = entrySum (sumOf s (entryCode e)) es
+abbrev pub entry_sum : ℕ → List Entry → ℕ
+entry_sum s [] = s
+entry_sum s (e ∷ es) = entry_sum (sum_of s (entry_code e)) es
 
-abbrev pub entriesCode : List Entry → List ℕ
-entriesCode es = length es ∷ entrySum 0 es ∷ []
+abbrev pub entries_code : List Entry → List ℕ
+entries_code es = length es ∷ entry_sum 0 es ∷ []
 
-abbrev pub parsedCode : Parsed → List ℕ
-parsedCode Wrong = 0 ∷ []
-parsedCode (Entries es) = 1 ∷ entriesCode es
+abbrev pub parsed_code : Parsed → List ℕ
+parsed_code Wrong = 0 ∷ []
+parsed_code (Entries es) = 1 ∷ entries_code es
 
-abbrev pub roleCode : Role → List ℕ
-roleCode L.Free = 0 ∷ 0 ∷ []
-roleCode (L.Log n) = 1 ∷ n ∷ []
-roleCode (L.Data s) = 2 ∷ s ∷ []
-roleCode L.Wrong = 3 ∷ 0 ∷ []
+abbrev pub role_code : Role → List ℕ
+role_code L.Free = 0 ∷ 0 ∷ []
+role_code (L.Log n) = 1 ∷ n ∷ []
+role_code (L.Data s) = 2 ∷ s ∷ []
+role_code L.Wrong = 3 ∷ 0 ∷ []
 
-abbrev pub openingCode : Opening → List ℕ
-openingCode (Refused n) = 0 ∷ number n ∷ []
-openingCode (Accepted es) = 1 ∷ entriesCode es
+abbrev pub opening_code : Opening → List ℕ
+opening_code (Refused n) = 0 ∷ number n ∷ []
+opening_code (Accepted es) = 1 ∷ entries_code es
 
-abbrev pub heldCode : Held → List ℕ
-heldCode Absent = 0 ∷ []
-heldCode (Value bytes) = 1 ∷ length bytes ∷ sumOf 0 bytes ∷ []
+abbrev pub held_code : Held → List ℕ
+held_code Absent = 0 ∷ []
+held_code (Value bytes) = 1 ∷ length bytes ∷ sum_of 0 bytes ∷ []
 
-abbrev pub shownCode : Option Held → List ℕ
-shownCode none = 2 ∷ []
-shownCode (some h) = heldCode h
+abbrev pub shown_code : Option Held → List ℕ
+shown_code none = 2 ∷ []
+shown_code (some h) = held_code h
 
-abbrev pub reportTag : Report → ℕ
-reportTag (R.Refused n) = 0
-reportTag (R.Begun a) = 1
-reportTag (R.Store w v) = 2
-reportTag (R.Flush l) = 3
-reportTag R.Fence = 4
-reportTag (R.End n) = 5
-reportTag R.Idle = 6
-reportTag R.Opened = 7
-reportTag R.Abandoned = 8
-reportTag (R.Chosen c) = 9
-reportTag (R.Part a n v) = 10
+abbrev pub report_tag : Report → ℕ
+report_tag (R.Refused n) = 0
+report_tag (R.Begun a) = 1
+report_tag (R.Store w v) = 2
+report_tag (R.Flush l) = 3
+report_tag R.Fence = 4
+report_tag (R.End n) = 5
+report_tag R.Idle = 6
+report_tag R.Opened = 7
+report_tag R.Abandoned = 8
+report_tag (R.Chosen c) = 9
+report_tag (R.Part a n v) = 10
 
-abbrev pub reportCode : Report → List ℕ
-reportCode r = reportTag r ∷ numbersOf r
+abbrev pub report_code : Report → List ℕ
+report_code r = report_tag r ∷ numbers_of r
 
-abbrev pub oldsSum : Olds → ℕ
-oldsSum [] = 0
-oldsSum ((c, w) ∷ olds) = mix (mix 0 c) w + oldsSum olds
+abbrev pub olds_sum : Olds → ℕ
+olds_sum [] = 0
+olds_sum ((c, w) ∷ olds) = mix (mix 0 c) w + olds_sum olds
 
-abbrev pub taskCode : Task → List ℕ
-taskCode Staging = 1 ∷ 0 ∷ []
-taskCode (Committing olds) = 2 ∷ oldsSum olds ∷ []
-taskCode (Cleaning n olds) = (3 + n) ∷ oldsSum olds ∷ []
+abbrev pub task_code : Task → List ℕ
+task_code Staging = 1 ∷ 0 ∷ []
+task_code (Committing olds) = 2 ∷ olds_sum olds ∷ []
+task_code (Cleaning n olds) = (3 + n) ∷ olds_sum olds ∷ []
 
-abbrev pub stateCode : State → List ℕ
-stateCode Closed = 0 ∷ []
-stateCode (Rest p b t items) = 1 ∷ p ∷ b ∷ t ∷ entriesCode items
-stateCode (Busy p b t items task rest) = 2 ∷ p ∷ b ∷ t ∷ (taskCode task ++ (entriesCode items ++ actionsCode rest))
-stateCode (Formatting o b t rest) = 3 ∷ b ∷ t ∷ bit o ∷ actionsCode rest
+abbrev pub state_code : State → List ℕ
+state_code Closed = 0 ∷ []
+state_code (Rest p b t items) = 1 ∷ p ∷ b ∷ t ∷ entries_code items
+state_code (Busy p b t items task rest) = 2 ∷ p ∷ b ∷ t ∷ (task_code task ++ (entries_code items ++ actions_code rest))
+state_code (Formatting o b t rest) = 3 ∷ b ∷ t ∷ bit o ∷ actions_code rest
 
-abbrev pub planCode : Plan → List ℕ
-planCode (Refuse n) = 0 ∷ number n ∷ []
-planCode (Begin items task acts) = 1 ∷ (taskCode task ++ (entriesCode items ++ actionsCode acts))
+abbrev pub plan_code : Plan → List ℕ
+plan_code (Refuse n) = 0 ∷ number n ∷ []
+plan_code (Begin items task acts) = 1 ∷ (task_code task ++ (entries_code items ++ actions_code acts))
 
-abbrev pub chunkCode : Option ℕ → List ℕ
-chunkCode none = 0 ∷ 0 ∷ []
-chunkCode (some c) = 1 ∷ c ∷ []
+abbrev pub chunk_code : Option ℕ → List ℕ
+chunk_code none = 0 ∷ 0 ∷ []
+chunk_code (some c) = 1 ∷ c ∷ []
 
-abbrev pub placeCode : Option Entry → List ℕ
-placeCode none = 0 ∷ 0 ∷ []
-placeCode (some e) = 1 ∷ e .at ∷ []
+abbrev pub place_code : Option Entry → List ℕ
+place_code none = 0 ∷ 0 ∷ []
+place_code (some e) = 1 ∷ e.at ∷ []
 
 -- of each key: its highest version, its top entries, the chosen one's place, what it holds, and look-up's report
-abbrev pub keyCodes : List ℕ → List ℕ → List Entry → List ℕ
-keyCodes keys ws es =
-    each (λ k. highest k es ∷ length (tops k es) ∷ (placeCode (chosen k es) ++ (heldCode (contentsBy (meaning ws) es k) ++ reportCode (lookUp ws es k)))) keys
+abbrev pub key_codes : List ℕ → List ℕ → List Entry → List ℕ
+key_codes keys ws es =
+    each (λ k. highest k es ∷ length (tops k es) ∷ (place_code (chosen k es) ++ (held_code (contents_by (meaning ws) es k) ++ report_code (look_up ws es k)))) keys
 
 -- of an image of n chunks of 2^p bytes: the keys, the live blocks, the free chunks, the chunk to clean
-abbrev pub wholeCode : ℕ → ℕ → List ℕ → List Entry → List ℕ
-wholeCode p n ws es =
-    length (keysOf es) ∷ sum (keysOf es) ∷ sumOf 0 (liveBlocks es) ∷ sumOf 0 (freeChunks p n ws) ∷ chunkCode (chosenChunk p n ws es)
+abbrev pub whole_code : ℕ → ℕ → List ℕ → List Entry → List ℕ
+whole_code p n ws es =
+    length (keys_of es) ∷ sum (keys_of es) ∷ sum_of 0 (live_blocks es) ∷ sum_of 0 (free_chunks p n ws) ∷ chunk_code (chosen_chunk p n ws es)
 
-abbrev pub cleanCodes : ℕ → ℕ → List ℕ → List Entry → List ℕ → List ℕ
-cleanCodes p n ws es cs = each (λ c. planCode (planClean p n ws es [] c)) cs
+abbrev pub clean_codes : ℕ → ℕ → List ℕ → List Entry → List ℕ → List ℕ
+clean_codes p n ws es cs = each (λ c. plan_code (plan_clean p n ws es [] c)) cs
 
 -- a header: whether it is right for so many bytes, the power and the count that it says
-abbrev pub headerBy : ℕ → ℕ → List ℕ → List ℕ
-headerBy p bytes ws = pick (both (sizeAllowed p bytes) (headerRight (chunksIn p bytes) ws)) (1 ∷ p ∷ chunksIn p bytes ∷ []) (0 ∷ [])
+abbrev pub header_by : ℕ → ℕ → List ℕ → List ℕ
+header_by p bytes ws = pick (both (size_allowed p bytes) (header_right (chunks_in p bytes) ws)) (1 ∷ p ∷ chunks_in p bytes ∷ []) (0 ∷ [])
 
-abbrev pub headerCode : ℕ → List ℕ → List ℕ
-headerCode bytes ws = headerBy (headerPower ws) bytes ws
+abbrev pub header_code : ℕ → List ℕ → List ℕ
+header_code bytes ws = header_by (header_power ws) bytes ws
 
 -- a call: its report, whether a refusal is one of the call's, what bars it, the state that it leaves, the steps left then
-abbrev pub refusalCode : Call → Report → ℕ
-refusalCode k (R.Refused n) = bit (isIn (number n) (map number (refusals k)))
-refusalCode k (R.Begun a) = 2
-refusalCode k (R.Store w v) = 2
-refusalCode k (R.Flush l) = 2
-refusalCode k R.Fence = 2
-refusalCode k (R.End n) = 2
-refusalCode k R.Idle = 2
-refusalCode k R.Opened = 2
-refusalCode k R.Abandoned = 2
-refusalCode k (R.Chosen c) = 2
-refusalCode k (R.Part a n v) = 2
+abbrev pub refusal_code : Call → Report → ℕ
+refusal_code k (R.Refused n) = bit (is_in (number n) (map number (refusals k)))
+refusal_code k (R.Begun a) = 2
+refusal_code k (R.Store w v) = 2
+refusal_code k (R.Flush l) = 2
+refusal_code k R.Fence = 2
+refusal_code k (R.End n) = 2
+refusal_code k R.Idle = 2
+refusal_code k R.Opened = 2
+refusal_code k R.Abandoned = 2
+refusal_code k (R.Chosen c) = 2
+refusal_code k (R.Part a n v) = 2
 
-abbrev pub barredCode : Option Report → List ℕ
-barredCode none = 0 ∷ []
-barredCode (some r) = 1 ∷ reportCode r
+abbrev pub barred_code : Option Report → List ℕ
+barred_code none = 0 ∷ []
+barred_code (some r) = 1 ∷ report_code r
 
-abbrev pub callCode : Call → State → ℕ → ℕ → Report → State → List ℕ
-callCode k σ bytes table r σ′ =
-    reportCode r ++ (refusalCode k r ∷ (barredCode (barred k σ bytes table) ++ (stateCode σ′ ++ (stepsLeft σ′ ∷ []))))
+abbrev pub call_code : Call → State → ℕ → ℕ → Report → State → List ℕ
+call_code k σ bytes table r σ' =
+    report_code r ++ (refusal_code k r ∷ (barred_code (barred k σ bytes table) ++ (state_code σ' ++ (steps_left σ' ∷ []))))
 
 abbrev pub call : Call → State → List ℕ → ℕ → ℕ → List ℕ
-call k σ ws bytes table = callCode k σ bytes table (answer k σ ws bytes table) (next k σ ws bytes table)
+call k σ ws bytes table = call_code k σ bytes table (answer k σ ws bytes table) (next k σ ws bytes table)
 
 -- A history: calls, runs of steps, other lengths lent, and the sum of the image's words.
 pub data Command : Type 0 where
@@ -197,95 +193,91 @@ pub data Command : Type 0 where
   Total : Command
 
 -- the words lent: the image's, cut or filled with 0 to the length lent
-abbrev pub lentBy : Bool → ℕ → List ℕ → List ℕ
-lentBy true n ws = ws
-lentBy false n ws = take n (ws ++ replicate n 0)
+abbrev pub lent_by : Bool → ℕ → List ℕ → List ℕ
+lent_by true n ws = ws
+lent_by false n ws = take n (ws ++ replicate n 0)
 
 abbrev pub lent : ℕ → List ℕ → List ℕ
-lent bytes ws = lentBy (eqb (bytes / 8) (length ws)) (bytes / 8) ws
+lent bytes ws = lent_by (eqb (bytes / 8) (length ws)) (bytes / 8) ws
 
 abbrev pub steps : ℕ → Report → ℕ → State → List ℕ → ℕ → ℕ → (State → List ℕ → List ℕ) → List ℕ
-steps zero r s σ ws b t rest = s ∷ (reportCode r ++ (stateCode σ ++ rest σ ws))
+steps zero r s σ ws b t rest = s ∷ (report_code r ++ (state_code σ ++ rest σ ws))
 steps (suc n) r s σ ws b t rest =
-    let r′ : Report = answer Step σ ws b t in
-    steps n r′ (sumOf s (reportCode r′)) (next Step σ ws b t) (wordsAfter r′ ws) b t rest
+    let r' : Report = answer Step σ ws b t in
+    steps n r' (sum_of s (report_code r')) (next Step σ ws b t) (words_after r' ws) b t rest
 
 abbrev pub did : Call → State → ℕ → ℕ → Report → State → (Report → State → List ℕ) → List ℕ
-did k σ b t r σ′ rest = callCode k σ b t r σ′ ++ rest r σ′
+did k σ b t r σ' rest = call_code k σ b t r σ' ++ rest r σ'
 
 abbrev pub play : List Command → State → List ℕ → ℕ → ℕ → List ℕ
 play [] σ ws b t = []
 play (Do k ∷ cs) σ ws b t =
-    did k σ b t (answer k σ (lent b ws) b t) (next k σ (lent b ws) b t) (λ r σ′. play cs σ′ (wordsAfter r ws) b t)
-play (Steps n ∷ cs) σ ws b t = steps n R.Idle 0 σ ws b t (λ σ′ ws′. play cs σ′ ws′ b t)
-play (Lend b′ t′ ∷ cs) σ ws b t = play cs σ ws b′ t′
-play (Total ∷ cs) σ ws b t = sumOf 0 ws ∷ play cs σ ws b t
+    did k σ b t (answer k σ (lent b ws) b t) (next k σ (lent b ws) b t) (λ r σ'. play cs σ' (words_after r ws) b t)
+play (Steps n ∷ cs) σ ws b t = steps n R.Idle 0 σ ws b t (λ σ' ws'. play cs σ' ws' b t)
+play (Lend b' t' ∷ cs) σ ws b t = play cs σ ws b' t'
+play (Total ∷ cs) σ ws b t = sum_of 0 ws ∷ play cs σ ws b t
 
 -- The medium: every word's possible values; the same by reports; what is read and what a cut leaves.
-abbrev pub mediumCode : Medium → List ℕ
-mediumCode [] = []
-mediumCode (c ∷ cs) = length (values c) ∷ (values c ++ mediumCode cs)
+abbrev pub medium_code : Medium → List ℕ
+medium_code [] = []
+medium_code (c ∷ cs) = length (values c) ∷ (values c ++ medium_code cs)
 
-abbrev pub byReports : List Action → Medium → Medium
-byReports [] m = m
-byReports (a ∷ rest) m = byReports rest (mediumAfter (asReport a) m)
+abbrev pub by_reports : List Action → Medium → Medium
+by_reports [] m = m
+by_reports (a ∷ rest) m = by_reports rest (medium_after (as_report a) m)
 
 abbrev pub picked : List ℕ → ℕ → ℕ
-picked picks i = getD picks (i % length picks) 0
+picked picks i = get_or picks (i % length picks) 0
 
-abbrev pub mediaCode : List ℕ → List Action → List ℕ → List ℕ
-mediaCode ws acts picks =
-    mediumCode (run acts (settledAt ws)) ++ (sumOf 0 (mediumCode (byReports acts (settledAt ws))) ∷ (latest (run acts (settledAt ws)) ++ cut (picked picks) (run acts (settledAt ws))))
+abbrev pub media_code : List ℕ → List Action → List ℕ → List ℕ
+media_code ws acts picks =
+    medium_code (run acts (settled_at ws)) ++ (sum_of 0 (medium_code (by_reports acts (settled_at ws))) ∷ (latest (run acts (settled_at ws)) ++ cut (picked picks) (run acts (settled_at ws))))
 
 -- an image cut after some actions: the values of some words, what is read, the image that the cut leaves, its opening
-abbrev pub openedCode : List ℕ → ℕ → ℕ → List ℕ
-openedCode ws bytes table = sumOf 0 ws ∷ openingCode (opening bytes ws table)
+abbrev pub opened_code : List ℕ → ℕ → ℕ → List ℕ
+opened_code ws bytes table = sum_of 0 ws ∷ opening_code (opening bytes ws table)
 
-abbrev pub cutCode : List ℕ → List ℕ → ℕ → ℕ → Medium → List ℕ
-cutCode at picks bytes table m =
-    each (λ i. length (values (cellAt m i)) ∷ values (cellAt m i)) at ++ (sumOf 0 (latest m) ∷ openedCode (cut (picked picks) m) bytes table)
+abbrev pub cut_code : List ℕ → List ℕ → ℕ → ℕ → Medium → List ℕ
+cut_code at picks bytes table m =
+    each (λ i. length (values (cell_at m i)) ∷ values (cell_at m i)) at ++ (sum_of 0 (latest m) ∷ opened_code (cut (picked picks) m) bytes table)
 
 -- The desk book.
 abbrev pub item : ℕ → Held → Item
 item k h = record { key = k; gets = h }
 
-abbrev pub itemsCode : List Item → List ℕ
-itemsCode [] = 99 ∷ []
-itemsCode (i ∷ is) = i .key ∷ (heldCode (i .gets) ++ itemsCode is)
+abbrev pub items_code : List Item → List ℕ
+items_code [] = 99 ∷ []
+items_code (i ∷ is) = i.key ∷ (held_code (i.gets) ++ items_code is)
 
-abbrev pub flightCode : Option (List Item) → List ℕ
-flightCode none = 0 ∷ []
-flightCode (some is) = 1 ∷ itemsCode is
+abbrev pub flight_code : Option (List Item) → List ℕ
+flight_code none = 0 ∷ []
+flight_code (some is) = 1 ∷ items_code is
 
-abbrev pub bookCode : List ℕ → Book → List ℕ
-bookCode keys b = each (λ k. heldCode (b .register k)) keys ++ (itemsCode (b .staged) ++ flightCode (b .in-flight))
+abbrev pub book_code : List ℕ → Book → List ℕ
+book_code keys b = each (λ k. held_code (b.register k)) keys ++ (items_code (b.staged) ++ flight_code (b.in-flight))
 '''
 
 # the names that facts use, by module; the definitions that are `unfoldable` are added to them
 SPEC_NAMES = {
-    'Basics': ['upFrom'],
-    'Words': ['packed', 'bytesOf', 'valueBytes'],
-    'Medium': ['Action', 'Store', 'Flush', 'Fence', 'run', 'settledAt'],
-    'Directory': ['logWord', 'dataWord'],
-    'Log': ['Entry', 'entriesOf', 'headOf'],
-    'Contents': ['Held', 'Absent', 'Value', 'entriesIn'],
+    'Basics': ['up_from'],
+    'Words': ['packed', 'bytes_of', 'value_bytes'],
+    'Medium': ['Action', 'Store', 'Flush', 'Fence', 'run', 'settled_at'],
+    'Directory': ['log_word', 'data_word'],
+    'Log': ['Entry', 'entries_of', 'head_of'],
+    'Contents': ['Held', 'Absent', 'Value', 'entries_in'],
     'Plans': ['Task', 'Staging', 'Committing', 'Cleaning', 'entry'],
     'Machine': ['Call', 'Format', 'Open', 'Put', 'Delete', 'Commit', 'Abandon', 'LookUp', 'Choose', 'Clean', 'Step', 'State', 'Closed', 'Rest', 'Busy', 'Formatting'],
-    'Book': ['newBook', 'nothing', 'doneItems', 'note', 'noteCut', 'noteOpen'],
+    'Book': ['new_book', 'nothing', 'done_items', 'note', 'note_cut', 'note_open'],
     'History': ['shows'],
 }
 
-USES = '''use mathlib.Core.Bool.{Bool, true, false}
-use mathlib.Core.Option.{Option, none, some}
-use mathlib.Core.List.{List, [], _∷_, _++_, map}
-use Prim.Native.Nat.{ℕ, zero, suc, _+_, _*_, _/_, _%_}
-use lib.Dec.{T, eqb}
-use lib.ListN.{length, getD, set, take}
-use Rattle·codes.specs.Codes.{same, sumOf, each, bit, zeros, pattern, actionsCode, parsedCode, roleCode, openingCode, heldCode, shownCode, keyCodes, wholeCode, headerCode}
-use Rattle·codes.specs.Codes.{cleanCodes, call, Command, Do, Steps, Lend, Total, play, mediaCode, cutCode, item, bookCode}
-use Rattle·spec.specs.declared.Given.the-variants as G
-use Rattle·spec.specs.declared.Refusal.the-variants as N
-use Rattle·spec.specs.declared.Report.the-variants as R
+USES = '''use Rattle.std.specs.Prelude.{Bool, true, false, List, [], ◌∷◌, ◌++◌, map, ℕ, zero, suc, ◌+◌, ◌*◌, ◌/◌, ◌%◌, T, eqb, length, get_or, set, take}
+use Rattle.std.proofs.Math.Option.{Option, none, some}
+use Rattle.codes.specs.Codes.{same, sum_of, each, bit, zeros, pattern, actions_code, parsed_code, role_code, opening_code, held_code, shown_code, key_codes, whole_code, header_code}
+use Rattle.codes.specs.Codes.{clean_codes, call, Command, Do, Steps, Lend, Total, play, media_code, cut_code, item, book_code}
+use Rattle.spec.specs.declared.Given.TheVariants as G
+use Rattle.spec.specs.declared.Refusal.TheVariants as N
+use Rattle.spec.specs.declared.Report.TheVariants as R
 '''
 
 REFUSALS = ['ImageLength', 'NotOpen', 'DirectoryWrong', 'EntryWrong', 'BlockWrong', 'TopsDisagree', 'TableFull', 'Unfinished',
