@@ -1,8 +1,8 @@
 # What is expected at the top, done where it is done: host/Makefile builds and installs, .ci/run tries everything.
 #   make            library and programs, into host/build
-#   make test       all tests, the proofs from nothing included
+#   make test       the whole gate: proofs, edits, programs and tests (what an earlier run here proved of the same files is kept)
 #   make install    library, headers, zkv and manual pages, into DESTDIR and PREFIX; make uninstall
-#   make clean      removes host/build
+#   make clean      removes host/build, the proved archive with it
 all archive install uninstall clean:
 	$(MAKE) -C host $@
 

@@ -132,7 +132,7 @@ class Asking:
             if at < before + len(code) or before + len(code) == len(fact.code):
                 break
             before += len(code)
-        found = [x if agree[j - begin] else self.number(f'getD ({fact.text}) {j} 0') if j < size else 'none' for j, x in enumerate(fact.code[before:before + len(code)], before)]
+        found = [x if agree[j - begin] else self.number(f'get_or ({fact.text}) {j} 0') if j < size else 'none' for j, x in enumerate(fact.code[before:before + len(code)], before)]
         more = f'; {size} numbers in all, not {len(fact.code)}' if size != len(fact.code) else ''
         return f'    {name or "all"}, part {fact.parts.index((name, code)) + 1} of {len(fact.parts)}\n    model:       {list(code)}\n    definitions: {found}{more}'
 
