@@ -349,7 +349,8 @@ def at_most(nbytes):
 
 
 def says_what_is_lost(name, program):
-    """Where standard output takes nothing, or a part, standard error says so, and the exit status; where it takes all, nothing is said."""
+    """Where standard output takes nothing, or a part, standard error says so, and the status is 1; where it takes all,
+    nothing is said and it is 0."""
     data, said = image(many(100)), f'{name}: not all of it could be printed\n'.encode()
     with open('/dev/full', 'wb') as full, tempfile.TemporaryFile() as part, tempfile.TemporaryFile() as whole:
         nothing = subprocess.run([program], input=data, stdout=full, stderr=subprocess.PIPE, timeout=60)
@@ -357,7 +358,8 @@ def says_what_is_lost(name, program):
         all_ = subprocess.run([program], input=data, stdout=whole, stderr=subprocess.PIPE, timeout=60)
         lengths = part.seek(0, os.SEEK_END), whole.seek(0, os.SEEK_END)
     statuses = nothing.returncode, some.returncode, all_.returncode
-    return nothing.stderr == some.stderr == said and all_.stderr == b'' and lengths[0] == 1000 < lengths[1] and statuses == (1, 1, 0)
+    told = nothing.stderr == some.stderr == said and all_.stderr == b''
+    return told and lengths[0] == 1000 < lengths[1] and statuses == (1, 1, 0)
 
 
 # ---- zkv sheet
