@@ -61,9 +61,9 @@ module _ (size : Size) (a x b y : ℕ) (gone : ℕ → Bool) where
 
 -- ## The entry at a place
 
-module _ (size : Size) (ws : List ℕ) (place w : ℕ) (r : FirstWord) (is_Is_word : w ≡ get_or ws place 0) (is-first : r ≡ first_of_word w) where
+module _ (size : Size) (ws : List ℕ) (place w : ℕ) (r : FirstWord) (is_word : w ≡ get_or ws place 0) (is-first : r ≡ first_of_word w) where
   named : (u : ℕ) → named_by r u ≡ named_by (first_of_word (get_or ws place 0)) u
-  named u = ap (λ (f : FirstWord). named_by f u) (is-first ∙ ap first_of_word is_Is_word)
+  named u = ap (λ (f : FirstWord). named_by f u) (is-first ∙ ap first_of_word is_word)
 
   pub at-padding : (b : List ℕ) → length b ≡ buffer_words → r ≡ F.Padding → Freed size b b (named_by (first_of_word (get_or ws place 0)))
   at-padding b n e = freed-none size b n _ (λ u. sym (named u) ∙ ap (λ (f : FirstWord). named_by f u) e)

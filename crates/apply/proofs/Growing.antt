@@ -43,10 +43,10 @@ keys-around : (xs more ys : List Entry) → length (keys_of (xs ++ ys)) ≤ leng
 keys-around xs more ys = keys-fewer (xs ++ ys) (xs ++ (more ++ ys)) (λ k t. let r = known-mem k (xs ++ ys) t in mem-known k (xs ++ (more ++ ys)) r.0 (mem-around r.0 xs more ys r.1) r.2)
 
 -- An entry of a key whose probing stops at `slot`, where the table holds `old`; in `middle` its sums are renewed.
-module _ (size : Size) (ws buffer middle buffer' table table' : List ℕ) (keys key own w slot old info : ℕ) (is-slot : slot ≡ stop_of table key) (is_Is_word : old ≡ info_at table slot) (is-info : info ≡ noted size old own)
+module _ (size : Size) (ws buffer middle buffer' table table' : List ℕ) (keys key own w slot old info : ℕ) (is-slot : slot ≡ stop_of table key) (is_word : old ≡ info_at table slot) (is-info : info ≡ noted size old own)
     (renewed : Renewed size ws buffer middle old own w) where
   is-old : old ≡ get table key
-  is-old = is_Is_word ∙ look_in table key slot is-slot
+  is-old = is_word ∙ look_in table key slot is-slot
 
   -- what the entry, its place and its key give
   module _ (n : ℕ) (xs more ys : List Entry) (e : Entry) (k : e.key ≡ key) (o : own_of size e ≡ own) (awaits : Awaited size n ws table xs more ys e) (shown : Shown size buffer table keys (xs ++ ys)) where

@@ -41,7 +41,7 @@ alone-place extent place version =
     let p : alone S.Small extent place version / 0x100 % 0x4_0000 ≡ place % 0x4_0000 = rw a (omega arith) in
     rw p (omega arith)
 
-module _ (buffer table : List ℕ) (keys key extent place version own w slot old : ℕ) (is-own : own ≡ alone S.Small extent place version) (is-slot : slot ≡ stop_of table key) (is_Is_word : old ≡ info_at table slot) where
+module _ (buffer table : List ℕ) (keys key extent place version own w slot old : ℕ) (is-own : own ≡ alone S.Small extent place version) (is-slot : slot ≡ stop_of table key) (is_word : old ≡ info_at table slot) where
   own-chunk : sum_of place ≡ sum_of (unpack_of S.Small own).place
   own-chunk = alone-place extent place version ∙ ap (λ (x : ℕ). sum_of (unpack_of S.Small x).place) (sym is-own)
 
@@ -50,7 +50,7 @@ module _ (buffer table : List ℕ) (keys key extent place version own w slot old
       → PutJoined S.Small buffer d table table' keys key (alone S.Small extent place version) w true (keys + 1)
   put-new d table' z k is-put = record {
     joins = λ e ws. rw (← is-own)
-        (joined-new S.Small ws buffer d d table table' keys key own w slot old own is-slot is_Is_word (noted-new S.Small old own z) (renewed-new S.Small ws buffer old own w (unpack_of S.Small own) refl d z (changed-place S.Small buffer d place (unpack_of S.Small own).place w own-chunk k)) refl
+        (joined-new S.Small ws buffer d d table table' keys key own w slot old own is-slot is_word (noted-new S.Small old own z) (renewed-new S.Small ws buffer old own w (unpack_of S.Small own) refl d z (changed-place S.Small buffer d place (unpack_of S.Small own).place w own-chunk k)) refl
         is-put z);
     left = λ e. absurd (subst T e tt);
   }
@@ -60,7 +60,7 @@ module _ (buffer table : List ℕ) (keys key extent place version own w slot old
       → Changed d f (only S.Small place w) nothing → (info : ℕ) → info ≡ noted S.Small old own → table' ≡ put_at table slot key info → PutJoined S.Small buffer f table table' keys key (alone S.Small extent place version) w true keys
   put-over i j is-i is-j x v gone is-gone d f table' k m info is-info is-put = record {
     joins = λ e ws. rw (← is-own)
-        (joined-old S.Small ws buffer f f table table' keys key own w slot old info is-slot is_Is_word is-info
+        (joined-old S.Small ws buffer f f table table' keys key own w slot old info is-slot is_word is-info
         (renewed-high S.Small ws buffer old own w j is-j i is-i no_zero d f gone v (at-extent S.Small ws i.extent i.place gone x is-gone) k (changed-place S.Small d f place j.place w (own-chunk ∙ ap (λ (y : Info). sum_of y.place) (sym is-j)) m)) is-put i is-i
         (tops-in-log S.Small ws f i (m.kept.long ∙ m.kept.size) x) no_zero);
     left = λ e. absurd (subst T e tt);

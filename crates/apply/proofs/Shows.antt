@@ -96,9 +96,9 @@ module _ (size : Size) (ws : List ℕ) (to until op key : ℕ) where
             eqb-false k key h (sym (ap first_key (sym (first-of test left e t) ∙ u.2)) ∙ ek)
 
 -- The probing for the key stops at `slot`, where the table holds `word`, which says `i`.
-module _ (size : Size) (table : List ℕ) (keys key place to words slot word : ℕ) (copied : Bool) (i : Info) (is-slot : slot ≡ stop_of table key) (is_Is_word : word ≡ info_at table slot) (is-info : i ≡ unpack_of size word) where
+module _ (size : Size) (table : List ℕ) (keys key place to words slot word : ℕ) (copied : Bool) (i : Info) (is-slot : slot ≡ stop_of table key) (is_word : word ≡ info_at table slot) (is-info : i ≡ unpack_of size word) where
   is_get : word ≡ get table key
-  is_get = is_Is_word ∙ look_in table key slot is-slot
+  is_get = is_word ∙ look_in table key slot is-slot
 
   inserted : (table' : List ℕ) (v : ℕ) → table' ≡ put_at table slot key v → table' ≡ insert table key v
   inserted table' v h = h ∙ put-insert table key slot is-slot v

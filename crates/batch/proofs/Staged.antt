@@ -114,7 +114,7 @@ put_word _ _ v x w (put l) h e q = let a : w / 16 ≡ v + 1048576 * x = omega ar
 put_word _ _ v x w block h e q = absurd (omega arith)
 put_word _ _ v _ w delete h e q = absurd (omega arith)
 
-module _ (b : List ℕ) (at end w field words : ℕ) (is_Is_word : w ≡ get_or b at 0) (is_field : field ≡ w / 16777216) (is-words : words ≡ (field + 7) / 8) where
+module _ (b : List ℕ) (at end w field words : ℕ) (is_word : w ≡ get_or b at 0) (is_field : field ≡ w / 16777216) (is-words : words ≡ (field + 7) / 8) where
   pub short-staged : w % 16 ≡ 1 → at < end → 2 + words ≤ end - at → ShortStaged b at end (S.Put (w / 16 % 1048576) field (get_or b (at + 1) 0) words)
   short-staged low l m = (omega arith, entry)
     where
@@ -123,7 +123,7 @@ module _ (b : List ℕ) (at end w field words : ℕ) (is_Is_word : w ≡ get_or 
       entry (e ∷ es) s =
           let r = s.0.0 in
           let d = headed b at end e es r s.1 in
-          let p = put_word e.op e.placement e.version e.field w r.kind r.high (is_Is_word ∙ d.word) low in
+          let p = put_word e.op e.placement e.version e.field w r.kind r.high (is_word ∙ d.word) low in
           let x : e.field ≡ field = p.3 ∙ sym is_field in
           let n : length e.value ≡ words = r.words ∙ rw (p.1, x) (sym is-words) in
           record {

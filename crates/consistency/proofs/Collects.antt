@@ -50,10 +50,10 @@ module _ (size : Size) (table : List ℕ) (keys low high key own : ℕ) where
   pub enter-full : (table' : List ℕ) → length table' ≡ length table → Entering size table table' keys low high key own false keys
   enter-full table' l = record { sized = l; enters = λ xs e k o b inv t. absurd (not-both true refl (sym t)) }
 
-  module _ (h : within low high key ≡ true) (slot old : ℕ) (is-slot : slot ≡ stop_of table key) (is_Is_word : old ≡ info_at table slot) (table' : List ℕ) (info : ℕ) (is-info : info ≡ noted size old own)
+  module _ (h : within low high key ≡ true) (slot old : ℕ) (is-slot : slot ≡ stop_of table key) (is_word : old ≡ info_at table slot) (table' : List ℕ) (info : ℕ) (is-info : info ≡ noted size old own)
       (is-put : table' ≡ put_at table slot key info) where
     is-old : old ≡ get table key
-    is-old = is_Is_word ∙ look_in table key slot is-slot
+    is-old = is_word ∙ look_in table key slot is-slot
 
     is-table : table' ≡ insert table key info
     is-table = is-put ∙ put-insert table key slot is-slot info

@@ -35,14 +35,14 @@ best_none S.Large = refl
 
 module _ (size : Size) (n : ℕ) (ws table : List ℕ) (fits : Bool) (key : ℕ) where
   pub shows-table : fits ≡ true → (word : ℕ) (info : Info) → word ≡ get table key → info ≡ unpack_of size word → TopIs size n ws table fits key (best_is info)
-  shows-table t word info is_Is_word is-info low high es l own = ap best_is is-info ∙ go (ℕ_discrete word 0) ∙ ap best_of (class-chosen low high key own es)
+  shows-table t word info is_word is-info low high es l own = ap best_is is-info ∙ go (ℕ_discrete word 0) ∙ ap best_of (class-chosen low high key own es)
     where
       small : Bounded size (class_in low high es)
       small = class-bounded size low high es (image_bounded size n ws es l.entries l.few)
 
       go : Dec (word ≡ 0) → best_is (unpack_of size word) ≡ best_of (chosen key (class_in low high es))
-      go (yes z) = rw (found_none size table l.keys (class_in low high es) (l.indexed t) small key word is_Is_word z, z) (best_none size)
-      go (no z) = let f = found-chosen size table l.keys (class_in low high es) (l.indexed t) small key word is_Is_word z in ap best_is f.2 ∙ sym (ap best_of f.1)
+      go (yes z) = rw (found_none size table l.keys (class_in low high es) (l.indexed t) small key word is_word z, z) (best_none size)
+      go (no z) = let f = found-chosen size table l.keys (class_in low high es) (l.indexed t) small key word is_word z in ap best_is f.2 ∙ sym (ap best_of f.1)
 
   pub shows-scan : (r : Best) → r ≡ best_in (power_of size) n ws key → TopIs size n ws table fits key r
   shows-scan r is low high es l own = is ∙ best-chosen (power_of size) (power-low size) (power-high size) n key ws es l.entries

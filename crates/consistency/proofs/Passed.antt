@@ -87,7 +87,7 @@ first-put w l =
     go false false = inl refl
 
 -- so such a put stands there, or the log is wrong
-module _ (ws : List ℕ) (at end w : ℕ) (h : at < end) (l : at < length ws) (is_Is_word : w ≡ get_or ws at 0) (low : w % 16 ≡ 1) where
+module _ (ws : List ℕ) (at end w : ℕ) (h : at < end) (l : at < length ws) (is_word : w ≡ get_or ws at 0) (low : w % 16 ≡ 1) where
   put-stands : (step_of (slice at end ws) ≡ S.Wrong) ⊎ (step_of (slice at end ws) ≡ S.Entry 1 0 (w / 16 % 1048576) (w / 16777216) (get_or ws (at + 1) 0) ((w / 16777216 + 7) / 8))
   put-stands = go (first-put w low) (dec_le (at + (2 + (w / 16777216 + 7) / 8)) (min end (length ws)))
     where
@@ -98,10 +98,10 @@ module _ (ws : List ℕ) (at end w : ℕ) (h : at < end) (l : at < length ws) (i
 
       go : (first_of_word w ≡ F.Wrong) ⊎ (first_of_word w ≡ F.Entry 1 0 (w / 16 % 1048576) (w / 16777216)) → Dec (at + (2 + (w / 16777216 + 7) / 8) ≤ min end (length ws))
           → (step_of (slice at end ws) ≡ S.Wrong) ⊎ (step_of (slice at end ws) ≡ S.Entry 1 0 (w / 16 % 1048576) (w / 16777216) (get_or ws (at + 1) 0) ((w / 16777216 + 7) / 8))
-      go (inl q) d = inl (step-first at end ws F.Wrong h l (ap first_of_word (sym is_Is_word) ∙ q))
-      go (inr q) (no n) = inl (step-short 1 0 (w / 16 % 1048576) (w / 16777216) at end ws h l (ap first_of_word (sym is_Is_word) ∙ q) (omega arith))
+      go (inl q) d = inl (step-first at end ws F.Wrong h l (ap first_of_word (sym is_word) ∙ q))
+      go (inr q) (no n) = inl (step-short 1 0 (w / 16 % 1048576) (w / 16777216) at end ws h l (ap first_of_word (sym is_word) ∙ q) (omega arith))
       go (inr q) (yes y) =
-          by-fill (filled 0 (w / 16777216) (drop at ws)) (step-fill 1 0 (w / 16 % 1048576) (w / 16777216) at end ws (ap first_of_word (sym is_Is_word) ∙ q) (omega arith) (omega arith) (filled 0 (w / 16777216) (drop at ws)) refl)
+          by-fill (filled 0 (w / 16777216) (drop at ws)) (step-fill 1 0 (w / 16 % 1048576) (w / 16777216) at end ws (ap first_of_word (sym is_word) ∙ q) (omega arith) (omega arith) (filled 0 (w / 16777216) (drop at ws)) refl)
 
 left_less : (n : ℕ) (ws : List ℕ) (c at k end : ℕ) → left n ws (cursor_at c (at + k) end) ≤ left n ws (cursor_at c at end)
 unfolding left
@@ -132,12 +132,12 @@ module _ (ws : List ℕ) (end : ℕ) (single : Bool) (marks : List ℕ) (low hig
   -- past a put
   over-more : (at' : ℕ) → PassedOver ws end single marks low high at at' → at' < end → at' < length ws → (w : ℕ) → w ≡ get_or ws at' 0 → w % 16 ≡ 1 → (k : ℕ) → k ≡ get_or ws (at' + 1) 0
       → asked single marks low high k ≡ false → (m : ℕ) → m ≡ (w / 16777216 + 7) / 8 → PassedOver ws end single marks low high at (at' + (2 + m))
-  over-more at' so_far h l w is_Is_word put k is_key none-asked m is-words = record {
+  over-more at' so_far h l w is_word put k is_key none-asked m is-words = record {
     nearer = λ n c. let f = left_less n ws c at' (2 + m) end in let g = so_far.nearer n c in omega arith;
     over = so_far.over ++ f ∷ [];
     unpointed = λ e i. either-of (λ (y : Entry). pointed y ≡ false) e (so_far.unpointed e) refl (mem-cases e so_far.over (f ∷ []) i);
     unasked = λ e i. either-of (λ (y : Entry). asked single marks low high y.key ≡ false) e (so_far.unasked e) none-asked (mem-cases e so_far.over (f ∷ []) i);
-    passes = λ p n c es xs s. on p n c es xs (so_far.passes p n c es xs s) (put-stands ws at' end w h l is_Is_word put);
+    passes = λ p n c es xs s. on p n c es xs (so_far.passes p n c es xs s) (put-stands ws at' end w h l is_word put);
   }
     where
       v : ℕ
@@ -166,6 +166,6 @@ module _ (ws : List ℕ) (end : ℕ) (single : Bool) (marks : List ℕ) (low hig
   -- its first two words and the value's, counted together
   pub over-put : (at' : ℕ) → PassedOver ws end single marks low high at at' → at' < end → at' < length ws → (w : ℕ) → w ≡ get_or ws at' 0 → w % 16 ≡ 1 → (k : ℕ) → k ≡ get_or ws (at' + 1) 0
       → asked single marks low high k ≡ false → PassedOver ws end single marks low high at (at' + (w / 16777216 + 23) / 8)
-  over-put at' so_far h l w is_Is_word put k is_key none-asked =
+  over-put at' so_far h l w is_word put k is_key none-asked =
       let sum : at' + (w / 16777216 + 23) / 8 ≡ at' + (2 + (w / 16777216 + 7) / 8) = omega arith in
-      rw sum (over-more at' so_far h l w is_Is_word put k is_key none-asked ((w / 16777216 + 7) / 8) refl)
+      rw sum (over-more at' so_far h l w is_word put k is_key none-asked ((w / 16777216 + 7) / 8) refl)

@@ -151,7 +151,7 @@ module _ (size : Size) (ws table : List ℕ) (at end : ℕ) (counts : List ℕ) 
 
 -- ## The test
 
-module _ (size : Size) (table counts : List ℕ) (op key place : ℕ) (word : ℕ) (info : Info) (is_Is_word : word ≡ get table key) (is-info : info ≡ unpack_of size word) where
+module _ (size : Size) (table counts : List ℕ) (op key place : ℕ) (word : ℕ) (info : Info) (is_word : word ≡ get table key) (is-info : info ≡ unpack_of size word) where
   module _ (ws : List ℕ) (at end keys : ℕ) (xs mid ys : List Entry) (e : Entry) (g : Gatherable size ws table keys at end xs mid ys) (m : Mem e mid) (k : e.key ≡ key) where
     abbrev es : List Entry
     es = before xs mid ys
@@ -169,7 +169,7 @@ module _ (size : Size) (table counts : List ℕ) (op key place : ℕ) (word : �
         go : (o : Option Entry) → chosen e.key es ≡ o → Spoken
         go none h = absurd (none_of e.key es e h (mem-r e xs (mid ++ ys) (mem-l e mid ys m)) refl)
         go (some f) h =
-            let s : info ≡ said size e.key es f = is-info ∙ ap (unpack_of size) (is_Is_word ∙ ap (get table) (sym k) ∙ g.indexed.info e.key) ∙ info-says size e.key es g.small f h in
+            let s : info ≡ said size e.key es f = is-info ∙ ap (unpack_of size) (is_word ∙ ap (get table) (sym k) ∙ g.indexed.info e.key) ∙ info-says size e.key es g.small f h in
             record { entry = f; is = h; place_is = ap (λ (i : Info). i.place) s; entries-is = ap (λ (i : Info). i.entries) s }
 
     shared : entry_count e.key es ≡ entry_count e.key mid + entry_count e.key (xs ++ ys)
@@ -218,7 +218,7 @@ module _ (size : Size) (table counts : List ℕ) (op key place : ℕ) (word : �
     where
       here : (ws : List ℕ) (at end : ℕ) (mid : List Entry) → Decided size ws table counts at end op key → Stand ws at end mid → end ≤ at + chunk_words (power_of size) → get counts key ≡ entry_count key mid
       here ws at end mid (inl e) s u = absurd (not-one e)
-      here ws at end mid (inr (inl e)) s u = absurd (not-sole (ap (λ (i : Info). i.entries) (is-info ∙ ap (unpack_of size) is_Is_word) ∙ e))
+      here ws at end mid (inr (inl e)) s u = absurd (not-sole (ap (λ (i : Info). i.entries) (is-info ∙ ap (unpack_of size) is_word) ∙ e))
       here ws at end mid (inr (inr c)) s u = c.says mid s u key
 
       more-than : (a b : ℕ) → ltb a (a + b) ≡ ltb 0 b

@@ -248,15 +248,15 @@ module _ (vn bytes : ℕ) (ws : List ℕ) (u start w : ℕ) (small : u < 2 ^ 40)
     pub block_no : bytes - (start + 8) < n → L.Refused N.KeyAbsent ≡ block_part vn bytes ws u
     block_no h = block-any (L.Refused N.KeyAbsent) n read (within-no vn bytes (start + 8) n (omega arith))
 
-module _ (vn bytes : ℕ) (ws : List ℕ) (place word : ℕ) (is_Is_word : word ≡ first_word bytes ws place) where
+module _ (vn bytes : ℕ) (ws : List ℕ) (place word : ℕ) (is_word : word ≡ first_word bytes ws place) where
   pub part_log : (r : Located) → word % 16 ≡ 1 → r ≡ within vn bytes (8 * (place + 2)) (word / 16777216) → r ≡ part_at vn bytes ws place
-  part_log r k h = h ∙ rw (← is_Is_word, k)
+  part_log r k h = h ∙ rw (← is_word, k)
 
   pub part-block : (r : Located) → word % 16 ≡ 5 → r ≡ block_part vn bytes ws (word / 16777216) → r ≡ part_at vn bytes ws place
-  part-block r k h = h ∙ rw (← is_Is_word, k)
+  part-block r k h = h ∙ rw (← is_word, k)
 
   pub part_none : (word % 16 ≡ 1 → ⊥) → (word % 16 ≡ 5 → ⊥) → L.Refused N.KeyAbsent ≡ part_at vn bytes ws place
-  part_none a b = rw (← is_Is_word, ne_eqb (word % 16) 1 a, ne_eqb (word % 16) 5 b)
+  part_none a b = rw (← is_word, ne_eqb (word % 16) 1 a, ne_eqb (word % 16) 5 b)
 
 -- an empty word has no extent and no place
 empty-extent : (size : Size) → (unpack_of size 0).extent ≡ 0

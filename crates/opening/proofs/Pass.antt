@@ -41,9 +41,9 @@ use Rattle.opening.specs.Pass.{Entering, AgainIs, EnteredIs, Owing, Passing, Fil
 use Rattle.opening.proofs.Sums.{owing-none, owing-summed, owing-turned, owing-paid}
 
 -- One more entry, of a key whose probing stops at `slot`, where the table holds `old`.
-module _ (size : Size) (table : List ℕ) (keys : ℕ) (fits single : Bool) (key own slot old : ℕ) (is-slot : slot ≡ stop_of table key) (is_Is_word : old ≡ info_at table slot) (so : fits ≡ true) where
+module _ (size : Size) (table : List ℕ) (keys : ℕ) (fits single : Bool) (key own slot old : ℕ) (is-slot : slot ≡ stop_of table key) (is_word : old ≡ info_at table slot) (so : fits ≡ true) where
   is-old : old ≡ get table key
-  is-old = is_Is_word ∙ look_in table key slot is-slot
+  is-old = is_word ∙ look_in table key slot is-slot
 
   pub enter-full : old ≡ 0 → table_room (length table) ≤ keys → Entering size table table keys fits single key own keys false false
   enter-full z c = rw so (record {
@@ -94,8 +94,8 @@ module _ (size : Size) (ws buffer buffer' table table' : List ℕ) (keys : ℕ) 
   -- they are renewed
   pub entered-renewed : (slot old : ℕ) → slot ≡ stop_of table key → old ≡ info_at table slot → fits ≡ true → Renewed size ws buffer buffer' old own w
       → Entering size table table' keys fits single key own keys' true single' → EnteredIs size ws buffer buffer' table table' keys fits single key own w keys' true single'
-  entered-renewed slot old is-slot is_Is_word so r e =
-      let q : old ≡ get table key = is_Is_word ∙ look_in table key slot is-slot in
+  entered-renewed slot old is-slot is_word so r e =
+      let q : old ≡ get table key = is_word ∙ look_in table key slot is-slot in
       record { entered = e; kept = r.kept; renewed = λ t. (so, rw q at r) }
 
   -- or the keys do not fit

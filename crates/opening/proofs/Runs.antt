@@ -86,7 +86,7 @@ run-start size ws end fits table keys single buffer at long = record {
 -- one step more, from where the run came to: the run's words lie in one chunk
 module _ (size : Size) (ws : List ℕ) (end : ℕ) (fits : Bool) (table₀ : List ℕ) (keys₀ : ℕ) (single₀ : Bool) (buffer₀ : List ℕ) (at₀ : ℕ) (one : word_chunk (power_of size) (end - 1) ≤ word_chunk (power_of size) at₀)
     (table : List ℕ) (keys : ℕ) (single : Bool) (buffer : List ℕ) (from at : ℕ) (so_far : Hastened size ws end fits table₀ keys₀ single₀ buffer₀ at₀ table keys single buffer from at)
-    (v x k m : ℕ) (q : step_of (slice at end ws) ≡ S.Entry 1 0 v x k m) (slot old : ℕ) (is-slot : slot ≡ stop_of table k) (is_Is_word : old ≡ info_at table slot) (own : ℕ) (is-own : own ≡ alone size (extent_of size 0 x) at v) (so : fits ≡ true) where
+    (v x k m : ℕ) (q : step_of (slice at end ws) ≡ S.Entry 1 0 v x k m) (slot old : ℕ) (is-slot : slot ≡ stop_of table k) (is_word : old ≡ info_at table slot) (own : ℕ) (is-own : own ≡ alone size (extent_of size 0 x) at v) (so : fits ≡ true) where
   abbrev e : Entry
   e = entry_in ws 1 0 v x k m at
 
@@ -119,7 +119,7 @@ module _ (size : Size) (ws : List ℕ) (end : ℕ) (fits : Bool) (table₀ : Lis
           let room = room-entry ws at end 1 0 v x k m q in
           let front = bounded-front size xs (e ∷ []) small in
           let own-small = small.each e (mem-r e xs (e ∷ []) (inl refl)) in
-          let none_yet : chosen k xs ≡ none = zero-chosen size k xs front (sym holds ∙ sym (is_Is_word ∙ look_in table k slot is-slot) ∙ zero) in
+          let none_yet : chosen k xs ≡ none = zero-chosen size k xs front (sym holds ∙ sym (is_word ∙ look_in table k slot is-slot) ∙ zero) in
           let long : length e.value ≡ m = stands.right.words ∙ sym is-size in
           let sum : at + (2 + m) - from ≡ (at - from) + (2 + m) = omega arith in
           let here : word_chunk (power_of size) at ≡ word_chunk (power_of size) from = same-chunk size at from at₀ end so_far.farther so_far.start (omega arith) one in
@@ -127,7 +127,7 @@ module _ (size : Size) (ws : List ℕ) (end : ℕ) (fits : Bool) (table₀ : Lis
 
       entered : Entering size table table' keys fits single k own (keys + 1) fits single
       entered =
-          rw so (enter-new size table keys true single k own slot old is-slot is_Is_word refl table' own (noted-new size old own zero) is-put single (both-low single _ (lt-ltb own 0x8000_0000_0000_0000 low)) zero (rw so_far.sized room))
+          rw so (enter-new size table keys true single k own slot old is-slot is_word refl table' own (noted-new size old own zero) is-put single (both-low single _ (lt-ltb own 0x8000_0000_0000_0000 low)) zero (rw so_far.sized room))
 
   -- a put of a key that it has: what is owed is paid first
   pub run-again : (old ≡ 0 → ⊥) → (paid : List ℕ) → Changed buffer paid (only size from (at - from)) nothing → (w : ℕ) → Weighed 1 m w → (table' buffer' : List ℕ) (single' : Bool)
@@ -149,5 +149,5 @@ module _ (size : Size) (ws : List ℕ) (end : ℕ) (fits : Bool) (table₀ : Lis
     where
       entered : EnteredIs size ws paid buffer' table table' keys fits single k own w keys fits single'
       entered =
-          rw so (entered-renewed size ws paid buffer' table table' keys true single k own w keys single' slot old is-slot is_Is_word refl told-again.renewed
-          (enter-old size table keys true single k own slot old is-slot is_Is_word refl table' (noted size old own) refl told-again.put single' told-again.low known-key))
+          rw so (entered-renewed size ws paid buffer' table table' keys true single k own w keys single' slot old is-slot is_word refl told-again.renewed
+          (enter-old size table keys true single k own slot old is-slot is_word refl table' (noted size old own) refl told-again.put single' told-again.low known-key))

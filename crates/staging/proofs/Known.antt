@@ -142,7 +142,7 @@ version-sized z k b words table key v e h = rw e at h
 
 -- an entry by its first word
 pub put-read : (word stored : ℕ) (f h : FirstWord) → word ≡ stored → f ≡ first_of_word word → f ≡ h → put_in h ≡ put_in (first_of_word stored)
-put-read word stored f h is_Is_word is-first e = sym (ap put_in (ap first_of_word (sym is_Is_word) ∙ sym is-first ∙ e))
+put-read word stored f h is_word is-first e = sym (ap put_in (ap first_of_word (sym is_word) ∙ sym is-first ∙ e))
 
 module _ (ws : List ℕ) (n : Newest) where
   pub absent-unknown : n.version ≡ 0 → false ≡ present_by ws n

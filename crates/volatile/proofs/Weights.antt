@@ -49,9 +49,9 @@ module _ (size : Size) (ws : List ℕ) (extent place : ℕ) where
         is-weight ∙ sym (rw (k.0, n) (omega arith));
   }
 
-  module _ (v : ℕ) (first : FirstWord) (is_Is_word : v ≡ get_or ws place 0) (is-first : first ≡ first_of_word v) where
+  module _ (v : ℕ) (first : FirstWord) (is_word : v ≡ get_or ws place 0) (is-first : first ≡ first_of_word v) where
     read : (f : Entry) → StandsIn ws f → f.at ≡ place → first ≡ F.Entry f.op f.placement f.version f.field
-    read f stands here = is-first ∙ ap first_of_word (is_Is_word ∙ ap (λ (i : ℕ). get_or ws i 0) (sym here)) ∙ stands.first
+    read f stands here = is-first ∙ ap first_of_word (is_word ∙ ap (λ (i : ℕ). get_or ws i 0) (sym here)) ∙ stands.first
 
     pub at-padding : first ≡ F.Padding → WeighedAt size ws extent place 0
     at-padding e = record { is = λ f stands here tells narrow. let q = read f stands here in absurd (let z : ◌≡◌ {A = ℕ} 0 1 = cc in omega arith) }

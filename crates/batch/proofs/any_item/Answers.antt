@@ -1,5 +1,4 @@
--- `batch::any_item` meets its contract. The loop's invariant: the staged words say an item exactly if one was passed or
--- one is to come.
+-- `batch::any_item` meets its contract.
 -- Assumes nothing.
 use mathlib.Core.Path.{sym, ◌∙◌}
 use native.Mathlib.Omega.{arith}

@@ -1,4 +1,5 @@
--- The loops of `batch::any_item`.
+-- The loops of `batch::any_item`. The loop's invariant: the staged words say an item exactly if one was passed or one
+-- is to come.
 use Prim.Native.Nat.{◌-◌}
 use mathlib.Core.Path.{◌≡◌}
 use lib.Seq.{slice}

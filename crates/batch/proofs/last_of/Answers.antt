@@ -1,5 +1,4 @@
--- `batch::last_of` meets its contract. The loop's invariant: the last item of all is the last so far, passed on
--- over the items not yet reached.
+-- `batch::last_of` meets its contract.
 -- Assumes nothing.
 use mathlib.Core.Path.{sym}
 use native.Mathlib.Omega.{arith}

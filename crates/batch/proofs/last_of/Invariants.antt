@@ -1,4 +1,5 @@
--- The loops of `batch::last_of`.
+-- The loops of `batch::last_of`. The loop's invariant: the last item of all is the last so far, passed on over the
+-- items not yet reached.
 use Prim.Native.Nat.{◌-◌}
 use Rattle.theory_log.specs.Fold.{fold_e}
 use Rattle.batch.specs.Items.{pass, latest_of}

@@ -1,5 +1,4 @@
--- `batch::only_deletes` meets its contract. The loop's invariant: all items are deletes exactly if those not yet
--- reached are.
+-- `batch::only_deletes` meets its contract.
 -- Assumes nothing.
 use Prim.Native.Nat.{◌+◌}
 use mathlib.Core.Path.{refl, sym, ◌∙◌, ap}

@@ -1,4 +1,4 @@
--- The loops of `batch::only_deletes`.
+-- The loops of `batch::only_deletes`. The loop's invariant: all items are deletes exactly if those not yet reached are.
 use Prim.Native.Nat.{◌-◌}
 use Rattle.spec.specs.Basics.{all}
 use Rattle.spec.specs.Plans.{is_delete}

@@ -1,4 +1,4 @@
--- `batch::pack_into` meets its contract. The loop's invariant: the first i words of the value are laid over the buffer.
+-- `batch::pack_into` meets its contract.
 -- Assumes nothing.
 use Prim.Native.Nat.{◌+◌}
 use mathlib.Core.Path.{refl, sym, ◌∙◌, ap}

@@ -1,4 +1,4 @@
--- The loops of `batch::pack_into`.
+-- The loops of `batch::pack_into`. The loop's invariant: the first i words of the value are laid over the buffer.
 use Prim.Native.Nat.{◌≤◌, ◌-◌}
 use mathlib.Core.Path.{◌≡◌}
 use lib.ListN.{take}

@@ -1,5 +1,5 @@
--- `clear_bits` meets its contract. The loop's invariant: the words before `i` that hold bits are 0, the others as they
--- were. Assumes nothing.
+-- `clear_bits` meets its contract.
+-- Assumes nothing.
 use mathlib.Core.Path.{◌≡◌}
 use native.Mathlib.Omega.{arith}
 use Rattle.buffer.specs.Areas.{bits_end_of}

@@ -1,4 +1,4 @@
--- The loops of `buffer::clear_bits`.
+-- The loops of `clear_bits`. The loop's invariant: the words before `i` that hold bits are 0, the others as they were.
 use Prim.Native.Nat.{◌≤◌, ◌-◌}
 use Rattle.buffer.specs.Areas.{bits_start, bits_end}
 use Rattle.buffer.proofs.Laws.{Clearing}

@@ -1,4 +1,4 @@
--- `choosing::choose` meets its contract. The loop's invariant: the best of the chunks below c.
+-- `choosing::choose` meets its contract.
 -- Assumes nothing.
 use native.Mathlib.Omega.{arith}
 use Rattle.choosing.proofs.Loop.{looked-start, looked-next, looked-nothing, looked-found}

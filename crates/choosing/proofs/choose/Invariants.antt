@@ -1,4 +1,4 @@
--- The loops of `choosing::choose`.
+-- The loops of `choosing::choose`. The loop's invariant: the best of the chunks below c.
 use Prim.Native.Nat.{◌-◌}
 use Rattle.spec.specs.Words.{words_of}
 use Rattle.choosing.proofs.Loop.{Looked}

@@ -1,4 +1,4 @@
--- `cleaning::has_live` meets its contract. The loop's invariant: the bits still to be looked at tell.
+-- `cleaning::has_live` meets its contract.
 -- Assumes nothing.
 use mathlib.Core.Path.{ap, sym, ◌∙◌}
 use Prim.Native.Nat.{ℕ, ◌+◌, ◌-◌, ◌%◌}

@@ -1,4 +1,4 @@
--- The loops of `cleaning::has_live`.
+-- The loops of `cleaning::has_live`. The loop's invariant: the bits still to be looked at tell.
 use mathlib.Core.Path.{◌≡◌}
 use Prim.Native.Nat.{◌≤◌, ◌+◌, ◌-◌, ◌%◌}
 use Rattle.places.specs.Sizes.{power_of}

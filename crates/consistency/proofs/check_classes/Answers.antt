@@ -1,4 +1,4 @@
--- `consistency::check_classes` meets its contract. The loop's invariant: the classes below `low` are done.
+-- `consistency::check_classes` meets its contract.
 -- Assumes nothing.
 use mathlib.Core.Path.{sym, ◌∙◌}
 use Prim.Native.Nat.{ℕ}

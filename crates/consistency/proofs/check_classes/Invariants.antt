@@ -1,4 +1,4 @@
--- The loops of `consistency::check_classes`.
+-- The loops of `consistency::check_classes`. The loop's invariant: the classes below `low` are done.
 use mathlib.Core.Path.{◌≡◌}
 use Prim.Native.Nat.{◌+◌, ◌-◌, ◌*◌, ◌^◌, ◌≤◌}
 use lib.ListN.{length}

@@ -1,5 +1,4 @@
--- `consistency::same_words` meets its contract. The loop's invariant: the comparison of all words is that of the words
--- from i on.
+-- `consistency::same_words` meets its contract.
 -- Assumes nothing.
 use Prim.Native.Nat.{◌<◌}
 use mathlib.Core.Path.{sym, ◌∙◌}

@@ -1,4 +1,5 @@
--- The loops of `consistency::same_words`.
+-- The loops of `consistency::same_words`. The loop's invariant: the comparison of all words is that of the words from i
+-- on.
 use Prim.Native.Nat.{◌+◌, ◌-◌, ◌≤◌}
 use mathlib.Core.Path.{◌≡◌}
 use Rattle.spec.specs.Words.{words_of}

@@ -1,5 +1,4 @@
--- `consistency::sweep` meets its contract. The loop's invariant: the tests and the marks of the entries passed, of
--- which none has failed.
+-- `consistency::sweep` meets its contract.
 -- Assumes nothing.
 use mathlib.Core.Path.{refl, sym, ◌∙◌}
 use native.Mathlib.Omega.{arith}

@@ -1,4 +1,5 @@
--- The loops of `consistency::sweep`.
+-- The loops of `consistency::sweep`. The loop's invariant: the tests and the marks of the entries passed, of which none
+-- has failed.
 use Rattle.spec.specs.Words.{words_of}
 use Rattle.logs.specs.Cursor.{cursor_at, left}
 use Rattle.consistency.proofs.Sweeps.{Going}

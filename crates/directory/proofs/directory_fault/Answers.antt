@@ -1,5 +1,4 @@
--- `directory::directory_fault` meets its contract. The loop's invariant: the search from chunk c on gives the whole
--- one's answer.
+-- `directory::directory_fault` meets its contract.
 -- Assumes nothing.
 use mathlib.Core.Path.{refl, sym, ◌∙◌}
 use native.Mathlib.Omega.{arith}

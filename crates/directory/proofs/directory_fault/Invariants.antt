@@ -1,4 +1,5 @@
--- The loops of `directory::directory_fault`.
+-- The loops of `directory::directory_fault`. The loop's invariant: the search from chunk c on gives the whole one's
+-- answer.
 use mathlib.Core.Path.{◌≡◌}
 use Prim.Native.Nat.{◌-◌, ◌≤◌}
 use Rattle.spec.specs.Words.{words_of}

@@ -1,4 +1,4 @@
--- `directory::free_chunks` meets its contract. The loop's invariant: so many of the chunks before c are free.
+-- `directory::free_chunks` meets its contract.
 -- Assumes nothing.
 use mathlib.Core.Path.{refl}
 use native.Mathlib.Omega.{arith}

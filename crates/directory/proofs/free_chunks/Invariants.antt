@@ -1,4 +1,4 @@
--- The loops of `directory::free_chunks`.
+-- The loops of `directory::free_chunks`. The loop's invariant: so many of the chunks before c are free.
 use Prim.Native.Nat.{ℕ, ◌-◌, ◌≤◌}
 use mathlib.Core.Path.{◌≡◌}
 use mathlib.Core.List.{List}

@@ -1,5 +1,4 @@
--- `directory::free_from` meets its contract. The loop's invariant: where no chunk below `from` is free, of the chunks
--- before c so many are free, too few, and `lowest` is the first of them.
+-- `directory::free_from` meets its contract.
 -- Assumes nothing.
 use Prim.Native.Nat.{◌+◌}
 use mathlib.Core.Path.{sym, ◌∙◌, ap}

@@ -1,4 +1,5 @@
--- The loops of `directory::free_from`.
+-- The loops of `directory::free_from`. The loop's invariant: where no chunk below `from` is free, of the chunks before
+-- c so many are free, too few, and `lowest` is the first of them.
 use Prim.Native.Nat.{ℕ, ◌-◌, ◌≤◌, ◌<◌}
 use mathlib.Core.Path.{◌≡◌}
 use mathlib.Core.Bool.{Bool, false}

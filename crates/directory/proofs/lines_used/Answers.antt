@@ -1,4 +1,4 @@
--- `directory::lines_used` meets its contract. The loop's invariant: the committed lines of the chunks before c.
+-- `directory::lines_used` meets its contract.
 -- Assumes nothing.
 use mathlib.Core.Path.{refl}
 use native.Mathlib.Omega.{arith}

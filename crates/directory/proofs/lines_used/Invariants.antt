@@ -1,4 +1,4 @@
--- The loops of `directory::lines_used`.
+-- The loops of `directory::lines_used`. The loop's invariant: the committed lines of the chunks before c.
 use Prim.Native.Nat.{ℕ, ◌-◌, ◌*◌, ◌≤◌}
 use mathlib.Core.Path.{◌≡◌}
 use mathlib.Core.List.{List}

@@ -1,5 +1,4 @@
--- `faults::read_log` meets its contract. The loop's invariant: what is left from the place reached stops where the
--- whole stops; and there are no more entries before it than words.
+-- `faults::read_log` meets its contract.
 -- Assumes nothing.
 use mathlib.Core.Path.{refl, sym, ◌∙◌, ap}
 use Prim.Native.Nat.{ℕ, ◌+◌, ◌*◌}

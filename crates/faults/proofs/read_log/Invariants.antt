@@ -1,4 +1,5 @@
--- The loops of `faults::read_log`.
+-- The loops of `faults::read_log`. The loop's invariant: what is left from the place reached stops where the whole
+-- stops; and there are no more entries before it than words.
 use mathlib.Core.Path.{◌≡◌}
 use Prim.Native.Nat.{◌+◌, ◌-◌, ◌*◌, ◌≤◌}
 use Rattle.places.specs.Sizes.{power_of}

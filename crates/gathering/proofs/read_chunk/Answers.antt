@@ -1,5 +1,4 @@
--- `gathering::read_chunk` meets its contract. The loop's invariant: the bytes before `i` are read; the measure falls by
--- one with each, so no byte is read again.
+-- `gathering::read_chunk` meets its contract.
 -- Assumes nothing.
 use Rattle.std.proofs.Common.{min, refl, ap, ◌∙◌, arith}
 use Rattle.places.specs.Sizes.{power_of, power-low, power-high}

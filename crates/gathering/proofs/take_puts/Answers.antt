@@ -1,4 +1,4 @@
--- `gathering::take_puts` meets its contract. The loop's invariant: the run has come to `place`.
+-- `gathering::take_puts` meets its contract.
 -- Assumes nothing.
 use Rattle.std.proofs.Common.{sym, refl, ◌∙◌, arith}
 use Rattle.spec.specs.Words.{words_of}

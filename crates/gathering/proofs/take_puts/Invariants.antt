@@ -1,4 +1,4 @@
--- The loops of `gathering::take_puts`.
+-- The loops of `gathering::take_puts`. The loop's invariant: the run has come to `place`.
 use Rattle.std.proofs.Common.{◌-◌, length}
 use Rattle.spec.specs.Words.{words_of}
 use Rattle.gathering.specs.Reading.{PutsTaken}

@@ -1,5 +1,5 @@
--- `clear` meets its contract. The loop's invariant: the first `i` words are 0, the others as they were. Assumes
--- nothing.
+-- `clear` meets its contract.
+-- Assumes nothing.
 use mathlib.Core.Path.{◌≡◌, ◌∙◌, ap, refl}
 use mathlib.Core.List.{◌++◌, append-nil}
 use lib.Seq.{drop-length}

@@ -1,4 +1,4 @@
--- The loops of `index::clear`.
+-- The loops of `clear`. The loop's invariant: the first `i` words are 0, the others as they were.
 use mathlib.Core.Path.{◌≡◌}
 use mathlib.Core.List.{◌++◌}
 use Prim.Native.Nat.{◌≤◌, ◌-◌}

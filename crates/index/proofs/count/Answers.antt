@@ -1,5 +1,5 @@
--- `count` meets its contract. The loop's invariant: `keys` is the number of used slots of the first `s`. Assumes
--- nothing.
+-- `count` meets its contract.
+-- Assumes nothing.
 use mathlib.Core.Path.{◌≡◌, ◌∙◌, ap, refl}
 use Prim.Native.Nat.{◌/◌}
 use native.Mathlib.Omega.{arith}

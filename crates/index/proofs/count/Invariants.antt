@@ -1,4 +1,4 @@
--- The loops of `index::count`.
+-- The loops of `count`. The loop's invariant: `keys` is the number of used slots of the first `s`.
 use mathlib.Core.Path.{◌≡◌}
 use Prim.Native.Nat.{◌≤◌, ◌-◌, ◌/◌}
 use lib.ListN.{length}

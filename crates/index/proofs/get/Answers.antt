@@ -1,5 +1,5 @@
--- `look` meets its contract: `BehindAt` holds while the slots behind the first are probed, and then `RoundAt`. Assumes
--- nothing.
+-- `look` meets its contract.
+-- Assumes nothing.
 use mathlib.Core.Path.{sym}
 use native.Mathlib.Omega.{arith}
 use Rattle.index.proofs.Slots.{get-out}

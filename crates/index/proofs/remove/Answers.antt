@@ -1,4 +1,5 @@
--- `remove` meets its contract. The loop's invariant is `Moving`: the removal under way. Assumes nothing.
+-- `remove` meets its contract.
+-- Assumes nothing.
 use mathlib.Core.Path.{◌≡◌, ◌∙◌, sym, ap, refl}
 use mathlib.Core.Logic.{inl, inr}
 use Prim.Native.Nat.{◌<◌}

@@ -1,4 +1,4 @@
--- The loops of `index::remove`.
+-- The loops of `remove`. The loop's invariant is `Moving`: the removal under way.
 use mathlib.Core.Path.{◌≡◌}
 use Prim.Native.Nat.{◌/◌}
 use lib.ListN.{length}

@@ -1,4 +1,5 @@
--- `stop` meets its contract. The loop's invariant is `Probing`: the probing under way. Assumes nothing.
+-- `stop` meets its contract.
+-- Assumes nothing.
 use native.Mathlib.Omega.{arith}
 use Rattle.index.specs.Index.{slots}
 use Rattle.index.proofs.Slots.{stop-upto}

@@ -1,4 +1,4 @@
--- The loops of `index::slot_of`.
+-- The loops of `stop`. The loop's invariant is `Probing`: the probing under way.
 use Prim.Native.Nat.{◌≤◌}
 use Rattle.index.proofs.Probing.{Probing}
 use Rattle.index.proofs.slot_of.Given as goal

@@ -1,4 +1,4 @@
--- `inspect::next_empty` meets its contract. The loop's invariant: no chunk before c is an empty data chunk.
+-- `inspect::next_empty` meets its contract.
 -- Assumes nothing.
 use Rattle.std.proofs.Common.{sym, ◌∙◌, arith}
 use Rattle.spec.specs.Words.{words_of}

@@ -1,4 +1,4 @@
--- The loops of `inspect::next_empty`.
+-- The loops of `inspect::next_empty`. The loop's invariant: no chunk before c is an empty data chunk.
 use Rattle.std.proofs.Common.{◌≡◌, ℕ, ◌-◌, ◌<◌, ◌≤◌, false}
 use Rattle.spec.specs.Words.{words_of}
 use Rattle.inspect.specs.ByTable.{empty_by}

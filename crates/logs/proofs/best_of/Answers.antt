@@ -1,5 +1,4 @@
--- `logs::best_of` meets its contract. The loop's invariant: the pass over the whole log is the pass over what remains,
--- from the best so far.
+-- `logs::best_of` meets its contract.
 -- Assumes nothing.
 use mathlib.Core.Path.{sym, ◌∙◌, ap}
 use Rattle.spec.specs.Words.{words_of}

@@ -1,4 +1,5 @@
--- The loops of `logs::best_of`.
+-- The loops of `logs::best_of`. The loop's invariant: the pass over the whole log is the pass over what remains, from
+-- the best so far.
 use mathlib.Core.Path.{◌≡◌}
 use Rattle.spec.specs.Words.{words_of}
 use Rattle.places.specs.Sizes.{power_of}

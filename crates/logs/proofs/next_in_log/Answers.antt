@@ -1,5 +1,4 @@
--- `logs::next_in_log` meets its contract. The loop's invariant: the same remains from the place reached as from the
--- cursor given, and it is no farther from the end.
+-- `logs::next_in_log` meets its contract.
 -- Assumes nothing.
 use mathlib.Core.Path.{refl, sym, ◌∙◌}
 use native.Mathlib.Omega.{arith}

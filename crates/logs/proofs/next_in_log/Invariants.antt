@@ -1,4 +1,5 @@
--- The loops of `logs::next_in_log`.
+-- The loops of `logs::next_in_log`. The loop's invariant: the same remains from the place reached as from the cursor
+-- given, and it is no farther from the end.
 use Prim.Native.Nat.{◌≤◌}
 use mathlib.Core.Path.{◌≡◌}
 use Rattle.spec.specs.Words.{words_of}

@@ -1,3 +1,4 @@
+-- `lookup::by_word` meets its contract.
 -- Assumes nothing.
 use Rattle.spec.specs.Words.{words_of}
 use native.Mathlib.Omega.{arith}

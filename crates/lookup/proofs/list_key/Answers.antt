@@ -1,3 +1,4 @@
+-- `lookup::list_key` meets its contract.
 -- Assumes nothing.
 use Rattle.lookup.proofs.Answers.{key-refused, key-open}
 use Rattle.lookup.proofs.list_key.Goals as goal

@@ -1,3 +1,4 @@
+-- `lookup::list_keys` meets its contract.
 -- Assumes nothing.
 use Rattle.lookup.proofs.Answers.{keys-refused, keys-open}
 use Rattle.lookup.proofs.list_keys.Goals as goal

@@ -4,10 +4,6 @@ use native.Mathlib.Omega.{arith}
 use Rattle.lookup.proofs.Looks.{part-inside, show-part, show-refused}
 use Rattle.lookup.proofs.look_up_core.Goals as goal
 
--- UNPLACED
--- part-result-end : tie.Need-slice-bounds-result-end
--- part-result-end c = omega (arith, part-inside _ _ _ _ _ _ c.before.before.before.locate.ensures _ _ _ c.before.found.given.1)
-
 pub overflow_add-end : goal.overflow_add-end
 overflow_add-end c = omega (arith, part-inside _ _ _ _ _ _ c.locate-found.ensures _ _ _ c.in-Part.is)
 

@@ -1,3 +1,4 @@
+-- `lookup::present_keys` meets its contract.
 -- Assumes nothing.
 use mathlib.Core.Path.{◌∙◌, refl}
 use native.Mathlib.Omega.{arith}

@@ -1,3 +1,4 @@
+-- `lookup::take_slot` meets its contract.
 -- Assumes nothing.
 use Rattle.lookup.proofs.Answers.{taken_none, taken-some}
 use Rattle.lookup.proofs.take_slot.Goals as goal

@@ -1,4 +1,4 @@
--- `player::play_lines` is safe and ends. The measure is what is left of the text: the next line starts behind this one.
+-- `player::play_lines` is safe and ends.
 -- Assumes nothing.
 use Rattle.std.proofs.Common.{arith}
 use Rattle.player.proofs.play_lines.Goals as goal

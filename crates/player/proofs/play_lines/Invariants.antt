@@ -1,4 +1,4 @@
--- The loops of `player::play_lines`.
+-- The loops of `player::play_lines`. The measure is what is left of the text: the next line starts behind this one.
 use Rattle.std.proofs.Common.{◌≡◌, ◌-◌, length}
 use Rattle.player.proofs.play_lines.Given as goal
 

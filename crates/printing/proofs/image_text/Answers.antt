@@ -1,3 +1,4 @@
+-- `printing::image_text` meets its contract.
 -- Assumes nothing.
 use Prim.Native.Nat.{ℕ}
 use lib.ListN.{length-replicate}

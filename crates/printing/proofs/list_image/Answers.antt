@@ -1,3 +1,4 @@
+-- `printing::list_image` meets its contract.
 -- Assumes nothing.
 use Rattle.printing.proofs.Prints.{image-refused, image-opened}
 use Rattle.printing.proofs.list_image.Goals as goal

@@ -1,3 +1,4 @@
+-- `printing::put_break` meets its contract.
 -- Assumes nothing.
 use Rattle.text.proofs.Texts.{writes-none}
 use Rattle.printing.proofs.put_break.Goals as goal

@@ -1,3 +1,4 @@
+-- `printing::put_column` meets its contract.
 -- Assumes nothing.
 use Rattle.printing.proofs.Pieces.{in-columns, as-it-is}
 use Rattle.printing.proofs.put_column.Goals as goal

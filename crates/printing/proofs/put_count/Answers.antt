@@ -1,3 +1,4 @@
+-- `printing::put_count` meets its contract.
 -- Assumes nothing.
 use Rattle.text.proofs.Texts.{put-writes}
 use Rattle.printing.proofs.Pieces.{writes-three}

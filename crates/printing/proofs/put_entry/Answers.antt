@@ -1,3 +1,4 @@
+-- `printing::put_entry` meets its contract.
 -- Assumes nothing.
 use Rattle.text.proofs.Texts.{writes-on}
 use Rattle.printing.specs.Lines.{line_text}

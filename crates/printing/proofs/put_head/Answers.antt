@@ -1,3 +1,4 @@
+-- `printing::put_head` meets its contract.
 -- Assumes nothing.
 use Rattle.printing.proofs.put_head.Goals as goal
 

@@ -1,3 +1,4 @@
+-- `printing::put_heading` meets its contract.
 -- Assumes nothing.
 use Rattle.text.proofs.Texts.{put-writes}
 use Rattle.printing.proofs.Pieces.{heading-is}

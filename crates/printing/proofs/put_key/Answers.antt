@@ -1,3 +1,4 @@
+-- `printing::put_key` meets its contract.
 -- Assumes nothing.
 use Rattle.printing.proofs.Prints.{key-none, key-line}
 use Rattle.printing.proofs.put_key.Goals as goal

@@ -1,3 +1,4 @@
+-- `printing::put_keys` meets its contract.
 -- Assumes nothing.
 use mathlib.Core.Path.{refl}
 use native.Mathlib.Omega.{arith}

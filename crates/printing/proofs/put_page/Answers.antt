@@ -1,3 +1,4 @@
+-- `printing::put_page` meets its contract.
 -- Assumes nothing.
 use Rattle.printing.proofs.Pieces.{first-row, new-page, same-page}
 use Rattle.printing.proofs.put_page.Goals as goal

@@ -1,3 +1,4 @@
+-- `printing::put_place` meets its contract.
 -- Assumes nothing.
 use Rattle.text.proofs.Texts.{put-writes}
 use Rattle.printing.proofs.put_place.Goals as goal

@@ -1,3 +1,4 @@
+-- `printing::put_register` meets its contract.
 -- Assumes nothing.
 use Rattle.printing.proofs.Prints.{register-closed, register-lines}
 use Rattle.printing.proofs.put_register.Goals as goal

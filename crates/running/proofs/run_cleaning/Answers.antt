@@ -1,5 +1,4 @@
--- `running::run_cleaning` meets its contract. The loop's invariant: all actions up to the next one were stores, and are
--- made.
+-- `running::run_cleaning` meets its contract.
 -- Assumes nothing.
 use mathlib.Core.Path.{refl, sym, ◌∙◌}
 use native.Mathlib.Omega.{arith}

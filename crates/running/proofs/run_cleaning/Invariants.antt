@@ -1,4 +1,4 @@
--- The loops of `running::run_cleaning`.
+-- The loops of `running::run_cleaning`. The loop's invariant: all actions up to the next one were stores, and are made.
 use mathlib.Core.Path.{◌≡◌}
 use Prim.Native.Nat.{◌-◌}
 use Rattle.session.specs.declared.Control.{Control}

@@ -1,5 +1,4 @@
--- `running::run_steps` meets its contract. The loop's invariant: the steps so far each stored a word; each step leaves
--- one fewer.
+-- `running::run_steps` meets its contract.
 -- Assumes nothing.
 use mathlib.Core.Path.{sym, ◌∙◌}
 use native.Mathlib.Omega.{arith}

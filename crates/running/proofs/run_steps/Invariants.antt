@@ -1,4 +1,5 @@
--- The loops of `running::run_steps`.
+-- The loops of `running::run_steps`. The loop's invariant: the steps so far each stored a word; each step leaves one
+-- fewer.
 use Rattle.spec.specs.Machine.{steps_left}
 use Rattle.session.specs.State.{state_of}
 use Rattle.running.proofs.Runs.{Stored}

@@ -1,3 +1,4 @@
+-- `sizes::put_line` meets its contract.
 -- Assumes nothing.
 use Rattle.text.proofs.Texts.{put-writes}
 use Rattle.sizes.proofs.Lines.{line-text}

@@ -1,3 +1,4 @@
+-- `sizes::put_table` meets its contract.
 -- Assumes nothing.
 use mathlib.Core.Path.{◌≡◌, refl}
 use native.Mathlib.Omega.{arith}

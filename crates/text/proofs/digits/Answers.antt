@@ -1,3 +1,4 @@
+-- `text::digits` meets its contract.
 -- Assumes nothing.
 use Rattle.std.proofs.Common.{◌-◌, sym, refl, ◌∙◌, arith, length-set}
 use Rattle.text.proofs.Decimals.{spelling-start, spelled-all, spelling-on}

@@ -1,5 +1,5 @@
--- `text::number` meets its contract. What is spelled from the start on is what is spelled from here on behind the
--- value so far. The measure is what is left of the text. Assumes nothing.
+-- `text::number` meets its contract.
+-- Assumes nothing.
 use Rattle.std.proofs.Common.{ℕ, ◌+◌, drop, sym, ap, ◌∙◌, arith}
 use Rattle.text.specs.Spelled.{spelled}
 use Rattle.text.proofs.Spelling.{at-digit, at_other, at-end}

@@ -1,4 +1,5 @@
--- The loops of `text::number`.
+-- The loops of `text::number`. What is spelled from the start on is what is spelled from here on behind the value so
+-- far. The measure is what is left of the text.
 use Rattle.std.proofs.Common.{◌≡◌, ◌-◌, length, drop}
 use Rattle.text.specs.Spelled.{spelled}
 use Rattle.text.proofs.number.Given as goal

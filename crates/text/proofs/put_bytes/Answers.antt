@@ -1,3 +1,4 @@
+-- `text::put_bytes` meets its contract.
 -- Assumes nothing.
 use Rattle.std.proofs.Common.{◌+◌, ◌≤◌, length, refl, arith}
 use Rattle.text.proofs.Texts.{no_room, put-start, put_on, put-length, put-end}

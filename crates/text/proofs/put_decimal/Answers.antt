@@ -1,3 +1,4 @@
+-- `text::put_decimal` meets its contract.
 -- Assumes nothing.
 use Rattle.text.specs.Text.{decimal}
 use Rattle.text.proofs.Columns.{right-none}

@@ -1,3 +1,4 @@
+-- `text::put_right` meets its contract.
 -- Assumes nothing.
 use Rattle.std.proofs.Common.{◌-◌, arith}
 use Rattle.text.specs.Text.{most_digits}

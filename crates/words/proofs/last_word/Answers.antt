@@ -1,5 +1,4 @@
--- `words::last_word` meets its contract. The loop's invariant: the bytes from `at` on are joined; there are at most
--- seven, and 0 stands behind them.
+-- `words::last_word` meets its contract.
 -- Assumes nothing.
 use mathlib.Core.Path.{◌≡◌, sym, ◌∙◌, ap}
 use mathlib.Core.List.{List}

@@ -1,4 +1,5 @@
--- The loops of `words::last_word`.
+-- The loops of `words::last_word`. The loop's invariant: the bytes from `at` on are joined; there are at most seven,
+-- and 0 stands behind them.
 use mathlib.Core.Path.{◌≡◌}
 use mathlib.Core.List.{List}
 use Prim.Native.Nat.{ℕ, ◌≤◌, ◌+◌}

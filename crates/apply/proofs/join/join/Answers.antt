@@ -1,5 +1,4 @@
--- `apply::join::join` meets its contract. The loop's invariant: what was left of the batch at the beginning says what
--- is left of it now.
+-- `apply::join::join` meets its contract.
 -- Assumes nothing.
 use Rattle.std.proofs.Common.{[], refl, ◌∙◌, arith}
 use Rattle.batch.proofs.Staged.{told-fits}

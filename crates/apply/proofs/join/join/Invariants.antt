@@ -1,4 +1,5 @@
--- The loops of `apply::join::join`.
+-- The loops of `apply::join::join`. The loop's invariant: what was left of the batch at the beginning says what is left
+-- of it now.
 use Rattle.std.proofs.Common.{◌-◌}
 use Rattle.spec.specs.Words.{words_of}
 use Rattle.apply.specs.Joining.{Going}

@@ -1,5 +1,4 @@
--- `apply::join::join_puts` meets its contract. The loop's invariant: what was left of the batch at the beginning says
--- what is left of it now, whatever the image shows.
+-- `apply::join::join_puts` meets its contract.
 -- Assumes nothing.
 use Rattle.std.proofs.Common.{[], refl, arith}
 use Rattle.spec.specs.declared.Size.TheVariants as S

@@ -1,4 +1,5 @@
--- The loops of `apply::join::join_puts`.
+-- The loops of `apply::join::join_puts`. The loop's invariant: what was left of the batch at the beginning says what is
+-- left of it now, whatever the image shows.
 use Rattle.std.proofs.Common.{◌-◌}
 use Rattle.spec.specs.declared.Size.TheVariants as S
 use Rattle.apply.specs.Joining.{PutsJoined}

@@ -1,4 +1,4 @@
--- The loops of `apply::remove::remove_puts`.
+-- The loops of `apply::remove::remove_puts`. The loop's invariant: the run has come to `place`.
 use Rattle.std.proofs.Common.{◌-◌, true, length}
 use Rattle.spec.specs.Words.{words_of}
 use Rattle.apply.specs.Passes.{PutsLeft}

@@ -1,5 +1,4 @@
--- `consistency::partition::collect` meets its contract. The loop's invariant: the table is that of the entries of the
--- range that are passed.
+-- `consistency::partition::collect` meets its contract.
 -- Assumes nothing.
 use mathlib.Core.Path.{refl, ◌∙◌, ap}
 use native.Mathlib.Omega.{arith}

@@ -1,4 +1,5 @@
--- The loops of `consistency::partition::collect`.
+-- The loops of `consistency::partition::collect`. The loop's invariant: the table is that of the entries of the range
+-- that are passed.
 use lib.ListN.{length}
 use Rattle.spec.specs.Words.{words_of}
 use Rattle.logs.specs.Cursor.{left}

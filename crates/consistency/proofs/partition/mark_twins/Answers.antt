@@ -1,5 +1,5 @@
--- `consistency::partition::mark_twins` meets its contract. The loop's invariant: the slots below s are seen. Assumes
--- nothing.
+-- `consistency::partition::mark_twins` meets its contract.
+-- Assumes nothing.
 use mathlib.Core.Path.{refl}
 use native.Mathlib.Omega.{arith}
 use Rattle.consistency.proofs.Twins.{seen_none, seen_next, seen-quiet, seen_all}

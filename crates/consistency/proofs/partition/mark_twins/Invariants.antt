@@ -1,4 +1,4 @@
--- The loops of `consistency::partition::mark_twins`.
+-- The loops of `consistency::partition::mark_twins`. The loop's invariant: the slots below s are seen.
 use mathlib.Core.Path.{◌≡◌}
 use Prim.Native.Nat.{◌-◌, ◌/◌, ◌≤◌}
 use lib.ListN.{length}

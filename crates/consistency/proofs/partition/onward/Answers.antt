@@ -1,4 +1,4 @@
--- `consistency::partition::onward` meets its contract. The loop's invariant: the chunks before `next` are passed.
+-- `consistency::partition::onward` meets its contract.
 -- Assumes nothing.
 use mathlib.Core.Path.{◌≡◌}
 use Prim.Native.Nat.{◌-◌, ◌<◌}

@@ -1,4 +1,4 @@
--- The loops of `consistency::partition::onward`.
+-- The loops of `consistency::partition::onward`. The loop's invariant: the chunks before `next` are passed.
 use Prim.Native.Nat.{◌-◌}
 use Rattle.places.specs.Sizes.{power_of}
 use Rattle.spec.specs.Words.{words_of}

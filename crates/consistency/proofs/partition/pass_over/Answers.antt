@@ -1,5 +1,5 @@
--- `consistency::partition::pass_over` meets its contract. The loop's invariant: the pass has come to `place`. Assumes
--- nothing.
+-- `consistency::partition::pass_over` meets its contract.
+-- Assumes nothing.
 use mathlib.Core.Path.{sym, ◌∙◌}
 use native.Mathlib.Omega.{arith}
 use Rattle.spec.specs.Words.{words_of}

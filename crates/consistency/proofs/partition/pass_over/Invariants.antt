@@ -1,4 +1,4 @@
--- The loops of `consistency::partition::pass_over`.
+-- The loops of `consistency::partition::pass_over`. The loop's invariant: the pass has come to `place`.
 use Prim.Native.Nat.{◌-◌}
 use Rattle.spec.specs.Words.{words_of}
 use Rattle.consistency.specs.Passing.{PassedOver}

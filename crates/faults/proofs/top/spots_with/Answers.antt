@@ -1,4 +1,4 @@
--- `faults::top::spots_with` meets its contract. The loop's invariant: the classes below `low` are done.
+-- `faults::top::spots_with` meets its contract.
 -- Assumes nothing.
 use mathlib.Core.Path.{refl, sym, ◌∙◌}
 use Prim.Native.Nat.{ℕ}

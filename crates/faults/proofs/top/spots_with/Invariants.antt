@@ -1,4 +1,4 @@
--- The loops of `faults::top::spots_with`.
+-- The loops of `faults::top::spots_with`. The loop's invariant: the classes below `low` are done.
 use mathlib.Core.Path.{◌≡◌}
 use Prim.Native.Nat.{◌+◌, ◌-◌, ◌*◌, ◌^◌, ◌≤◌}
 use lib.ListN.{length}

@@ -1,4 +1,4 @@
--- `faults::top::sweep` meets its contract. The loop's invariant: what is found is found of the entries that are passed.
+-- `faults::top::sweep` meets its contract.
 -- Assumes nothing.
 use mathlib.Core.Path.{refl}
 use native.Mathlib.Omega.{arith}

@@ -1,4 +1,4 @@
--- The loops of `faults::top::sweep`.
+-- The loops of `faults::top::sweep`. The loop's invariant: what is found is found of the entries that are passed.
 use Rattle.spec.specs.Words.{words_of}
 use Rattle.logs.specs.Cursor.{left}
 use Rattle.faults.proofs.Sweeps.{Going}

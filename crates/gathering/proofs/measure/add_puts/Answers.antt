@@ -1,4 +1,4 @@
--- `gathering::measure::add_puts` meets its contract. The loop's invariant: the run has come to `place`.
+-- `gathering::measure::add_puts` meets its contract.
 -- Assumes nothing.
 use Rattle.std.proofs.Common.{arith}
 use Rattle.spec.specs.Words.{words_of}

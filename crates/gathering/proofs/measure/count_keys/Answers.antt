@@ -1,5 +1,4 @@
--- `gathering::measure::count_keys` meets its contract. The loop's invariant: the counts so far, and those of the
--- entries left, are those of all.
+-- `gathering::measure::count_keys` meets its contract.
 -- Assumes nothing.
 use Rattle.std.proofs.Common.{length}
 use Rattle.logs.proofs.Walk.{handed}

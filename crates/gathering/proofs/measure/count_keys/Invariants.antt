@@ -1,4 +1,5 @@
--- The loops of `gathering::measure::count_keys`.
+-- The loops of `gathering::measure::count_keys`. The loop's invariant: the counts so far, and those of the entries
+-- left, are those of all.
 use Rattle.spec.specs.Words.{words_of}
 use Rattle.logs.specs.Cursor.{left}
 use Rattle.gathering.proofs.Kept.{CountsOn}

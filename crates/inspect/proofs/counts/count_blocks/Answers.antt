@@ -1,5 +1,4 @@
--- `inspect::counts::count_blocks` meets its contract. The loop's invariant: the pass over the whole log is the pass
--- over what remains, from what is counted so far.
+-- `inspect::counts::count_blocks` meets its contract.
 -- Assumes nothing.
 use Rattle.std.proofs.Common.{sym, ap, ◌∙◌}
 use Rattle.spec.specs.Words.{words_of}

@@ -1,5 +1,4 @@
--- `inspect::counts::count_entries` meets its contract. The loop's invariant: the pass over the chunk is the pass over
--- what remains of it, from what is counted so far.
+-- `inspect::counts::count_entries` meets its contract.
 -- Assumes nothing.
 use Rattle.std.proofs.Common.{sym, ap, ◌∙◌, arith}
 use Rattle.spec.specs.Words.{words_of}

@@ -1,4 +1,5 @@
--- The loops of `inspect::counts::count_entries`.
+-- The loops of `inspect::counts::count_entries`. The loop's invariant: the pass over the chunk is the pass over what
+-- remains of it, from what is counted so far.
 use Rattle.std.proofs.Common.{◌≡◌}
 use Rattle.spec.specs.Words.{words_of}
 use Rattle.spec.specs.Log.{chunk_entries}

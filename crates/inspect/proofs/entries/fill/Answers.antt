@@ -1,5 +1,4 @@
--- `inspect::entries::fill` meets its contract. The loop's invariant: the pass over the whole log is the pass over what
--- remains, from the words and the count so far.
+-- `inspect::entries::fill` meets its contract.
 -- Assumes nothing.
 use Rattle.std.proofs.Common.{refl, ◌∙◌, rules}
 use Rattle.spec.specs.Words.{words_of}

@@ -1,4 +1,5 @@
--- The loops of `inspect::entries::fill`.
+-- The loops of `inspect::entries::fill`. The loop's invariant: the pass over the whole log is the pass over what
+-- remains, from the words and the count so far.
 use Rattle.std.proofs.Common.{◌≡◌, length}
 use Rattle.spec.specs.Words.{words_of}
 use Rattle.spec.specs.Log.{image_entries}

@@ -1,4 +1,5 @@
--- The loops of `inspect::history::first_in`.
+-- The loops of `inspect::history::first_in`. The loop's invariant: the pass over the whole log is the pass over what
+-- remains, from the entry found so far.
 use Rattle.std.proofs.Common.{◌≡◌}
 use Rattle.spec.specs.Words.{words_of}
 use Rattle.spec.specs.Log.{image_entries}

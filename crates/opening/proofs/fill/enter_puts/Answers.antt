@@ -1,5 +1,4 @@
--- `opening::fill::enter_puts` meets its contract. The loop's invariant: the pass has come to `place`, with the table's
--- numbers as they are.
+-- `opening::fill::enter_puts` meets its contract.
 -- Assumes nothing.
 use native.Mathlib.Omega.{arith}
 use Rattle.spec.specs.Words.{words_of}

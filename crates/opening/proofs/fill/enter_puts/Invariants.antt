@@ -1,4 +1,5 @@
--- The loops of `opening::fill::enter_puts`.
+-- The loops of `opening::fill::enter_puts`. The loop's invariant: the pass has come to `place`, with the table's
+-- numbers as they are.
 use Prim.Native.Nat.{◌-◌}
 use lib.ListN.{length}
 use Rattle.spec.specs.Words.{words_of}

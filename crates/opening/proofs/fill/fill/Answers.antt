@@ -1,5 +1,4 @@
--- `opening::fill::fill` meets its contract. The loop's invariant: table and sums are those of the entries passed so
--- far, or their keys do not fit.
+-- `opening::fill::fill` meets its contract.
 -- Assumes nothing.
 use mathlib.Core.Path.{sym, ◌∙◌, ap}
 use native.Mathlib.Omega.{arith}

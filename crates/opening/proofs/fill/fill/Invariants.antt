@@ -1,4 +1,5 @@
--- The loops of `opening::fill::fill`.
+-- The loops of `opening::fill::fill`. The loop's invariant: table and sums are those of the entries passed so far, or
+-- their keys do not fit.
 use lib.ListN.{length}
 use Rattle.spec.specs.Words.{words_of}
 use Rattle.logs.specs.Cursor.{cursor_at, left}

@@ -1,5 +1,5 @@
--- `opening::fill::skip_padding` meets its contract. The loop's invariant: only padding stands before `place`. Assumes
--- nothing.
+-- `opening::fill::skip_padding` meets its contract.
+-- Assumes nothing.
 use mathlib.Core.Path.{sym, ◌∙◌}
 use native.Mathlib.Omega.{arith}
 use Rattle.spec.specs.Words.{words_of}

@@ -1,4 +1,4 @@
--- The loops of `opening::fill::skip_padding`.
+-- The loops of `opening::fill::skip_padding`. The loop's invariant: only padding stands before `place`.
 use Prim.Native.Nat.{◌-◌}
 use Rattle.spec.specs.Words.{words_of}
 use Rattle.opening.specs.Pass.{Skipped}

@@ -1,5 +1,4 @@
--- `placing::blocks::find_block` meets its contract. The loops' invariants: the first spare block of all is the first of
--- those from chunk c on, and within a chunk the first of those from its block j on.
+-- `placing::blocks::find_block` meets its contract.
 -- Assumes nothing.
 use mathlib.Core.Path.{refl, sym, ◌∙◌, ap}
 use Prim.Native.Nat.{min}

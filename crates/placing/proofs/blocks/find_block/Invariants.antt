@@ -1,4 +1,5 @@
--- The loops of `placing::blocks::find_block`.
+-- The loops of `placing::blocks::find_block`. The loops' invariants: the first spare block of all is the first of those
+-- from chunk c on, and within a chunk the first of those from its block j on.
 use mathlib.Core.Path.{◌≡◌}
 use Prim.Native.Nat.{◌-◌, ◌≤◌}
 use Rattle.placing.specs.declared.blocks.Block.TheVariants.{Nothing}

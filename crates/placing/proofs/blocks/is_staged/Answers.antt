@@ -1,5 +1,4 @@
--- `placing::blocks::is_staged` meets its contract. The loop's invariant: an item points to the block exactly if one not
--- yet reached does.
+-- `placing::blocks::is_staged` meets its contract.
 -- Assumes nothing.
 use native.Mathlib.Omega.{arith}
 use Rattle.placing.proofs.Staged.{pass-start, pass-next, pass-stop, pass-end}

@@ -1,4 +1,5 @@
--- The loops of `placing::blocks::is_staged`.
+-- The loops of `placing::blocks::is_staged`. The loop's invariant: an item points to the block exactly if one not yet
+-- reached does.
 use Prim.Native.Nat.{◌-◌}
 use Rattle.placing.proofs.Staged.{Passing}
 use Rattle.placing.proofs.blocks.is_staged.Given as goal

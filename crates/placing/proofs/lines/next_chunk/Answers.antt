@@ -1,5 +1,4 @@
--- `placing::lines::next_chunk` meets its contract. The loop's invariant: no chunk from the start on and before c has
--- space.
+-- `placing::lines::next_chunk` meets its contract.
 -- Assumes nothing.
 use mathlib.Core.Path.{sym, ◌∙◌}
 use native.Mathlib.Omega.{arith}

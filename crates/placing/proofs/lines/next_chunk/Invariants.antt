@@ -1,4 +1,4 @@
--- The loops of `placing::lines::next_chunk`.
+-- The loops of `placing::lines::next_chunk`. The loop's invariant: no chunk from the start on and before c has space.
 use Prim.Native.Nat.{ℕ, ◌≤◌, ◌<◌, ◌-◌}
 use mathlib.Core.Path.{◌≡◌}
 use mathlib.Core.Bool.{false}

@@ -1,4 +1,4 @@
--- The loops of `player::calls::run`.
+-- The loops of `player::calls::run`. The measure is what is left of the steps.
 use Rattle.std.proofs.Common.{◌≡◌, ◌-◌, length}
 use Rattle.player.proofs.calls.run.Given as goal
 

@@ -1,4 +1,4 @@
--- `player::memory::are_zero` meets its contract: the words passed are zero. The measure is what is left of the words.
+-- `player::memory::are_zero` meets its contract.
 -- Assumes nothing.
 use Rattle.std.proofs.Common.{arith, below_more}
 use mathlib.Core.Bool.{false≢true}

@@ -1,4 +1,4 @@
--- The loops of `player::memory::are_zero`.
+-- The loops of `player::memory::are_zero`. The words passed are zero. The measure is what is left of the words.
 use Rattle.std.proofs.Common.{◌≡◌, ℕ, ◌-◌, ◌<◌, length, get_or}
 use Rattle.player.proofs.memory.are_zero.Given as goal
 

@@ -1,4 +1,4 @@
--- The loops of `player::memory::copy_bytes`.
+-- The loops of `player::memory::copy_bytes`. The measure is what is left to copy.
 use Rattle.std.proofs.Common.{◌≡◌, ◌-◌, length}
 use Rattle.player.proofs.memory.copy_bytes.Given as goal
 

@@ -1,4 +1,4 @@
--- The loops of `player::memory::copy_words`.
+-- The loops of `player::memory::copy_words`. The measure is what is left to copy.
 use Rattle.std.proofs.Common.{◌≡◌, ◌-◌, length}
 use Rattle.player.proofs.memory.copy_words.Given as goal
 

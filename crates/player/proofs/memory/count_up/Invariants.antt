@@ -1,4 +1,4 @@
--- The loops of `player::memory::count_up`.
+-- The loops of `player::memory::count_up`. The measure is what is left of the bytes.
 use Rattle.std.proofs.Common.{◌≡◌, ◌-◌, length}
 use Rattle.player.proofs.memory.count_up.Given as goal
 

@@ -1,4 +1,4 @@
--- The loops of `player::memory::fill`.
+-- The loops of `player::memory::fill`. The measure is the number of words that are left.
 use Rattle.std.proofs.Common.{◌≡◌, ◌≤◌, length}
 use Rattle.player.proofs.memory.fill.Given as goal
 

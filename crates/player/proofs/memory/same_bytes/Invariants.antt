@@ -1,4 +1,4 @@
--- The loops of `player::memory::same_bytes`.
+-- The loops of `player::memory::same_bytes`. The bytes passed are equal. The measure is what is left to compare.
 use Rattle.std.proofs.Common.{◌≡◌, ℕ, ◌-◌, ◌<◌, length, get_or}
 use Rattle.player.proofs.memory.same_bytes.Given as goal
 

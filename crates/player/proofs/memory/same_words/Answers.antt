@@ -1,4 +1,4 @@
--- `player::memory::same_words` meets its contract: the words passed are equal. The measure is what is left to compare.
+-- `player::memory::same_words` meets its contract.
 -- Assumes nothing.
 use Rattle.std.proofs.Common.{arith, ext_get_or, rules, below_more}
 use mathlib.Core.Bool.{false≢true}

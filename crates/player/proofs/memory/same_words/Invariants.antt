@@ -1,4 +1,4 @@
--- The loops of `player::memory::same_words`.
+-- The loops of `player::memory::same_words`. The words passed are equal. The measure is what is left to compare.
 use Rattle.std.proofs.Common.{◌≡◌, ℕ, ◌-◌, ◌<◌, length, get_or}
 use Rattle.player.proofs.memory.same_words.Given as goal
 

@@ -1,4 +1,4 @@
--- The loops of `player::memory::zero_bytes`.
+-- The loops of `player::memory::zero_bytes`. The measure is what is left of the bytes.
 use Rattle.std.proofs.Common.{◌≡◌, ◌-◌, length}
 use Rattle.player.proofs.memory.zero_bytes.Given as goal
 

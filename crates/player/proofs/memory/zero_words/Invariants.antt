@@ -1,4 +1,4 @@
--- The loops of `player::memory::zero_words`.
+-- The loops of `player::memory::zero_words`. The measure is what is left of the words.
 use Rattle.std.proofs.Common.{◌≡◌, ◌-◌, length}
 use Rattle.player.proofs.memory.zero_words.Given as goal
 

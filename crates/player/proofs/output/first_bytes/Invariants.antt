@@ -1,4 +1,4 @@
--- The loops of `player::output::first_bytes`.
+-- The loops of `player::output::first_bytes`. The measure is what is left of sixteen.
 use Rattle.std.proofs.Common.{◌-◌}
 use Rattle.player.proofs.output.first_bytes.Given as goal
 

@@ -1,4 +1,4 @@
--- The loops of `player::output::image_sum`.
+-- The loops of `player::output::image_sum`. The measure is what is left of the words.
 use Rattle.std.proofs.Common.{◌-◌}
 use Rattle.player.proofs.output.image_sum.Given as goal
 

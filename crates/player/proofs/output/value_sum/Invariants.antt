@@ -1,4 +1,4 @@
--- The loops of `player::output::value_sum`.
+-- The loops of `player::output::value_sum`. The measure is the number of bytes that are left.
 use Rattle.std.proofs.Common.{◌≤◌, length}
 use Rattle.player.proofs.output.value_sum.Given as goal
 

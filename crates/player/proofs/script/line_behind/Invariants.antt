@@ -1,4 +1,4 @@
--- The loops of `player::script::line_behind`.
+-- The loops of `player::script::line_behind`. The measure is what is left of the text.
 use Rattle.std.proofs.Common.{◌-◌, ◌≤◌, length}
 use Rattle.player.proofs.script.line_behind.Given as goal
 

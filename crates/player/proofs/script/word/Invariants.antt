@@ -1,4 +1,4 @@
--- The loops of `player::script::word`.
+-- The loops of `player::script::word`. The measure is what is left of the text.
 use Rattle.std.proofs.Common.{◌-◌, length}
 use Rattle.player.proofs.script.word.Given as goal
 

@@ -1,5 +1,4 @@
--- `running::commit::store_batch` meets its contract. The loops' invariants: the stores up to the next one are made,
--- wherever control and setup say that so many words are staged and the batch begins there.
+-- `running::commit::store_batch` meets its contract.
 -- Assumes nothing.
 use mathlib.Core.Path.{refl}
 use native.Mathlib.Omega.{arith}

@@ -1,4 +1,5 @@
--- The loops of `running::commit::store_batch`.
+-- The loops of `running::commit::store_batch`. The loops' invariants: the stores up to the next one are made, wherever
+-- control and setup say that so many words are staged and the batch begins there.
 use mathlib.Core.Path.{◌≡◌}
 use mathlib.Core.List.{List}
 use Prim.Native.Nat.{ℕ, ◌+◌, ◌-◌, ◌*◌, ◌≤◌, min, max}

@@ -1,5 +1,4 @@
--- `running::stage::store_area` meets its contract. The loop's invariant: what is saved so far, with whatever is saved
--- behind it, is one row.
+-- `running::stage::store_area` meets its contract.
 -- Assumes nothing.
 use mathlib.Core.Path.{refl}
 use native.Mathlib.Omega.{arith}

@@ -1,4 +1,5 @@
--- The loops of `running::stage::store_area`.
+-- The loops of `running::stage::store_area`. The loop's invariant: what is saved so far, with whatever is saved behind
+-- it, is one row.
 use Prim.Native.Nat.{◌-◌, ◌≤◌}
 use Rattle.running.specs.Stores.{area_word}
 use Rattle.running.proofs.Stores.{SoFar}

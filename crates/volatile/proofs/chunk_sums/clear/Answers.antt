@@ -1,5 +1,5 @@
--- `clear` meets its contract. The loop's invariant: the sums before word `i` are 0, all other words as they
--- were. Assumes nothing.
+-- `clear` meets its contract.
+-- Assumes nothing.
 use Rattle.std.proofs.Common.{◌≡◌, arith}
 use Rattle.buffer.specs.Areas.{buffer_words}
 use Rattle.volatile.proofs.Laws.{clear_none, clear-more, clear-all}

@@ -1,4 +1,4 @@
--- The loops of `volatile::chunk_sums::clear`.
+-- The loops of `clear`. The loop's invariant: the sums before word `i` are 0, all other words as they were.
 use Rattle.std.proofs.Common.{◌-◌, ◌≤◌}
 use Rattle.buffer.specs.Areas.{sums_start, buffer_words}
 use Rattle.volatile.proofs.Laws.{Clearing}
