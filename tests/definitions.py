@@ -1,13 +1,15 @@
-"""Compares the definitions of crates/spec with the model of the rules (tests/model): the prover computes the one, Python the other.
+"""Compares the definitions of crates/spec with the model of the rules (tests/model): the prover computes the one,
+Python the other.
 
 python3 tests/definitions.py SEED COUNT [--only PATTERN] [--show N] [--keep] [--spec FOLDER]
 
-Makes COUNT images (whole, damaged in each clause, foreign, after power cuts) with calls and histories of calls, and beside them numbers,
-logs, media and desk books, and look-ups between the steps of each call; writes what the model says of each as a fact of a throw-away
-crate over a copy of crates/spec; has `rt all check` compute them. A fact that does not hold is named, the first N (2) with both values, and
-the exit status is 1. So it is where no call was refused with one of the numbers in force (unless --only is given).
---only checks the facts whose names have the pattern; --keep leaves the throw-away repository behind and says where it is; --spec takes
-another copy of crates/spec.
+Makes COUNT images (whole, damaged in each clause, foreign, after power cuts) with calls and histories of calls, and
+beside them numbers, logs, media and desk books, and look-ups between the steps of each call; writes what the model says
+of each as a fact of a throw-away crate over a copy of crates/spec; has `rt all check` compute them. A fact that does
+not hold is named, the first N (2) with both values, and the exit status is 1. So it is where no call was refused with
+one of the numbers in force (unless --only is given).
+--only checks the facts whose names have the pattern; --keep leaves the throw-away repository behind and says where it
+is; --spec takes another copy of crates/spec.
 """
 import argparse
 import os

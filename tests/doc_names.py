@@ -8,9 +8,11 @@ tests/doc_names.py --unmark     takes them out: a patch made without the numbers
 
 Looked up, in backquotes: `crate::function` in src/lib.rt or src/main.rt of that crate; `crate::module::function` in its
 src/module.rt; `Module.name` in crates/spec/specs; `crate.Module` and `crate.Module.name` in the specs or proofs of that
-crate, and `Rattle.crate.specs.Module.name` or `.proofs.` as the code cites it; paths below crates, tests, docs, host, include, tools, bench, .ci. So are links. A crate that crates.txt does not
-have is missing too, and so is one of crates.txt that the table of rooms in docs/ARCHITECTURE.md lacks. A paragraph behind `<!-- archive -->` or `<!-- list -->` speaks of what is to come and is passed
-over; behind `<!-- names of that time -->` only links are looked up, to the end of the file.
+crate, and `Rattle.crate.specs.Module.name` or `.proofs.` as the code cites it; paths below crates, tests, docs, host,
+include, tools, bench, .ci. So are links. A crate that crates.txt does not have is missing too, and so is one of
+crates.txt that the table of rooms in docs/ARCHITECTURE.md lacks. A paragraph behind `<!-- archive -->` or
+`<!-- list -->` speaks of what is to come and is passed over; behind `<!-- names of that time -->` only links are looked
+up, to the end of the file.
 
 The rules' numbers, where docs/RULES.md is among the files. In crates/spec/specs they stand on a comment line of their
 own, rising, directly above the line that declares the name and below any other comment: `-- R52`, `-- R8, R9`. The line

@@ -1,6 +1,6 @@
 #!/usr/bin/env bash
 # What the must-fail edits of each crate cost the gate, worst first: seconds, edits, seconds for each. `rt ci` tells no
-# times, so each crate is checked here first, and then its edits are tried anew, one by one (RT_JOBS for more at a time).
+# times: here each crate is checked first, and then its edits are tried anew, one by one (RT_JOBS: more at a time).
 #
 # tests/gate-times.sh [CRATE..]     these crates, or all that have edits
 # Marked: '>40 s' where an edit takes longer than it may, '>5 edits' where a crate has more than it may.
