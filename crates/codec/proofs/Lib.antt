@@ -1,4 +1,3 @@
-pub mod Table
 pub mod Sizes
 pub mod Roles
 pub mod Units

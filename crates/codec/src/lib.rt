@@ -2,102 +2,58 @@
 // sizes.
 #![tactic(auto)]
 
-ghost use Rattle.std.specs.Prelude.{◌≡◌, ◌+◌, ◌-◌, ◌*◌, ◌%◌, ◌^◌, ◌<◌, ◌≤◌, min, ◌==◌, nat_le, slice_index};
-ghost use Rattle.spec.specs.Basics.{pick, both, either};
+ghost use Rattle.std.specs.Prelude.{[], ◌∷◌, sum, ◌≡◌, ◌+◌, ◌-◌, ◌*◌, ◌%◌, ◌^◌, ◌<◌, ◌≤◌, min, ◌==◌, nat_le, slice_index};
+ghost use Rattle.spec.specs.Basics.{pick, both};
 ghost use Rattle.spec.specs.Places.{chunk_units, unit_chunk, unit_in, unit_word};
-ghost use Rattle.spec.specs.Header.{word_values, fields_test, header_test, power_said, power_bit, power_field, check_word, bit_of, header_map, header_words};
+ghost use Rattle.spec.specs.Header.{word_values, fields_test, header_test, power_said, power_bit, power_field, check_word, bit_of, header_map, fields_of, header_words};
 ghost use Rattle.spec.specs.Directory.{is_size, role_of, log_word, data_word, freed_word, size_for};
 ghost use Rattle.spec.specs.Log.{first_of_word};
 ghost use Rattle.spec.specs.Blocks.{block_limit, block_size};
 ghost use Rattle.places.specs.Sizes.{power_of};
-ghost use Rattle.codec.specs.Headers.{first_given, second_given, third_given};
 ghost use Rattle.codec.specs.Firsts.{head_word};
 ghost use Rattle.codec.specs.Units.{unit_at};
 
-use spec::{FirstWord, Given, Role, Size};
+use spec::{FirstWord, Role, Size};
 
 // THE HEADER
-// The sum of eight words, modulo 2^64.
-fn sum_of(a: u64, b: u64, c: u64, d: u64, e: u64, f: u64, g: u64, h: u64) -> u64
-    ensures { result ≡ (a + b + c + d + e + f + g + h) % word_values }
+// The sum of the words, modulo 2^64.
+fn sum_of(words: [u64; 8]) -> u64
+    ensures { result ≡ sum words % word_values }
 {
-    let s1 = std::num::wrapping_add_u64(a, b);
-    let s2 = std::num::wrapping_add_u64(s1, c);
-    let s3 = std::num::wrapping_add_u64(s2, d);
-    let s4 = std::num::wrapping_add_u64(s3, e);
-    let s5 = std::num::wrapping_add_u64(s4, f);
-    let s6 = std::num::wrapping_add_u64(s5, g);
-    std::num::wrapping_add_u64(s6, h)
+    words.iter().fold(0, |all, word| all.wrapping_add(*word))
 }
 
-// Words of a header that are unused are 0.
-fn both_unused(f: u64, g: u64) -> bool
-    ensures { result ≡ (f + g == 0) }
-{
-    if f == 0 {
-        return g == 0;
-    }
-    false
-}
-
-fn unused(e: u64, f: u64, g: u64) -> bool
-    ensures { result ≡ (e + f + g == 0) }
-{
-    if e == 0 {
-        if f == 0 {
-            return g == 0;
-        }
-    }
-    false
-}
-
-// The words behind the count, by the bit map.
+// The words behind the count, by the bit map: those that are unused are 0.
+#[tactic(auto, unfolding(spec::specs::Header::fields_test))]
 fn fields_right(map: u64, c: u64, d: u64, e: u64) -> bool
     ensures { result ≡ fields_test map c d e }
 {
     match map {
-        1 => unused(c, d, e),
-        3 => both_unused(d, e),
-        5 => both_unused(d, e),
-        9 => both_unused(d, e),
-        7 => e == 0,
-        11 => e == 0,
-        13 => e == 0,
+        1 => c == 0 && d == 0 && e == 0,
+        3 | 5 | 9 => d == 0 && e == 0,
+        7 | 11 | 13 => e == 0,
         15 => true,
         _ => false,
     }
 }
 
 // The eight words are a right header of so many chunks.
+#[tactic(auto, unfolding(spec::specs::Header::header_test))]
 pub fn header_right(words: [u64; 8], count: u64) -> bool
     ensures { result ≡ header_test count (slice_index words 0) (slice_index words 1) (slice_index words 2) (slice_index words 3) (slice_index words 4) (slice_index words 5) (slice_index words 6) (slice_index words 7) }
 {
-    let a = words[0];
-    let b = words[1];
-    let c = words[2];
-    let d = words[3];
-    let e = words[4];
-    let f = words[5];
-    let g = words[6];
-    let h = words[7];
-    if sum_of(a, b, c, d, e, f, g, h) == 0 {
-        if b == count {
-            if both_unused(f, g) {
-                return fields_right(a, c, d, e);
-            }
-        }
-    }
-    false
+    let [map, chunks, c, d, e, f, g, _] = words;
+    sum_of(words) == 0 && chunks == count && f == 0 && g == 0 && fields_right(map, c, d, e)
 }
 
 // The chunk power that a header says, by its map and the words behind the count.
+#[tactic(auto, unfolding(spec::specs::Header::power_said))]
 pub fn header_power(map: u64, c: u64, d: u64, e: u64) -> u64
     ensures { result ≡ power_said map c d e }
 {
     match map {
         9 => c,
-        11 => d,
-        13 => d,
+        11 | 13 => d,
         15 => e,
         _ => 12,
     }
@@ -107,30 +63,21 @@ pub fn header_power(map: u64, c: u64, d: u64, e: u64) -> u64
 pub fn header_check_word(sum: u64) -> u64
     ensures { result ≡ check_word sum }
 {
-    std::num::wrapping_sub_u64(0, sum)
+    0u64.wrapping_sub(sum)
 }
 
-// The bit of the header's map for a number that is given.
-fn bit(b: u64, given: Given) -> u64
-    requires { b ≤ 4 }
-    ensures { (result ≡ bit_of b given) × (result ≤ 4) }
+// The bit map of the header's fields, by what is given. Large chunks have their power there.
+#[tactic(auto, unfolding(spec::specs::Header::power_bit))]
+pub fn header_map(size: Size, station: Option<u64>, centre: Option<u64>) -> u64
+    ensures { result ≡ header_map (power_of size) station centre }
 {
-    match given {
-        Given::Number(_) => b,
-        Given::Absent => 0,
-    }
+    1 + 2 * u64::from(station.is_some())
+        + 4 * u64::from(centre.is_some())
+        + 8 * u64::from(size == Size::Large)
 }
 
-// The power's bit, and its field: none for small chunks.
-fn power_bit(size: Size) -> u64
-    ensures { (result ≡ power_bit (power_of size)) × (result ≤ 8) }
-{
-    match size {
-        Size::Small => 0,
-        Size::Large => 8,
-    }
-}
-
+// The power's field: none for small chunks.
+#[tactic(auto, unfolding(spec::specs::Header::power_field))]
 fn power_field(size: Size) -> u64
     ensures { result ≡ power_field (power_of size) }
 {
@@ -140,133 +87,60 @@ fn power_field(size: Size) -> u64
     }
 }
 
-// The bit map of the header's fields, by what is given.
-pub fn header_map(size: Size, station: Given, centre: Given) -> u64
-    ensures { result ≡ header_map (power_of size) station centre }
+// The three words behind the count: the numbers given, in order, and x behind them.
+fn fields(x: u64, station: Option<u64>, centre: Option<u64>) -> (u64, u64, u64)
+    ensures { fields_of x station centre ≡ result.0 ∷ result.1 ∷ result.2 ∷ 0 ∷ 0 ∷ [] }
 {
-    1 + bit(2, station) + bit(4, centre) + power_bit(size)
-}
-
-// The words behind the count: x stands behind the numbers given.
-fn first_given(x: u64, station: Given, centre: Given) -> u64
-    ensures { result ≡ first_given x station centre }
-{
-    match station {
-        Given::Number(s) => s,
-        Given::Absent => match centre {
-            Given::Number(c) => c,
-            Given::Absent => x,
-        },
+    match (station, centre) {
+        (Some(s), Some(c)) => (s, c, x),
+        (Some(s), None) => (s, x, 0),
+        (None, Some(c)) => (c, x, 0),
+        (None, None) => (x, 0, 0),
     }
 }
 
-fn second_given(x: u64, station: Given, centre: Given) -> u64
-    ensures { result ≡ second_given x station centre }
-{
-    match station {
-        Given::Number(_) => match centre {
-            Given::Number(c) => c,
-            Given::Absent => x,
-        },
-        Given::Absent => match centre {
-            Given::Number(_) => x,
-            Given::Absent => 0,
-        },
-    }
-}
-
-fn third_given(x: u64, station: Given, centre: Given) -> u64
-    ensures { result ≡ third_given x station centre }
-{
-    match station {
-        Given::Number(_) => match centre {
-            Given::Number(_) => x,
-            Given::Absent => 0,
-        },
-        Given::Absent => 0,
-    }
-}
-
-// Word i of the header that a formatting writes, 0 past the eight.
-pub fn header_word(size: Size, count: u64, station: Given, centre: Given, i: usize) -> u64
-    ensures { result ≡ slice_index (header_words (power_of size) count station centre) i }
+// The header that a formatting writes.
+#[tactic(auto, unfolding(spec::specs::Header::header_words, spec::specs::Header::header_tail))]
+fn header(size: Size, count: u64, station: Option<u64>, centre: Option<u64>) -> [u64; 8]
+    ensures { result ≡ header_words (power_of size) count station centre }
 {
     let map = header_map(size, station, centre);
-    let x = power_field(size);
-    let first = first_given(x, station, centre);
-    let second = second_given(x, station, centre);
-    let third = third_given(x, station, centre);
-    match i {
-        0 => map,
-        1 => count,
-        2 => first,
-        3 => second,
-        4 => third,
-        7 => header_check_word(sum_of(map, count, first, second, third, 0, 0, 0)),
-        _ => 0,
-    }
+    let (c, d, e) = fields(power_field(size), station, centre);
+    let check = header_check_word(sum_of([map, count, c, d, e, 0, 0, 0]));
+    [map, count, c, d, e, 0, 0, check]
+}
+
+// Word i of it, 0 past the eight.
+pub fn header_word(
+    size: Size,
+    count: u64,
+    station: Option<u64>,
+    centre: Option<u64>,
+    i: usize,
+) -> u64
+    ensures { result ≡ slice_index (header_words (power_of size) count station centre) i }
+{
+    let words = header(size, count, station, centre);
+    words.get(i).copied().unwrap_or(0)
 }
 
 // THE DIRECTORY
-// What a directory word says, in small chunks and in large ones.
-fn small_role(word: u64) -> Role
-    ensures { result ≡ role_of 12 word }
-{
-    let role = word % 256;
-    let field = word / 256;
-    match role {
-        0 => match field {
-            0 => Role::Free,
-            _ => Role::Wrong,
-        },
-        1 => match field {
-            1..=64 => Role::Log(field),
-            _ => Role::Wrong,
-        },
-        2 => match field {
-            2..=5 => Role::Data(field),
-            8 => Role::Data(field),
-            16 => Role::Data(field),
-            _ => Role::Wrong,
-        },
-        _ => Role::Wrong,
-    }
-}
-
-fn large_role(word: u64) -> Role
-    ensures { result ≡ role_of 16 word }
-{
-    let role = word % 256;
-    let field = word / 256;
-    match role {
-        0 => match field {
-            0 => Role::Free,
-            _ => Role::Wrong,
-        },
-        1 => match field {
-            1..=1024 => Role::Log(field),
-            _ => Role::Wrong,
-        },
-        2 => {
-            if is_large_size(field as usize) {
-                return Role::Data(field);
-            }
-            Role::Wrong
-        }
-        _ => Role::Wrong,
-    }
-}
-
+// What a directory word says.
+#[tactic(auto, unfolding(spec::specs::Directory::role_of))]
 pub fn role_of(size: Size, word: u64) -> Role
     ensures { result ≡ role_of (power_of size) word }
 {
-    match size {
-        Size::Small => small_role(word),
-        Size::Large => large_role(word),
+    let field = word / 256;
+    match word % 256 {
+        0 if field == 0 => Role::Free,
+        1 if 1 <= field && field <= places::lines(size) as u64 => Role::Log(field),
+        2 if is_size(size, field as usize) => Role::Data(field),
+        _ => Role::Wrong,
     }
 }
 
-// The new word of a chunk, from the old; lines and size modulo 2^56.
+// The new word of a chunk, from the old, which its definition takes; lines and size modulo 2^56. The two are a line each,
+// as the definitions are.
 pub fn log_word(old: u64, lines: u64) -> u64
     ensures { result ≡ log_word old (lines % 2 ^ 56) }
 {
@@ -287,6 +161,7 @@ pub fn freed_word(old: u64) -> u64
 
 // FIRST WORDS
 // What the first word of an entry says.
+#[tactic(auto, unfolding(spec::specs::Log::first_of_word))]
 pub fn first_of(word: u64) -> FirstWord
     ensures { result ≡ first_of_word word }
 {
@@ -300,36 +175,20 @@ pub fn first_of(word: u64) -> FirstWord
     if version == 0 {
         return FirstWord::Wrong;
     }
-    match op {
-        1 => match placement {
-            0 => match field {
-                0..=256 => FirstWord::Entry {
-                    op: 1,
-                    placement: 0,
-                    version,
-                    field,
-                },
-                _ => FirstWord::Wrong,
-            },
-            1 => FirstWord::Entry {
-                op: 1,
-                placement: 1,
-                version,
-                field,
-            },
-            _ => FirstWord::Wrong,
+    // A put and a delete are two arms with their numbers written out: of one arm, a walk of the log asks again which it
+    // is, by 5 % more instructions.
+    match (op, placement, field) {
+        (1, 0, 0..=256) | (1, 1, _) => FirstWord::Entry {
+            op: 1,
+            placement,
+            version,
+            field,
         },
-        2 => match placement {
-            0 => match field {
-                0 => FirstWord::Entry {
-                    op: 2,
-                    placement: 0,
-                    version,
-                    field: 0,
-                },
-                _ => FirstWord::Wrong,
-            },
-            _ => FirstWord::Wrong,
+        (2, 0, 0) => FirstWord::Entry {
+            op: 2,
+            placement: 0,
+            version,
+            field: 0,
         },
         _ => FirstWord::Wrong,
     }
@@ -344,11 +203,12 @@ pub fn first_word(op: u64, placement: u64, version: u64, field: u64) -> u64
 
 // UNITS
 // A number of a unit of 256 bytes, counted from the image's start.
-#[derive(Clone, Copy)]
+#[derive(Clone, Copy, PartialEq, Eq, Debug)]
 pub struct Unit(pub u64);
 
 impl Unit {
     // The unit at a place of a chunk, each modulo the numbers that there is room for.
+    #[tactic(auto, unfolding(crate::specs::Units::unit_at))]
     pub fn of(size: Size, chunk: usize, place: usize) -> Unit
         ensures { result.0 ≡ unit_at (power_of size) chunk place }
     {
@@ -361,11 +221,7 @@ impl Unit {
     pub fn byte_offset(self) -> usize
         ensures { result ≡ min (256 * self.0) (2 ^ 64 - 1) }
     {
-        if self.0 < 0x100_0000_0000_0000 {
-            (self.0 * 256) as usize
-        } else {
-            0xffff_ffff_ffff_ffff
-        }
+        (self.0 as usize).saturating_mul(256)
     }
 
     // The unit's first word.
@@ -390,7 +246,7 @@ impl Unit {
 }
 
 // BLOCK SIZES
-// The block size for so many units, in small chunks and in large ones.
+// The block size for so many units, in small chunks and in large ones. A look-up stands for two divisions.
 const SMALL_SIZES: [u64; 17] = [0, 0, 2, 3, 4, 5, 8, 8, 8, 16, 16, 16, 16, 16, 16, 16, 16];
 
 pub const LARGE_SIZES: [u64; 257] = [
@@ -409,47 +265,32 @@ pub const LARGE_SIZES: [u64; 257] = [
     256, 256, 256, 256, 256, 256, 256, 256, 256, 256,
 ];
 
-fn small_size(units: usize) -> u64
-    ensures { result ≡ pick (both (nat_le 2 units) (nat_le units 16)) (size_for 12 units) 0 }
-{
-    if units < 17 { SMALL_SIZES[units] } else { 0 }
-}
-
-fn large_size(units: usize) -> u64
-    ensures { result ≡ pick (both (nat_le 2 units) (nat_le units 256)) (size_for 16 units) 0 }
-{
-    if units < 257 { LARGE_SIZES[units] } else { 0 }
-}
-
-// Whether so many units are a block size of large chunks: their own.
-fn is_large_size(units: usize) -> bool
-    ensures { result ≡ is_size 16 units }
-{
-    if units < 2 {
-        return false;
-    }
-    large_size(units) == units as u64
-}
-
 // The smallest block size that holds so many units, 0 below 2 and past a chunk's.
 pub fn block_size_for_units(size: Size, units: usize) -> u64
     ensures { result ≡ pick (both (nat_le 2 units) (nat_le units (chunk_units (power_of size)))) (size_for (power_of size) units) 0 }
 {
-    match size {
-        Size::Small => small_size(units),
-        Size::Large => large_size(units),
-    }
+    let sizes: &[u64] = match size {
+        Size::Small => &SMALL_SIZES,
+        Size::Large => &LARGE_SIZES,
+    };
+    sizes.get(units).copied().unwrap_or(0)
+}
+
+// Whether so many units are a block size: the one for them is they themselves.
+#[tactic(auto, unfolding(spec::specs::Directory::is_size))]
+fn is_size(size: Size, units: usize) -> bool
+    ensures { result ≡ is_size (power_of size) units }
+{
+    2 <= units && block_size_for_units(size, units) == units as u64
 }
 
 // The block size of a value of so many bytes, 0 if it goes to no block.
+#[tactic(auto, unfolding(spec::specs::Blocks::block_size, spec::specs::Blocks::units_for, spec::specs::Blocks::block_limit))]
 pub fn block_size(size: Size, bytes: usize) -> u64
     ensures { result ≡ pick (both (nat_le 257 bytes) (nat_le bytes (block_limit (power_of size)))) (block_size (power_of size) bytes) 0 }
 {
-    if bytes < 257 {
+    if bytes < 257 || places::largest_value(size) < bytes {
         return 0;
     }
-    if places::largest_value(size) < bytes {
-        return 0;
-    }
-    block_size_for_units(size, (bytes + 263) / 256)
+    block_size_for_units(size, (8 + bytes + 255) / 256)
 }

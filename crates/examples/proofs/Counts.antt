@@ -15,7 +15,7 @@ use Rattle.spec.specs.Blocks.{block_limit, block_size, units_for}
 use Rattle.spec.specs.Contents.{capacity, tops, chosen}
 use Rattle.spec.specs.Actions.{format_of, blank_of, fill_of, append_of, commit_of, body_of, padded, free_of, block_of}
 use Rattle.spec.specs.Plans.{Plan, Refuse, Begin, plan_put, slot_for}
-use Rattle.spec.specs.declared.Given.TheVariants as G
+use Rattle.std.specs.declared.option.Option.TheVariants as G
 use Rattle.examples.specs.Shown.{Shown, Words, Row, ◌is◌, all_hold}
 
 -- the words stored, the lines flushed and the number of fences
@@ -59,10 +59,10 @@ actions_of (Refuse n) = []
 actions_of (Begin items task acts) = acts
 
 abbrev empty : List ℕ
-empty = 1 ∷ blank_of (header_tail base_power 4 G.Absent G.Absent)
+empty = 1 ∷ blank_of (header_tail base_power 4 G.None G.None)
 
 abbrev staging : ℕ → List Action
-staging bytes = actions_of (plan_put base_power 4 empty 64 [] [] G.Absent 7 (replicate bytes 94))
+staging bytes = actions_of (plan_put base_power 4 empty 64 [] [] G.None 7 (replicate bytes 94))
 
 -- the stores and flushes of a block alone, at unit 50
 abbrev block : ℕ → List Action
@@ -74,10 +74,10 @@ staging_counts bytes = both (eqb (length (stored (block bytes))) (1 + (bytes + 7
 abbrev rows : List Row
 rows =
     -- format: 3, then 511 + 64 + 1, then 3
-    counted (format_of base_power 4 G.Absent G.Absent) is Words (513 ∷ 66 ∷ 3 ∷ 582 ∷ [])
-    ∷ counted (format_of base_power 504 (G.Number 5) (G.Number 6)) is Words (513 ∷ 66 ∷ 3 ∷ 582 ∷ [])
-    ∷ Words (stored (format_of base_power 4 G.Absent G.Absent)) is Words ((0 ∷ up_from 1 511) ++ (0 ∷ []))
-    ∷ Words (flushed (format_of base_power 4 G.Absent G.Absent)) is Words ((0 ∷ up_from 0 64) ++ (0 ∷ []))
+    counted (format_of base_power 4 G.None G.None) is Words (513 ∷ 66 ∷ 3 ∷ 582 ∷ [])
+    ∷ counted (format_of base_power 504 (G.Some 5) (G.Some 6)) is Words (513 ∷ 66 ∷ 3 ∷ 582 ∷ [])
+    ∷ Words (stored (format_of base_power 4 G.None G.None)) is Words ((0 ∷ up_from 1 511) ++ (0 ∷ []))
+    ∷ Words (flushed (format_of base_power 4 G.None G.None)) is Words ((0 ∷ up_from 0 64) ++ (0 ∷ []))
     -- commit of one line behind three lines of chunk 1
     ∷ counted (commit 5) is Words (9 ∷ 2 ∷ 2 ∷ 13 ∷ [])
     ∷ Words (stored (commit 5)) is Words (536 ∷ 537 ∷ 538 ∷ 539 ∷ 540 ∷ 541 ∷ 542 ∷ 543 ∷ 9 ∷ [])

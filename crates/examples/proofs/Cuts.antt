@@ -20,7 +20,7 @@ use Rattle.spec.specs.Reports.{run_words}
 use Rattle.spec.specs.Plans.{Plan, Refuse, Begin, entry, plan_clean, log_place}
 use Rattle.spec.specs.Machine.{Put, Delete, Commit, Step}
 use Rattle.spec.specs.Book.{Book, new_book, note}
-use Rattle.spec.specs.declared.Given.TheVariants as G
+use Rattle.std.specs.declared.option.Option.TheVariants as G
 use Rattle.spec.specs.declared.Report.TheVariants as R
 use Rattle.examples.specs.Images.{first, log, blocks, minus}
 use Rattle.examples.specs.Cut.{Seen, Refusal, Holds, Sight, ◌show◌, ◌shows◌, sight_holds, seen, newest, older, by_turns, losing, keeping_only, after, after_each}
@@ -55,7 +55,7 @@ new = Holds (Absent ∷ Value (33 ∷ []) ∷ [])
 -- the book when the end is reported
 abbrev ended : Book
 ended =
-    note Step (R.End 0) (note Commit (R.Begun 13) (note (Put G.Absent 9 (33 ∷ [])) (R.Begun 0) (note (Delete G.Absent 7) (R.Begun 0)
+    note Step (R.End 0) (note Commit (R.Begun 13) (note (Put G.None 9 (33 ∷ [])) (R.Begun 0) (note (Delete G.None 7) (R.Begun 0)
     (new_book (contents base_power 4 (over 3))))))
 
 abbrev in_book : Seen
@@ -88,7 +88,7 @@ reusing = block_of 32 (257 ∷ replicate 33 2)
 
 -- FORMATTING, its first twelve actions, up to the directory word of chunk 1
 abbrev formatting : List Action
-formatting = take 12 (format_of base_power 4 G.Absent G.Absent)
+formatting = take 12 (format_of base_power 4 G.None G.None)
 
 abbrev unfenced : List Action
 unfenced = take 9 commit ++ drop 10 commit

@@ -14,7 +14,7 @@ use Rattle.spec.specs.Opening.{opening}
 use Rattle.spec.specs.Actions.{format_of, blank_of, fill_of, append_of, commit_of, body_of, padded}
 use Rattle.spec.specs.Plans.{plan_put, plan_delete, plan_commit, plan_clean, log_place, chosen_chunk, look_up}
 use Rattle.spec.specs.Machine.{Format, Open, Put, Delete, Commit, LookUp, Choose, Clean, Closed, next}
-use Rattle.spec.specs.declared.Given.TheVariants as G
+use Rattle.std.specs.declared.option.Option.TheVariants as G
 use Rattle.examples.specs.Shown.{Accepted, Refused, Number, Words}
 use Rattle.examples.specs.Script.{Line, Answers, Runs, Has, Lists, Memory, holds}
 
@@ -28,13 +28,13 @@ hello = 104 ∷ 101 ∷ 108 ∷ 108 ∷ 111 ∷ []
 abbrev session : List Line
 session =
     Answers Open (Refused 2)
-    ∷ Runs (Format 12 G.Absent G.Absent) 582 (0 ∷ 0 ∷ 0 ∷ []) 0
+    ∷ Runs (Format 12 G.None G.None) 582 (0 ∷ 0 ∷ 0 ∷ []) 0
     ∷ Answers (LookUp 7) (Refused 2)
     ∷ Answers Open Accepted
     ∷ Lists []
     -- commit put 7 of 5 bytes and put 9 empty: word of chunk 1 is 257
-    ∷ Runs (Put G.Absent 7 hello) 0 (0 ∷ 0 ∷ 0 ∷ []) 0
-    ∷ Runs (Put G.Absent 9 []) 0 (0 ∷ 0 ∷ 0 ∷ []) 0
+    ∷ Runs (Put G.None 7 hello) 0 (0 ∷ 0 ∷ 0 ∷ []) 0
+    ∷ Runs (Put G.None 9 []) 0 (0 ∷ 0 ∷ 0 ∷ []) 0
     ∷ Answers (LookUp 7) (Refused 11)
     ∷ Runs Commit 13 (257 ∷ 0 ∷ 0 ∷ []) 0
     ∷ Has 7 (Value hello)
@@ -42,7 +42,7 @@ session =
     ∷ Answers (LookUp 7) (Words (4112 ∷ 5 ∷ 1 ∷ []))
     ∷ Answers (LookUp 9) (Words (4136 ∷ 0 ∷ 1 ∷ []))
     -- commit delete 9: 513
-    ∷ Runs (Delete G.Absent 9) 0 (257 ∷ 0 ∷ 0 ∷ []) 0
+    ∷ Runs (Delete G.None 9) 0 (257 ∷ 0 ∷ 0 ∷ []) 0
     ∷ Answers (Clean 1) (Refused 15)
     ∷ Runs Commit 13 (513 ∷ 0 ∷ 0 ∷ []) 0
     ∷ Has 7 (Value hello)

@@ -12,7 +12,7 @@ use Rattle.spec.specs.Log.{first_of_word, step_of}
 use Rattle.spec.specs.Blocks.{block_test}
 use Rattle.spec.specs.Contents.{chosen, tops, capacity}
 use Rattle.spec.specs.Opening.{opening}
-use Rattle.spec.specs.declared.Given.TheVariants as G
+use Rattle.std.specs.declared.option.Option.TheVariants as G
 use Rattle.examples.specs.Images.{image, Case, case_holds, refused, refuses, Faults, faults_hold, faults, faulty, lent, with, changed, ◌becomes◌, first, log, blocks, minus}
 
 -- the image as it is; in its place the header of an empty register of n chunks (words past the end of a list count as
@@ -21,10 +21,10 @@ abbrev same : List ℕ → List ℕ
 same ws = ws
 
 abbrev empty : ℕ → List ℕ → List ℕ
-empty n ws = header_words base_power n G.Absent G.Absent
+empty n ws = header_words base_power n G.None G.None
 
 abbrev empty_large : ℕ → List ℕ → List ℕ
-empty_large n ws = header_words large_power n G.Absent G.Absent
+empty_large n ws = header_words large_power n G.None G.None
 
 -- four large chunks, with this directory word of chunk 1
 abbrev large_with : ℕ → List ℕ → List ℕ

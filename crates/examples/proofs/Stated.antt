@@ -16,7 +16,7 @@ use Rattle.spec.specs.Contents.{capacity, tops, chosen}
 use Rattle.spec.specs.Actions.{blank_of, block_of}
 use Rattle.spec.specs.Reports.{number}
 use Rattle.spec.specs.Plans.{entry, Plan, Refuse, Begin, plan_put, plan_delete, slot_for}
-use Rattle.spec.specs.declared.Given.TheVariants as G
+use Rattle.std.specs.declared.option.Option.TheVariants as G
 use Rattle.spec.specs.declared.Role.{Role}
 use Rattle.spec.specs.declared.Role.TheVariants as D
 use Rattle.spec.specs.declared.FirstWord.{FirstWord}
@@ -25,13 +25,13 @@ use Rattle.examples.specs.Shown.{Shown, Words, Number, Refused, Accepted, InLog,
 
 -- Staging in an empty register of 16 chunks, of which words 0 to 511 are read, with a key table of 256 words.
 abbrev empty : List ℕ
-empty = header_map base_power G.Absent G.Absent ∷ blank_of (header_tail base_power 16 G.Absent G.Absent)
+empty = header_map base_power G.None G.None ∷ blank_of (header_tail base_power 16 G.None G.None)
 
 abbrev put : List Entry → ℕ → ℕ → Plan
-put items key bytes = plan_put base_power 16 empty 256 [] items G.Absent key (replicate bytes 94)
+put items key bytes = plan_put base_power 16 empty 256 [] items G.None key (replicate bytes 94)
 
 abbrev delete : List Entry → ℕ → Plan
-delete items key = plan_delete 256 [] items G.Absent key
+delete items key = plan_delete 256 [] items G.None key
 
 abbrev fits : Plan → Shown
 fits (Refuse n) = Refused (number n)
@@ -72,9 +72,9 @@ parts (F.Entry op placement version field) = Words (op ∷ placement ∷ version
 abbrev rows : List Row
 rows =
     -- header, 16 chunks, bit map 1
-    Words (header_words base_power 16 G.Absent G.Absent) is Words (1 ∷ 16 ∷ 0 ∷ 0 ∷ 0 ∷ 0 ∷ 0 ∷ 18446744073709551599 ∷ [])
-    ∷ Words (header_words large_power 16 (G.Number 5) G.Absent) is Words (11 ∷ 16 ∷ 5 ∷ 16 ∷ 0 ∷ 0 ∷ 0 ∷ 18446744073709551568 ∷ [])
-    ∷ pick (header_right 16 (header_words base_power 16 G.Absent G.Absent)) Accepted (Refused 2) is Accepted
+    Words (header_words base_power 16 G.None G.None) is Words (1 ∷ 16 ∷ 0 ∷ 0 ∷ 0 ∷ 0 ∷ 0 ∷ 18446744073709551599 ∷ [])
+    ∷ Words (header_words large_power 16 (G.Some 5) G.None) is Words (11 ∷ 16 ∷ 5 ∷ 16 ∷ 0 ∷ 0 ∷ 0 ∷ 18446744073709551568 ∷ [])
+    ∷ pick (header_right 16 (header_words base_power 16 G.None G.None)) Accepted (Refused 2) is Accepted
     -- log, 2 lines
     ∷ Number (log_word 0 2) is Number 513
     ∷ role (role_of base_power 513) is Words (1 ∷ 2 ∷ [])

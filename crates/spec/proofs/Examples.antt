@@ -12,7 +12,7 @@ use Rattle.spec.specs.Medium.{Action, Store, Flush, Fence, Medium, run, values, 
 use Rattle.spec.specs.Contents.{Held, Absent, Value, same_held}
 use Rattle.spec.specs.Machine.{Put, Delete, Commit, Abandon, Step}
 use Rattle.spec.specs.Book.{Item, Book, new_book, note, note_cut, note_open}
-use Rattle.spec.specs.declared.Given.TheVariants as G
+use Rattle.std.specs.declared.option.Option.TheVariants as G
 use Rattle.spec.specs.declared.Refusal.TheVariants as N
 use Rattle.spec.specs.declared.Report.TheVariants as R
 
@@ -64,7 +64,7 @@ abbrev start : Book
 start = new_book (λ k. pick (eqb k 7) (Value (104 ∷ [])) Absent)
 
 abbrev staged : Book
-staged = note Step (R.End 0) (note (Put G.Absent 9 (33 ∷ [])) (R.Begun 0) (note Step (R.End 0) (note (Delete G.Absent 7) (R.Begun 0) start)))
+staged = note Step (R.End 0) (note (Put G.None 9 (33 ∷ [])) (R.Begun 0) (note Step (R.End 0) (note (Delete G.None 7) (R.Begun 0) start)))
 
 abbrev committing : Book
 committing = note Step R.Fence (note Commit (R.Begun 13) staged)
@@ -76,7 +76,7 @@ books =
     ∷ says committing (Value (104 ∷ [])) Absent [] (some (7 ∷ 9 ∷ []))
     ∷ says (note Step (R.End 0) committing) Absent (Value (33 ∷ [])) [] none
     -- refused calls, and a refused step, change nothing
-    ∷ says (note (Put G.Absent 9 []) (R.Refused N.BatchFull) staged) (Value (104 ∷ [])) Absent (7 ∷ 9 ∷ []) none
+    ∷ says (note (Put G.None 9 []) (R.Refused N.BatchFull) staged) (Value (104 ∷ [])) Absent (7 ∷ 9 ∷ []) none
     ∷ says (note Commit (R.Refused N.NoSpace) staged) (Value (104 ∷ [])) Absent (7 ∷ 9 ∷ []) none
     ∷ says (note Step (R.Refused N.ImageLength) committing) (Value (104 ∷ [])) Absent [] (some (7 ∷ 9 ∷ []))
     -- abandoning empties the tray; so does a cut; a batch in hand stays through a cut
@@ -88,9 +88,9 @@ books =
     ∷ says (note_open false (note_cut committing)) (Value (104 ∷ [])) Absent [] none
     ∷ says (note_open true staged) (Value (104 ∷ [])) Absent [] none
     -- items go in order: put 7, delete 7, put 7
-    ∷ says (note Step (R.End 0) (note Commit (R.Begun 13) (note (Put G.Absent 7 (3 ∷ [])) (R.Begun 0) (note (Delete G.Absent 7) (R.Begun 0) (note (Put G.Absent 7 (2 ∷ [])) (R.Begun 0) start))))) (Value (3 ∷ [])) Absent [] none
+    ∷ says (note Step (R.End 0) (note Commit (R.Begun 13) (note (Put G.None 7 (3 ∷ [])) (R.Begun 0) (note (Delete G.None 7) (R.Begun 0) (note (Put G.None 7 (2 ∷ [])) (R.Begun 0) start))))) (Value (3 ∷ [])) Absent [] none
     -- what was staged before a cut is no part of a later commit
-    ∷ says (note Step (R.End 0) (note Commit (R.Begun 13) (note (Put G.Absent 9 []) (R.Begun 0) (note_open false (note_cut staged))))) (Value (104 ∷ [])) (Value []) [] none
+    ∷ says (note Step (R.End 0) (note Commit (R.Begun 13) (note (Put G.None 9 []) (R.Begun 0) (note_open false (note_cut staged))))) (Value (104 ∷ [])) (Value []) [] none
     ∷ []
 
 pub computed : T (every (media ++ books))

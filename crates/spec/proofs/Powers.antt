@@ -17,7 +17,7 @@ use Rattle.spec.specs.Actions.{format_of, fill_of, blank_of}
 use Rattle.spec.specs.Plans.{Plan, Refuse, Begin, plan_put, slot_for}
 use Rattle.spec.specs.Machine.{Open, Closed, state_power, format_answer, change}
 use Rattle.spec.specs.Reports.{number}
-use Rattle.spec.specs.declared.Given.TheVariants as G
+use Rattle.std.specs.declared.option.Option.TheVariants as G
 use Rattle.spec.specs.declared.Report.{Report}
 use Rattle.spec.specs.declared.Report.TheVariants as R
 
@@ -57,11 +57,11 @@ headers =
     ∷ same_list (opens 262144 (with_power 64 16) ∷ opens 262144 (with_power 4 12) ∷ opens 196608 (with_power 3 16) ∷ opens 2490368 (with_power 608 12) ∷ []) (2 ∷ 2 ∷ 2 ∷ 2 ∷ [])
     ∷ same_list (opens 262144 (with_power 64 12) ∷ opens 196608 (with_power 48 12) ∷ opens 2490368 (with_power 38 16) ∷ []) (0 ∷ 0 ∷ 0 ∷ [])
     -- what a formatting writes says the power, and the opening keeps it
-    ∷ same_list (header_words base_power 4 G.Absent G.Absent) (header 1 (4 ∷ 0 ∷ 0 ∷ 0 ∷ 0 ∷ 0 ∷ []))
-    ∷ same_list (header_words large_power 4 G.Absent G.Absent) (with_power 4 16)
-    ∷ same_list (header_words large_power 4 (G.Number 5) G.Absent) (header 11 (4 ∷ 5 ∷ 16 ∷ 0 ∷ 0 ∷ 0 ∷ []))
-    ∷ same_list (header_words large_power 4 G.Absent (G.Number 6)) (header 13 (4 ∷ 6 ∷ 16 ∷ 0 ∷ 0 ∷ 0 ∷ []))
-    ∷ same_list (header_words large_power 4 (G.Number 5) (G.Number 6)) (header 15 (4 ∷ 5 ∷ 6 ∷ 16 ∷ 0 ∷ 0 ∷ []))
+    ∷ same_list (header_words base_power 4 G.None G.None) (header 1 (4 ∷ 0 ∷ 0 ∷ 0 ∷ 0 ∷ 0 ∷ []))
+    ∷ same_list (header_words large_power 4 G.None G.None) (with_power 4 16)
+    ∷ same_list (header_words large_power 4 (G.Some 5) G.None) (header 11 (4 ∷ 5 ∷ 16 ∷ 0 ∷ 0 ∷ 0 ∷ []))
+    ∷ same_list (header_words large_power 4 G.None (G.Some 6)) (header 13 (4 ∷ 6 ∷ 16 ∷ 0 ∷ 0 ∷ 0 ∷ []))
+    ∷ same_list (header_words large_power 4 (G.Some 5) (G.Some 6)) (header 15 (4 ∷ 5 ∷ 6 ∷ 16 ∷ 0 ∷ 0 ∷ []))
     ∷ same_list (keeps 262144 (with_power 64 12) ∷ keeps 262144 (with_power 4 16) ∷ []) (12 ∷ 16 ∷ [])
     ∷ []
 
@@ -84,7 +84,7 @@ begun (R.Chosen c) = 0
 begun (R.Part a n v) = 0
 
 abbrev formats : ℕ → ℕ → ℕ
-formats p bytes = begun (format_answer p G.Absent G.Absent Closed bytes)
+formats p bytes = begun (format_answer p G.None G.None Closed bytes)
 
 abbrev plan_told : Plan → ℕ
 plan_told (Refuse n) = number n
@@ -92,7 +92,7 @@ plan_told (Begin items task acts) = 0
 
 -- a put of so many bytes into an image of four free chunks: the refusal's number, 0 where it begins
 abbrev stages : ℕ → ℕ → ℕ
-stages p bytes = plan_told (plan_put p 4 [] 64 [] [] G.Absent 7 (replicate bytes 94))
+stages p bytes = plan_told (plan_put p 4 [] 64 [] [] G.None 7 (replicate bytes 94))
 
 abbrev numbers : List Bool
 numbers =

@@ -19,7 +19,7 @@ use Rattle.spec.specs.Plans.{entry, plan_commit, plan_clean, log_place}
 use Rattle.spec.specs.Machine.{Call, Commit, Clean}
 use Rattle.spec.specs.Book.{Item}
 use Rattle.spec.specs.Means.{does}
-use Rattle.spec.specs.declared.Given.TheVariants as G
+use Rattle.std.specs.declared.option.Option.TheVariants as G
 use Rattle.spec.proofs.Slips.{image, line, accepted, begun_actions, before}
 
 -- a call from its begin to its end does to keys 7, 8 and 9 what `does` says
@@ -58,7 +58,7 @@ rows =
     done Commit tray before (begun_actions (plan_commit base_power 4 before staged))
     ∷ done (Clean 2) [] deleted (begun_actions (plan_clean base_power 4 deleted (entries_in base_power 4 deleted) [] 2))
     ∷ opens two
-    ∷ negate (opens (cut chunk_one_lost (run (take 12 (format_of base_power 4 G.Absent G.Absent)) (settled_at two))))
+    ∷ negate (opens (cut chunk_one_lost (run (take 12 (format_of base_power 4 G.None G.None)) (settled_at two))))
     ∷ []
 
 pub computed : T (every rows)

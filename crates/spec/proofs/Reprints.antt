@@ -18,7 +18,7 @@ use Rattle.spec.specs.Actions.{append_of, commit_of, body_of, padded, block_of}
 use Rattle.spec.specs.Reports.{numbers_of, words_after}
 use Rattle.spec.specs.Plans.{Committing, Staging, entry, plan_put, plan_delete, plan_commit, plan_clean, slot_for, log_place, chosen_chunk, look_up}
 use Rattle.spec.specs.Machine.{Call, Put, Delete, Commit, Abandon, LookUp, Choose, Clean, Step, State, Rest, Busy, Formatting, answer, next}
-use Rattle.spec.specs.declared.Given.TheVariants as G
+use Rattle.std.specs.declared.option.Option.TheVariants as G
 use Rattle.spec.specs.declared.Report.{Report}
 use Rattle.spec.proofs.Slips.{image, line}
 
@@ -95,7 +95,7 @@ walked = tt
 
 -- a staging of a value in a block: a free chunk is taken by two actions, 34 words are stored and five lines flushed
 abbrev large : Call
-large = Put G.Absent 7 (replicate 257 94)
+large = Put G.None 7 (replicate 257 94)
 
 abbrev staging : List Bool
 staging =
@@ -129,7 +129,7 @@ rows =
     ∷ same_list (told (LookUp 7) (Formatting false bytes 64 []) bytes 64) (2 ∷ [])
     ∷ same_list (told (LookUp 7) (Formatting false bytes 64 []) bytes 63) (2 ∷ [])
     -- every other call is refused with 8: a commit in a commit
-    ∷ every (map (λ k. same_list (told k committing bytes 64) (8 ∷ [])) (Commit ∷ Put G.Absent 7 [] ∷ Delete G.Absent 7 ∷ Abandon ∷ Choose ∷ Clean 1 ∷ []))
+    ∷ every (map (λ k. same_list (told k committing bytes 64) (8 ∷ [])) (Commit ∷ Put G.None 7 [] ∷ Delete G.None 7 ∷ Abandon ∷ Choose ∷ Clean 1 ∷ []))
     ∷ []
 
 pub answered : T (every rows)

@@ -5,7 +5,7 @@ use Rattle.spec.specs.Places.{base, first_line, unit_word, line_of, directory_wo
 use Rattle.spec.specs.Medium.{Action, Store, Flush, Fence}
 use Rattle.spec.specs.Header.{header_map, header_tail}
 use Rattle.spec.specs.Directory.{log_word, data_word, freed_word}
-use Rattle.spec.specs.declared.Given.{Given}
+use Rattle.spec.specs.Basics.{Given}
 
 -- words stored from word a on, and n lines flushed from line l on, by rising address
 -- R34

@@ -2,6 +2,12 @@
 -- Assumes nothing.
 use Rattle.std.specs.Prelude.{Bool, true, false, List, [], ◌∷◌, ℕ, zero, suc, eqb, leb}
 use Rattle.std.proofs.Math.Option.{Option, none, some}
+use Rattle.std.specs.declared.option.Option as Lent
+
+-- A number that a call is told, or not: a formatting the numbers of station and centre, a staging the version that it
+-- names.
+abbrev pub Given : Type 0
+Given = Lent.Option ℕ
 
 abbrev pub pick : {A : Type 0} → Bool → A → A → A
 pick true a b = a

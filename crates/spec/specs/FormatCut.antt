@@ -9,7 +9,7 @@ use Rattle.spec.specs.Machine.{Format, Open, State, opened}
 use Rattle.spec.specs.Book.{Book, nothing, note_open}
 use Rattle.spec.specs.Contract.{Called}
 use Rattle.spec.specs.History.{Do, Cut, World, Faithful, Stepped, Shows}
-use Rattle.spec.specs.declared.Given.{Given}
+use Rattle.spec.specs.Basics.{Given}
 use Rattle.spec.specs.declared.Refusal.TheVariants as N
 use Rattle.spec.specs.declared.Report.{Report}
 use Rattle.spec.specs.declared.Report.TheVariants as R

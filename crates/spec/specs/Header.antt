@@ -10,8 +10,8 @@
 use Rattle.std.specs.Prelude.{Bool, List, [], ◌∷◌, ◌++◌, ℕ, ◌+◌, ◌-◌, ◌%◌, eqb, get_or}
 use Rattle.spec.specs.Basics.{pick, both, either}
 use Rattle.spec.specs.Places.{base_power}
-use Rattle.spec.specs.declared.Given.{Given}
-use Rattle.spec.specs.declared.Given.TheVariants as G
+use Rattle.spec.specs.Basics.{Given}
+use Rattle.std.specs.declared.option.Option.TheVariants as G
 
 abbrev pub word_values : ℕ
 word_values = 18446744073709551616
@@ -45,8 +45,8 @@ header_right n ws = header_test n (get_or ws 0 0) (get_or ws 1 0) (get_or ws 2 0
 
 -- what the writer makes
 abbrev pub bit_of : ℕ → Given → ℕ
-bit_of b (G.Number x) = b
-bit_of b G.Absent = 0
+bit_of b (G.Some x) = b
+bit_of b G.None = 0
 
 -- the power's bit and field; there is none for small chunks
 -- R90
@@ -63,10 +63,10 @@ header_map p station centre = 1 + bit_of 2 station + bit_of 4 centre + power_bit
 
 -- the fields behind the count and the unused words, x being the power's field
 abbrev pub fields_of : ℕ → Given → Given → List ℕ
-fields_of x (G.Number s) (G.Number c) = s ∷ c ∷ x ∷ 0 ∷ 0 ∷ []
-fields_of x (G.Number s) G.Absent = s ∷ x ∷ 0 ∷ 0 ∷ 0 ∷ []
-fields_of x G.Absent (G.Number c) = c ∷ x ∷ 0 ∷ 0 ∷ 0 ∷ []
-fields_of x G.Absent G.Absent = x ∷ 0 ∷ 0 ∷ 0 ∷ 0 ∷ []
+fields_of x (G.Some s) (G.Some c) = s ∷ c ∷ x ∷ 0 ∷ 0 ∷ []
+fields_of x (G.Some s) G.None = s ∷ x ∷ 0 ∷ 0 ∷ 0 ∷ []
+fields_of x G.None (G.Some c) = c ∷ x ∷ 0 ∷ 0 ∷ 0 ∷ []
+fields_of x G.None G.None = x ∷ 0 ∷ 0 ∷ 0 ∷ 0 ∷ []
 
 -- R3
 abbrev pub given_fields : ℕ → Given → Given → List ℕ

@@ -13,7 +13,7 @@ use Rattle.spec.specs.Reports.{number, refusal_of, part_in, medium_after, is_ref
 use Rattle.spec.specs.Machine.{Kind, ToFormat, ToOpen, ToWork, ToRead, ToStep, kind_of, is_opening, Call, Format, Open, Put, Delete, Commit, Abandon, LookUp, Choose, Clean, Step, State}
 use Rattle.spec.specs.Book.{Book, new_book, nothing, note, note_cut, note_open}
 use Rattle.spec.specs.Contract.{Called}
-use Rattle.spec.specs.declared.Given.{Given}
+use Rattle.spec.specs.Basics.{Given}
 use Rattle.spec.specs.declared.Refusal.{Refusal}
 use Rattle.spec.specs.declared.Refusal.TheVariants as N
 use Rattle.spec.specs.declared.Report.{Report}

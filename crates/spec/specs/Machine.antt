@@ -11,8 +11,8 @@ use Rattle.spec.specs.Log.{Entry}
 use Rattle.spec.specs.Contents.{entries_in}
 use Rattle.spec.specs.Opening.{Opening, Refused, Accepted, opening}
 use Rattle.spec.specs.Actions.{format_of}
-use Rattle.spec.specs.declared.Given.{Given}
-use Rattle.spec.specs.declared.Given.TheVariants as G
+use Rattle.spec.specs.Basics.{Given}
+use Rattle.std.specs.declared.option.Option.TheVariants as G
 use Rattle.spec.specs.declared.Refusal.{Refusal}
 use Rattle.spec.specs.declared.Refusal.TheVariants as N
 use Rattle.spec.specs.declared.Report.{Report}
@@ -276,8 +276,8 @@ next k σ ws bytes table =
 -- version is named
 -- R86
 abbrev pub version_asked : Given → List Refusal → List Refusal
-version_asked G.Absent rs = rs
-version_asked (G.Number n) rs = N.OtherVersion ∷ rs
+version_asked G.None rs = rs
+version_asked (G.Some n) rs = N.OtherVersion ∷ rs
 
 -- R37
 abbrev pub refusals : Call → List Refusal

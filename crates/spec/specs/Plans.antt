@@ -12,8 +12,8 @@ use Rattle.spec.specs.Log.{Entry, max_in_log, encode_all}
 use Rattle.spec.specs.Blocks.{block_limit, block_size, pointed}
 use Rattle.spec.specs.Contents.{highest, chosen, capacity, pointers, live_blocks, kept_in}
 use Rattle.spec.specs.Actions.{lines_for, append_of, free_of, take_of, block_of}
-use Rattle.spec.specs.declared.Given.{Given}
-use Rattle.spec.specs.declared.Given.TheVariants as G
+use Rattle.spec.specs.Basics.{Given}
+use Rattle.std.specs.declared.option.Option.TheVariants as G
 use Rattle.spec.specs.declared.Refusal.{Refusal}
 use Rattle.spec.specs.declared.Refusal.TheVariants as N
 use Rattle.spec.specs.declared.Report.{Report}
@@ -83,8 +83,8 @@ next_version k es items = suc (highest k (es ++ items))
 -- known nor staged
 -- R86
 abbrev pub is_named : Given → ℕ → Bool
-is_named G.Absent v = true
-is_named (G.Number n) v = eqb n v
+is_named G.None v = true
+is_named (G.Some n) v = eqb n v
 
 -- R86
 abbrev pub fits_version : Given → ℕ → List Entry → List Entry → Bool

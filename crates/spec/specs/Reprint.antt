@@ -10,7 +10,7 @@ use Rattle.spec.specs.Book.{Book, new_book, nothing}
 use Rattle.spec.specs.Contract.{Called, part_bytes}
 use Rattle.spec.specs.History.{Event, Lent, World, Claim, meant_by, meant, Stepped, Shows, world}
 use Rattle.spec.specs.Means.{AsCallsLeft}
-use Rattle.spec.specs.declared.Given.{Given}
+use Rattle.spec.specs.Basics.{Given}
 use Rattle.spec.specs.declared.Report.{Report}
 use Rattle.spec.specs.declared.Report.TheVariants as R
 

@@ -14,7 +14,7 @@ use Rattle.spec.specs.Plans.{Olds, old_of, Cleaning, Begin, free, plan_clean, ch
 use Rattle.spec.specs.Machine.{Call, Format, Open, Put, Delete, Commit, Abandon, LookUp, Choose, Clean, Step, State}
 use Rattle.spec.specs.Contract.{Called}
 use Rattle.spec.specs.History.{Event, Do, Cut, World, Lends, Stands, unfinished_after, after_call, after_cut, Stepped, world}
-use Rattle.spec.specs.declared.Given.{Given}
+use Rattle.spec.specs.Basics.{Given}
 use Rattle.spec.specs.declared.Report.{Report}
 use Rattle.spec.specs.declared.Report.TheVariants as R
 

@@ -3,7 +3,7 @@
 
 // The size of a chunk: 4,096 bytes, or 65,536. Code is told it by value, so that its numbers are literals of two cases;
 // the definitions have the power of two.
-#[derive(Clone, Copy)]
+#[derive(Clone, Copy, PartialEq, Eq, Debug)]
 pub enum Size {
     Small,
     Large,
@@ -11,7 +11,7 @@ pub enum Size {
 
 // What a directory word says of its chunk: free, a log chunk with its committed lines, a data chunk with its block size
 // in units.
-#[derive(Clone, Copy)]
+#[derive(Clone, Copy, PartialEq, Eq, Debug)]
 pub enum Role {
     Free,
     Log(u64),
@@ -19,8 +19,10 @@ pub enum Role {
     Wrong,
 }
 
-// What the first word of an entry says: `field` is the value's length or the pointer.
-#[derive(Clone, Copy)]
+// What the first word of an entry says: `field` is the value's length or the pointer. `op` and `placement` are the
+// numbers that the image has, which the definitions of the format speak of: 1 put, 2 delete; 0 in the log, 1 in a
+// block.
+#[derive(Clone, Copy, PartialEq, Eq, Debug)]
 pub enum FirstWord {
     Padding,
     Wrong,
@@ -33,7 +35,7 @@ pub enum FirstWord {
 }
 
 // What stands at a place of the log: `words` is how many words follow the key.
-#[derive(Clone, Copy)]
+#[derive(Clone, Copy, PartialEq, Eq, Debug)]
 pub enum LogStep {
     End,
     Padding,
@@ -48,16 +50,8 @@ pub enum LogStep {
     },
 }
 
-// A number that a call is told, or not: a formatting the numbers of station and centre, a staging the version that it
-// names.
-#[derive(Clone, Copy)]
-pub enum Given {
-    Number(u64),
-    Absent,
-}
-
 // Why a call is turned down, 1 to 17 in the order of the rules' table.
-#[derive(Clone, Copy)]
+#[derive(Clone, Copy, PartialEq, Eq, Debug)]
 pub enum Refusal {
     ImageLength,
     NotOpen,
@@ -80,7 +74,7 @@ pub enum Refusal {
 
 // What a call answers. `Begun` has the number of actions, `End` the entries copied (0 but for a cleaning),
 // `Part` the first byte and the length of the part of the image that holds a value, and the value's version.
-#[derive(Clone, Copy)]
+#[derive(Clone, Copy, PartialEq, Eq, Debug)]
 pub enum Report {
     Refused(Refusal),
     Begun(usize),

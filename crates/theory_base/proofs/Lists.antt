@@ -1,5 +1,6 @@
 -- The laws of tests and of lists that are searched, filtered or counted.
 -- Assumes nothing.
+use Rattle.std.proofs.lemmas.Bool.Decides.{nat_tests}
 use mathlib.Core.Path.{◌≡◌, refl, sym, ◌∙◌, ap}
 use mathlib.Core.Logic.{◌⊎◌, inl, inr}
 use mathlib.Core.Bool.{Bool, true, false}
@@ -132,15 +133,7 @@ number-cases k (x ∷ xs) ys (inr m) = elim (number-cases k xs ys m) [ inl a ↦
 
 -- The numbers of a list, each once.
 pub adding-is : (k j : ℕ) (ks : List ℕ) → is_in j (adding k ks) ≡ either (eqb k j) (is_in j ks)
-adding-is k j ks = go (is_in k ks) refl
-  where
-    same : is_in k ks ≡ true → (b : Bool) → (b ≡ true → k ≡ j) → is_in j ks ≡ either b (is_in j ks)
-    same h true e = sym (ap (λ (i : ℕ). is_in i ks) (e refl)) ∙ h
-    same h false e = refl
-
-    go : (b : Bool) → is_in k ks ≡ b → is_in j (pick b ks (k ∷ ks)) ≡ either (eqb k j) (is_in j ks)
-    go true h = same h (eqb k j) (eqb-true k j)
-    go false h = refl
+adding-is k j ks = grind (arith, nat_tests)
 
 pub distinct-is : (j : ℕ) (ks : List ℕ) → is_in j (distinct ks) ≡ is_in j ks
 distinct-is j [] = refl

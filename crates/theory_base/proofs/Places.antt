@@ -1,5 +1,6 @@
 -- The laws of places, for chunks of 2^12 to 2^16 bytes: all that is known of a chunk's size.
 -- Assumes nothing.
+use Rattle.std.proofs.lemmas.Bool.Decides.{nat_tests}
 use mathlib.Core.Bool.{Bool, true, false}
 use mathlib.Core.Logic.{◌⊎◌, inl, inr, ⊎_elim}
 use mathlib.Core.Path.{◌≡◌, refl, ap}
@@ -15,17 +16,7 @@ use Rattle.spec.specs.Places.{chunk_bytes, chunk_words, chunk_lines, chunk_units
 
 -- a fact of each of the five
 pub each : (P : ℕ → Type 0) → P 12 → P 13 → P 14 → P 15 → P 16 → (p : ℕ) → 12 ≤ p → p ≤ 16 → P p
-each P a b c d e p lo hi = go (dec_lt p 13) (dec_lt p 14) (dec_lt p 15) (dec_lt p 16)
-  where
-    is : (k : ℕ) → k ≤ p → p < suc k → P k → P p
-    is k l u t = let q : p ≡ k = omega arith in rw q t
-
-    go : Dec (p < 13) → Dec (p < 14) → Dec (p < 15) → Dec (p < 16) → P p
-    go (yes q) x y z = is 12 lo q a
-    go (no n) (yes q) y z = is 13 (omega arith) q b
-    go (no n) (no n') (yes q) z = is 14 (omega arith) q c
-    go (no n) (no n') (no n'') (yes q) = is 15 (omega arith) q d
-    go (no n) (no n') (no n'') (no n''') = is 16 (omega arith) (omega arith) e
+each P a b c d e p lo hi = grind (arith, nat_tests)
 
 module _ (p : ℕ) (lo : 12 ≤ p) (hi : p ≤ 16) where
   -- Sizes.

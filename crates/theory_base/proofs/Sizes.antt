@@ -1,18 +1,16 @@
 -- The laws of block sizes: the size for a value fits it, is a size, and is the smallest; where the blocks of a chunk
 -- stand.
 -- Assumes nothing.
+use Rattle.std.proofs.lemmas.Bool.Decides.{nat_tests}
 use mathlib.Core.Path.{◌≡◌, ap}
 use mathlib.Core.Bool.{true}
 use Prim.Native.Nat.{ℕ, suc, ◌+◌, ◌*◌, ◌/◌, ◌%◌, ◌≤◌, ◌<◌}
 use native.Mathlib.Nat.{mul_comm, le_trans, le_antisymm, mul-le-mul_left, mul-le-mul_right, suc-mul, mul-mod_left, div-mul-le_self, le-div_iff_mul-le}
 use native.Mathlib.Omega.{arith}
-use lib.Dec.{eqb, leb}
-use borrow.Author.Tests.{eqb-true, leb-true, le-leb, eq-eqb}
-use Rattle.spec.specs.Basics.{both}
+use borrow.Author.Tests.{le-leb, eq-eqb}
 use Rattle.spec.specs.Places.{chunk_units, first_unit, unit_chunk, unit_in}
 use Rattle.spec.specs.Directory.{size_for, is_size}
 use Rattle.spec.specs.Blocks.{block_limit, units_for, block_size}
-use Rattle.theory_base.proofs.Lists.{both_l, both_r}
 use Rattle.theory_base.proofs.Places.{unit-at}
 
 -- Quotients of one number.
@@ -57,12 +55,7 @@ module _ (p : ℕ) where
 
   pub size_is : (s : ℕ) → is_size p s ≡ true → (2 ≤ s) × (s ≤ chunk_units p) × (size_for p s ≡ s)
   unfolding is_size
-  size_is s h =
-      let r = both_r (leb 2 s) (both (leb s (chunk_units p)) (eqb (size_for p s) s)) h in (
-        leb-true 2 s (both_l (leb 2 s) (both (leb s (chunk_units p)) (eqb (size_for p s) s)) h),
-        leb-true s (chunk_units p) (both_l (leb s (chunk_units p)) (eqb (size_for p s) s) r),
-        eqb-true (size_for p s) s (both_r (leb s (chunk_units p)) (eqb (size_for p s) s) r),
-      )
+  size_is s h = grind (arith, nat_tests)
 
   -- no smaller size has u units
   pub size-least : (u s : ℕ) → 1 ≤ u → is_size p s ≡ true → u ≤ s → size_for p u ≤ s

@@ -1,22 +1,21 @@
 -- The laws of blocks: what the test says of a block, and what an entry's value looks at.
 -- Assumes nothing.
+use Rattle.std.proofs.lemmas.Bool.Decides.{nat_tests}
 use mathlib.Core.Path.{◌≡◌, refl, sym, ◌∙◌, ap}
 use mathlib.Core.Logic.{inl, inr}
 use mathlib.Core.Bool.{Bool, true, false}
-use mathlib.Core.List.{List, ◌++◌}
+use mathlib.Core.List.{List}
 use Prim.Native.Nat.{ℕ, ◌+◌, ◌*◌, ◌/◌, ◌%◌, ◌≤◌, ◌<◌}
 use native.Mathlib.Omega.{arith}
 use lib.ListN.{length, get_or}
-use borrow.Author.Tests.{eqb-true, leb-true, ltb-true}
 use Rattle.spec.specs.Basics.{pick}
 use Rattle.spec.specs.Words.{value_bytes}
 use Rattle.spec.specs.Places.{chunk_words, chunk_units, base, unit_chunk, unit_in, unit_word, directory_word}
 use Rattle.spec.specs.Directory.{size_of}
 use Rattle.spec.specs.Log.{Entry}
-use Rattle.spec.specs.Blocks.{start_tests, length_tests, block_test, block_right, pointed, block_bytes}
+use Rattle.spec.specs.Blocks.{block_test, block_right, pointed, block_bytes}
 use Rattle.spec.specs.Contents.{Value, in_log, meaning}
 use Rattle.spec.specs.Opening.{fine}
-use Rattle.theory_base.proofs.Lists.{every_true}
 use Rattle.theory_base.proofs.Places.{base-apart, block_in}
 use Rattle.theory_log.proofs.Batch.{slice-agree}
 use Rattle.theory_log.proofs.Directory.{size_is}
@@ -34,17 +33,7 @@ pub record Fits (p n u s len : ℕ) : Type 0 where
 
 pub block-fits : (p n u s len last : ℕ) → block_test p n u s len last ≡ true → Fits p n u s len
 unfolding block_test
-block-fits p n u s len last h =
-    let a = every_true (start_tests p n u s ++ length_tests s len last) h in
-    record {
-      low = leb-true 1 (unit_chunk p u) a.0;
-      high = ltb-true (unit_chunk p u) n a.1.0;
-      some' = leb-true 1 s a.1.1.0;
-      ends = leb-true (unit_in p u + s) (chunk_units p) a.1.1.1.1.0;
-      room = leb-true (len + 8) (256 * s) a.1.1.1.1.1.1.0;
-      large = leb-true 257 len a.1.1.1.1.1.0;
-      aligned = eqb-true (unit_in p u % s) 0 a.1.1.1.0;
-    }
+block-fits p n u s len last h = grind (arith, nat_tests)
 
 pub needs-first : (p : ℕ) (ws : List ℕ) (e : Entry) → pointed e ≡ true → Needs p ws e (unit_word e.field)
 needs-first p ws e h = (h, inr (omega arith, omega arith))

@@ -1,9 +1,10 @@
 -- Cleaning a log chunk: its kept entries are copied as a commit does, then it is freed; where none is kept it is only
 -- freed.
 -- Assumes nothing.
+use Rattle.std.proofs.lemmas.Bool.Decides.{nat_tests}
 use mathlib.Core.Path.{◌≡◌, refl, sym, ◌∙◌, ap}
 use mathlib.Core.Logic.{◌⊎◌, inl, inr}
-use mathlib.Core.Bool.{true, false}
+use mathlib.Core.Bool.{true}
 use mathlib.Core.List.{List, [], ◌∷◌, ◌++◌}
 use Prim.Native.Nat.{ℕ, ◌+◌, ◌-◌, ◌*◌, ◌≤◌, ◌<◌}
 use native.Mathlib.Omega.{arith}
@@ -66,11 +67,7 @@ placed-in at (e ∷ es) f (inr m) = let r = placed-in (at + (2 + length e.value)
 
 -- a put that is covered stands there
 put-covered : (es gs : List Entry) → Covers es gs → (e : Entry) → Top es e → eqb e.op 1 ≡ true → (f : Entry) × (Mem f gs × ((f.key ≡ e.key) × (f.version ≡ e.version)))
-put-covered es gs cov e t o = go (cov e t)
-  where
-    go : ((f : Entry) × Mem f gs × (f.key ≡ e.key) × (f.version ≡ e.version)) ⊎ ((eqb e.op 1 ≡ false) × ((f : Entry) → Mem f gs → f.key ≡ e.key → ⊥)) → (f : Entry) × (Mem f gs × ((f.key ≡ e.key) × (f.version ≡ e.version)))
-    go (inl (f, mf, fk, fv)) = (f, (mf, (fk, fv)))
-    go (inr (a, gone)) = absurd (let z : true ≡ false = sym o ∙ a in let y : ◌≡◌ {A = ℕ} 0 1 = cc in omega arith)
+put-covered es gs cov e t o = grind (arith, nat_tests)
 
 -- THE IMAGES OF A CLEANING: in `vs` the kept entries are published from word `at` on, in chunk d, among `before` and
 -- `behind`; then chunk s is freed

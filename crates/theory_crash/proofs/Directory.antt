@@ -1,6 +1,7 @@
 -- The laws of header and directory: which words are right, what the made words say, and the tests over the whole
 -- directory.
 -- Assumes nothing.
+use Rattle.std.proofs.lemmas.Bool.Decides.{nat_tests}
 use mathlib.Core.Path.{◌≡◌, refl, ap}
 use mathlib.Core.Logic.{◌⊎◌, inl, inr}
 use mathlib.Core.Bool.{Bool, true, false}
@@ -10,7 +11,7 @@ use native.Mathlib.Omega.{arith}
 use lib.Dec.{eqb, leb, ltb}
 use lib.ListN.{get_or, drop}
 use lib.Seq.{get_or-drop}
-use borrow.Author.Tests.{eqb-true, leb-true, ltb-true, le-leb, lt-ltb}
+use borrow.Author.Tests.{leb-true, le-leb, lt-ltb}
 use Rattle.spec.specs.Basics.{pick, both}
 use Rattle.spec.specs.Places.{chunk_lines, directory_word, max_chunks}
 use Rattle.spec.specs.Header.{header_right, header_power}
@@ -60,18 +61,7 @@ role-zero p = refl
 
 -- a word that says data has one of the sizes
 by_size : (p low high : ℕ) → 1 ≤ size_in (role_by p low high) → is_size p (size_in (role_by p low high)) ≡ true
-by_size p low high h = go (eqb low 0) (eqb high 0) (eqb low 1) (both (leb 1 high) (leb high (chunk_lines p))) (eqb low 2) (is_size p high) refl h
-  where
-    go : (b0 b1 b2 b3 b4 b5 : Bool) → is_size p high ≡ b5
-        → 1 ≤ size_in (pick b0 (pick b1 R.Free R.Wrong) (pick b2 (pick b3 (R.Log high) R.Wrong) (pick b4 (pick b5 (R.Data high) R.Wrong) R.Wrong)))
-        → is_size p (size_in (pick b0 (pick b1 R.Free R.Wrong) (pick b2 (pick b3 (R.Log high) R.Wrong) (pick b4 (pick b5 (R.Data high) R.Wrong) R.Wrong)))) ≡ true
-    go true true b2 b3 b4 b5 e u = absurd (omega arith)
-    go true false b2 b3 b4 b5 e u = absurd (omega arith)
-    go false b1 true true b4 b5 e u = absurd (omega arith)
-    go false b1 true false b4 b5 e u = absurd (omega arith)
-    go false b1 false b3 true true e u = e
-    go false b1 false b3 true false e u = absurd (omega arith)
-    go false b1 false b3 false b5 e u = absurd (omega arith)
+by_size p low high h = grind (arith, nat_tests)
 
 pub word_size : (p w : ℕ) → 1 ≤ size_in (role_of p w) → is_size p (size_in (role_of p w)) ≡ true
 unfolding role_of
@@ -109,11 +99,7 @@ role-right p n c w l h e = rw (le-leb 1 c l, lt-ltb c n h) e
 
 pub right-inside : (p n c w : ℕ) → directory_right p n c w ≡ true → ((1 ≤ c) × (c < n)) ⊎ (w ≡ 0)
 unfolding directory_right
-right-inside p n c w h = go (both (leb 1 c) (ltb c n)) refl h
-  where
-    go : (b : Bool) → both (leb 1 c) (ltb c n) ≡ b → pick b (is_role (role_of p w)) (eqb w 0) ≡ true → ((1 ≤ c) × (c < n)) ⊎ (w ≡ 0)
-    go true q e = inl (leb-true 1 c (both_l (leb 1 c) (ltb c n) q), ltb-true c n (both_r (leb 1 c) (ltb c n) q))
-    go false q e = inr (eqb-true w 0 e)
+right-inside p n c w h = grind (arith, nat_tests)
 
 pub lines-inside : (p n c w : ℕ) → directory_right p n c w ≡ true → 1 ≤ lines_in (role_of p w) → (1 ≤ c) × (c < n)
 lines-inside p n c w h l = go (right-inside p n c w h)

@@ -1,26 +1,27 @@
 -- Formatting, action by action, from any medium.
 -- Assumes nothing.
+use Rattle.std.proofs.lemmas.Bool.Decides.{nat_tests}
 use mathlib.Core.Path.{◌≡◌, refl, sym, ◌∙◌, ap, subst}
 use mathlib.Core.Logic.{◌⊎◌, inl, inr}
 use mathlib.Core.Bool.{Bool, true, false}
 use mathlib.Core.List.{List, [], ◌∷◌, ◌++◌}
-use Prim.Native.Nat.{ℕ, zero, suc, ◌+◌, ◌-◌, ◌*◌, ◌%◌, ◌≤◌, ◌<◌}
+use Prim.Native.Nat.{ℕ, zero, suc, ◌+◌, ◌-◌, ◌*◌, ◌≤◌, ◌<◌}
 use native.Mathlib.Omega.{arith}
 use native.Mathlib.Decide.{ℕ_discrete}
 use lib.Dec.{eqb}
 use lib.ListN.{length, get_or, replicate, length-append}
 use lib.Seq.{slice_empty, get_or-append-add}
-use borrow.Author.Tests.{eq-eqb, eqb-true}
-use Rattle.spec.specs.Basics.{pick, both}
+use borrow.Author.Tests.{eqb-true}
+use Rattle.spec.specs.Basics.{pick}
 use Rattle.spec.specs.Places.{base_power, base, directory_word, max_chunks}
 use Rattle.spec.specs.Medium.{Cell, fresh, values, added, marked, drained, Action, Store, Flush, Fence, step, Medium, apply, run, latest, cell_at, Mem as Among, CanCutTo}
-use Rattle.spec.specs.Header.{word_values, fields_test, header_test, header_right, power_said, header_power, bit_of, power_bit, power_field, header_map, fields_of, sum, check_word, header_tail}
+use Rattle.spec.specs.Header.{fields_test, header_test, header_right, power_said, header_power, bit_of, power_bit, power_field, header_map, fields_of, sum, check_word, header_tail}
 use Rattle.spec.specs.Directory.{role_of, lines_of, size_of}
 use Rattle.spec.specs.Log.{Entries, all_from}
 use Rattle.spec.specs.Contents.{contents_by, meaning}
 use Rattle.spec.specs.Actions.{writes, flushes, first_word_of, fill_of, blank_of, format_of}
-use Rattle.spec.specs.declared.Given.{Given}
-use Rattle.spec.specs.declared.Given.TheVariants as G
+use Rattle.spec.specs.Basics.{Given}
+use Rattle.std.specs.declared.option.Option.TheVariants as G
 use Rattle.theory_base.proofs.Words as W
 use Rattle.theory_base.proofs.Words.{run_cell, run_cell-append}
 use Rattle.theory_base.proofs.Through.{Through, Each, through-kept, through-map, through-append}
@@ -37,25 +38,13 @@ use Rattle.theory_crash.proofs.Cells.{each_append, each-writes, each-flushes, le
 -- word 0 is 0: no register
 pub no_register : (n : ℕ) (xs : List ℕ) → get_or xs 0 0 ≡ 0 → header_right n xs ≡ false
 unfolding header_test fields_test
-no_register n xs e = rw e (go (eqb ((0 + get_or xs 1 0 + get_or xs 2 0 + get_or xs 3 0 + get_or xs 4 0 + get_or xs 5 0 + get_or xs 6 0 + get_or xs 7 0) % word_values) 0) (eqb (get_or xs 1 0) n) (eqb (get_or xs 5 0 + get_or xs 6 0) 0))
-  where
-    go : (a b c : Bool) → both a (both b (both c false)) ≡ false
-    go true true true = refl
-    go true true false = refl
-    go true false c = refl
-    go false b c = refl
+no_register n xs e = grind (arith, nat_tests)
 
 -- THE HEADER that the writer makes is right, and says the power.
-check-sum : (x : ℕ) → (x + check_word x) % word_values ≡ 0
-check-sum x = omega arith
-
 -- a map with the fields that it needs, the last two words being 0
 made : (map n a b c : ℕ) → fields_test map a b c ≡ true → header_test n map n a b c 0 0 (check_word (map + (n + (a + (b + (c + (0 + (0 + 0)))))))) ≡ true
 unfolding header_test
-made map n a b c h =
-    let x = map + (n + (a + (b + (c + (0 + (0 + 0)))))) in
-    let e : map + n + a + b + c + 0 + 0 + check_word x ≡ x + check_word x = omega arith in
-    rw (e, check-sum x, eq-eqb n n refl, h)
+made map n a b c h = grind (arith, nat_tests)
 
 -- by what is given, with a power's bit and field or with none
 abbrev Made : (p bit x n : ℕ) → Given → Given → List ℕ → Type 0
@@ -66,17 +55,17 @@ Made p bit x n station centre rest =
 
 made-small : (n : ℕ) (station centre : Given) (rest : List ℕ) → Made base_power 0 0 n station centre rest
 unfolding fields_test power_said
-made-small n (G.Number s) (G.Number c) rest = (made 7 n s c 0 refl, refl)
-made-small n (G.Number s) G.Absent rest = (made 3 n s 0 0 refl, refl)
-made-small n G.Absent (G.Number c) rest = (made 5 n c 0 0 refl, refl)
-made-small n G.Absent G.Absent rest = (made 1 n 0 0 0 refl, refl)
+made-small n (G.Some s) (G.Some c) rest = (made 7 n s c 0 refl, refl)
+made-small n (G.Some s) G.None rest = (made 3 n s 0 0 refl, refl)
+made-small n G.None (G.Some c) rest = (made 5 n c 0 0 refl, refl)
+made-small n G.None G.None rest = (made 1 n 0 0 0 refl, refl)
 
 made_other : (p n : ℕ) (station centre : Given) (rest : List ℕ) → Made p 8 p n station centre rest
 unfolding fields_test power_said
-made_other p n (G.Number s) (G.Number c) rest = (made 15 n s c p refl, refl)
-made_other p n (G.Number s) G.Absent rest = (made 11 n s p 0 refl, refl)
-made_other p n G.Absent (G.Number c) rest = (made 13 n c p 0 refl, refl)
-made_other p n G.Absent G.Absent rest = (made 9 n p 0 0 refl, refl)
+made_other p n (G.Some s) (G.Some c) rest = (made 15 n s c p refl, refl)
+made_other p n (G.Some s) G.None rest = (made 11 n s p 0 refl, refl)
+made_other p n G.None (G.Some c) rest = (made 13 n c p 0 refl, refl)
+made_other p n G.None G.None rest = (made 9 n p 0 0 refl, refl)
 
 pub header_made : (p n : ℕ) (station centre : Given) (rest : List ℕ)
     → (header_right n (header_map p station centre ∷ (header_tail p n station centre ++ rest)) ≡ true) × (header_power (header_map p station centre ∷ (header_tail p n station centre ++ rest)) ≡ p)
@@ -95,10 +84,10 @@ zeros-at (suc i) (suc k) = zeros-at i k
 
 tail-length : (p n : ℕ) (station centre : Given) → length (header_tail p n station centre) ≡ 7
 unfolding header_tail
-tail-length p n (G.Number s) (G.Number c) = refl
-tail-length p n (G.Number s) G.Absent = refl
-tail-length p n G.Absent (G.Number c) = refl
-tail-length p n G.Absent G.Absent = refl
+tail-length p n (G.Some s) (G.Some c) = refl
+tail-length p n (G.Some s) G.None = refl
+tail-length p n G.None (G.Some c) = refl
+tail-length p n G.None G.None = refl
 
 pub blank-length : (p n : ℕ) (station centre : Given) → length (blank_of (header_tail p n station centre)) ≡ 511
 unfolding blank_of

@@ -1,6 +1,7 @@
 -- Opening accepts exactly the images that are `Ok` at the power that their header says, 12 or 16, and whose known keys
 -- fit the table. Refusals 2 to 7 are asked so at every chunk power from 12 to 16.
 -- Assumes nothing.
+use Rattle.std.proofs.lemmas.Bool.Decides.{nat_tests}
 use mathlib.Core.Path.{◌≡◌, refl, ◌∙◌}
 use mathlib.Core.Bool.{Bool, true, false}
 use mathlib.Core.List.{List}
@@ -177,11 +178,7 @@ opens_at p bytes table ws es said size h = rw said at (opens-ok bytes table ws e
 -- a wrong header alone refuses with 2, whatever power it says
 pub refused-2 : (ws : List ℕ) → ((n : ℕ) → header_right n ws ≡ false) → NoRegister ws
 unfolding opening
-refused-2 ws h bytes table any = rw (any, h (chunks_in (header_power ws) bytes)) (same (size_allowed (header_power ws) bytes))
-  where
-    same : (b : Bool) → pick b (Refused N.NotOpen) (Refused N.NotOpen) ≡ Refused N.NotOpen
-    same true = refl
-    same false = refl
+refused-2 ws h bytes table any = grind (arith, nat_tests)
 
 -- an accepted image's contents, by its entries
 pub ok-contents : (p n : ℕ) (ws : List ℕ) (es : List Entry) → Ok p n ws es → (k : ℕ) → contents p n ws k ≡ contents_by (meaning ws) es k

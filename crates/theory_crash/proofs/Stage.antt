@@ -1,11 +1,12 @@
 -- Staging a large value, action by action: a block is stored, or a free chunk is taken first.
 -- Assumes nothing.
+use Rattle.std.proofs.lemmas.Bool.Decides.{nat_tests}
 use mathlib.Core.Path.{◌≡◌, refl, sym, ◌∙◌, ap}
 use mathlib.Core.Logic.{◌⊎◌, inl, inr}
 use mathlib.Core.Bool.{true}
 use mathlib.Core.List.{List, [], ◌++◌}
-use Prim.Native.Nat.{ℕ, suc, ◌+◌, ◌*◌, ◌/◌, ◌%◌, ◌≤◌, ◌<◌}
-use native.Mathlib.Nat.{div-add-mod', mul-le-mul_right, suc-mul, zero-mod}
+use Prim.Native.Nat.{ℕ, ◌+◌, ◌*◌, ◌/◌, ◌%◌, ◌≤◌, ◌<◌}
+use native.Mathlib.Nat.{zero-mod}
 use native.Mathlib.Omega.{arith}
 use native.Mathlib.Decide.{ℕ_discrete, dec_lt}
 use lib.ListN.{length, get_or, set, length-append, get_or-eq_default}
@@ -36,21 +37,7 @@ use Rattle.theory_crash.proofs.Body.{Busy}
 
 -- two multiples of s are s apart
 pub multiples-apart : (s x y : ℕ) → x % s ≡ 0 → y % s ≡ 0 → x < y → x + s ≤ y
-multiples-apart s x y a b l = go (dec_lt (x / s) (y / s))
-  where
-    go : Dec (x / s < y / s) → x + s ≤ y
-    go (yes q) =
-        let c = div-add-mod' x s in
-        let d = div-add-mod' y s in
-        let e : suc (x / s) * s ≤ y / s * s = mul-le-mul_right s q in
-        let f = suc-mul (x / s) s in
-        omega arith
-    go (no q) =
-        let c = div-add-mod' x s in
-        let d = div-add-mod' y s in
-        let n : y / s ≤ x / s = omega arith in
-        let e : y / s * s ≤ x / s * s = mul-le-mul_right s n in
-        absurd (omega arith)
+multiples-apart s x y a b l = grind (arith, nat_tests)
 
 -- stores into the block, and flushes
 abbrev InBlock : ℕ → ℕ → Action → Type 0

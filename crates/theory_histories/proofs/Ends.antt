@@ -1,6 +1,7 @@
 -- Every begun call ends after its count of steps, whatever image and table are lent to them: from the contracts of its
 -- begin and of a step alone.
 -- Assumes nothing.
+use Rattle.std.proofs.lemmas.Bool.Decides.{nat_tests}
 use mathlib.Core.Path.{◌≡◌, refl, sym, ◌∙◌, ap}
 use mathlib.Core.Logic.{◌⊎◌, inl, inr, ⊎_elim}
 use mathlib.Core.Bool.{Bool, true, false}
@@ -11,18 +12,17 @@ use native.Mathlib.Omega.{arith}
 use lib.Dec.{eqb}
 use lib.ListN.{length, take}
 use lib.Seq.{take-length}
-use borrow.Author.Tests.{eq-eqb}
 use Rattle.spec.specs.Basics.{pick, both, is_empty}
 use Rattle.spec.specs.Words.{words_of}
-use Rattle.spec.specs.Places.{chunks_in, size_allowed}
+use Rattle.spec.specs.Places.{chunks_in}
 use Rattle.spec.specs.Medium.{Action, Store, Flush, Fence}
 use Rattle.spec.specs.Log.{Entry}
 use Rattle.spec.specs.Actions.{format_of}
 use Rattle.spec.specs.Reports.{as_report}
 use Rattle.spec.specs.Plans.{Task, Staging, Committing, Cleaning}
-use Rattle.spec.specs.Machine.{Call, Format, Open, Put, Delete, Commit, Abandon, LookUp, Choose, Clean, Step, State, Closed, Rest, Busy, Formatting, is_unfinished, is_open, items_of, state_power, count_of, gate, gated, next_report, step_answer, stepped, next, format_answer}
+use Rattle.spec.specs.Machine.{Call, Format, Open, Put, Delete, Commit, Abandon, LookUp, Choose, Clean, Step, State, Closed, Rest, Busy, Formatting, is_open, items_of, state_power, count_of, gate, gated, next_report, step_answer, stepped, next, format_answer}
 use Rattle.spec.specs.Contract.{SteppedOn, CountAt, Refuses, Begins, StagesIn, CommitsIn, CleansIn, Ends}
-use Rattle.spec.specs.declared.Given.{Given}
+use Rattle.spec.specs.Basics.{Given}
 use Rattle.spec.specs.declared.Refusal.{Refusal}
 use Rattle.spec.specs.declared.Refusal.TheVariants as N
 use Rattle.spec.specs.declared.Report.{Report}
@@ -34,16 +34,10 @@ pub record Going (b t n : ℕ) (at : List Action → State) : Type 0 where
   pub moves : (a : Action) (acts : List Action) → stepped (at (a ∷ acts)) ≡ at acts
 
 pub busy-goes : (p b t : ℕ) (items : List Entry) (task : Task) → Going b t (count_of task) (λ acts. Busy p b t items task acts)
-busy-goes p b t items task = record {
-  reports = λ acts bytes table eb et. rw (eq-eqb b bytes (sym eb), eq-eqb t table (sym et));
-  moves = λ a acts. refl;
-}
+busy-goes p b t items task = grind (arith, nat_tests)
 
 pub format-goes : (o : Bool) (b t : ℕ) → Going b t 0 (λ acts. Formatting o b t acts)
-format-goes o b t = record {
-  reports = λ acts bytes table eb et. rw (eq-eqb b bytes (sym eb), eq-eqb t table (sym et));
-  moves = λ a acts. refl;
-}
+format-goes o b t = grind (arith, nat_tests)
 
 -- a step that reports an action moves on
 pub next-moves : (σ : State) (ws : List ℕ) (bytes table : ℕ) (a : Action) → step_answer σ bytes table ≡ as_report a → next Step σ ws bytes table ≡ stepped σ
@@ -83,24 +77,12 @@ no_step (Formatting o b t acts) bytes table a h = go (both (eqb b bytes) (eqb t 
 
 -- a formatting that is begun: the length is allowed and nothing is unfinished, so count and state are the definition's
 format-count : (p : ℕ) (x y : Given) (σ : State) (bytes a : ℕ) → R.Begun a ≡ format_answer p x y σ bytes → R.Begun a ≡ R.Begun (length (format_of p (chunks_in p bytes) x y))
-format-count p x y σ bytes a h = go (size_allowed p bytes) (is_unfinished σ) h
-  where
-    go : (allowed unfinished : Bool) → R.Begun a ≡ pick allowed (pick unfinished (R.Refused N.Unfinished) (R.Begun (length (format_of p (chunks_in p bytes) x y)))) (R.Refused N.ImageLength) → R.Begun a ≡ R.Begun (length (format_of p (chunks_in p bytes) x y))
-    go true true e = absurd (never-refused a N.Unfinished e)
-    go true false e = e
-    go false unfinished e = absurd (never-refused a N.ImageLength e)
+format-count p x y σ bytes a h = grind (arith, nat_tests)
 
 format-state : (p : ℕ) (x y : Given) (σ : State) (ws : List ℕ) (bytes table a : ℕ) → R.Begun a ≡ format_answer p x y σ bytes
     → next (Format p x y) σ ws bytes table ≡ Formatting (is_open σ) bytes table (format_of p (chunks_in p bytes) x y)
 unfolding next
-format-state p x y σ ws bytes table a h = go (size_allowed p bytes) (is_unfinished σ) refl refl h
-  where
-    go : (allowed unfinished : Bool) → size_allowed p bytes ≡ allowed → is_unfinished σ ≡ unfinished
-        → R.Begun a ≡ pick allowed (pick unfinished (R.Refused N.Unfinished) (R.Begun (length (format_of p (chunks_in p bytes) x y)))) (R.Refused N.ImageLength)
-        → next (Format p x y) σ ws bytes table ≡ Formatting (is_open σ) bytes table (format_of p (chunks_in p bytes) x y)
-    go true true u v e = absurd (never-refused a N.Unfinished e)
-    go true false u v e = rw (u, v)
-    go false unfinished u v e = absurd (never-refused a N.ImageLength e)
+format-state p x y σ ws bytes table a h = grind (arith, nat_tests)
 
 module _ {S : Type 0} (Proper : S → Type 0) (state_of : S → State) (Fits : S → List ℕ → List ℕ → Type 0) where
   module _ (b t n : ℕ) (at : List Action → State) (going : Going b t n at) where

@@ -1,6 +1,8 @@
 -- Every event keeps the invariant: a call on the record and table that the last one left, a refused formatting, an
 -- opening, a power cut; and look-up gives what the book says.
 -- Assumes nothing.
+use native.Mathlib.Omega.{arith}
+use Rattle.std.proofs.lemmas.Bool.Decides.{nat_tests}
 use mathlib.Core.Path.{◌≡◌, refl, sym, ◌∙◌, ap}
 use mathlib.Core.Logic.{◌⊎◌, inl, inr, ⊎_elim}
 use mathlib.Core.Bool.{Bool, true, false}
@@ -20,8 +22,7 @@ use Rattle.spec.specs.Machine.{Call, Format, Open, LookUp, State, Closed, Rest, 
 use Rattle.spec.specs.Book.{Item, Book, done_batch, note, note_cut, note_open}
 use Rattle.spec.specs.Contract.{Again, Ready, Called}
 use Rattle.spec.specs.History.{Lent, World, SameLent, MayOpen, least_after, after_call, after_cut, Opens, Looks}
-use Rattle.spec.specs.declared.Given.{Given}
-use Rattle.spec.specs.declared.Refusal.{Refusal}
+use Rattle.spec.specs.Basics.{Given}
 use Rattle.spec.specs.declared.Report.{Report}
 use Rattle.spec.specs.declared.Report.TheVariants as R
 use Rattle.theory_base.proofs.Words as W
@@ -29,7 +30,7 @@ use Rattle.theory_plans.specs.Standing.{Standing, Going}
 use Rattle.theory_plans.specs.Laws.{Laws}
 use Rattle.theory_histories.proofs.Kept as K
 use Rattle.theory_histories.proofs.Kept.{StandsBy, Holds, Keeps}
-use Rattle.theory_histories.proofs.Invariant.{Either, HeldAt, Inv, image-follows, false-true, refused-is}
+use Rattle.theory_histories.proofs.Invariant.{Either, HeldAt, Inv, image-follows, false-true}
 
 module _ (p : ℕ) (power : is_power p ≡ true) (laws : Laws p) {S : Type 0} (Proper : S → Type 0) (state_of : S → State) (Fits : S → List ℕ → List ℕ → Type 0) (bytes : ℕ) where
   abbrev n : ℕ
@@ -87,24 +88,10 @@ module _ (p : ℕ) (power : is_power p ≡ true) (laws : Laws p) {S : Type 0} (P
           );
         }
 
-    -- a refused call changes nothing
-    refused-kept : (n : Refusal) → r ≡ R.Refused n → (s' ≡ s) × (table' ≡ table) → least_after k table' w.least ≡ w.least
-        → Inv p Proper state_of Fits bytes (after_call k w s' image' table' r) b
-    refused-kept n e same l = record {
-      agrees = follows.0;
-      sized = follows.1 ∙ i.sized;
-      held = rw (l, same.0, same.1, words, e) lent;
-    }
-      where
-        words : words_of image' ≡ words_of w.image
-        words = follows.0 ∙ (rw e (sym i.agrees))
-
   -- A FORMATTING stands in the list only if refused.
   pub format-kept : (y : ℕ) (station centre : Given) (w : World S) (b : Book) (s s' : S) (image' table table' : List ℕ) (r : Report) → Inv p Proper state_of Fits bytes w b → SameLent w.lent s table
       → Called Proper state_of Fits (Format y station centre) s s' w.image image' table table' r → is_refused r ≡ true → Inv p Proper state_of Fits bytes (after_call (Format y station centre) w s' image' table' r) b
-  format-kept y station centre w b s s' image' table table' r i same c e =
-      let q : (n : Refusal) × (r ≡ R.Refused n) = refused-is r e in
-      refused-kept (Format y station centre) w b s s' image' table table' r i same c q.0 q.1 (rw q.1 at c.outcome).1 refl
+  format-kept y station centre w b s s' image' table table' r i same c e = grind (arith, nat_tests)
 
   -- LOOK-UP with no call unfinished gives what the book says.
   pub looks : (k : ℕ) (w : World S) (b : Book) (s s' : S) (image' table table' : List ℕ) (r : Report) → Inv p Proper state_of Fits bytes w b → SameLent w.lent s table

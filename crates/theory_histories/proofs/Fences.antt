@@ -19,7 +19,7 @@ use Rattle.spec.specs.Blocks.{block_size}
 use Rattle.spec.specs.Contents.{kept_in}
 use Rattle.spec.specs.Actions.{lines_for, padded, writes, body_of, seal_of, commit_of, append_of, take_of, block_of}
 use Rattle.spec.specs.Plans.{Task, Cleaning, old_of, Begin, append_to, free_needed, log_place, commit_at, plan_commit, in_use, has_live, free, clean_to, clean_log, clean_data, plan_clean, Staging, Slot, InData, InFree, Nowhere, entry, next_version, slot_for, stage_large, plan_put, plan_delete}
-use Rattle.spec.specs.declared.Given.{Given}
+use Rattle.spec.specs.Basics.{Given}
 use Rattle.spec.specs.declared.Refusal.TheVariants as N
 use Rattle.theory_base.proofs.Through.{Each}
 use Rattle.theory_crash.proofs.Cells.{each_append, each-writes, each-flushes}

@@ -20,7 +20,7 @@ use Rattle.spec.specs.Book.{new_book, nothing, note_open}
 use Rattle.spec.specs.Contract.{Called}
 use Rattle.spec.specs.History.{World, Stepped, Shows, world, after_call}
 use Rattle.spec.specs.FormatCut.{Old, Empty, FormatCut, FormatCutAmong}
-use Rattle.spec.specs.declared.Given.{Given}
+use Rattle.spec.specs.Basics.{Given}
 use Rattle.spec.specs.declared.Refusal.TheVariants as N
 use Rattle.spec.specs.declared.Report.{Report}
 use Rattle.spec.specs.declared.Report.TheVariants as R

@@ -37,7 +37,7 @@ use Rattle.spec.specs.Plans.{Task, Plan, Refuse, Begin, plan_put, plan_delete, p
 use Rattle.spec.specs.Machine.{Call, Put, Delete, Commit, Abandon, LookUp, Choose, Clean, Step, State, Closed, Rest, Busy, Formatting, gate, read_gate, read_words, items_of, state_power, begun, gated, count_of, items_then, emptied, answer, next}
 use Rattle.spec.specs.Book.{Item, Book, done_batch, note}
 use Rattle.spec.specs.History.{unfinished_after, shows}
-use Rattle.spec.specs.declared.Given.{Given}
+use Rattle.spec.specs.Basics.{Given}
 use Rattle.spec.specs.declared.Refusal.{Refusal}
 use Rattle.spec.specs.declared.Refusal.TheVariants as N
 use Rattle.spec.specs.declared.Report.{Report}

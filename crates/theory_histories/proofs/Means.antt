@@ -1,6 +1,8 @@
 -- Demand 2, from the invariant of demand 3: with no call unfinished the book's register is what the image means, every
 -- call keeps the invariant, and at a call's end the batch in hand is done.
 -- Assumes nothing.
+use native.Mathlib.Omega.{arith}
+use Rattle.std.proofs.lemmas.Bool.Decides.{nat_tests}
 use mathlib.Core.Path.{◌≡◌, refl, sym, ◌∙◌, ap}
 use mathlib.Core.Bool.{Bool, true, false}
 use mathlib.Core.Logic.{inl, inr, ⊎_elim}
@@ -16,14 +18,14 @@ use Rattle.spec.specs.Header.{header_power}
 use Rattle.spec.specs.Actions.{format_of}
 use Rattle.spec.specs.Medium.{Medium, latest, settled_at}
 use Rattle.spec.specs.Log.{Entry}
-use Rattle.spec.specs.Contents.{Held, contents, contents_by, meaning, entries_in, listed}
+use Rattle.spec.specs.Contents.{Held, contents}
 use Rattle.spec.specs.Reports.{medium_after, is_refused}
 use Rattle.spec.specs.Machine.{Call, Format, Open, Put, Delete, Commit, Abandon, LookUp, Choose, Clean, Step, State, Closed, Rest, Busy, Formatting, gate, items_of, gated, refused_by, is_unfinished, is_opening, kind_of, step_answer, answer}
-use Rattle.spec.specs.Book.{Item, Book, new_book, nothing, done_item, done_items, done_batch, note, is_end}
+use Rattle.spec.specs.Book.{Item, Book, new_book, nothing, done_item, done_items, done_batch, note}
 use Rattle.spec.specs.Contract.{Changed, Refuses, Called}
 use Rattle.spec.specs.History.{meant, World, SameLent, Stands, Stepped, after_call, world}
 use Rattle.spec.specs.Means.{does, MayBegin, Untouching, Right, Along, AsCallsLeft, Demand2}
-use Rattle.spec.specs.declared.Given.{Given}
+use Rattle.spec.specs.Basics.{Given}
 use Rattle.spec.specs.declared.Refusal.{Refusal}
 use Rattle.spec.specs.declared.Refusal.TheVariants as N
 use Rattle.spec.specs.declared.Report.{Report}
@@ -41,10 +43,7 @@ use Rattle.theory_histories.proofs.Theorem as T
 -- WHAT STANDS is what the image means.
 pub stand-means : (p n table : ℕ) (C : ℕ → Held) (tray : List Item) (items : List Entry) (m : Medium) → Standing p n table C tray items m → (k : ℕ) → contents p n (latest m) k ≡ C k
 unfolding contents
-stand-means p n table C tray items m s k =
-    ap (λ (ws : List ℕ). contents_by (meaning ws) (entries_in p n ws) k) s.rest.now
-    ∙ ap (λ (es : List Entry). contents_by (meaning s.words) es k) (ap listed s.rest.ok.parsed)
-    ∙ s.holds k
+stand-means p n table C tray items m s k = grind (arith, nat_tests)
 
 -- and of the image's bytes, by the power that its header says
 pub image-means : (p : ℕ) → Laws p → (bytes table : ℕ) (C : ℕ → Held) (tray : List Item) (items : List Entry) (m : Medium) (image : List ℕ) → words_of image ≡ latest m → length image ≡ bytes
@@ -60,12 +59,7 @@ done-same (i ∷ is) C D h k = done-same is (done_item i C) (done_item i D) (λ 
 
 -- a step keeps what the batch in hand is to make of the register
 done-noted : (r : Report) (b : Book) → done_batch (note Step r b).in-flight (note Step r b).register ≡ done_batch b.in-flight b.register
-done-noted r b = go (is_end r)
-  where
-    go : (e : Bool) → done_batch (pick e (record { register = done_batch b.in-flight b.register; staged = b.staged; in-flight = none }) b).in-flight
-        (pick e (record { register = done_batch b.in-flight b.register; staged = b.staged; in-flight = none }) b).register ≡ done_batch b.in-flight b.register
-    go true = refl
-    go false = refl
+done-noted r b = grind (arith, nat_tests)
 
 -- what the gate lets begin
 begun-passed : (g : Option Refusal) (a : ℕ) → ((r : Report) → refused_by g ≡ some r → R.Begun a ≡ r) → g ≡ none

@@ -22,7 +22,7 @@ use Rattle.spec.specs.Book.{Book, new_book, nothing, note, note_cut, note_open}
 use Rattle.spec.specs.Contract.{Called}
 use Rattle.spec.specs.History.{Event, Do, Cut, Lent, World, SameLent, Lends, Stands, unfinished_after, after_call, after_cut, Stepped, world}
 use Rattle.spec.specs.Unstuck.{Roomy, Unstuck, InImage, Obeys, UnstuckNow, RoomClaim, KeepsRoom, RoomAfterFormat, RoomAfterOpening, NeverStuck, FreeStands, FreeIn, FreeStays}
-use Rattle.spec.specs.declared.Given.{Given}
+use Rattle.spec.specs.Basics.{Given}
 use Rattle.spec.specs.declared.Report.{Report}
 use Rattle.spec.specs.declared.Report.TheVariants as R
 use Rattle.theory_base.proofs.Places.{power-bounds, size-allowed}

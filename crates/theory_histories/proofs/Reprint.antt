@@ -1,5 +1,6 @@
 -- Reprints while a call is unfinished, from the laws of the calls.
 -- Assumes nothing.
+use Rattle.std.proofs.lemmas.Bool.Decides.{nat_tests}
 use mathlib.Core.Path.{◌≡◌, refl, sym, ◌∙◌, ap, subst}
 use mathlib.Core.Bool.{Bool, true, false}
 use mathlib.Core.Option.{Option, none, some}
@@ -35,7 +36,7 @@ use Rattle.theory_plans.specs.Standing.{Standing, Reading}
 use Rattle.theory_plans.specs.Laws.{Laws}
 use Rattle.theory_histories.proofs.Kept.{Holds, reading-steps}
 use Rattle.theory_histories.proofs.Events as E
-use Rattle.theory_histories.proofs.Invariant.{HeldAt, Inv, image-follows, false-true}
+use Rattle.theory_histories.proofs.Invariant.{HeldAt, Inv, image-follows}
 use Rattle.theory_histories.proofs.Starts as Start
 use Rattle.theory_histories.proofs.Ends.{busy-goes, next-moves}
 use Rattle.theory_histories.proofs.Fences.{EndsFenced, commit-fenced, clean-fenced, NoFence, put-unfenced, delete-unfenced}
@@ -277,9 +278,7 @@ module _ (p : ℕ) (power : is_power p ≡ true) (laws : Laws p) {S : Type 0} (P
   -- what look-up answers there
   at-looks : (acts : List Action) (s s' : S) (image table table' : List ℕ) (m : Medium) (key : ℕ) (r : Report) → At s image table acts m
       → Called Proper state_of Fits (LookUp key) s s' image image table table' r → r ≡ look_up (read_by task acts (latest m)) (entries_in p nl (read_by task acts (latest m))) key
-  at-looks acts s s' image table table' m key r h c =
-      (c.exact h.fits).answered ∙ ap (λ (σ : State). answer (LookUp key) σ (words_of image) (length image) (length table)) h.state
-      ∙ rw (h.agrees, h.long, h.lent, eq-eqb l l refl, eq-eqb t t refl)
+  at-looks acts s s' image table table' m key r h c = grind (arith, nat_tests)
 
   -- with the directory words put back
   pub at_before : (acts : List Action) (s s' : S) (image table table' : List ℕ) (m : Medium) (key : ℕ) (r : Report) → AreBytes image → At s image table acts m → read_by task acts (latest m) ≡ put_back (olds_of task) (latest m)
@@ -327,13 +326,7 @@ module _ (p : ℕ) (power : is_power p ≡ true) (laws : Laws p) {S : Type 0} (P
     pub stands : Standing p nb w.least C b.staged items m
 
   rests : w.unfinished ≡ false → Resting
-  rests idle = go (state_of s) refl held.2
-    where
-      go : (σ : State) → state_of s ≡ σ → Holds p bytes w.least w.unfinished b σ m → Resting
-      go Closed e h = absurd h
-      go (Rest z x y items) e h = record { items = items; state = e ∙ rw (h.4, h.0, h.1); stands = h.3 }
-      go (Busy z x y items task rest) e h = absurd (false-true (sym idle ∙ h.2))
-      go (Formatting o x y rest) e h = absurd h
+  rests idle = grind (arith, nat_tests)
 
   -- WHAT A CALL BEGAN there, with `a` actions
   pub record Unfinished (k : Call) (s₀ : S) (table₀ : List ℕ) (a : ℕ) : Type 0 where

@@ -20,7 +20,7 @@ use Rattle.spec.specs.Plans.{Task, Plan, Refuse, Begin, plan_put, plan_delete, p
 use Rattle.spec.specs.Machine.{Call, Put, Delete, Commit, Abandon, LookUp, Choose, Clean, Step, State, Closed, Rest, Busy, Formatting, gate, items_of, state_power, begun, gated, count_of, items_then, emptied, answer, next}
 use Rattle.spec.specs.Book.{Book}
 use Rattle.spec.specs.Unstuck.{FreeStands}
-use Rattle.spec.specs.declared.Given.{Given}
+use Rattle.spec.specs.Basics.{Given}
 use Rattle.spec.specs.declared.Refusal.TheVariants as N
 use Rattle.spec.specs.declared.Report.{Report}
 use Rattle.spec.specs.declared.Report.TheVariants as R

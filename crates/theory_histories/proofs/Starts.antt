@@ -1,6 +1,8 @@
 -- The two starts: what holds right after the reported end of a formatting, and right after the opening that accepted an
 -- image.
 -- Assumes nothing.
+use native.Mathlib.Omega.{arith}
+use Rattle.std.proofs.lemmas.Bool.Decides.{nat_tests}
 use mathlib.Core.Path.{◌≡◌, refl, sym, ◌∙◌, ap}
 use mathlib.Core.Logic.{inl}
 use mathlib.Core.Bool.{Bool, true, false}
@@ -9,7 +11,6 @@ use mathlib.Core.List.{List, [], ◌∷◌, ◌++◌}
 use Prim.Native.Nat.{ℕ, ◌*◌, ◌/◌}
 use native.Mathlib.Nat.{le_refl}
 use lib.ListN.{length}
-use borrow.Author.Tests.{eq-eqb}
 use Rattle.spec.specs.Basics.{pick, both}
 use Rattle.spec.specs.Words.{words_of}
 use Rattle.spec.specs.Places.{is_power, base, chunks_in, size_allowed}
@@ -20,12 +21,11 @@ use Rattle.spec.specs.Contents.{contents}
 use Rattle.spec.specs.Opening.{Opening, Refused, Accepted, opening}
 use Rattle.spec.specs.Actions.{format_of}
 use Rattle.spec.specs.Reports.{as_report, medium_after, is_refused}
-use Rattle.spec.specs.Machine.{Format, Open, Step, State, Closed, Formatting, opened, is_unfinished, is_open, next_report, stepped, answer, next}
+use Rattle.spec.specs.Machine.{Format, Open, Step, State, Closed, Formatting, opened, is_open, next_report, stepped, answer, next}
 use Rattle.spec.specs.Book.{new_book, nothing, is_end}
 use Rattle.spec.specs.Contract.{Called}
 use Rattle.spec.specs.History.{World, Stepped, world}
-use Rattle.spec.specs.declared.Given.{Given}
-use Rattle.spec.specs.declared.Refusal.TheVariants as N
+use Rattle.spec.specs.Basics.{Given}
 use Rattle.spec.specs.declared.Report.{Report}
 use Rattle.spec.specs.declared.Report.TheVariants as R
 use Rattle.words.specs.Image.{length-words_of}
@@ -70,10 +70,7 @@ module _ {S : Type 0} (Proper : S → Type 0) (state_of : S → State) (Fits : S
       → state_of s ≡ Formatting o l t acts → l ≡ length image → t ≡ length table → Called Proper state_of Fits Step s s₁ image image₁ table table₁ r
       → (r ≡ next_report 0 acts) × (state_of s₁ ≡ stepped (Formatting o l t acts))
   unfolding next
-  format-step o acts s s₁ image image₁ table table₁ r l t e x y c = (
-    c.anyway.0 ∙ rw (e, eq-eqb l (length image) x, eq-eqb t (length table) y),
-    c.anyway.1 ∙ rw (e, eq-eqb l (length image) x, eq-eqb t (length table) y) (next-state acts (Formatting o l t acts) (stepped (Formatting o l t acts))),
-  )
+  format-step o acts s s₁ image image₁ table table₁ r l t e x y c = grind (arith, nat_tests)
 
   -- a record with no register open and no formatting unfinished: a step is idle
   pub idle-step : (s s₁ : S) (image image₁ table table₁ : List ℕ) (r : Report) → state_of s ≡ Closed → Called Proper state_of Fits Step s s₁ image image₁ table table₁ r
@@ -106,16 +103,7 @@ module _ {S : Type 0} (Proper : S → Type 0) (state_of : S → State) (Fits : S
   format-begun : (p : ℕ) (station centre : Given) (σ τ : State) (a bytes table : ℕ) (ws : List ℕ) → R.Begun a ≡ answer (Format p station centre) σ ws bytes table
       → τ ≡ next (Format p station centre) σ ws bytes table → (size_allowed p bytes ≡ true) × (τ ≡ Formatting (is_open σ) bytes table (format_of p (chunks_in p bytes) station centre))
   unfolding next
-  format-begun p station centre σ τ a bytes table ws e f = go (size_allowed p bytes) (is_unfinished σ) e f
-    where
-      go : (allowed busy : Bool)
-          → R.Begun a ≡ pick allowed (pick busy (R.Refused N.Unfinished) (R.Begun (length (format_of p (chunks_in p bytes) station centre)))) (R.Refused N.ImageLength)
-          → τ ≡ pick (both (is_refused (pick allowed (pick busy (R.Refused N.Unfinished) (R.Begun (length (format_of p (chunks_in p bytes) station centre)))) (R.Refused N.ImageLength))) true) σ
-          (pick allowed (pick busy σ (Formatting (is_open σ) bytes table (format_of p (chunks_in p bytes) station centre))) σ)
-          → (allowed ≡ true) × (τ ≡ Formatting (is_open σ) bytes table (format_of p (chunks_in p bytes) station centre))
-      go true true e f = absurd (I.false-true (ap is_refused e))
-      go true false e f = (refl, f)
-      go false busy e f = absurd (I.false-true (ap is_refused e))
+  format-begun p station centre σ τ a bytes table ws e f = grind (arith, nat_tests)
 
   -- the formatting's begin, which is exact whatever record and table hold
   pub format-begins : (m : Medium) (s s₀ : S) (image table table₀ : List ℕ) (p : ℕ) (station centre : Given) (a : ℕ) → words_of image ≡ latest m

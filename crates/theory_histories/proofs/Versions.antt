@@ -3,27 +3,27 @@
 -- 11 before it, while that item is staged and when its commit has ended, whatever was staged with it. A cleaning leaves
 -- a present key its version.
 -- Assumes nothing.
+use Rattle.std.proofs.lemmas.Bool.Decides.{nat_tests}
 use mathlib.Core.Path.{◌≡◌, refl, sym, ◌∙◌, ap}
 use mathlib.Core.Logic.{◌⊎◌, inl, inr}
 use mathlib.Core.Bool.{Bool, true, false}
-use mathlib.Core.Option.{Option, none, some}
+use mathlib.Core.Option.{some}
 use mathlib.Core.List.{List, [], ◌∷◌, ◌++◌, append_assoc}
-use Prim.Native.Nat.{ℕ, suc, ◌+◌, ◌*◌, ◌≤◌, ◌<◌}
+use Prim.Native.Nat.{ℕ, suc, ◌+◌, ◌≤◌, ◌<◌}
 use native.Mathlib.Omega.{arith}
 use lib.Dec.{eqb, leb}
-use lib.ListN.{length, get_or}
+use lib.ListN.{length}
 use borrow.Author.Tests.{eqb-true, eq-eqb, ne_eqb, le-leb, lt-leb}
 use Rattle.spec.specs.Basics.{pick, larger}
 use Rattle.spec.specs.Words.{packed}
-use Rattle.spec.specs.Places.{unit_word}
 use Rattle.spec.specs.Medium.{Action, Medium, run, latest, CanCutTo}
 use Rattle.spec.specs.Log.{Entry, Parsed, max_in_log}
 use Rattle.spec.specs.Blocks.{block_limit}
-use Rattle.spec.specs.Blocks.{block_size, pointed}
+use Rattle.spec.specs.Blocks.{block_size}
 use Rattle.spec.specs.Contents.{Held, highest, chosen, listed, entries_in}
-use Rattle.spec.specs.Plans.{Task, Plan, Refuse, Begin, Slot, InData, InFree, Nowhere, Staging, need, next_version, present, fits_version, entry, slot_for, stage_large, stage_put, plan_put, plan_delete, plan_commit, plan_clean, part_or, look_up}
+use Rattle.spec.specs.Plans.{Task, Plan, Refuse, Begin, Slot, InData, InFree, Nowhere, Staging, need, next_version, present, fits_version, entry, slot_for, stage_large, stage_put, plan_put, plan_delete, plan_commit, plan_clean, look_up}
 use Rattle.spec.specs.Book.{Item}
-use Rattle.spec.specs.declared.Given.TheVariants as G
+use Rattle.std.specs.declared.option.Option.TheVariants as G
 use Rattle.spec.specs.declared.Refusal.{Refusal}
 use Rattle.spec.specs.declared.Refusal.TheVariants as N
 use Rattle.spec.specs.declared.Report.TheVariants as R
@@ -50,17 +50,7 @@ pub record Looked (es : List Entry) (k v : ℕ) : Type 0 where
 
 looked : (ws : List ℕ) (es : List Entry) (k a n v : ℕ) → look_up ws es k ≡ R.Part a n v → Looked es k v
 unfolding look_up
-looked ws es k a n v h = by (chosen k es) refl h
-  where
-    by : (o : Option Entry) → chosen k es ≡ o → part_or ws o ≡ R.Part a n v → Looked es k v
-    by none q g = absurd (let z : ◌≡◌ {A = ℕ} 0 1 = cc in omega arith)
-    by (some e) q g = go (eqb e.op 1) refl (pointed e) g
-      where
-        go : (b1 : Bool) → eqb e.op 1 ≡ b1 → (b2 : Bool)
-            → pick b1 (pick b2 (R.Part (8 * (unit_word e.field + 1)) (get_or ws (unit_word e.field) 0) e.version) (R.Part (8 * (e.at + 2)) e.field e.version)) (R.Refused N.KeyAbsent) ≡ R.Part a n v → Looked es k v
-        go true o true r = record { entry' = e; is-chosen = q; is-put = o; has = cc }
-        go true o false r = record { entry' = e; is-chosen = q; is-put = o; has = cc }
-        go false o b2 r = absurd (let z : ◌≡◌ {A = ℕ} 0 1 = cc in omega arith)
+looked ws es k a n v h = grind (arith, nat_tests)
 
 pub looked-version : (ws : List ℕ) (es : List Entry) (k a n v : ℕ) → look_up ws es k ≡ R.Part a n v → highest k es ≡ v
 looked-version ws es k a n v h = let l = looked ws es k a n v h in sym (highest-best k es) ∙ ap version_of (sym (chosen-best k es) ∙ l.is-chosen) ∙ l.has
@@ -110,19 +100,19 @@ staged-more p n ws k es items items' task acts bytes h = go (leb (length bytes) 
 
 -- an accepted staging leaves the version behind the one that it named
 pub put-named : (p n : ℕ) (ws : List ℕ) (table : ℕ) (es items items' : List Entry) (task : Task) (acts : List Action) (v k : ℕ) (bytes : List ℕ)
-    → plan_put p n ws table es items (G.Number v) k bytes ≡ Begin items' task acts → highest k (es ++ items') ≡ v + 1
+    → plan_put p n ws table es items (G.Some v) k bytes ≡ Begin items' task acts → highest k (es ++ items') ≡ v + 1
 unfolding More
 put-named p n ws table es items items' task acts v k bytes h =
-    let b = put-begun p n ws table es items (G.Number v) k bytes items' task acts h in
+    let b = put-begun p n ws table es items (G.Some v) k bytes items' task acts h in
     let q : v ≡ highest k (es ++ items) = eqb-true v (highest k (es ++ items)) b.named in
     let m = staged-more p n ws k es items items' task acts bytes b.staged in
     m ∙ omega arith
 
 pub delete-named : (table : ℕ) (es items items' : List Entry) (task : Task) (acts : List Action) (v k : ℕ)
-    → plan_delete table es items (G.Number v) k ≡ Begin items' task acts → highest k (es ++ items') ≡ v + 1
+    → plan_delete table es items (G.Some v) k ≡ Begin items' task acts → highest k (es ++ items') ≡ v + 1
 unfolding More
 delete-named table es items items' task acts v k h =
-    let b = delete-begun table es items (G.Number v) k items' task acts h in
+    let b = delete-begun table es items (G.Some v) k items' task acts h in
     let q : v ≡ highest k (es ++ items) = eqb-true v (highest k (es ++ items)) b.named in
     let m = one_more k es items _ items' task _ acts _ (entry 2 0 (next_version k es items) 0 k []) refl refl refl b.staged in
     m ∙ omega arith
@@ -134,25 +124,25 @@ refused-either true false x y q h = inr refl
 refused-either false b x y q h = inl refl
 
 module _ (es items : List Entry) (v k : ℕ) (other : highest k (es ++ items) ≡ v → ⊥) where
-  unlike : fits_version (G.Number v) k es items ≡ false
+  unlike : fits_version (G.Some v) k es items ≡ false
   unlike = ne_eqb v (highest k (es ++ items)) (λ q. other (sym q))
 
   pub put_other : (p n : ℕ) (ws : List ℕ) (table : ℕ) (bytes : List ℕ)
-      → (plan_put p n ws table es items (G.Number v) k bytes ≡ Refuse N.TooLong) ⊎ (plan_put p n ws table es items (G.Number v) k bytes ≡ Refuse N.OtherVersion)
+      → (plan_put p n ws table es items (G.Some v) k bytes ≡ Refuse N.TooLong) ⊎ (plan_put p n ws table es items (G.Some v) k bytes ≡ Refuse N.OtherVersion)
   unfolding plan_put
-  put_other p n ws table bytes = refused-either (leb (length bytes) (block_limit p)) (fits_version (G.Number v) k es items) N.TooLong N.OtherVersion _ unlike
+  put_other p n ws table bytes = refused-either (leb (length bytes) (block_limit p)) (fits_version (G.Some v) k es items) N.TooLong N.OtherVersion _ unlike
 
-  pub delete-other : (table : ℕ) → (plan_delete table es items (G.Number v) k ≡ Refuse N.KeyAbsent) ⊎ (plan_delete table es items (G.Number v) k ≡ Refuse N.OtherVersion)
+  pub delete-other : (table : ℕ) → (plan_delete table es items (G.Some v) k ≡ Refuse N.KeyAbsent) ⊎ (plan_delete table es items (G.Some v) k ≡ Refuse N.OtherVersion)
   unfolding plan_delete
-  delete-other table = refused-either (present k es items) (fits_version (G.Number v) k es items) N.KeyAbsent N.OtherVersion _ unlike
+  delete-other table = refused-either (present k es items) (fits_version (G.Some v) k es items) N.KeyAbsent N.OtherVersion _ unlike
 
 -- TWO WINDOWS that name the same version: behind an accepted put or delete of the first the second gets 17, or 9 or 11
 pub second-put : (p n : ℕ) (ws : List ℕ) (table : ℕ) (es items : List Entry) (v k : ℕ) (bytes : List ℕ) → highest k (es ++ items) ≡ v + 1
-    → (plan_put p n ws table es items (G.Number v) k bytes ≡ Refuse N.TooLong) ⊎ (plan_put p n ws table es items (G.Number v) k bytes ≡ Refuse N.OtherVersion)
+    → (plan_put p n ws table es items (G.Some v) k bytes ≡ Refuse N.TooLong) ⊎ (plan_put p n ws table es items (G.Some v) k bytes ≡ Refuse N.OtherVersion)
 second-put p n ws table es items v k bytes h = put_other es items v k (λ q. omega arith) p n ws table bytes
 
 pub second-delete : (table : ℕ) (es items : List Entry) (v k : ℕ) → highest k (es ++ items) ≡ v + 1
-    → (plan_delete table es items (G.Number v) k ≡ Refuse N.KeyAbsent) ⊎ (plan_delete table es items (G.Number v) k ≡ Refuse N.OtherVersion)
+    → (plan_delete table es items (G.Some v) k ≡ Refuse N.KeyAbsent) ⊎ (plan_delete table es items (G.Some v) k ≡ Refuse N.OtherVersion)
 second-delete table es items v k h = delete-other es items v k (λ q. omega arith) table
 
 -- ## Behind a commit
@@ -171,10 +161,10 @@ module _ (p : ℕ) (lo : 12 ≤ p) (hi : p ≤ 16) (n table : ℕ) (C : ℕ → 
   counted = highest-append k es' [] ∙ larger-zero (highest k es') ∙ commit-versions p lo hi n table C book items items' task acts m s h k
 
   pub committed-put : (bytes : List ℕ)
-      → (plan_put p n ws' table es' [] (G.Number v) k bytes ≡ Refuse N.TooLong) ⊎ (plan_put p n ws' table es' [] (G.Number v) k bytes ≡ Refuse N.OtherVersion)
+      → (plan_put p n ws' table es' [] (G.Some v) k bytes ≡ Refuse N.TooLong) ⊎ (plan_put p n ws' table es' [] (G.Some v) k bytes ≡ Refuse N.OtherVersion)
   committed-put bytes = put_other es' [] v k (λ q. other (sym counted ∙ q)) p n ws' table bytes
 
-  pub committed-delete : (plan_delete table es' [] (G.Number v) k ≡ Refuse N.KeyAbsent) ⊎ (plan_delete table es' [] (G.Number v) k ≡ Refuse N.OtherVersion)
+  pub committed-delete : (plan_delete table es' [] (G.Some v) k ≡ Refuse N.KeyAbsent) ⊎ (plan_delete table es' [] (G.Some v) k ≡ Refuse N.OtherVersion)
   committed-delete = delete-other es' [] v k (λ q. other (sym counted ∙ q)) table
 
 -- ## Behind a cleaning

@@ -1,8 +1,9 @@
 -- A batch that was encoded parses back; parsing looks at the committed lines alone.
 -- Assumes nothing.
+use Rattle.std.proofs.lemmas.Bool.Decides.{nat_tests}
 use mathlib.Core.Path.{◌≡◌, refl, sym, ◌∙◌, ap}
 use mathlib.Core.List.{List, [], ◌∷◌, ◌++◌, append_assoc}
-use Prim.Native.Nat.{ℕ, zero, suc, ◌+◌, ◌-◌, ◌*◌, ◌/◌, ◌%◌, ◌<◌, ◌≤◌}
+use Prim.Native.Nat.{ℕ, zero, suc, ◌+◌, ◌-◌, ◌*◌, ◌<◌, ◌≤◌}
 use native.Mathlib.Nat.{add-zero, add-suc, suc-add}
 use native.Mathlib.Omega.{arith}
 use lib.ListN.{length, get_or, take, replicate, length-append}
@@ -16,15 +17,7 @@ use Rattle.theory_log.proofs.Parse.{entry-step, filled-append, parse-append, pre
 -- a first word, taken apart again
 fields : (op pl v x : ℕ) → op < 4 → pl < 4 → v < 1048576 → 1 ≤ v → first_of_word (op + 4 * pl + 16 * v + 16777216 * x) ≡ parts_of op pl v x
 unfolding first_of_word
-fields op pl v x ho hp hv h1 =
-    let w = op + 4 * pl + 16 * v + 16777216 * x in
-    let a : w % 4 ≡ op = omega arith in
-    let q : w / 4 ≡ pl + 4 * (v + 1048576 * x) = omega arith in
-    let b : w / 4 % 4 ≡ pl = rw q (omega arith) in
-    let s : w / 16 ≡ v + 1048576 * x = omega arith in
-    let c : w / 16 % 1048576 ≡ v = rw s (omega arith) in
-    let d : w / 16777216 ≡ x = omega arith in
-    rw (ne_eqb w 0 (omega arith), a, b, c, d)
+fields op pl v x ho hp hv h1 = grind (arith, nat_tests)
 
 pub first-right : (op pl v x : ℕ) → Kind op pl x → 1 ≤ v → v < 1048576 → first_of_word (op + 4 * pl + 16 * v + 16777216 * x) ≡ F.Entry op pl v x
 first-right op pl v x (put h) l u = fields 1 0 v x (omega arith) (omega arith) u l ∙ rw (ne_eqb v 0 (omega arith), le-leb x 256 h)

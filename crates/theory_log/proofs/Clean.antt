@@ -1,5 +1,6 @@
 -- What cleaning's copies are: entries placed anew, and the chosen entry by its place.
 -- Assumes nothing.
+use Rattle.std.proofs.lemmas.Bool.Decides.{nat_tests}
 use mathlib.Core.Path.{◌≡◌, refl, ap}
 use mathlib.Core.Logic.{inl, inr}
 use mathlib.Core.Bool.{true, false}
@@ -9,7 +10,6 @@ use Prim.Native.Nat.{ℕ, ◌+◌}
 use native.Mathlib.Omega.{arith}
 use lib.ListN.{length}
 use borrow.Author.Tests.{eqb-true}
-use Rattle.spec.specs.Basics.{is_some}
 use Rattle.spec.specs.Log.{Entry, moved, placed}
 use Rattle.spec.specs.Contents.{chosen, known, is_at}
 use Rattle.theory_log.specs.Contents.{Mem}
@@ -30,8 +30,4 @@ is-at none a h = absurd (let z : ◌≡◌ {A = ℕ} 0 1 = cc in omega arith)
 is-at (some e) a h = (e, refl, eqb-true e.at a h)
 
 pub unknown : (k : ℕ) (es : List Entry) → known k es ≡ false → chosen k es ≡ none
-unknown k es h = go (chosen k es) h
-  where
-    go : (q : Option Entry) → is_some q ≡ false → q ≡ none
-    go none p = refl
-    go (some e) p = absurd (let z : ◌≡◌ {A = ℕ} 0 1 = cc in omega arith)
+unknown k es h = grind (arith, nat_tests)

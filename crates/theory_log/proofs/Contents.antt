@@ -1,5 +1,6 @@
 -- The laws of contents: the chosen entry is a fold; a batch does its items in order; when two lists mean the same.
 -- Assumes nothing.
+use Rattle.std.proofs.lemmas.Bool.Decides.{nat_tests}
 use mathlib.Core.Path.{◌≡◌, refl, sym, ◌∙◌, ap}
 use mathlib.Core.Logic.{◌⊎◌, inl, inr}
 use mathlib.Core.Bool.{Bool, true, false}
@@ -39,41 +40,19 @@ at_version h (some e) = pick (eqb e.version h) (some e) none
 
 -- larger, as arithmetic
 pub larger-zero : (b : ℕ) → larger b 0 ≡ b
-larger-zero b = go (leb b 0) (leb-true b 0)
-  where
-    go : (t : Bool) → (t ≡ true → b ≤ 0) → pick t 0 b ≡ b
-    go true h = let k = h refl in omega arith
-    go false h = refl
+larger-zero b = grind (arith, nat_tests)
 
 pub larger-assoc : (a b c : ℕ) → larger a (larger b c) ≡ larger (larger a b) c
-larger-assoc a b c = go (leb a b) refl (leb b c) refl
-  where
-    go : (p : Bool) → leb a b ≡ p → (q : Bool) → leb b c ≡ q → larger a (pick q c b) ≡ larger (pick p b a) c
-    go true e true f = let x = leb-true a b e in let y = leb-true b c f in rw (le-leb a c (omega arith), f)
-    go true e false f = rw (e, f)
-    go false e true f = refl
-    go false e false f = let x = leb-false a b e in let y = leb-false b c f in rw (e, lt-leb a c (omega arith))
+larger-assoc a b c = grind (arith, nat_tests)
 
 pub larger-l : (a b : ℕ) → a ≤ larger a b
-larger-l a b = go (leb a b) (leb-true a b)
-  where
-    go : (t : Bool) → (t ≡ true → a ≤ b) → a ≤ pick t b a
-    go true h = h refl
-    go false h = omega arith
+larger-l a b = grind (arith, nat_tests)
 
 pub larger-r : (a b : ℕ) → b ≤ larger a b
-larger-r a b = go (leb a b) (leb-false a b)
-  where
-    go : (t : Bool) → (t ≡ false → b < a) → b ≤ pick t b a
-    go true h = omega arith
-    go false h = let k = h refl in omega arith
+larger-r a b = grind (arith, nat_tests)
 
 pub larger-is : (a b c : ℕ) → a ≤ c → b ≤ c → larger a b ≤ c
-larger-is a b c p q = go (leb a b)
-  where
-    go : (t : Bool) → pick t b a ≤ c
-    go true = q
-    go false = p
+larger-is a b c p q = grind (arith, nat_tests)
 
 pub version-better : (p q : Option Entry) → version_of (better p q) ≡ larger (version_of p) (version_of q)
 version-better none q = rw (leb-zero (version_of q))
@@ -189,10 +168,7 @@ counts_same es fs [] h c = tt
 counts_same es fs (e ∷ batch) h c = (c.0 ∙ ap suc (h e.key), counts_same (e ∷ es) (e ∷ fs) batch (λ k. rw (h k)) c.1)
 
 pub larger-comm : (a b : ℕ) → larger a b ≡ larger b a
-larger-comm a b =
-    let x = larger-is a b (larger b a) (larger-r b a) (larger-l b a) in
-    let y = larger-is b a (larger a b) (larger-r a b) (larger-l a b) in
-    omega arith
+larger-comm a b = grind (arith, nat_tests)
 
 pub highest-insert : (k : ℕ) (xs ys : List Entry) (e : Entry) → highest k (e ∷ (xs ++ ys)) ≡ highest k (xs ++ e ∷ ys)
 highest-insert k xs ys e = rw (highest-append k xs ys, highest-append k xs (e ∷ ys)) (go (eqb e.key k))

@@ -1,5 +1,6 @@
 -- The laws of parsing: what is appended, what was encoded.
 -- Assumes nothing.
+use Rattle.std.proofs.lemmas.Bool.Decides.{nat_tests}
 use mathlib.Core.Path.{◌≡◌, refl, sym, ◌∙◌, ap}
 use mathlib.Core.Bool.{Bool, true, false}
 use mathlib.Core.List.{List, [], ◌∷◌, ◌++◌}
@@ -9,7 +10,7 @@ use native.Mathlib.Omega.{arith}
 use lib.Dec.{eqb, ltb}
 use lib.ListN.{length, get_or, take, drop, length-append, length-drop, get_or-append}
 use lib.Seq.{take-append-le, drop-append-le}
-use borrow.Author.Tests.{ltb-false, le-ltb, eqb-false}
+use borrow.Author.Tests.{le-ltb, eqb-false}
 use Rattle.spec.specs.declared.FirstWord.{FirstWord}
 use Rattle.spec.specs.declared.FirstWord.TheVariants as F
 use Rattle.spec.specs.declared.LogStep.{LogStep}
@@ -19,13 +20,7 @@ use Rattle.spec.specs.Log.{first_of_word, words_for, filled, with_first, step_of
 
 -- An entry that is not wrong ends within the words and is filled; and the other way round.
 pub entry-right : (op pl v x : ℕ) (l : List ℕ) → (with_first (F.Entry op pl v x) l ≡ S.Wrong → ⊥) → (2 + words_for pl x ≤ length l) × (filled pl x l ≡ true)
-entry-right op pl v x l h = go (ltb (length l) (2 + words_for pl x)) refl (filled pl x l) refl h
-  where
-    go : (b : Bool) → ltb (length l) (2 + words_for pl x) ≡ b → (d : Bool) → filled pl x l ≡ d
-        → (pick b S.Wrong (pick d (S.Entry op pl v x (get_or l 1 0) (words_for pl x)) S.Wrong) ≡ S.Wrong → ⊥) → (2 + words_for pl x ≤ length l) × (filled pl x l ≡ true)
-    go true e d e' n = absurd (n refl)
-    go false e true e' n = (ltb-false (length l) (2 + words_for pl x) e, e')
-    go false e false e' n = absurd (n refl)
+entry-right op pl v x l h = grind (arith, nat_tests)
 
 pub entry-step : (op pl v x : ℕ) (l : List ℕ) → 2 + words_for pl x ≤ length l → filled pl x l ≡ true
     → with_first (F.Entry op pl v x) l ≡ S.Entry op pl v x (get_or l 1 0) (words_for pl x)
@@ -64,38 +59,11 @@ pub record Found (op pl v x k n w : ℕ) (ws : List ℕ) : Type 0 where
 
 pub found : (op pl v x k n w : ℕ) (ws : List ℕ) → step_of (w ∷ ws) ≡ S.Entry op pl v x k n → Found op pl v x k n w ws
 unfolding step_of
-found op pl v x k n w ws e = go (first_of_word w) refl e
-  where
-    go : (f : FirstWord) → first_of_word w ≡ f → with_first f (w ∷ ws) ≡ S.Entry op pl v x k n → Found op pl v x k n w ws
-    go F.Padding g h = absurd (let z : ◌≡◌ {A = ℕ} 0 1 = cc in omega arith)
-    go F.Wrong g h = absurd (let z : ◌≡◌ {A = ℕ} 0 1 = cc in omega arith)
-    go (F.Entry op' pl' v' x') g h =
-        let r = entry-right op' pl' v' x' (w ∷ ws) (λ q. let z : ◌≡◌ {A = ℕ} 0 1 = cc in omega arith) in
-        let s = entry-step op' pl' v' x' (w ∷ ws) r.0 r.1 in
-        let ep : pl' ≡ pl = cc in
-        let ex : x' ≡ x = cc in
-        let en : words_for pl' x' ≡ n = cc in
-        let fits : 2 + words_for pl' x' ≤ suc (length ws) = r.0 in
-        let fill : filled pl' x' (w ∷ ws) ≡ true = r.1 in
-        record {
-          first = cc;
-          words = cc;
-          fits = omega arith;
-          fill = rw (ep, ex) at fill;
-          key = cc;
-        }
+found op pl v x k n w ws e = grind (arith, nat_tests)
 
 no_end : (w : ℕ) (ws : List ℕ) → step_of (w ∷ ws) ≡ S.End → ⊥
 unfolding step_of
-no_end w ws e = go (first_of_word w) e
-  where
-    go : (f : FirstWord) → with_first f (w ∷ ws) ≡ S.End → ⊥
-    go F.Padding h = let z : ◌≡◌ {A = ℕ} 0 1 = cc in omega arith
-    go F.Wrong h = let z : ◌≡◌ {A = ℕ} 0 1 = cc in omega arith
-    go (F.Entry op pl v x) h =
-        let r = entry-right op pl v x (w ∷ ws) (λ q. let z : ◌≡◌ {A = ℕ} 0 1 = cc in omega arith) in
-        let s = entry-step op pl v x (w ∷ ws) r.0 r.1 in
-        let z : ◌≡◌ {A = ℕ} 0 1 = cc in omega arith
+no_end w ws e = grind (arith, nat_tests)
 
 pub cons_inv : (e : Entry) (p : Parsed) (es : List Entry) → cons e p ≡ Entries es → (fs : List Entry) × (p ≡ Entries fs) × (es ≡ e ∷ fs)
 cons_inv e Wrong es h = absurd (let z : ◌≡◌ {A = ℕ} 0 1 = cc in omega arith)

@@ -1,20 +1,17 @@
 -- A parsed entry's words stand at its place: look-up reads them there, cleaning copies them.
 -- Assumes nothing.
+use Rattle.std.proofs.lemmas.Bool.Decides.{nat_tests}
 use mathlib.Core.Path.{◌≡◌, refl, sym, ◌∙◌, ap}
 use mathlib.Core.Logic.{◌⊎◌, inl, inr}
-use mathlib.Core.Bool.{Bool, true, false}
 use mathlib.Core.List.{List, [], ◌∷◌}
-use Prim.Native.Nat.{ℕ, zero, suc, ◌+◌, ◌-◌, ◌*◌, ◌/◌, ◌%◌, ◌<◌, ◌≤◌, min}
+use Prim.Native.Nat.{ℕ, zero, suc, ◌+◌, ◌-◌, ◌*◌, ◌<◌, ◌≤◌, min}
 use native.Mathlib.Omega.{arith}
-use lib.Dec.{eqb, leb}
 use lib.ListN.{length, get_or, take, drop, length-take, length-drop}
 use lib.Seq.{slice, drop-drop, ext_get_or, get_or-take, get_or-drop}
-use borrow.Author.Tests.{eqb-true}
 use Rattle.spec.specs.declared.FirstWord.TheVariants as F
 use Rattle.spec.specs.declared.LogStep.{LogStep}
 use Rattle.spec.specs.declared.LogStep.TheVariants as S
-use Rattle.spec.specs.Basics.{pick}
-use Rattle.spec.specs.Log.{parts_of, first_of_word, step_of, Entry, Entries, after, parse, encode, chunk_entries, all_from}
+use Rattle.spec.specs.Log.{first_of_word, step_of, Entry, Entries, after, parse, encode, chunk_entries, all_from}
 use Rattle.spec.specs.Places.{base}
 use Rattle.spec.specs.Directory.{lines_of}
 use Rattle.theory_log.specs.Contents.{Mem}
@@ -23,49 +20,9 @@ use Rattle.theory_log.proofs.Contents.{mem-cases}
 use Rattle.theory_log.proofs.Image.{Joined, join-inv}
 
 -- the fields say all of the first word
-fields-same : (op pl v x op' pl' v' x' : ℕ) → parts_of op pl v x ≡ F.Entry op' pl' v' x' → (op' ≡ op) × (pl' ≡ pl) × (v' ≡ v) × (x' ≡ x)
-fields-same op pl v x op' pl' v' x' h = go (eqb v 0) (eqb op 1) (eqb-true op 1) (eqb pl 0) (eqb-true pl 0) (eqb pl 1) (eqb-true pl 1) (eqb op 2) (eqb-true op 2) (leb x 256) (eqb x 0) (eqb-true x 0) h
-  where
-    Goal : Type 0
-    Goal = (op' ≡ op) × (pl' ≡ pl) × (v' ≡ v) × (x' ≡ x)
-
-    made : (o p y : ℕ) → op ≡ o → pl ≡ p → x ≡ y → F.Entry o p v y ≡ F.Entry op' pl' v' x' → Goal
-    made o p y a b c e = (cc, cc, cc, cc)
-
-    wrong : F.Wrong ≡ F.Entry op' pl' v' x' → Goal
-    wrong e = absurd (let z : ◌≡◌ {A = ℕ} 0 1 = cc in omega arith)
-
-    go : (b0 b1 : Bool) → (b1 ≡ true → op ≡ 1) → (b2 : Bool) → (b2 ≡ true → pl ≡ 0) → (b3 : Bool) → (b3 ≡ true → pl ≡ 1) → (b4 : Bool) → (b4 ≡ true → op ≡ 2)
-        → (b5 b6 : Bool) → (b6 ≡ true → x ≡ 0)
-        → pick b0 F.Wrong (pick b1 (pick b2 (pick b5 (F.Entry 1 0 v x) F.Wrong) (pick b3 (F.Entry 1 1 v x) F.Wrong)) (pick b4 (pick b2 (pick b6 (F.Entry 2 0 v 0) F.Wrong) F.Wrong) F.Wrong))
-        ≡ F.Entry op' pl' v' x' → Goal
-    go true b1 h1 b2 h2 b3 h3 b4 h4 b5 b6 h6 e = wrong e
-    go false true h1 true h2 b3 h3 b4 h4 true b6 h6 e = made 1 0 x (h1 refl) (h2 refl) refl e
-    go false true h1 true h2 b3 h3 b4 h4 false b6 h6 e = wrong e
-    go false true h1 false h2 true h3 b4 h4 b5 b6 h6 e = made 1 1 x (h1 refl) (h3 refl) refl e
-    go false true h1 false h2 false h3 b4 h4 b5 b6 h6 e = wrong e
-    go false false h1 true h2 b3 h3 true h4 b5 true h6 e = made 2 0 0 (h4 refl) (h2 refl) (h6 refl) e
-    go false false h1 true h2 b3 h3 true h4 b5 false h6 e = wrong e
-    go false false h1 true h2 b3 h3 false h4 b5 b6 h6 e = wrong e
-    go false false h1 false h2 b3 h3 true h4 b5 b6 h6 e = wrong e
-    go false false h1 false h2 b3 h3 false h4 b5 b6 h6 e = wrong e
-
 pub head_first : (w op pl v x : ℕ) → first_of_word w ≡ F.Entry op pl v x → op + 4 * pl + 16 * v + 16777216 * x ≡ w
 unfolding first_of_word
-head_first w op pl v x h = go (eqb w 0) h
-  where
-    go : (b : Bool) → pick b F.Padding (parts_of (w % 4) (w / 4 % 4) (w / 16 % 1048576) (w / 16777216)) ≡ F.Entry op pl v x → op + 4 * pl + 16 * v + 16777216 * x ≡ w
-    go true e = absurd (let z : ◌≡◌ {A = ℕ} 0 1 = cc in omega arith)
-    go false e =
-        let s = fields-same (w % 4) (w / 4 % 4) (w / 16 % 1048576) (w / 16777216) op pl v x e in
-        let a = s.0 in
-        let b = s.1 in
-        let c = s.2 in
-        let d = s.3 in
-        let p : w ≡ w % 4 + 4 * (w / 4) = omega arith in
-        let q : w / 4 ≡ w / 4 % 4 + 4 * (w / 16) = omega arith in
-        let r : w / 16 ≡ w / 16 % 1048576 + 1048576 * (w / 16777216) = omega arith in
-        omega arith
+head_first w op pl v x h = grind (arith, nat_tests)
 
 pub record Stands (l : List ℕ) (at : ℕ) (e : Entry) : Type 0 where
   pub off : ℕ

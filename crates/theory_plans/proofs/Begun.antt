@@ -1,5 +1,6 @@
 -- What a plan that begins has met: each of its tests, and what it then begins.
 -- Assumes nothing.
+use Rattle.std.proofs.lemmas.Bool.Decides.{nat_tests}
 use mathlib.Core.Path.{◌≡◌, refl}
 use mathlib.Core.Bool.{Bool, true, false}
 use mathlib.Core.List.{List, [], ◌∷◌, ◌++◌}
@@ -11,9 +12,8 @@ use Rattle.spec.specs.Medium.{Action}
 use Rattle.spec.specs.Log.{Entry}
 use Rattle.spec.specs.Blocks.{block_limit}
 use Rattle.spec.specs.Plans.{Task, Staging, Plan, Begin, need, next_version, present, fits_version, fits_batch, fits_keys, max_put_version, max_version, entry, put_words, stage_put, plan_put, plan_delete}
-use Rattle.spec.specs.declared.Given.{Given}
+use Rattle.spec.specs.Basics.{Given}
 use Rattle.spec.specs.declared.Refusal.{Refusal}
-use Rattle.spec.specs.declared.Refusal.TheVariants as N
 
 pub need-begin : (b : Bool) (r : Refusal) (q : Plan) (items : List Entry) (task : Task) (acts : List Action) → need b r q ≡ Begin items task acts → (b ≡ true) × (q ≡ Begin items task acts)
 need-begin true r q items task acts h = (refl, h)
@@ -31,13 +31,7 @@ pub record PutBegun (p n : ℕ) (ws : List ℕ) (table : ℕ) (es items : List E
 pub put-begun : (p n : ℕ) (ws : List ℕ) (table : ℕ) (es items : List Entry) (x : Given) (k : ℕ) (v : List ℕ) (items' : List Entry) (task : Task) (acts : List Action)
     → plan_put p n ws table es items x k v ≡ Begin items' task acts → PutBegun p n ws table es items x k v items' task acts
 unfolding plan_put
-put-begun p n ws table es items x k v items' task acts h =
-    let a = need-begin (leb (length v) (block_limit p)) N.TooLong _ items' task acts h in
-    let b = need-begin (fits_version x k es items) N.OtherVersion _ items' task acts a.1 in
-    let c = need-begin (leb (next_version k es items) max_put_version) N.VersionSpent _ items' task acts b.1 in
-    let d = need-begin (fits_batch items (put_words (length v))) N.BatchFull _ items' task acts c.1 in
-    let e = need-begin (fits_keys table es items k) N.TableFull _ items' task acts d.1 in
-    record { short = a.0; named = b.0; unspent = c.0; batch = d.0; keys = e.0; staged = e.1 }
+put-begun p n ws table es items x k v items' task acts h = grind (arith, nat_tests)
 
 -- a delete
 pub record DeleteBegun (table : ℕ) (es items : List Entry) (x : Given) (k : ℕ) (items' : List Entry) (task : Task) (acts : List Action) : Type 0 where
@@ -51,10 +45,4 @@ pub record DeleteBegun (table : ℕ) (es items : List Entry) (x : Given) (k : �
 pub delete-begun : (table : ℕ) (es items : List Entry) (x : Given) (k : ℕ) (items' : List Entry) (task : Task) (acts : List Action)
     → plan_delete table es items x k ≡ Begin items' task acts → DeleteBegun table es items x k items' task acts
 unfolding plan_delete
-delete-begun table es items x k items' task acts h =
-    let a = need-begin (present k es items) N.KeyAbsent _ items' task acts h in
-    let b = need-begin (fits_version x k es items) N.OtherVersion _ items' task acts a.1 in
-    let c = need-begin (leb (next_version k es items) max_version) N.VersionSpent _ items' task acts b.1 in
-    let d = need-begin (fits_batch items 2) N.BatchFull _ items' task acts c.1 in
-    let e = need-begin (fits_keys table es items k) N.TableFull _ items' task acts d.1 in
-    record { there = a.0; named = b.0; unspent = c.0; batch = d.0; keys = e.0; staged = e.1 }
+delete-begun table es items x k items' task acts h = grind (arith, nat_tests)

@@ -1,5 +1,6 @@
 -- Between calls: what stands rests, every cut of it stands again, it opens, and an image that opening accepted stands.
 -- Assumes nothing.
+use Rattle.std.proofs.lemmas.Bool.Decides.{nat_tests}
 use mathlib.Core.Path.{◌≡◌, refl, sym, ◌∙◌, ap}
 use mathlib.Core.Logic.{◌⊎◌, inl, inr}
 use mathlib.Core.Bool.{true}
@@ -26,16 +27,7 @@ use Rattle.theory_plans.specs.Standing.{Staged, Standing, key_list}
 
 -- nothing staged
 pub none-staged : (p n : ℕ) (ws : List ℕ) (es : List Entry) (m : Medium) → Staged p n ws es [] m
-none-staged p n ws es m = record {
-  counts = tt;
-  right = tt;
-  few = omega arith;
-  small = omega arith;
-  blocks = λ e t. absurd t;
-  flushed = λ e t. absurd t;
-  dead = λ e f t. absurd t;
-  own = λ e f t. absurd t;
-}
+none-staged p n ws es m = grind (arith, nat_tests)
 
 -- A medium at rest with its contents stands, and what stands rests.
 pub rests-stand : (p n table : ℕ) (C : ℕ → Held) (m : Medium) → Rests p n (capacity table) C m → Standing p n table C [] [] m

@@ -1,5 +1,6 @@
 -- A cleaning keeps the contents.
 -- Assumes nothing.
+use Rattle.std.proofs.lemmas.Bool.Decides.{nat_tests}
 use mathlib.Core.Path.{◌≡◌, refl, sym, ◌∙◌, ap}
 use mathlib.Core.Logic.{inl, inr}
 use mathlib.Core.Bool.{Bool, true, false}
@@ -7,14 +8,14 @@ use mathlib.Core.Option.{Option, none, some}
 use mathlib.Core.List.{List, [], ◌∷◌, ◌++◌, map}
 use Prim.Native.Nat.{ℕ, zero, suc, ◌+◌, ◌-◌, ◌*◌, ◌≤◌, ◌<◌}
 use native.Mathlib.Omega.{arith}
-use lib.Dec.{eqb, leb, ltb}
+use lib.Dec.{eqb}
 use lib.ListN.{length, get_or, take, drop, length-append, length-take, length-drop}
 use lib.Seq.{slice}
-use borrow.Author.Tests.{eq-eqb, leb-true, ltb-true}
+use borrow.Author.Tests.{eq-eqb}
 use Rattle.spec.specs.declared.LogStep.{LogStep}
 use Rattle.spec.specs.declared.LogStep.TheVariants as S
 use Rattle.spec.specs.declared.Refusal.TheVariants as N
-use Rattle.spec.specs.Basics.{pick, both, negate, filter, any}
+use Rattle.spec.specs.Basics.{pick, negate, filter, any}
 use Rattle.spec.specs.Places.{base, chunk_lines, unit_chunk, directory_word, max_chunks}
 use Rattle.spec.specs.Medium.{Action, Medium, latest, Mem as Among}
 use Rattle.spec.specs.Directory.{is_free, is_log, role_at, lines_of, size_of, freed_word}
@@ -24,7 +25,7 @@ use Rattle.spec.specs.Contents.{Held, is_top, capacity, keys_of, entries_in, liv
 use Rattle.spec.specs.Actions.{lines_for}
 use Rattle.spec.specs.Plans.{Task, Cleaning, Olds, old_of, olds_of, Begin, need, log_place, append_to, in_use, has_live, free, clean_to, clean_log, clean_data, plan_clean}
 use Rattle.spec.specs.Book.{Item}
-use Rattle.theory_base.proofs.Lists.{both_l, both_r, either-no, not-both}
+use Rattle.theory_base.proofs.Lists.{either-no, not-both}
 use Rattle.theory_base.proofs.PutBack.{AreOf, AreLow}
 use Rattle.theory_base.proofs.Through.{Through, Each}
 use Rattle.theory_log.specs.Contents.{Mem, Top}
@@ -43,7 +44,7 @@ use Rattle.theory_crash.proofs.Cells.{each_append}
 use Rattle.theory_crash.proofs.View.{Shy, append-shy, seal-shy}
 use Rattle.theory_plans.specs.Standing.{Standing, Going, Reading}
 use Rattle.theory_plans.proofs.Begun.{need-begin}
-use Rattle.theory_plans.proofs.LogPlace.{negate-true, log-place}
+use Rattle.theory_plans.proofs.LogPlace.{log-place}
 use Rattle.theory_plans.proofs.Committing.{rests-going}
 use Rattle.theory_plans.proofs.Reading.{same_reads}
 
@@ -184,12 +185,7 @@ module _ (p : ℕ) (lo : 12 ≤ p) (hi : p ≤ 16) (n table : ℕ) (C : ℕ → 
       go false e k = data-goes items' task acts e k
 
 pub in_use_lem : (p n : ℕ) (ws : List ℕ) (c : ℕ) → in_use p n ws c ≡ true → (1 ≤ c) × (c < n) × (is_free (role_at p ws c) ≡ false)
-in_use_lem p n ws c h =
-    let r = both_r (leb 1 c) (both (ltb c n) (negate (is_free (role_at p ws c)))) h in (
-      leb-true 1 c (both_l (leb 1 c) (both (ltb c n) (negate (is_free (role_at p ws c)))) h),
-      ltb-true c n (both_l (ltb c n) (negate (is_free (role_at p ws c))) r),
-      negate-true (is_free (role_at p ws c)) (both_r (ltb c n) (negate (is_free (role_at p ws c))) r),
-    )
+in_use_lem p n ws c h = grind (arith, nat_tests)
 
 clean-plan : (p : ℕ) → 12 ≤ p → p ≤ 16 → (n table : ℕ) (C : ℕ → Held) (book : List Item) (items items' : List Entry) (task : Task) (acts : List Action) (m : Medium) (c : ℕ)
     → (s : Standing p n table C book items m) → plan_clean p n s.words s.entries items c ≡ Begin items' task acts

@@ -1,5 +1,6 @@
 -- A commit does the book's staged items in order.
 -- Assumes nothing.
+use Rattle.std.proofs.lemmas.Bool.Decides.{nat_tests}
 use mathlib.Core.Path.{◌≡◌, refl, sym, ◌∙◌, ap}
 use mathlib.Core.Logic.{◌⊎◌, inl, inr}
 use mathlib.Core.Bool.{true}
@@ -26,7 +27,7 @@ use Rattle.theory_log.proofs.Clean.{mem-placed}
 use Rattle.theory_log.proofs.Contents.{highest-append, highest-placed, highest-among}
 use Rattle.theory_crash.specs.Accepted.{Needs}
 use Rattle.theory_crash.specs.Batch.{Place}
-use Rattle.theory_crash.specs.Rest.{Holds, Rests, Cuts, Joined}
+use Rattle.theory_crash.specs.Rest.{Rests, Cuts, Joined}
 use Rattle.theory_crash.proofs.Append.{some-lines, commit-append, append_left}
 use Rattle.theory_crash.proofs.View.{append-shy}
 use Rattle.theory_crash.proofs.Effects as E
@@ -36,15 +37,8 @@ use Rattle.theory_plans.proofs.LogPlace.{log-place}
 use Rattle.theory_plans.proofs.Reading.{shy-reads}
 
 -- Contents that are the same at each key.
-holds_same : (p n keys : ℕ) (C D : ℕ → Held) (ws : List ℕ) → ((k : ℕ) → C k ≡ D k) → Holds p n keys C ws → Holds p n keys D ws
-holds_same p n keys C D ws same (es, ok, few, holds) = (es, ok, few, λ k. holds k ∙ same k)
-
 cuts-same : (p n keys : ℕ) (C D D' : ℕ → Held) → ((k : ℕ) → D k ≡ D' k) → (m : Medium) → Cuts p n keys C D m → Cuts p n keys C D' m
-cuts-same p n keys C D D' same m h xs t = go (h xs t)
-  where
-    go : Holds p n keys C xs ⊎ Holds p n keys D xs → Holds p n keys C xs ⊎ Holds p n keys D' xs
-    go (inl a) = inl a
-    go (inr b) = inr (holds_same p n keys D D' xs same b)
+cuts-same p n keys C D D' same m h xs t = grind (arith, nat_tests)
 
 rests-same : (p n keys : ℕ) (C D : ℕ → Held) (m : Medium) → ((k : ℕ) → C k ≡ D k) → Rests p n keys C m → Rests p n keys D m
 rests-same p n keys C D m same ((ws, es, rest, few, holds), flushed) = ((ws, es, rest, few, λ k. holds k ∙ same k), flushed)

@@ -10,7 +10,7 @@ use Rattle.spec.specs.Places.{base, chunks_in, length_allowed}
 use Rattle.spec.specs.Medium.{Medium}
 use Rattle.spec.specs.Actions.{format_of}
 use Rattle.spec.specs.Book.{nothing}
-use Rattle.spec.specs.declared.Given.{Given}
+use Rattle.spec.specs.Basics.{Given}
 use Rattle.theory_base.proofs.Places.{length-allowed}
 use Rattle.theory_base.proofs.Through.{Through, through-map}
 use Rattle.theory_crash.specs.Rest.{Rests, FormatCuts, empty}

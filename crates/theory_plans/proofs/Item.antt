@@ -1,5 +1,6 @@
 -- One more staged item: it counts on, fits the batch and the table, and what it points to is ready and its own.
 -- Assumes nothing.
+use Rattle.std.proofs.lemmas.Bool.Decides.{nat_tests}
 use mathlib.Core.Path.{◌≡◌, sym, ◌∙◌, ap}
 use mathlib.Core.Logic.{◌⊎◌, inl, inr}
 use mathlib.Core.Bool.{true, false}
@@ -16,7 +17,7 @@ use Rattle.spec.specs.Blocks.{pointed}
 use Rattle.spec.specs.Contents.{Held, highest, capacity, meaning}
 use Rattle.spec.specs.Plans.{next_version, fits_batch, fits_keys, max_items, max_batch_bytes}
 use Rattle.spec.specs.Book.{Item}
-use Rattle.theory_base.proofs.Lists.{both_l, both_r, not-both, distinct-fewer}
+use Rattle.theory_base.proofs.Lists.{both_l, both_r, distinct-fewer}
 use Rattle.theory_log.specs.Batch.{Right}
 use Rattle.theory_log.specs.Contents.{Mem, Top, CountsOn}
 use Rattle.theory_log.proofs.Contents.{mem-cases, highest-insert}
@@ -39,9 +40,7 @@ pub record Ready (p n : ℕ) (ws : List ℕ) (es items : List Entry) (m : Medium
   pub own : (f : Entry) → Mem f items → pointed e ≡ true → pointed f ≡ true → e.field ≡ f.field → ⊥
 
 pub log-ready : (p n : ℕ) (ws : List ℕ) (es items : List Entry) (m : Medium) (e : Entry) → pointed e ≡ false → Ready p n ws es items m e
-log-ready p n ws es items m e h =
-    let no : pointed e ≡ true → ⊥ = λ q. not-both (pointed e) q h in
-    record { prepared = (rw h, λ k t. absurd (no t.0)); dead = λ f t q. absurd (no q); own = λ f t q. absurd (no q) }
+log-ready p n ws es items m e h = grind (arith, nat_tests)
 
 -- One more at the end.
 counts-snoc : (es items : List Entry) (e : Entry) → CountsOn es items → e.version ≡ next_version e.key es items → CountsOn es (items ++ (e ∷ []))

@@ -2,6 +2,7 @@
 -- chunk stands: every cut in them leaves a roomy image. A call that is begun while a free chunk stands leaves one
 -- standing.
 -- Assumes nothing.
+use Rattle.std.proofs.lemmas.Bool.Decides.{nat_tests}
 use mathlib.Core.Path.{◌≡◌, refl, sym, ◌∙◌, ap}
 use mathlib.Core.Logic.{◌⊎◌, inl, inr}
 use mathlib.Core.Bool.{Bool, true, false}
@@ -13,7 +14,7 @@ use native.Mathlib.Decide.{ℕ_discrete}
 use lib.Dec.{leb}
 use lib.ListN.{length, get_or}
 use borrow.Author.Tests.{leb-true, leb-false}
-use Rattle.spec.specs.Basics.{pick, negate, is_empty, up_from, filter, first, all}
+use Rattle.spec.specs.Basics.{pick, negate, is_empty, up_from, filter, first}
 use Rattle.spec.specs.Words.{AreBytes, packed}
 use Rattle.spec.specs.Places.{chunk_lines, first_unit, unit_chunk, unit_word, directory_word, max_chunks}
 use Rattle.spec.specs.Medium.{Action, Medium, run, latest, CanCutTo, cell_at}
@@ -22,10 +23,10 @@ use Rattle.spec.specs.Log.{Entry, encode_all, max_in_log}
 use Rattle.spec.specs.Blocks.{block_limit, block_size}
 use Rattle.spec.specs.Contents.{Held, capacity, keys_of, entries_in, kept_in}
 use Rattle.spec.specs.Actions.{lines_for, take_of, block_of}
-use Rattle.spec.specs.Plans.{Task, Staging, Begin, Slot, InData, InFree, Nowhere, next_version, entry, free_chunk, or_free, slot_for, stage_large, plan_put, plan_delete, is_delete, free_needed, has_space, or_else, log_place, append_to, commit_at, plan_commit}
+use Rattle.spec.specs.Plans.{Task, Staging, Begin, Slot, InData, InFree, Nowhere, next_version, entry, free_chunk, slot_for, stage_large, plan_put, plan_delete, free_needed, has_space, or_else, log_place, append_to, commit_at, plan_commit}
 use Rattle.spec.specs.Book.{Item, done_items}
 use Rattle.spec.specs.Unstuck.{FreeStands}
-use Rattle.spec.specs.declared.Given.{Given}
+use Rattle.spec.specs.Basics.{Given}
 use Rattle.spec.specs.declared.Refusal.TheVariants as N
 use Rattle.spec.specs.declared.Role.{Role}
 use Rattle.spec.specs.declared.Role.TheVariants as R
@@ -47,7 +48,7 @@ use Rattle.theory_crash.proofs.Room.{Says, StoresAs, says-through, append-stores
 use Rattle.theory_plans.specs.Standing.{Standing, Going}
 use Rattle.theory_plans.proofs.Between.{known-few, stand-entries}
 use Rattle.theory_plans.proofs.LogPlace.{first-filter, log-place}
-use Rattle.theory_plans.proofs.Slots.{spare, slot-free, slot-data}
+use Rattle.theory_plans.proofs.Slots.{slot-free, slot-data}
 use Rattle.theory_plans.proofs.Large.{block_words, words-fit}
 use Rattle.theory_plans.proofs.Committing.{commit-begun}
 use Rattle.theory_plans.proofs.Unstuck.{free-stands}
@@ -87,20 +88,11 @@ other-free : (p n : ℕ) (ws : List ℕ) (c : ℕ) → 2 ≤ length (free_chunks
 other-free p n ws c h = let r = other-such (λ d. is_free (role_at p ws d)) 1 (n - 1) c h in let x = r.1.0 in let y = r.1.1.0 in (r.0, (x, (omega arith, r.1.1.1)))
 
 enough-free : (p n : ℕ) (ws : List ℕ) (needed c : ℕ) → free_chunk p n ws needed ≡ some c → needed ≤ length (free_chunks p n ws)
-enough-free p n ws needed c h = go (leb needed (length (free_chunks p n ws))) refl h
-  where
-    go : (b : Bool) → leb needed (length (free_chunks p n ws)) ≡ b → pick b (first (free_chunks p n ws)) none ≡ some c → needed ≤ length (free_chunks p n ws)
-    go true e k = leb-true needed (length (free_chunks p n ws)) e
-    go false e k = absurd (let z : ◌≡◌ {A = ℕ} 0 1 = cc in omega arith)
+enough-free p n ws needed c h = grind (arith, nat_tests)
 
 slot-three : (p n : ℕ) (ws : List ℕ) (es items : List Entry) (s c : ℕ) → slot_for p n ws es items s ≡ InFree c → 3 ≤ length (free_chunks p n ws)
 unfolding slot_for
-slot-three p n ws es items s c h = go (spare p n ws es items s) (free_chunk p n ws 3) refl h
-  where
-    go : (q o : Option ℕ) → free_chunk p n ws 3 ≡ o → or_free q o ≡ InFree c → 3 ≤ length (free_chunks p n ws)
-    go (some u) o f e = absurd (let z : ◌≡◌ {A = ℕ} 0 1 = cc in omega arith)
-    go none none f e = absurd (let z : ◌≡◌ {A = ℕ} 0 1 = cc in omega arith)
-    go none (some d) f e = enough-free p n ws 3 d f
+slot-three p n ws es items s c h = grind (arith, nat_tests)
 
 -- a free chunk other than the place that a commit finds
 spare-free : (p n : ℕ) (ws : List ℕ) (b needed d : ℕ) → 2 ≤ needed → FreeStands p n ws → log_place p n ws b 0 needed ≡ some d → (f : ℕ) × ((1 ≤ f) × ((f < n) × ((is_free (role_at p ws f) ≡ true) × (f ≡ d → ⊥))))
@@ -123,11 +115,7 @@ spare-free p n ws b needed d two stands h = go (first (filter (has_space p ws b 
         apart R.Wrong x y = let z : ◌≡◌ {A = ℕ} 0 1 = cc in omega arith
 
 needs_two : (items : List Entry) → 2 ≤ free_needed items
-needs_two items = go (all is_delete items)
-  where
-    go : (b : Bool) → 2 ≤ pick b 2 3
-    go true = omega arith
-    go false = omega arith
+needs_two items = grind (arith, nat_tests)
 
 -- ON A MEDIUM THAT STANDS and has room
 module _ (p : ℕ) (lo : 12 ≤ p) (hi : p ≤ 16) (n table : ℕ) (C : ℕ → Held) (book : List Item) (items : List Entry) (m : Medium) (s : Standing p n table C book items m) (room : Room p n m) where

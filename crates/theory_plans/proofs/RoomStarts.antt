@@ -14,7 +14,7 @@ use Rattle.spec.specs.Contents.{Held}
 use Rattle.spec.specs.Actions.{format_of}
 use Rattle.spec.specs.Book.{Item}
 use Rattle.spec.specs.Unstuck.{Roomy, Unstuck}
-use Rattle.spec.specs.declared.Given.{Given}
+use Rattle.spec.specs.Basics.{Given}
 use Rattle.theory_base.proofs.Words as W
 use Rattle.theory_base.proofs.Places.{base-low}
 use Rattle.theory_crash.proofs.Directory.{role-zero}

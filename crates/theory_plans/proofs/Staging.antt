@@ -1,6 +1,7 @@
 -- Staging: an accepted put or delete puts its item last into the book's staged items and keeps the contents, cut or
 -- not.
 -- Assumes nothing.
+use Rattle.std.proofs.lemmas.Bool.Decides.{nat_tests}
 use mathlib.Core.Path.{◌≡◌, refl, sym, ◌∙◌, ap}
 use mathlib.Core.Bool.{Bool, true, false}
 use mathlib.Core.List.{List, [], ◌∷◌, ◌++◌}
@@ -20,7 +21,7 @@ use Rattle.spec.specs.Contents.{Held, Absent, Value, highest, entries_in}
 use Rattle.spec.specs.Actions.{take_of, block_of}
 use Rattle.spec.specs.Plans.{Task, Staging, olds_of, Begin, next_version, fits_batch, max_put_version, max_version, entry, Slot as Found, InData, InFree, Nowhere, slot_for, stage_large, plan_put, plan_delete}
 use Rattle.spec.specs.Book.{Item}
-use Rattle.spec.specs.declared.Given.{Given}
+use Rattle.spec.specs.Basics.{Given}
 use Rattle.words.proofs.Values.{length-packed, packed-filled, bytes_packed}
 use Rattle.theory_base.proofs.Sizes as Z
 use Rattle.theory_log.specs.Batch.{put, block, delete, Right}
@@ -60,11 +61,7 @@ module _ (p : ℕ) (lo : 12 ≤ p) (hi : p ≤ 16) (n table : ℕ) (C : ℕ → 
   -- a plan that begins a staging
   begins : (book' : List Item) (items₁ items' : List Entry) (task : Task) (acts₁ acts : List Action) → Begin items₁ Staging acts₁ ≡ Begin items' task acts → Going p n table C C book' items₁ acts₁ m
       → Reading p n table C ws [] acts₁ m → (task ≡ Staging) × (Going p n table C C book' items' acts m × Reading p n table C ws (olds_of task) acts m)
-  begins book' items₁ items' task acts₁ acts h g d =
-      let a : items₁ ≡ items' = cc in
-      let b : task ≡ Staging = cc in
-      let c : acts₁ ≡ acts = cc in
-      (b, ((rw (a, c) at g), rw (b, ← c) d))
+  begins book' items₁ items' task acts₁ acts h g d = grind (arith, nat_tests)
 
   -- a staging with no action
   no_reads : Reading p n table C ws [] [] m

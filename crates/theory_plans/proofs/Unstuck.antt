@@ -1,6 +1,7 @@
 -- A roomy image is not stuck: a free chunk stands, or choosing names a chunk that cleaning only frees; and cleaning
 -- takes whatever chunk choosing names.
 -- Assumes nothing.
+use Rattle.std.proofs.lemmas.Bool.Decides.{nat_tests}
 use mathlib.Core.Path.{◌≡◌, refl, sym, ◌∙◌, ap, subst}
 use mathlib.Core.Logic.{◌⊎◌, inl, inr}
 use mathlib.Core.Bool.{Bool, true, false}
@@ -11,7 +12,7 @@ use native.Mathlib.Omega.{arith}
 use native.Mathlib.Decide.{dec_lt}
 use lib.Dec.{eqb, leb, ltb}
 use lib.ListN.{length, get_or}
-use borrow.Author.Tests.{le-leb, lt-ltb, ltb-true, ltb-false, eqb-true}
+use borrow.Author.Tests.{le-leb, lt-ltb, ltb-false}
 use Rattle.spec.specs.Basics.{pick, both, negate, up_from, filter, first}
 use Rattle.spec.specs.Places.{directory_word, max_chunks}
 use Rattle.spec.specs.Medium.{Action, Medium, run, latest, settled_at, Mem as Among}
@@ -23,7 +24,7 @@ use Rattle.spec.specs.Plans.{Cleaning, Olds, old_of, Plan, Begin, free_chunk, ha
 use Rattle.spec.specs.Unstuck.{FreeStands, Roomy, Unstuck}
 use Rattle.spec.specs.declared.Role.{Role}
 use Rattle.spec.specs.declared.Role.TheVariants as R
-use Rattle.theory_base.proofs.Lists.{both-i, both_l, either-no, either-cases}
+use Rattle.theory_base.proofs.Lists.{both-i, both_l, either-no}
 use Rattle.theory_log.proofs.Directory.{lines-is, size_is, role-freed}
 use Rattle.theory_crash.specs.Accepted.{Ok}
 use Rattle.theory_base.proofs.Words as W
@@ -86,11 +87,7 @@ module _ (p : ℕ) (ws : List ℕ) (es : List Entry) where
   cost c = copy_words p es c
 
   better-less : (c d : ℕ) → is_better p ws es c d ≡ true → cost c ≤ cost d
-  better-less c d h = go (either-cases (ltb (cost c) (cost d)) (both (eqb (cost c) (cost d)) (leb (lines_of p ws d) (lines_of p ws c))) h)
-    where
-      go : (ltb (cost c) (cost d) ≡ true) ⊎ (both (eqb (cost c) (cost d)) (leb (lines_of p ws d) (lines_of p ws c)) ≡ true) → cost c ≤ cost d
-      go (inl e) = let l = ltb-true (cost c) (cost d) e in omega arith
-      go (inr e) = let l = eqb-true (cost c) (cost d) (both_l (eqb (cost c) (cost d)) (leb (lines_of p ws d) (lines_of p ws c)) e) in omega arith
+  better-less c d h = grind (arith, nat_tests)
 
   worse-more : (c d : ℕ) → is_better p ws es c d ≡ false → cost d ≤ cost c
   worse-more c d h = ltb-false (cost c) (cost d) (either-no (ltb (cost c) (cost d)) (both (eqb (cost c) (cost d)) (leb (lines_of p ws d) (lines_of p ws c))) h).0

@@ -15,7 +15,7 @@ use Rattle.spec.specs.Actions.{format_of}
 use Rattle.spec.specs.Plans.{Task, Staging, Committing, Cleaning, Olds, olds_of, put_back, Begin, plan_put, plan_delete, plan_commit, plan_clean, look_up}
 use Rattle.spec.specs.Book.{Item, nothing, done_items}
 use Rattle.spec.specs.History.{shows}
-use Rattle.spec.specs.declared.Given.{Given}
+use Rattle.spec.specs.Basics.{Given}
 use Rattle.theory_base.proofs.Through.{Through}
 use Rattle.theory_crash.specs.Rest.{Cuts}
 use Rattle.theory_plans.specs.Standing.{Standing, Going, Reading}

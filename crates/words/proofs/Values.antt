@@ -5,11 +5,10 @@ use mathlib.Core.Bool.{true}
 use mathlib.Core.List.{List, [], ◌∷◌, ◌++◌}
 use Prim.Native.Nat.{ℕ, zero, suc, ◌+◌, ◌*◌, ◌/◌, ◌%◌, ◌^◌, ◌<◌, ◌≤◌}
 use native.Mathlib.Omega.{arith}
-use native.Mathlib.Decide.{ℕ_discrete}
-use borrow.Author.Tests.{eq-eqb, ne_eqb, ltb-true, lt-ltb}
 use lib.Dec.{eqb, ltb}
 use lib.ListN.{length, get_or, take, drop, get_or-eq_default}
 use lib.Seq.{get_or-drop}
+use Rattle.std.proofs.lemmas.Bool.Decides.{nat_tests}
 use Rattle.spec.specs.Basics.{pick}
 use Rattle.spec.specs.Words.{AreBytes, joined, word_at, packed, eight_bytes, bytes_of, value_bytes}
 
@@ -21,29 +20,9 @@ tail : (a b c d e f g h : ℕ) (rest : List ℕ) → AreBytes (a ∷ b ∷ c ∷
 tail a b c d e f g h rest small i = small (suc (suc (suc (suc (suc (suc (suc (suc i))))))))
 
 -- the bytes of eight joined bytes
-digit : (b q : ℕ) → b < 256 → (b + 256 * q) % 256 ≡ b
-digit b q h = omega arith
-
 pub bytes-joined : (b0 b1 b2 b3 b4 b5 b6 b7 : ℕ) → b0 < 256 → b1 < 256 → b2 < 256 → b3 < 256 → b4 < 256 → b5 < 256 → b6 < 256 → b7 < 256
     → eight_bytes (joined b0 b1 b2 b3 b4 b5 b6 b7) ≡ b0 ∷ b1 ∷ b2 ∷ b3 ∷ b4 ∷ b5 ∷ b6 ∷ b7 ∷ []
-bytes-joined b0 b1 b2 b3 b4 b5 b6 b7 h0 h1 h2 h3 h4 h5 h6 h7 =
-    let v = joined b0 b1 b2 b3 b4 b5 b6 b7 in
-    let q6 = b6 + 256 * b7 in
-    let q5 = b5 + 256 * q6 in
-    let q4 = b4 + 256 * q5 in
-    let q3 = b3 + 256 * q4 in
-    let q2 = b2 + 256 * q3 in
-    let q1 = b1 + 256 * q2 in
-    let e0 : v % 256 ≡ b0 = omega arith in
-    let e1 : v / 0x100 ≡ q1 = omega arith in
-    let e2 : v / 0x1_0000 ≡ q2 = omega arith in
-    let e3 : v / 0x100_0000 ≡ q3 = omega arith in
-    let e4 : v / 0x1_0000_0000 ≡ q4 = omega arith in
-    let e5 : v / 0x100_0000_0000 ≡ q5 = omega arith in
-    let e6 : v / 0x1_0000_0000_0000 ≡ q6 = omega arith in
-    let e7 : v / 0x100_0000_0000_0000 ≡ b7 = omega arith in
-    let f7 : b7 % 256 ≡ b7 = omega arith in
-    rw (e0, e1, e2, e3, e4, e5, e6, e7, digit b1 q2 h1, digit b2 q3 h2, digit b3 q4 h3, digit b4 q5 h4, digit b5 q6 h5, digit b6 b7 h6, f7)
+bytes-joined b0 b1 b2 b3 b4 b5 b6 b7 h0 h1 h2 h3 h4 h5 h6 h7 = grind arith
 
 -- a word past the first, and of no bytes
 pub word_at-drop : (xs : List ℕ) (i : ℕ) → word_at xs (suc i) ≡ word_at (drop 8 xs) i
@@ -115,14 +94,10 @@ bytes_packed (a ∷ b ∷ c ∷ d ∷ e ∷ f ∷ g ∷ h ∷ rest) s =
 
 -- the same as a test: of a last word that is not whole, the bytes behind the value are 0
 pub filled_of : (n : ℕ) (ws : List ℕ) → pick (eqb (n % 8) 0) true (ltb (get_or ws (n / 8) 0) (256 ^ (n % 8))) ≡ true → Filled n ws
-filled_of n ws t ne = ltb-true (get_or ws (n / 8) 0) (256 ^ (n % 8)) (rw (ne_eqb (n % 8) 0 ne) at t)
+filled_of n ws t ne = grind (arith, nat_tests)
 
 pub filled-test : (n : ℕ) (ws : List ℕ) → Filled n ws → pick (eqb (n % 8) 0) true (ltb (get_or ws (n / 8) 0) (256 ^ (n % 8))) ≡ true
-filled-test n ws f = go (ℕ_discrete (n % 8) 0)
-  where
-    go : Dec (n % 8 ≡ 0) → pick (eqb (n % 8) 0) true (ltb (get_or ws (n / 8) 0) (256 ^ (n % 8))) ≡ true
-    go (yes e) = rw (eq-eqb (n % 8) 0 e)
-    go (no ne) = rw (ne_eqb (n % 8) 0 ne, lt-ltb (get_or ws (n / 8) 0) (256 ^ (n % 8)) (f ne))
+filled-test n ws f = grind (arith, nat_tests, f)
 
 pub packed-filled : (xs : List ℕ) → AreBytes xs → Filled (length xs) (packed xs)
 packed-filled [] s ne = absurd (ne refl)

@@ -1,8 +1,7 @@
 -- The list of an image's words: its length, each word of it, and that a store of a word sets an element of it.
 -- Assumes nothing.
 use Rattle.std.specs.Prelude.{◌≡◌, refl, List, ℕ, zero, suc, ◌+◌, ◌*◌, ◌/◌, ◌^◌, ◌<◌, ◌≤◌, length, get_or, set}
-use Rattle.std.proofs.Common.{sym, ◌∙◌, ap, add-zero, zero-add, add-suc, suc-add, le_of_suc-le-suc, not-suc-le-zero, arith, length-set, ext_get_or, get_or-set_same, get_or-set_other}
-use Rattle.std.proofs.Math.Decide.{dec_lt, ℕ_discrete}
+use Rattle.std.proofs.Common.{sym, ap, add-zero, zero-add, add-suc, suc-add, le_of_suc-le-suc, not-suc-le-zero, arith, length-set, ext_get_or, get_or-set_same, get_or-set_other}
 use Rattle.std.proofs.Math.ListN.{get_or-eq_default}
 use Rattle.std.proofs.Math.Seq.{set_out}
 use Rattle.spec.specs.Words.{AreBytes, word_at, words_from, words_of}
@@ -28,6 +27,8 @@ get_or-words_of xs w h = rw zero-add at (get_or-words_from (length xs / 8) 0 xs 
 pub get_or-words_of-past : (xs : List ℕ) (w : ℕ) → length xs / 8 ≤ w → get_or (words_of xs) w 0 ≡ 0
 get_or-words_of-past xs w h = get_or-eq_default (words_of xs) 0 (rw length-words_of h)
 
+pub ruleset words_read = (get_or-words_of, get_or-words_of-past)
+
 -- a number made of bytes fits a word, and so does each word of an image
 pub word_at-fits : (xs : List ℕ) → AreBytes xs → (w : ℕ) → word_at xs w < 2 ^ 64
 unfolding word_at
@@ -35,34 +36,15 @@ word_at-fits xs small w =
     omega (arith, small (8 * w), small (8 * w + 1), small (8 * w + 2), small (8 * w + 3), small (8 * w + 4), small (8 * w + 5), small (8 * w + 6), small (8 * w + 7))
 
 pub words_of-fits : (xs : List ℕ) → AreBytes xs → (w : ℕ) → get_or (words_of xs) w 0 < 2 ^ 64
-words_of-fits xs small w = go (dec_lt w (length xs / 8))
-  where
-    go : Dec (w < length xs / 8) → get_or (words_of xs) w 0 < 2 ^ 64
-    go (yes h) = rw (get_or-words_of xs w h) (word_at-fits xs small w)
-    go (no n) = rw (get_or-words_of-past xs w (omega arith)) (omega arith)
+words_of-fits xs small w = grind (arith, get_or-words_of xs w, get_or-words_of-past xs w, word_at-fits xs small w)
 
 -- a store sets an element, and past the end nothing
 pub words_of-set : (xs : List ℕ) (w v : ℕ) → w < length xs / 8 → v < 2 ^ 64 → words_of (set_word xs w v) ≡ set (words_of xs) w v
-words_of-set xs w v h small = ext_get_or 0 (words_of (set_word xs w v)) (set (words_of xs) w v) len each
+words_of-set xs w v h small =
+    ext_get_or 0 (words_of (set_word xs w v)) (set (words_of xs) w v) (grind (arith, len)) (λ i q. grind (arith, get_or-words_of (set_word xs w v) i, get_or-words_of xs i, set_word-same xs w v, set_word-other xs w v i, get_or-set_same (words_of xs) w v 0, get_or-set_other (words_of xs) w i v 0, len))
   where
-    n' : length (set_word xs w v) ≡ length xs
-    n' = set_word-length xs w v
-
-    l1 : length (words_of (set_word xs w v)) ≡ length xs / 8
-    l1 = length-words_of (set_word xs w v) ∙ ap (λ (k : ℕ). k / 8) n'
-
-    l2 : length (words_of xs) ≡ length xs / 8
-    l2 = length-words_of xs
-
-    len : length (words_of (set_word xs w v)) ≡ length (set (words_of xs) w v)
-    len = rw length-set (l1 ∙ sym l2)
-
-    each : (i : ℕ) → i < length (words_of (set_word xs w v)) → get_or (words_of (set_word xs w v)) i 0 ≡ get_or (set (words_of xs) w v) i 0
-    each i q = let q' : i < length xs / 8 = rw l1 at q in get_or-words_of (set_word xs w v) i (rw n' q') ∙ go q' (ℕ_discrete i w)
-      where
-        go : i < length xs / 8 → Dec (i ≡ w) → word_at (set_word xs w v) i ≡ get_or (set (words_of xs) w v) i 0
-        go q' (yes e) = rw e (set_word-same xs w v (omega arith) small ∙ sym (get_or-set_same (words_of xs) w v 0 (omega (arith, l2))))
-        go q' (no n) = set_word-other xs w v i n ∙ sym (get_or-set_other (words_of xs) w i v 0 n ∙ get_or-words_of xs i q')
+    len : (length (set_word xs w v) ≡ length xs) × (length (words_of (set_word xs w v)) ≡ length xs / 8) × (length (words_of xs) ≡ length xs / 8) × (length (set (words_of xs) w v) ≡ length xs / 8)
+    len = grind (arith, set_word-length xs w v, length-words_of (set_word xs w v), length-words_of xs, length-set {A = ℕ})
 
 pub words_of-set-past : (xs : List ℕ) (w v : ℕ) → length xs / 8 ≤ w → words_of xs ≡ set (words_of xs) w v
 words_of-set-past xs w v h = let l = length-words_of xs in sym (set_out (words_of xs) w v (omega arith))

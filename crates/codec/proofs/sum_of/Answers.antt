@@ -1,17 +1,18 @@
--- `codec::sum_of` meets its contract: a wrapping sum of a wrapping sum is the sum modulo 2^64.
+-- `codec::sum_of` meets its contract: a wrapping sum is the sum modulo 2^64.
 -- Assumes nothing.
-use native.Mathlib.Nat.{mod-add-mod}
+use Rattle.std.proofs.Common.{◌≡◌, ℕ, ◌+◌, ◌%◌, ◌^◌, List, refl, arith, ◌∙◌}
+use Rattle.std.specs.Prelude.{sum}
+use Rattle.std.specs.List.{fold}
+use Rattle.std.proofs.lemmas.Grind.{common_steps}
+use Rattle.std.proofs.lemmas.List.Folds.{fold_along}
+use Rattle.spec.specs.Header.{word_values}
 use Rattle.codec.proofs.sum_of.Goals as goal
+
+wraps : (words : List ℕ) → fold (λ all word. (all + word) % 2 ^ 64) 0 words ≡ sum words % word_values
+wraps words =
+    fold_along (λ all word. (all + word) % 2 ^ 64) (λ all word. all + word) (λ a b. a ≡ b % 2 ^ 64) (λ a b x h. omega arith) 0 0 words refl
 
 pub returns : goal.returns
 returns c =
-    simp (
-      c.wrapping_add_u64.ensures.value,
-      c.wrapping_add_u64-s6.ensures.value,
-      c.wrapping_add_u64-s5.ensures.value,
-      c.wrapping_add_u64-s4.ensures.value,
-      c.wrapping_add_u64-s3.ensures.value,
-      c.wrapping_add_u64-s2.ensures.value,
-      c.wrapping_add_u64-s1.ensures.value,
-      mod-add-mod,
-    )
+    let e : c.fold.result ≡ fold (λ all word. (all + word) % 2 ^ 64) 0 c.args.words = grind (arith, common_steps) in
+    e ∙ wraps c.args.words

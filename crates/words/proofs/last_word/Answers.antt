@@ -1,56 +1,49 @@
 -- `words::last_word` meets its contract.
 -- Assumes nothing.
-use mathlib.Core.Path.{◌≡◌, sym, ◌∙◌, ap}
-use mathlib.Core.List.{List}
-use Prim.Native.Nat.{ℕ, ◌≤◌, ◌<◌, ◌+◌, ◌-◌, ◌*◌, ◌^◌}
+use mathlib.Core.Path.{◌≡◌, refl, ◌∙◌, ap}
+use mathlib.Core.List.{List, [], ◌∷◌}
+use Prim.Native.Nat.{ℕ, suc, ◌+◌, ◌*◌, ◌%◌, ◌^◌, ◌<◌}
 use native.Mathlib.Omega.{arith}
-use lib.ListN.{length, get_or}
-use borrow.Author.Rules.{rules}
-use Rattle.spec.specs.Words.{AreBytes, joined, word_at}
-use Rattle.words.proofs.last_word.Invariants.{joined_from, past}
+use lib.ListN.{length, get_or, get_or-eq_default, drop, length-drop}
+use lib.Seq.{get_or-drop}
+use Rattle.std.specs.Prelude.{bit_or, reverse}
+use Rattle.std.specs.List.{fold}
+use Rattle.std.proofs.lemmas.Grind.{common_steps, or_after_shift}
+use Rattle.std.proofs.lemmas.List.{reverse-append}
+use Rattle.std.proofs.lemmas.List.Sums.{fold_push}
+use Rattle.spec.specs.Words.{AreBytes, word_at}
 use Rattle.words.proofs.last_word.Goals as goal
 
-none-joined : (xs : List ℕ) (k : ℕ) → length xs ≤ k → 0 ≡ joined_from xs k
-none-joined xs k h =
-    sym (rw (past xs k h, past xs (k + 1) (omega arith), past xs (k + 2) (omega arith), past xs (k + 3) (omega arith), past xs (k + 4) (omega arith), past xs (k + 5) (omega arith), past xs (k + 6) (omega arith), past xs (k + 7) (omega arith)))
+-- one byte more below a word
+abbrev below : ℕ → ℕ → ℕ
+below v b = bit_or (v * 256 % 2 ^ 64) b
 
-few-fit : (xs : List ℕ) → AreBytes xs → (k v : ℕ) → length xs ≤ k + 7 → v ≡ joined_from xs k → v < 2 ^ 56
-few-fit xs small k v h e = omega (arith, past xs (k + 7) h, small k, small (k + 1), small (k + 2), small (k + 3), small (k + 4), small (k + 5), small (k + 6))
+below-is : (v b : ℕ) → v < 2 ^ 56 → b < 256 → below v b ≡ 256 * v + b
+below-is v b h k = or_after_shift v 256 (2 ^ 64) b refl k (omega arith) ∙ omega arith
 
--- one byte more before them
-shifted : (b b0 b1 b2 b3 b4 b5 b6 b7 : ℕ) → b7 ≡ 0 → 256 * joined b0 b1 b2 b3 b4 b5 b6 b7 + b ≡ joined b b0 b1 b2 b3 b4 b5 b6
-shifted b b0 b1 b2 b3 b4 b5 b6 b7 z = omega arith
+-- at most seven bytes, the last first
+few : (xs : List ℕ) → AreBytes xs → length xs < 8 → fold below 0 (reverse xs) ≡ word_at xs 0
+unfolding word_at
+few [] small h = refl
+few (x ∷ xs) small h =
+    let s : AreBytes xs = λ i. small (suc i) in
+    let z : get_or xs 7 0 ≡ 0 = get_or-eq_default xs 0 (omega arith) in
+    ap (fold below 0) (reverse-append (x ∷ []) xs)
+    ∙ fold_push below 0 (reverse xs) x
+    ∙ ap (λ v. below v x) (few xs s (omega arith))
+    ∙ below-is (word_at xs 0) x (omega (arith, s 0, s 1, s 2, s 3, s 4, s 5, s 6)) (small 0)
+    ∙ omega arith
 
-turn : (xs : List ℕ) (k k' v b : ℕ) → k ≡ k' + 1 → length xs ≤ k + 7 → v ≡ joined_from xs k → b ≡ get_or xs k' 0 → 256 * v + b ≡ joined_from xs k'
-turn xs k k' v b e h is-v is_b =
-    let e2 : k + 1 ≡ k' + 2 = omega arith in
-    let e3 : k + 2 ≡ k' + 3 = omega arith in
-    let e4 : k + 3 ≡ k' + 4 = omega arith in
-    let e5 : k + 4 ≡ k' + 5 = omega arith in
-    let e6 : k + 5 ≡ k' + 6 = omega arith in
-    let e7 : k + 6 ≡ k' + 7 = omega arith in
-    rw (is-v, is_b, sym e, sym e2, sym e3, sym e4, sym e5, sym e6, sym e7) (shifted (get_or xs k' 0) _ _ _ _ _ _ _ _ (past xs (k + 7) h))
-
-pub loop-at-init : goal.loop-at-init
-loop-at-init c = let xs = c.args.value.now in (omega arith, omega arith, none-joined xs (length xs) (omega arith))
-
-pub overflow_mul-v : goal.overflow_mul-v
-overflow_mul-v c =
-    let q = few-fit c.args.value.now (λ j. omega (arith, c.type_inv.value j)) c.loop-at.at c.loop-at.v (omega arith) c.loop-at.invariant.2 in
-    search rules
-
-pub overflow_add-v : goal.overflow_add-v
-overflow_add-v c =
-    let q = few-fit c.args.value.now (λ j. omega (arith, c.type_inv.value j)) c.loop-at.at c.loop-at.v (omega arith) c.loop-at.invariant.2 in
-    search rules
-
-pub loop-at-preserved : goal.loop-at-preserved
-loop-at-preserved c =
-    (omega arith, omega arith, turn c.args.value.now c.loop-at.at (c.loop-at.at - 1) c.loop-at.v _ (omega arith) (omega arith) c.loop-at.invariant.2 c.wide.ensures.0)
+-- the word of the bytes from there on
+dropped : (xs : List ℕ) (i : ℕ) → word_at (drop (8 * i) xs) 0 ≡ word_at xs i
+unfolding word_at
+dropped xs i = let z : 8 * i + 0 ≡ 8 * i = omega arith in simp (get_or-drop, z)
 
 pub returns : goal.returns
-unfolding word_at
 returns c =
-    let a = c.args in
-    let e : c.loop-at.at ≡ 8 * a.i = omega arith in
-    c.loop-at.invariant.2 ∙ ap (joined_from a.value.now) e
+    let xs = c.args.value.now in
+    let rest = drop (8 * c.args.i) xs in
+    let e : c.fold.result ≡ fold below 0 (reverse rest) = grind (arith, common_steps) in
+    e
+    ∙ few rest (λ i. rw get_or-drop (omega (arith, c.type_inv.value (8 * c.args.i + i)))) (rw length-drop (omega arith))
+    ∙ dropped xs c.args.i

@@ -1,33 +1,20 @@
--- `words::store_word` meets its contract: eight stores, each of one byte of the number.
+-- `words::store_word` meets its contract: the bytes of the number are laid over those of the word.
 -- Assumes nothing.
+use mathlib.Core.Path.{◌≡◌, sym, ◌∙◌}
+use Prim.Native.Nat.{◌+◌, ◌-◌, ◌*◌}
 use native.Mathlib.Omega.{arith}
-use lib.ListN.{length-set}
-use Rattle.words.specs.Store.{set_word-stores}
+use lib.Seq.{drop-drop}
+use Rattle.std.proofs.Common.{append_assoc}
+use Rattle.std.proofs.lemmas.List.Edits.{sets-eq}
+use Rattle.spec.specs.Words.{eight_bytes}
+use Rattle.words.specs.Store.{set_word}
 use Rattle.words.proofs.store_word.Goals as goal
 
-pub bounds-img-at-2 : goal.bounds-img-at-2
-bounds-img-at-2 c = simp length-set (omega arith)
-
-pub bounds-img-at-3 : goal.bounds-img-at-3
-bounds-img-at-3 c = simp length-set (omega arith)
-
-pub bounds-img-at-4 : goal.bounds-img-at-4
-bounds-img-at-4 c = simp length-set (omega arith)
-
-pub bounds-img-at-5 : goal.bounds-img-at-5
-bounds-img-at-5 c = simp length-set (omega arith)
-
-pub bounds-img-at-6 : goal.bounds-img-at-6
-bounds-img-at-6 c = simp length-set (omega arith)
-
-pub bounds-img-at-7 : goal.bounds-img-at-7
-bounds-img-at-7 c = simp length-set (omega arith)
-
-pub bounds-img-at-8 : goal.bounds-img-at-8
-bounds-img-at-8 c = simp length-set (omega arith)
-
-pub shape_of-img : goal.shape_of-img
-shape_of-img c = simp length-set
-
 pub returns : goal.returns
-returns c = set_word-stores _ _ _
+unfolding set_word
+returns c =
+    let at = 8 * c.args.w in
+    let image = c.args.img.now in
+    let n : at + 8 - at ≡ 8 = omega arith in
+    rw (c.copy_from_slice.ensures.after, c.to_le_bytes.ensures, n, drop-drop 8 at image)
+    (sym (sets-eq (eight_bytes c.args.v) image at c.requires ∙ simp append_assoc))
