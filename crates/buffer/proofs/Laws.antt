@@ -4,14 +4,17 @@ use mathlib.Core.Path.{◌≡◌, refl, ◌∙◌, ap, sym}
 use mathlib.Core.Logic.{by_cases}
 use mathlib.Core.Bool.{Bool, true, false}
 use mathlib.Core.List.{List}
-use Prim.Native.Nat.{ℕ, ◌+◌, ◌*◌, ◌/◌, ◌%◌, ◌^◌, ◌≤◌, ◌<◌}
+use Prim.Native.Nat.{ℕ, ◌-◌, ◌*◌, ◌/◌, ◌%◌, ◌^◌, ◌≤◌, ◌<◌}
 use native.Mathlib.Nat.{zero-div, div-add-mod'}
 use native.Mathlib.Omega.{arith}
 use native.Mathlib.Decide.{dec_lt, ℕ_discrete}
 use borrow.Author.Tests.{lt-ltb, le-ltb, eq-eqb}
 use lib.Bits.{bit_and, bit_or, bit_xor}
 use lib.Dec.{eqb}
-use lib.ListN.{length, get_or, set, take, length-set}
+use lib.ListN.{length, get_or, set, take, replicate, length-set}
+use borrow.Rule.Slice.PartMut.{put_mid, mid_of, mid_len}
+use Rattle.std.proofs.Common.{rules}
+use Rattle.std.proofs.lemmas.List.{places}
 use lib.Seq.{get_or-set_same, get_or-set_other, ext_get_or, get_or-take, length-take-le}
 use Rattle.buffer.proofs.Word.{shifted, set_same, set_other, unset-same, unset-other}
 use Rattle.spec.specs.declared.Size.{Size}
@@ -44,10 +47,6 @@ bits-agree size b d h u = bit-agrees size d b u (λ l. let m = unit-most size in
 -- a buffer that is as it was
 pub kept-all : (b : List ℕ) → length b ≡ buffer_words → WordsKept b b
 kept-all b n = record { size = n; long = refl; below = λ i l. refl; above = λ i l. refl }
-
-pub beyond-kept : (size : Size) (b : List ℕ) (u : ℕ) (value : Bool) → length b ≡ buffer_words → unit_count size ≤ u → BitWritten size b b u value
-beyond-kept size b u value n g =
-    record { at = λ l. absurd (omega arith); other = λ v d. refl; beyond = λ l. refl; kept = kept-all b n }
 
 -- a store of a word that differs in the unit's bit alone
 module _ (size : Size) (b : List ℕ) (u w : ℕ) (value : Bool) (n : length b ≡ buffer_words) (l : u < unit_count size) where
@@ -87,29 +86,20 @@ module _ (size : Size) (b : List ℕ) (u : ℕ) (n : length b ≡ buffer_words) 
       let k = u % 64 in
       rw (shifted k (omega arith)) (written size b u (bit_xor w (bit_and w (2 ^ k))) false n l (ap (λ x. eqb x 1) (unset-same w k)) (unset-other w k))
 
--- the words before i that hold bits are 0, and every other is as it was
-pub record Clearing (before after : List ℕ) (i : ℕ) : Type 0 where
-  pub done : (j : ℕ) → bits_start ≤ j → j < i → get_or after j 0 ≡ 0
-  pub left : (j : ℕ) → i ≤ j → get_or after j 0 ≡ get_or before j 0
-  pub low : (j : ℕ) → j < bits_start → get_or after j 0 ≡ get_or before j 0
-  pub size : length before ≡ buffer_words
-  pub long : length after ≡ buffer_words
+-- a part of the words filled with 0: the words from a to e are 0, and every other is as it was
+pub record Zeroed (before after : List ℕ) (a e : ℕ) : Type 0 where
+  pub done : (j : ℕ) → a ≤ j → j < e → get_or after j 0 ≡ 0
+  pub left : (j : ℕ) → e ≤ j → get_or after j 0 ≡ get_or before j 0
+  pub low : (j : ℕ) → j < a → get_or after j 0 ≡ get_or before j 0
+  pub long : length after ≡ length before
 
-pub clear_none : (b : List ℕ) → length b ≡ buffer_words → Clearing b b bits_start
-clear_none b n =
-    record { done = λ j g l. absurd (omega arith); left = λ j l. refl; low = λ j l. refl; size = n; long = n }
-
-pub clear-more : (b d : List ℕ) (i : ℕ) → Clearing b d i → bits_start ≤ i → i < bits_end → Clearing b (set d i 0) (i + 1)
-clear-more b d i c g l =
-    record {
-      done = λ j h k. by_cases (ℕ_discrete j i)
-          (λ q. rw q (get_or-set_same d i 0 0 (omega arith)))
-          (λ q. get_or-set_other d i j 0 0 q ∙ c.done j h (omega arith));
-      left = λ j h. get_or-set_other d i j 0 0 (λ q. omega arith) ∙ c.left j (omega arith);
-      low = λ j h. get_or-set_other d i j 0 0 (λ q. omega arith) ∙ c.low j h;
-      size = c.size;
-      long = length-set d i 0 ∙ c.long;
-    }
+pub zeroed : (b z : List ℕ) (a e : ℕ) → a ≤ e → e ≤ length b → z ≡ replicate (length (mid_of a (e - a) b)) 0 → Zeroed b (put_mid a (e - a) b z) a e
+zeroed b z a e l u q = rw (q, mid_len a e b u) (record {
+  done = λ j g h. search (rules, places);
+  left = λ j g. search (rules, places);
+  low = λ j g. search (rules, places);
+  long = search (rules, places);
+})
 
 zero_bit : (k : ℕ) → 0 / 2 ^ k % 2 ≡ 0
 zero_bit k = rw (zero-div (2 ^ k))
@@ -118,13 +108,13 @@ unit-inside : (size : Size) (v : ℕ) → v < unit_count size → word_of v < bi
 unit-inside S.Small v l = omega arith
 unit-inside S.Large v l = omega arith
 
-pub clear-all : (size : Size) (b d : List ℕ) → Clearing b d (bits_end_of size) → BitsCleared size b d
-clear-all size b d c =
+pub clear-all : (size : Size) (b d : List ℕ) (e : ℕ) → length b ≡ buffer_words → e ≡ bits_end_of size → Zeroed b d bits_start e → BitsCleared size b d
+clear-all size b d e n q c =
     record {
       none = λ v. by_cases (dec_lt v (unit_count size))
-          (λ l. bit_in_lem size d v l ∙ rw (c.done (word_of v) (omega arith) (unit-inside size v l), zero_bit (v % 64)))
+          (λ l. bit_in_lem size d v l ∙ rw (c.done (word_of v) (omega arith) (rw q (unit-inside size v l)), zero_bit (v % 64)))
           (λ l. bit-beyond size d v (omega arith));
-      kept = record { size = c.size; long = c.long ∙ sym c.size; below = c.low; above = λ i l. c.left i (let m = unit-most size in omega arith) };
+      kept = record { size = n; long = c.long; below = c.low; above = λ i l. c.left i (let m = unit-most size in omega arith) };
     }
 
 -- one change after another

@@ -37,36 +37,24 @@ pub const BUFFER_WORDS: usize = SUMS + SUMS_COUNT;
 
 pub type Buffer = [u64; BUFFER_WORDS];
 
-fn count(words: &[u64]) -> usize
-    ensures { result ≡ length words.now }
-{
-    words.len()
-}
-
-// The number of words of the buffer: a call tells its caller that the list behind the reference has that length.
+// The number of words of the buffer.
 pub fn buffer_length(buffer: &Buffer) -> usize
     ensures { (result ≡ buffer_words) × (length buffer.now ≡ buffer_words) }
 {
-    count(buffer)
+    buffer.len()
 }
 
 pub fn has_bit(buffer: &Buffer, unit: Unit, size: Size) -> bool
     ensures { result ≡ has_bit size buffer.now unit.0 }
 {
     let u = unit.0 as usize;
-    if u < unit_count(size) {
-        let word = buffer[BITS + u / 64];
-        (word >> (u % 64)) % 2 == 1
-    } else {
-        false
-    }
+    u < unit_count(size) && (buffer[BITS + u / 64] >> (u % 64)) % 2 == 1
 }
 
 // Past the last unit a change does nothing.
 pub fn set_bit(buffer: &mut Buffer, unit: Unit, size: Size)
     ensures { BitWritten size buffer.old buffer.new unit.0 true }
 {
-    buffer_length(buffer);
     let u = unit.0 as usize;
     if u < unit_count(size) {
         let at = BITS + u / 64;
@@ -78,7 +66,6 @@ pub fn set_bit(buffer: &mut Buffer, unit: Unit, size: Size)
 pub fn unset_bit(buffer: &mut Buffer, unit: Unit, size: Size)
     ensures { BitWritten size buffer.old buffer.new unit.0 false }
 {
-    buffer_length(buffer);
     let u = unit.0 as usize;
     if u < unit_count(size) {
         let at = BITS + u / 64;
@@ -90,11 +77,6 @@ pub fn unset_bit(buffer: &mut Buffer, unit: Unit, size: Size)
 pub fn clear_bits(buffer: &mut Buffer, size: Size)
     ensures { BitsCleared size buffer.old buffer.new }
 {
-    buffer_length(buffer);
     let end = BITS + unit_count(size) / 64;
-    let mut i = BITS;
-    while i < end {
-        buffer[i] = 0;
-        i += 1;
-    }
+    buffer[BITS..end].fill(0);
 }

@@ -4,7 +4,11 @@
 use mathlib.Core.Path.{◌≡◌, refl, sym}
 use mathlib.Core.Bool.{Bool, true, false}
 use mathlib.Core.List.{List}
-use Prim.Native.Nat.{ℕ, ◌/◌, ◌%◌, ◌≤◌}
+use Prim.Native.Nat.{ℕ, ◌-◌, ◌/◌, ◌%◌, ◌^◌, ◌≤◌, ◌<◌}
+use Rattle.std.specs.Prelude.{sum_by}
+use Rattle.std.specs.List.{range_with_len}
+use Rattle.std.proofs.lemmas.List.Sums.{sum_by-le}
+use Rattle.std.proofs.lemmas.List.FromFn.{length-range_with_len}
 use native.Mathlib.Omega.{arith}
 use lib.Dec.{eqb, leb}
 use lib.ListN.{get_or}
@@ -41,6 +45,16 @@ lines-found s ws c r e =
     let m = lines-most s in
     let l' : lines_in r ≤ chunk_lines (power_of s) = rw e at l in
     (rw (lines-is (power_of s) ws c, e), omega arith)
+
+-- any word's
+pub lines-few : (s : Size) (ws : List ℕ) (c : ℕ) → lines_of (power_of s) ws c ≤ 1024
+lines-few s ws c = let f = lines-found s ws c _ refl in omega (arith, f.0, f.1)
+
+-- the sum over fewer than 2 ^ 52 chunks
+pub lines-fit : (s : Size) (ws : List ℕ) (n : ℕ) → n < 2 ^ 52 → sum_by (lines_of (power_of s) ws) (range_with_len 1 (n - 1)) < 2 ^ 64
+lines-fit s ws n h =
+    let cs = range_with_len 1 (n - 1) in
+    omega (arith, sum_by-le (lines_of (power_of s) ws) 1024 cs (λ k d h. lines-few s ws _), length-range_with_len 1 (n - 1))
 
 size-bound : (z : Size) (w : ℕ) (r : Role) → role_of (power_of z) w ≡ r → size_in r ≤ 256
 size-bound z w R.Free e = omega arith

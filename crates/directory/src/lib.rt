@@ -24,10 +24,8 @@ fn lines_in(role: Role) -> usize
     ensures { result ≡ lines_in role }
 {
     match role {
-        Role::Free => 0,
         Role::Log(lines) => lines as usize,
-        Role::Data(_) => 0,
-        Role::Wrong => 0,
+        Role::Free | Role::Data(_) | Role::Wrong => 0,
     }
 }
 
@@ -36,44 +34,21 @@ pub fn size_in(role: Role) -> usize
     ensures { result ≡ size_in role }
 {
     match role {
-        Role::Free => 0,
-        Role::Log(_) => 0,
         Role::Data(size) => size as usize,
-        Role::Wrong => 0,
-    }
-}
-
-fn is_free_role(role: Role) -> bool
-    ensures { result ≡ is_free role }
-{
-    match role {
-        Role::Free => true,
-        Role::Log(_) => false,
-        Role::Data(_) => false,
-        Role::Wrong => false,
+        Role::Free | Role::Log(_) | Role::Wrong => 0,
     }
 }
 
 pub fn is_data(role: Role) -> bool
     ensures { result ≡ is_data role }
 {
-    match role {
-        Role::Free => false,
-        Role::Log(_) => false,
-        Role::Data(_) => true,
-        Role::Wrong => false,
-    }
+    matches!(role, Role::Data(_))
 }
 
 fn is_role(role: Role) -> bool
     ensures { result ≡ is_role role }
 {
-    match role {
-        Role::Free => true,
-        Role::Log(_) => true,
-        Role::Data(_) => true,
-        Role::Wrong => false,
-    }
+    !matches!(role, Role::Wrong)
 }
 
 // A CHUNK
@@ -82,9 +57,10 @@ pub fn directory_word(image: &[u8], c: usize) -> u64
     ensures { result ≡ get_or (words_of image.now) (directory_word c) 0 }
 {
     if c < 0x8000_0000_0000_0000 {
-        return load(image, 8 + c);
+        load(image, 8 + c)
+    } else {
+        0
     }
-    0
 }
 
 // What the directory says of chunk c.
@@ -111,7 +87,7 @@ pub fn size_of(image: &[u8], c: usize, size: Size) -> usize
 pub fn is_free(image: &[u8], c: usize, size: Size) -> bool
     ensures { result ≡ is_free (role_at (power_of size) (words_of image.now) c) }
 {
-    is_free_role(role_at(image, c, size))
+    matches!(role_at(image, c, size), Role::Free)
 }
 
 // ITS TEST, of an image of `count` chunks
@@ -120,97 +96,67 @@ fn word_right(image: &[u8], count: usize, c: usize, size: Size) -> bool
     ensures { result ≡ word_right (power_of size) count (words_of image.now) c }
 {
     let word = directory_word(image, c);
-    if 1 <= c {
-        if c < count {
-            return is_role(role_of(size, word));
-        }
+    if 1 <= c && c < count {
+        is_role(role_of(size, word))
+    } else {
+        word == 0
     }
-    word == 0
 }
 
-// The first chunk whose directory word is wrong, 504 where none is.
-pub fn directory_fault(image: &[u8], count: usize, size: Size) -> usize
+// The first chunk whose directory word is wrong.
+pub fn directory_fault(image: &[u8], count: usize, size: Size) -> Option<usize>
     ensures { result ≡ directory_fault (power_of size) count (words_of image.now) }
 {
-    let mut c: usize = 0;
-    while c < 504 {
-        if word_right(image, count, c, size) {
-            c += 1;
-        } else {
-            return c;
-        }
-    }
-    c
+    (0..504).find(|c| !word_right(image, count, *c, size))
 }
 
 // 3: every word of the directory is right.
 pub fn directory_fits(image: &[u8], count: usize, size: Size) -> bool
     ensures { result ≡ directory_test (power_of size) count (words_of image.now) }
 {
-    let c = directory_fault(image, count, size);
-    if c < 504 {
-        return false;
-    }
-    true
+    directory_fault(image, count, size).is_none()
 }
 
 // FREE CHUNKS
-// A chunk that was looked for.
-#[derive(Clone, Copy)]
-pub enum Found {
-    At(usize),
-    Nothing,
-}
-
 // The first free chunk, if at least `needed` are free; no chunk below `from` is.
-pub fn free_from(image: &[u8], from: usize, count: usize, needed: usize, size: Size) -> Found
+pub fn free_from(
+    image: &[u8],
+    from: usize,
+    count: usize,
+    needed: usize,
+    size: Size,
+) -> Option<usize>
     requires { 1 ≤ from }
     ensures { FreeFound (power_of size) (words_of image.now) from count needed result }
 {
-    let mut lowest = 0;
+    let mut first = None;
     let mut seen: usize = 0;
-    let mut c = from;
-    while c < count {
+    for c in from..count {
         if is_free(image, c, size) {
-            if seen == 0 {
-                lowest = c;
-            }
+            first = first.or(Some(c));
             seen += 1;
             if needed <= seen {
-                return Found::At(lowest);
+                return first;
             }
         }
-        c += 1;
     }
-    Found::Nothing
+    None
 }
 
 // The first free chunk, if at least `needed` are free.
-pub fn free_chunk(image: &[u8], count: usize, needed: usize, size: Size) -> Found
+pub fn free_chunk(image: &[u8], count: usize, needed: usize, size: Size) -> Option<usize>
     ensures { result ≡ found_of (free_chunk (power_of size) count (words_of image.now) needed) }
 {
     free_from(image, 1, count, needed, size)
 }
 
 // COUNTS, of all chunks of an image
-fn free_at(image: &[u8], c: usize, size: Size) -> u64
-    ensures { (result ≡ pick (is_free (role_at (power_of size) (words_of image.now) c)) 1 0) × (result ≤ 1) }
-{
-    if is_free(image, c, size) { 1 } else { 0 }
-}
-
 // How many chunks are free: those that a commit counts.
 pub fn free_chunks(image: &[u8], size: Size) -> u64
     ensures { result ≡ length (free_chunks (power_of size) (chunks_in (power_of size) (length image.now)) (words_of image.now)) }
 {
     let count = places::chunks_in(size, image.len());
-    let mut free = 0;
-    let mut c = 1;
-    while c < count {
-        free += free_at(image, c, size);
-        c += 1;
-    }
-    free
+    (1..count).filter(|c| is_free(image, *c, size)).count() as u64
 }
 
 // The committed lines of all log chunks.
@@ -218,11 +164,5 @@ pub fn lines_used(image: &[u8], size: Size) -> u64
     ensures { result ≡ lines_used (power_of size) (chunks_in (power_of size) (length image.now)) (words_of image.now) }
 {
     let count = places::chunks_in(size, image.len());
-    let mut lines = 0;
-    let mut c = 1;
-    while c < count {
-        lines += lines_of(image, c, size) as u64;
-        c += 1;
-    }
-    lines
+    (1..count).map(|c| lines_of(image, c, size) as u64).sum()
 }

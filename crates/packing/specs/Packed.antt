@@ -7,7 +7,7 @@
 --     version | 20     | 20     | that entry's
 --     entries | 17     | 21     | how many entries of the key are committed
 --     several | 1      | 1      | 1 if the key has several top entries
-use Rattle.std.specs.Prelude.{◌≡◌, ℕ, ◌+◌, ◌*◌, ◌/◌, ◌%◌, ◌<◌}
+use Rattle.std.specs.Prelude.{◌≡◌, ℕ, ◌+◌, ◌*◌, ◌/◌, ◌%◌, ◌^◌, ◌<◌, ◌≤◌}
 use Rattle.std.proofs.Common.{◌∙◌, ap, mod-lt, mod-eq_of_lt, zero-add, div-one, mul-pos, arith}
 use Rattle.std.proofs.Math.Nat.{div-eq_of_lt, mod-add-div, add-mul-div_left, add-mul-mod_self_left, mod-one, mod-mod}
 use Rattle.spec.specs.declared.Size.{Size}
@@ -21,11 +21,22 @@ pub record Widths : Type 0 where
   pub version : ℕ
   pub entries : ℕ
 
+abbrev pub widths : (extent place version entries : ℕ) → Widths
+widths extent place version entries = record { extent = extent; place = place; version = version; entries = entries }
+
 abbrev pub small_widths : Widths
-small_widths = record { extent = 0x100; place = 0x4_0000; version = 0x10_0000; entries = 0x2_0000 }
+small_widths = widths 0x100 0x4_0000 0x10_0000 0x2_0000
 
 abbrev pub large_widths : Widths
-large_widths = record { extent = 1; place = 0x40_0000; version = 0x10_0000; entries = 0x20_0000 }
+large_widths = widths 1 0x40_0000 0x10_0000 0x20_0000
+
+-- each field has a value, and all, with two of the last, fit a word
+pub record WordFits (w : Widths) : Type 0 where
+  pub extent-some : 0 < w.extent
+  pub place-some : 0 < w.place
+  pub version-some : 0 < w.version
+  pub entries-some : 0 < w.entries
+  pub word : w.extent * (w.place * (w.version * (w.entries * 2))) ≤ 2 ^ 64
 
 abbrev pub widths_of : Size → Widths
 widths_of S.Small = small_widths
@@ -162,8 +173,3 @@ nonzero-by w i e p l z =
 pub pack-nonzero : (size : Size) (i : Info) → 0 < i.place → i.place < (widths_of size).place → pack_of size i ≡ 0 → ⊥
 pack-nonzero S.Small i p l z = nonzero-by small_widths i (omega arith) p l z
 pack-nonzero S.Large i p l z = nonzero-by large_widths i (omega arith) p l z
-
--- at the large size there is no extent
-pub large-unpacked : (x : ℕ)
-    → ◌≡◌ {A = Info} (record { extent = 0; place = x % 0x40_0000; version = x / 0x40_0000 % 0x10_0000; entries = x / 0x40_0000 / 0x10_0000 % 0x20_0000; several = x / 0x40_0000 / 0x10_0000 / 0x20_0000 }) (unpack_by large_widths x)
-large-unpacked x = let a = div-one x in let b = mod-one x in rw (a, b)

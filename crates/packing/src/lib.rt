@@ -2,7 +2,7 @@
 #![tactic(auto)]
 
 ghost use Rattle.std.specs.Prelude.{◌≡◌};
-ghost use Rattle.packing.specs.Packed.{widths_of, small_widths, large_widths, pack_by, unpack_by};
+ghost use Rattle.packing.specs.Packed.{WordFits, widths, widths_of, pack_by, unpack_by};
 
 use spec::Size;
 
@@ -16,65 +16,56 @@ pub struct Info {
     pub several: u64,
 }
 
-fn pack_small(info: Info) -> u64
-    ensures { result ≡ pack_by small_widths info }
+// The word of fields with so many values each, and two of the last; a field that is too wide counts modulo its width.
+fn pack_by<const EXTENT: u64, const PLACE: u64, const VERSION: u64, const ENTRIES: u64>(
+    info: Info,
+) -> u64
+    requires { WordFits (widths EXTENT PLACE VERSION ENTRIES) }
+    ensures { result ≡ pack_by (widths EXTENT PLACE VERSION ENTRIES) info }
 {
-    info.extent % 0x100
-        + 0x100
-            * (info.place % 0x4_0000
-                + 0x4_0000
-                    * (info.version % 0x10_0000
-                        + 0x10_0000 * (info.entries % 0x2_0000 + 0x2_0000 * (info.several % 2))))
+    info.extent % EXTENT
+        + EXTENT
+            * (info.place % PLACE
+                + PLACE
+                    * (info.version % VERSION
+                        + VERSION * (info.entries % ENTRIES + ENTRIES * (info.several % 2))))
 }
 
-fn pack_large(info: Info) -> u64
-    ensures { result ≡ pack_by large_widths info }
+// The fields of a word.
+fn unpack_by<const EXTENT: u64, const PLACE: u64, const VERSION: u64, const ENTRIES: u64>(
+    word: u64,
+) -> Info
+    requires { WordFits (widths EXTENT PLACE VERSION ENTRIES) }
+    ensures { result ≡ unpack_by (widths EXTENT PLACE VERSION ENTRIES) word }
 {
-    info.place % 0x40_0000
-        + 0x40_0000
-            * (info.version % 0x10_0000
-                + 0x10_0000 * (info.entries % 0x20_0000 + 0x20_0000 * (info.several % 2)))
+    let places = word / EXTENT;
+    let versions = places / PLACE;
+    let counts = versions / VERSION;
+    Info {
+        extent: word % EXTENT,
+        place: places % PLACE,
+        version: versions % VERSION,
+        entries: counts % ENTRIES,
+        several: counts / ENTRIES,
+    }
 }
 
-// A field that is too wide counts modulo its width.
+// The word of a key's numbers.
 pub fn pack(size: Size, info: Info) -> u64
     ensures { result ≡ pack_by (widths_of size) info }
 {
     match size {
-        Size::Small => pack_small(info),
-        Size::Large => pack_large(info),
+        Size::Small => pack_by::<0x100, 0x4_0000, 0x10_0000, 0x2_0000>(info),
+        Size::Large => pack_by::<1, 0x40_0000, 0x10_0000, 0x20_0000>(info),
     }
 }
 
-fn unpack_small(word: u64) -> Info
-    ensures { result ≡ unpack_by small_widths word }
-{
-    Info {
-        extent: word % 0x100,
-        place: word / 0x100 % 0x4_0000,
-        version: word / 0x100 / 0x4_0000 % 0x10_0000,
-        entries: word / 0x100 / 0x4_0000 / 0x10_0000 % 0x2_0000,
-        several: word / 0x100 / 0x4_0000 / 0x10_0000 / 0x2_0000,
-    }
-}
-
-fn unpack_large(word: u64) -> Info
-    ensures { result ≡ unpack_by large_widths word }
-{
-    Info {
-        extent: 0,
-        place: word % 0x40_0000,
-        version: word / 0x40_0000 % 0x10_0000,
-        entries: word / 0x40_0000 / 0x10_0000 % 0x20_0000,
-        several: word / 0x40_0000 / 0x10_0000 / 0x20_0000,
-    }
-}
-
+// And the numbers of a word.
 pub fn unpack(size: Size, word: u64) -> Info
     ensures { result ≡ unpack_by (widths_of size) word }
 {
     match size {
-        Size::Small => unpack_small(word),
-        Size::Large => unpack_large(word),
+        Size::Small => unpack_by::<0x100, 0x4_0000, 0x10_0000, 0x2_0000>(word),
+        Size::Large => unpack_by::<1, 0x40_0000, 0x10_0000, 0x20_0000>(word),
     }
 }

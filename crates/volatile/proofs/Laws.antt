@@ -1,7 +1,7 @@
 -- The laws of a change of sums: nothing, a store to one sum, one change after another; and what it makes of the sums of
 -- entries.
 -- Assumes nothing.
-use Rattle.std.proofs.Common.{◌≡◌, ℕ, ◌+◌, ◌/◌, ◌%◌, ◌^◌, ◌<◌, ◌≤◌, eqb, List, [], length, get_or, set, sym, refl, ap, ◌∙◌, subst, arith, length-set, get_or-set_other, get_or-set_same, eq-eqb, ne_eqb}
+use Rattle.std.proofs.Common.{◌≡◌, ℕ, ◌+◌, ◌/◌, ◌%◌, ◌^◌, ◌<◌, eqb, List, [], length, get_or, set, sym, refl, ap, ◌∙◌, subst, arith, length-set, get_or-set_other, get_or-set_same, eq-eqb, ne_eqb}
 use mathlib.Core.Logic.{by_cases}
 use mathlib.Core.Option.{some}
 use native.Mathlib.Nat.{mod-add-mod}
@@ -14,7 +14,7 @@ use Rattle.spec.specs.Basics.{pick}
 use Rattle.spec.specs.Places.{chunk_words, word_chunk}
 use Rattle.spec.specs.Log.{Entry}
 use Rattle.buffer.specs.Bits.{has_bit, FrontKept}
-use Rattle.buffer.proofs.Laws.{bits-agree}
+use Rattle.buffer.proofs.Laws.{bits-agree, Zeroed}
 use Rattle.buffer.specs.Areas.{sums_start, sums_count, buffer_words}
 use Rattle.volatile.specs.Sums.{weight, share_in, chosen_sum, Summed}
 use Rattle.volatile.proofs.Sums.{sum-none}
@@ -120,26 +120,6 @@ pub share-only : (size : Size) → (c : ℕ) (e : Entry) → e.at < (widths_of s
 unfolding word_chunk
 share-only size c e l = rw (chunk-few size e.at l)
 
--- ## Clearing: the sums before word i are 0
-
-pub record Clearing (before after : List ℕ) (i : ℕ) : Type 0 where
-  pub done : (j : ℕ) → sums_start ≤ j → j < i → get_or after j 0 ≡ 0
-  pub kept : SumsAlone before after
-
-pub clear_none : (b : List ℕ) → length b ≡ buffer_words → Clearing b b sums_start
-clear_none b n = record { done = λ j g l. absurd (omega arith); kept = alone-self b n }
-
-pub clear-more : (b d : List ℕ) (i : ℕ) → Clearing b d i → sums_start ≤ i → i < buffer_words → Clearing b (set d i 0) (i + 1)
-clear-more b d i c g l = record {
-  done = λ j h k. by_cases (ℕ_discrete j i)
-      (λ q. rw q (get_or-set_same d i 0 0 (omega (arith, c.kept.size, c.kept.long))))
-      (λ q. get_or-set_other d i j 0 0 q ∙ c.done j h (omega arith));
-  kept = record {
-    size = c.kept.size;
-    long = length-set d i 0 ∙ c.kept.long;
-    below = λ j h. get_or-set_other d i j 0 0 (λ q. omega arith) ∙ c.kept.below j h;
-  };
-}
-
-pub clear-all : (b d : List ℕ) → Clearing b d buffer_words → Cleared b d
-clear-all b d c = record { kept = c.kept; zero = λ i l. c.done (sums_start + i) (omega arith) (omega arith) }
+-- all sums filled with 0
+pub clear-all : (b d : List ℕ) → length b ≡ buffer_words → Zeroed b d sums_start buffer_words → Cleared b d
+clear-all b d n c = record { kept = record { size = n; long = c.long; below = c.low }; zero = λ i l. c.done (sums_start + i) (omega arith) (omega arith) }

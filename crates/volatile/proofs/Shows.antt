@@ -1,21 +1,10 @@
 -- What the code shows of a key's word with one more entry: one law for each return.
 -- Assumes nothing.
-use Rattle.std.proofs.Common.{◌≡◌, ℕ, ◌+◌, ◌-◌, ◌<◌, ◌≤◌, sym, ap, ◌∙◌, arith, le-ltb, lt-ltb, eq-eqb, ne_eqb}
+use Rattle.std.proofs.Common.{◌≡◌, ℕ, ◌+◌, ◌<◌, ◌≤◌, sym, ap, ◌∙◌, le-ltb, lt-ltb, eq-eqb, ne_eqb}
 use Rattle.spec.specs.declared.Size.{Size}
-use Rattle.spec.specs.declared.Size.TheVariants as S
 use Rattle.packing.specs.declared.Info.{Info}
 use Rattle.packing.specs.Packed.{pack_of, unpack_of}
 use Rattle.volatile.specs.Known.{extent_of, alone, raised, noted}
-
--- the extent of a value in the log, of an empty one, and of an entry with none in the log
-pub extent-log : (placement field : ℕ) → placement ≡ 0 → field - 1 ≡ extent_of S.Small placement field
-extent-log placement field z = sym (rw (eq-eqb placement 0 z))
-
-pub extent-empty : (placement field : ℕ) → placement ≡ 0 → field ≤ 0 → 0 ≡ extent_of S.Small placement field
-extent-empty placement field z l = let q : 0 ≡ field - 1 = omega arith in q ∙ extent-log placement field z
-
-pub extent-none : (placement field : ℕ) → (placement ≡ 0 → ⊥) → 0 ≡ extent_of S.Small placement field
-extent-none placement field n = sym (rw (ne_eqb placement 0 n))
 
 -- what an entry of the log would give alone
 pub own_alone : (size : Size) → (pl x extent a v own : ℕ) → extent ≡ extent_of size pl x → own ≡ alone size extent a v → own ≡ alone size (extent_of size pl x) a v

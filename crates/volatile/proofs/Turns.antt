@@ -1,11 +1,11 @@
 -- What the code shows of the sums when a chunk is cleaned.
 -- Assumes nothing.
-use Rattle.std.proofs.Common.{◌≡◌, ℕ, ◌+◌, ◌-◌, ◌*◌, ◌%◌, ◌^◌, ◌<◌, ◌≤◌, List, length, get_or, set, sym, ap, ◌∙◌, arith, length-set, get_or-set_other, get_or-set_same}
+use Rattle.std.proofs.Common.{◌≡◌, ℕ, ◌+◌, ◌-◌, ◌*◌, ◌%◌, ◌^◌, ◌<◌, List, get_or, set, sym, ap, ◌∙◌, arith, length-set, get_or-set_other, get_or-set_same}
 use mathlib.Core.Logic.{by_cases}
 use native.Mathlib.Decide.{ℕ_discrete}
 use Rattle.spec.specs.declared.Size.{Size}
 use Rattle.spec.specs.Log.{Entry}
-use Rattle.buffer.specs.Areas.{second_room, sums_start, sums_count, buffer_words}
+use Rattle.buffer.specs.Areas.{second_room, sums_start, sums_count}
 use Rattle.volatile.specs.Sums.{high_half, chosen_sum, Summed}
 use Rattle.volatile.specs.Change.{only, nothing, SumsAlone, Changed, turned_weight, Turning, TurnedOver}
 use Rattle.volatile.proofs.Laws.{alone-then}
@@ -64,23 +64,3 @@ module _ (size : Size) (b d : List ℕ) (chunk place words : ℕ) (k : SumsAlone
             where
               close : (d' b' o x y : ℕ) → (d' + 0) % 2 ^ 64 ≡ (b' + o) % 2 ^ 64 → b' ≡ x % 2 ^ 64 → y ≡ x + o → d' < 2 ^ 64 → d' ≡ y % 2 ^ 64
               close d' b' o x y p q r h = omega arith
-
--- the record was not as the calls left it
-pub not-turned : (size : Size) → (b : List ℕ) (chunk place words sum puts all : ℕ) → length b ≡ buffer_words → sum ≡ get_or b (sums_start + chunk % sums_count) 0 → puts ≡ sum % high_half → all ≡ words % (2 * second_room) → all < puts
-    → TurnedOver size b (set b (sums_start + chunk % sums_count) 0) chunk place words
-not-turned size b chunk place words sum puts all n is_sum is-puts is_all less = record {
-  kept = record { size = n; long = length-set b (sums_start + chunk % sums_count) 0; below = λ i l. get_or-set_other b (sums_start + chunk % sums_count) i 0 0 (λ e. omega arith) };
-  turns = λ es out t s. absurd (no es out t s);
-}
-  where
-    no : (es out : List Entry) → Turning size chunk place words es out → Summed size b es → ⊥
-    no es out t s =
-        let h = t.source in
-        let q : sums_start + chunk ≡ sums_start + chunk % sums_count = omega arith in
-        let z : sum ≡ chosen_sum size chunk es % 2 ^ 64 = is_sum ∙ sym (ap (λ (i : ℕ). get_or b i 0) q) ∙ s.each chunk t.source in
-        let p = t.puts in
-        let f = t.few in
-        close (chosen_sum size chunk es) sum puts all words z is-puts is_all less p f
-      where
-        close : (x sum puts all words : ℕ) → sum ≡ x % 2 ^ 64 → puts ≡ sum % high_half → all ≡ words % (2 * second_room) → all < puts → x % high_half ≤ words → words ≤ second_room → ⊥
-        close x sum puts all words a b c d e f = omega arith

@@ -1,6 +1,6 @@
 -- What the code shows of an entry's weight.
 -- Assumes nothing.
-use Rattle.std.proofs.Common.{◌≡◌, ℕ, ◌+◌, ◌*◌, ◌/◌, ◌<◌, ◌≤◌, List, length, get_or, sym, refl, ap, ◌∙◌, arith, eq-eqb, ne_eqb}
+use Rattle.std.proofs.Common.{◌≡◌, ℕ, ◌+◌, ◌/◌, ◌<◌, ◌≤◌, List, length, get_or, sym, refl, ap, ◌∙◌, arith, eq-eqb}
 use Rattle.spec.specs.declared.Size.{Size}
 use Rattle.spec.specs.declared.Size.TheVariants as S
 use Rattle.spec.specs.declared.FirstWord.{FirstWord}
@@ -9,18 +9,10 @@ use Rattle.spec.specs.Log.{Entry, first_of_word, words_for}
 use Rattle.theory_log.specs.Batch.{Kind, put, block, delete, Right}
 use Rattle.logs.specs.Stands.{StandsIn}
 use Rattle.volatile.specs.Known.{extent_of}
-use Rattle.volatile.specs.Sums.{high_half}
 use Rattle.volatile.specs.Change.{extent_weight, Weighed, WeighedAt}
-
--- THE WEIGHT of so many words
-pub weighed-long : (op words : ℕ) → 512 < words → Weighed op words 0
-weighed-long op words l = record { is = λ h. absurd (omega arith); fits = omega arith }
 
 pub weighed-put : (op words r : ℕ) → op ≡ 1 → words ≤ 512 → r ≡ 2 + words → Weighed op words r
 weighed-put op words r q l e = record { is = λ h. rw (eq-eqb op 1 q) e; fits = omega arith }
-
-pub weighed-delete : (op words r : ℕ) → (op ≡ 1 → ⊥) → words ≤ 512 → r ≡ (2 + words) * high_half → Weighed op words r
-weighed-delete op words r q l e = record { is = λ h. rw (ne_eqb op 1 q) (omega arith); fits = omega arith }
 
 -- an entry's words are few
 kind-words : (op pl x : ℕ) → Kind op pl x → words_for pl x ≤ 32

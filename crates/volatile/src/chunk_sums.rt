@@ -5,14 +5,13 @@ ghost use Rattle.spec.specs.Words.{words_of};
 ghost use Rattle.buffer.specs.Areas.{sums_start, sums_count};
 ghost use Rattle.volatile.specs.Change.{only, nothing, Changed, Cleared, extent_weight, Weighed, WeighedAt, Renewed, TurnedOver};
 
-use buffer::{BUFFER_WORDS, Buffer, SECOND_WORDS, SUMS, SUMS_COUNT};
+use buffer::{Buffer, SECOND_WORDS, SUMS, SUMS_COUNT};
 use spec::{FirstWord, Size};
 
 // The sum of a chunk.
 pub fn sum_at(buffer: &Buffer, chunk: usize) -> u64
     ensures { result ≡ slice_index buffer.now (sums_start + chunk % sums_count) }
 {
-    buffer::buffer_length(buffer);
     buffer[SUMS + chunk % SUMS_COUNT]
 }
 
@@ -20,32 +19,23 @@ pub fn sum_at(buffer: &Buffer, chunk: usize) -> u64
 pub fn clear(buffer: &mut Buffer)
     ensures { Cleared buffer.old buffer.new }
 {
-    buffer::buffer_length(buffer);
-    let mut i = SUMS;
-    while i < BUFFER_WORDS {
-        buffer[i] = 0;
-        i += 1;
-    }
+    buffer[SUMS..].fill(0);
 }
 
 // The sum of the chunk in which word `place` lies, with so much more.
 pub fn add(buffer: &mut Buffer, place: usize, weight: u64, size: Size)
     ensures { Changed buffer.old buffer.new (only size place weight) nothing }
 {
-    buffer::buffer_length(buffer);
     let at = SUMS + places::chunk_of_word(size, place) % SUMS_COUNT;
-    let sum = buffer[at];
-    buffer[at] = std::num::wrapping_add_u64(sum, weight);
+    buffer[at] = buffer[at].wrapping_add(weight);
 }
 
 // And with so much less.
 pub fn take_off(buffer: &mut Buffer, place: usize, weight: u64, size: Size)
     ensures { Changed buffer.old buffer.new nothing (only size place weight) }
 {
-    buffer::buffer_length(buffer);
     let at = SUMS + places::chunk_of_word(size, place) % SUMS_COUNT;
-    let sum = buffer[at];
-    buffer[at] = std::num::wrapping_sub_u64(sum, weight);
+    buffer[at] = buffer[at].wrapping_sub(weight);
 }
 
 // ONE ENTRY
@@ -78,8 +68,7 @@ fn weigh_at(image: &[u8], extent: u64, place: usize, size: Size) -> u64
     }
     let first = codec::first_of(words::load(image, place));
     match first {
-        FirstWord::Padding => 0,
-        FirstWord::Wrong => 0,
+        FirstWord::Padding | FirstWord::Wrong => 0,
         FirstWord::Entry {
             op,
             placement,
@@ -95,7 +84,6 @@ fn weigh_at(image: &[u8], extent: u64, place: usize, size: Size) -> u64
 pub fn renew(image: &[u8], buffer: &mut Buffer, old: u64, own: u64, weight: u64, size: Size)
     ensures { Renewed size (words_of image.now) buffer.old buffer.new old own weight }
 {
-    buffer::buffer_length(buffer);
     let new = packing::unpack(size, own);
     if old == 0 {
         add(buffer, new.place as usize, weight, size);
@@ -117,15 +105,12 @@ const SPAN: u64 = 2 * SECOND_WORDS as u64;
 pub fn turn_over(buffer: &mut Buffer, chunk: usize, place: usize, words: usize, size: Size)
     ensures { TurnedOver size buffer.old buffer.new chunk place words }
 {
-    buffer::buffer_length(buffer);
     let sum = sum_at(buffer, chunk);
     let puts = sum % 0x1_0000_0000;
     let all = words as u64 % SPAN;
     let at = SUMS + chunk % SUMS_COUNT;
     if puts <= all {
         add(buffer, place, puts + 0x1_0000_0000 * (all - puts), size);
-        buffer[at] = 0;
-        return;
     }
     buffer[at] = 0;
 }

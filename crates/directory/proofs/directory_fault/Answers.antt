@@ -1,21 +1,16 @@
 -- `directory::directory_fault` meets its contract.
 -- Assumes nothing.
-use mathlib.Core.Path.{refl, sym, ◌∙◌}
-use native.Mathlib.Omega.{arith}
+use Rattle.std.proofs.Common.{rules, tests, refl, not}
+use Rattle.std.proofs.lemmas.Iterator.{YieldsList-from_range}
+use Rattle.std.proofs.lemmas.Iterator.Search.{find_from_yields_List}
+use Rattle.places.specs.Sizes.{power_of}
 use Rattle.spec.specs.Words.{words_of}
 use Rattle.directory.specs.Tests.{word_right}
-use Rattle.directory.proofs.Tests.{search-right, search-wrong, search-end}
-use Rattle.places.specs.Sizes.{power_of}
+use Rattle.directory.proofs.Tests.{fault-found}
 use Rattle.directory.proofs.directory_fault.Goals as goal
 
-pub loop-c-init : goal.loop-c-init
-loop-c-init c = (omega arith, refl)
-
-pub loop-c-preserved : goal.loop-c-preserved
-loop-c-preserved c = (omega arith, c.loop-c.invariant.1 ∙ search-right (word_right (power_of c.args.size) c.args.count (words_of c.args.image.now)) 504 c.loop-c.c _ c.word_right.ensures c.if-word_right.true (omega arith))
-
-pub returns-else-word_right : goal.returns-else-word_right
-returns-else-word_right c = sym (c.loop-c.invariant.1 ∙ search-wrong (word_right (power_of c.args.size) c.args.count (words_of c.args.image.now)) 504 c.loop-c.c _ c.word_right.ensures c.if-word_right.false (omega arith))
-
 pub returns : goal.returns
-returns c = sym (c.loop-c.invariant.1 ∙ search-end (word_right (power_of c.args.size) c.args.count (words_of c.args.image.now)) 504 c.loop-c.c (omega arith))
+returns c =
+    let a = c.args in
+    fault-found (power_of a.size) a.count (words_of a.image.now) _
+    (find_from_yields_List (λ k. not (word_right (power_of a.size) a.count (words_of a.image.now) k)) _ _ _ c.find.ensures.ran (YieldsList-from_range 0 504 504 refl refl) (λ x b q k. search (rules, tests)))

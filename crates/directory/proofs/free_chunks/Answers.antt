@@ -1,24 +1,17 @@
 -- `directory::free_chunks` meets its contract.
 -- Assumes nothing.
-use mathlib.Core.Path.{refl}
-use native.Mathlib.Omega.{arith}
-use Rattle.spec.specs.Words.{words_of}
-use Rattle.directory.proofs.Sums.{below-turn, below_end, free_all}
+use Rattle.std.proofs.Common.{rules, tests, refl, ap, ◌∙◌, length}
+use Rattle.std.proofs.lemmas.Iterator.{YieldsList-from_range}
+use Rattle.std.proofs.lemmas.Iterator.Consumers.{count_from_yields_List, YieldsList-from_filter}
 use Rattle.places.specs.Sizes.{power_of}
-use Rattle.directory.proofs.free_chunks.Invariants.{free_one}
+use Rattle.spec.specs.Words.{words_of}
+use Rattle.spec.specs.Directory.{role_at, is_free, free_chunks}
+use Rattle.directory.proofs.Ranges.{filter_up}
 use Rattle.directory.proofs.free_chunks.Goals as goal
-
-pub loop-c-init : goal.loop-c-init
-loop-c-init c = (omega arith, omega arith, omega arith, refl)
-
-pub loop-c-preserved : goal.loop-c-preserved
-loop-c-preserved c =
-    let at = c.loop-c in
-    (omega arith, omega arith, omega arith, below-turn (let a = c.args in free_one a.size a.image.now) at.c at.free c.free_at-free.result at.invariant.0 at.invariant.3 c.free_at-free.ensures.0)
 
 pub returns : goal.returns
 returns c =
-    let at = c.loop-c in
     let a = c.args in
-    let n = c.chunks_in-count.result in
-    rw (← c.chunks_in-count.ensures.0) (free_all (power_of a.size) n (words_of a.image.now) at.free (below_end (free_one a.size a.image.now) at.c n at.free at.invariant.1 (omega arith) at.invariant.3))
+    let free = λ (k : _). is_free (role_at (power_of a.size) (words_of a.image.now) k) in
+    count_from_yields_List c.filter.result _ c.count.ensures.ran (YieldsList-from_filter _ free (YieldsList-from_range 1 c.chunks_in-count.result _ (cc) refl) c.filter.ensures.closure (λ x b q k. search (rules, tests)))
+    ∙ ap length (filter_up free 1 _) ∙ ap (λ (n : _). length (free_chunks (power_of a.size) n (words_of a.image.now))) c.chunks_in-count.ensures.0

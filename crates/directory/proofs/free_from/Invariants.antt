@@ -1,6 +1,6 @@
--- The loops of `directory::free_from`. The loop's invariant: where no chunk below `from` is free, of the chunks before
--- c so many are free, too few, and `lowest` is the first of them.
-use Prim.Native.Nat.{ℕ, ◌-◌, ◌≤◌, ◌<◌}
+-- The loop of `directory::free_from`. The loop's invariant: where no chunk below `from` is free, of the chunks before
+-- c so many are free, too few, and `first` is the first of them.
+use Prim.Native.Nat.{ℕ, ◌≤◌, ◌<◌}
 use mathlib.Core.Path.{◌≡◌}
 use mathlib.Core.Bool.{Bool, false}
 use mathlib.Core.List.{List}
@@ -18,7 +18,4 @@ abbrev pub NoneBefore : Size → List ℕ → ℕ → Type 0
 NoneBefore size image from = (d : ℕ) → 1 ≤ d → d < from → free size image d ≡ false
 
 abbrev pub invariant-loop-c : goal.invariant-loop-c
-invariant-loop-c l = (l.seen < l.c) × (NoneBefore l.size l.image l.from → (1 ≤ l.seen → l.seen < l.needed) × Counted (free l.size l.image) 1 l.c l.lowest l.seen)
-
-abbrev pub decreases-loop-c : goal.decreases-loop-c
-decreases-loop-c l = l.count - l.c
+invariant-loop-c l = (l.seen < l.c) × (NoneBefore l.size l.image l.from → (1 ≤ l.seen → l.seen < l.needed) × Counted (free l.size l.image) 1 l.c l.first l.seen)

@@ -1,29 +1,15 @@
 -- `count` meets its contract.
 -- Assumes nothing.
-use mathlib.Core.Path.{◌≡◌, ◌∙◌, ap, refl}
-use Prim.Native.Nat.{◌/◌}
-use native.Mathlib.Omega.{arith}
-use lib.ListN.{length}
-use Rattle.index.specs.Index.{used_to, used}
-use Rattle.index.proofs.Used.{used-empty, used-full}
+use Rattle.std.proofs.Common.{rules, tests, arith, ◌/◌, ◌∙◌, length}
+use Rattle.std.proofs.lemmas.Iterator.{YieldsList-from_range}
+use Rattle.std.proofs.lemmas.Iterator.Consumers.{count_from_yields_List, YieldsList-from_filter}
+use Rattle.index.specs.Index.{used}
+use Rattle.index.proofs.Used.{used_at, used-counted}
 use Rattle.index.proofs.count.Goals as goal
-use Rattle.index.proofs.count.Goals.{then-table-s-ne0, else-table-s-ne0}
-
-pub loop-s-preserved : goal.loop-s-preserved
-loop-s-preserved c =
-    let w = c.loop-s in
-    let t = c.args.table.now in
-    elim c.if-table-s-ne0.branch [
-      | then-table-s-ne0 z ↦
-          (omega arith, refl, omega arith, omega (arith, used-full t w.s z.if-table-s-ne0.true))
-      | else-table-s-ne0 z ↦
-          (omega arith, refl, omega arith, omega (arith, used-empty t w.s z.if-table-s-ne0.false))
-    ]
 
 pub returns : goal.returns
 unfolding used
 returns c =
-    let w = c.loop-s in
     let t = c.args.table.now in
-    let e : w.s ≡ length t / 2 = omega arith in
-    w.invariant.3 ∙ ap (used_to t) e
+    count_from_yields_List c.filter.result _ c.count.ensures.ran (YieldsList-from_filter _ (used_at t) (YieldsList-from_range 0 (length t / 2) (length t / 2) (cc) (omega arith)) c.filter.ensures.closure (λ x b q k. search (rules, tests)))
+    ∙ used-counted t (length t / 2)

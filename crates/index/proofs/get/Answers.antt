@@ -3,7 +3,7 @@
 use mathlib.Core.Path.{sym}
 use native.Mathlib.Omega.{arith}
 use Rattle.index.proofs.Slots.{get-out}
-use Rattle.index.proofs.Probing.{first-in, first_key, first-empty, first-passed, behind-in, behind-empty, behind-key, behind-passed, behind-done, round-in, again-empty, again-key, again-passed, again-done}
+use Rattle.index.proofs.Probing.{first-in, first_key, first-empty, first-passed, behind-empty, behind-key, again-empty, again-key, again-passed, again-done}
 use Rattle.index.proofs.get.Goals as goal
 
 pub returns-then-n-eq0 : goal.returns-then-n-eq0
@@ -23,15 +23,6 @@ bounds-table-at c =
     let a = c.args in
     let t = a.table.now in
     omega (arith, first-in t a.key c.start_of-at.result (omega arith) c.start_of-at.ensures)
-
-pub overflow_add-result : goal.overflow_add-result
-overflow_add-result c =
-    let a = c.args in
-    let t = a.table.now in
-    omega (
-      arith,
-      first-in t a.key c.start_of-at.result (omega arith) c.start_of-at.ensures,
-    )
 
 pub offset_bounds-table-at-then-table-at : goal.offset_bounds-table-at-then-table-at
 offset_bounds-table-at-then-table-at c =
@@ -59,15 +50,6 @@ returns-then-table-at c =
     first_key t a.key c.start_of-at.result (omega arith)
     c.start_of-at.ensures c.if-table-at.true
 
-pub overflow_add-at : goal.overflow_add-at
-overflow_add-at c =
-    let a = c.args in
-    let t = a.table.now in
-    omega (
-      arith,
-      first-in t a.key c.start_of-at.result (omega arith) c.start_of-at.ensures,
-    )
-
 pub offset_bounds-table-at-2 : goal.offset_bounds-table-at-2
 offset_bounds-table-at-2 c =
     let a = c.args in
@@ -94,25 +76,12 @@ returns-then-table-at-eq0 c =
     first-empty t a.key c.start_of-at.result (omega arith) c.start_of-at.ensures
     c.if-table-at-eq0.true
 
-pub overflow_add-slot : goal.overflow_add-slot
-overflow_add-slot c =
-    let a = c.args in
-    let t = a.table.now in
-    omega (arith, first-in t a.key c.start_of-at.result (omega arith) c.start_of-at.ensures)
-
 pub loop-slot-init : goal.loop-slot-init
 loop-slot-init c =
     let a = c.args in
     let t = a.table.now in
     first-passed t a.key c.start_of-at.result (omega arith) c.start_of-at.ensures
     c.if-table-at-eq0.false c.if-table-at.false
-
-pub overflow_add-slot-in-loop-slot : goal.overflow_add-slot-in-loop-slot
-overflow_add-slot-in-loop-slot c =
-    let a = c.args in
-    let t = a.table.now in
-    let w = c.loop-slot in
-    omega (arith, behind-in t a.key w.slot w.invariant)
 
 pub returns-then-info-eq0 : goal.returns-then-info-eq0
 returns-then-info-eq0 c =
@@ -127,27 +96,6 @@ returns-then-table-slot c =
     let t = a.table.now in
     let w = c.loop-slot in
     behind-key t a.key w.slot w.invariant (omega arith) c.if-table-slot.true
-
-pub loop-slot-preserved : goal.loop-slot-preserved
-loop-slot-preserved c =
-    let a = c.args in
-    let t = a.table.now in
-    let w = c.loop-slot in
-    behind-passed t a.key w.slot w.invariant (omega arith) c.if-info-eq0.false c.if-table-slot.false
-
-pub loop-low-init : goal.loop-low-init
-loop-low-init c =
-    let a = c.args in
-    let t = a.table.now in
-    let w = c.loop-slot in
-    behind-done t a.key w.slot w.invariant (omega arith)
-
-pub overflow_add-low : goal.overflow_add-low
-overflow_add-low c =
-    let a = c.args in
-    let t = a.table.now in
-    let w = c.loop-low in
-    omega (arith, round-in t a.key w.low w.invariant)
 
 pub returns-then-info-eq0-2 : goal.returns-then-info-eq0-2
 returns-then-info-eq0-2 c =

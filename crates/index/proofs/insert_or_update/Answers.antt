@@ -1,12 +1,7 @@
 -- `insert_or_update` meets its contract. Assumes nothing.
-use native.Mathlib.Omega.{arith}
-use lib.ListN.{length-set}
+use Rattle.std.proofs.Common.{rules}
 use Rattle.index.proofs.Answers.{answer-new, answer-old, answer-full, insert-in, insert-out}
-use borrow.Author.Rules.{rules}
 use Rattle.index.proofs.insert_or_update.Goals as goal
-
-pub bounds-table-slot-then-slot-table-2 : goal.bounds-table-slot-then-slot-table-2
-bounds-table-slot-then-slot-table-2 c = simp length-set (omega arith)
 
 pub returns-then-old-eq0 : goal.returns-then-old-eq0
 returns-then-old-eq0 c =

@@ -1,9 +1,8 @@
--- `stop` meets its contract.
+-- `slot_of` meets its contract.
 -- Assumes nothing.
-use native.Mathlib.Omega.{arith}
-use Rattle.index.specs.Index.{slots}
+use Rattle.std.proofs.Common.{◌≡◌, ◌+◌, ◌-◌, ◌/◌, length, arith}
 use Rattle.index.proofs.Slots.{stop-upto}
-use Rattle.index.proofs.Probing.{probing-start, probing-empty, probing-key, probing-none, probing-on}
+use Rattle.index.proofs.Probing.{probing-start, probing-on}
 use Rattle.index.proofs.slot_of.Goals as goal
 
 pub returns-then-n-eq0 : goal.returns-then-n-eq0
@@ -11,37 +10,17 @@ returns-then-n-eq0 c =
     let a = c.args in
     omega (arith, stop-upto a.table.now a.key)
 
-pub loop-left-init : goal.loop-left-init
-loop-left-init c =
+pub loop-passed-init : goal.loop-passed-init
+loop-passed-init c =
     let a = c.args in
-    (probing-start a.table.now a.key c.hash-s.result (omega arith) c.hash-s.ensures, omega arith)
+    let n = length a.table.now / 2 in
+    let all : n - 0 ≡ n = omega arith in
+    rw all (probing-start a.table.now a.key c.hash-s.result (omega arith) c.hash-s.ensures)
 
-pub returns-then-table-s-eq0 : goal.returns-then-table-s-eq0
-returns-then-table-s-eq0 c =
+pub loop-passed-preserved : goal.loop-passed-preserved
+loop-passed-preserved c =
     let a = c.args in
-    let w = c.loop-left in
-    probing-empty a.table.now a.key (slots a.table.now) w.s w.left w.invariant.0 (omega arith)
-    c.if-table-s-eq0.true
-
-pub returns-then-table-s : goal.returns-then-table-s
-returns-then-table-s c =
-    let a = c.args in
-    let w = c.loop-left in
-    probing-key a.table.now a.key (slots a.table.now) w.s w.left w.invariant.0 (omega arith)
-    c.if-table-s.true
-
-pub loop-left-preserved : goal.loop-left-preserved
-loop-left-preserved c =
-    let a = c.args in
-    let w = c.loop-left in (
-      rw c.next_slot-s.ensures
-          (probing-on a.table.now a.key (slots a.table.now) w.s w.left w.invariant.0 (omega arith)
-          c.if-table-s-eq0.false c.if-table-s.false),
-      omega arith,
-    )
-
-pub returns : goal.returns
-returns c =
-    let a = c.args in
-    let w = c.loop-left in
-    probing-none a.table.now a.key (slots a.table.now) w.s w.left w.invariant.0 (omega arith)
+    let w = c.loop-passed in
+    let n = length a.table.now / 2 in
+    let less : n - (w._passed + 1) ≡ n - w._passed - 1 = omega arith in
+    rw (c.next_slot-s.ensures, less) (probing-on a.table.now a.key n w.s _ w.invariant (omega arith) c.if-table-s-eq0.false c.if-table-s.false)

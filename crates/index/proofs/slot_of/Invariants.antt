@@ -1,10 +1,7 @@
--- The loops of `stop`. The loop's invariant is `Probing`: the probing under way.
-use Prim.Native.Nat.{◌≤◌}
+-- The loop of `slot_of`. The loop's invariant is `Probing`: the probing under way.
+use Rattle.std.proofs.Common.{◌-◌}
 use Rattle.index.proofs.Probing.{Probing}
 use Rattle.index.proofs.slot_of.Given as goal
 
-abbrev pub invariant-loop-left : goal.invariant-loop-left
-invariant-loop-left l = Probing l.table l.key l.n l.s l.left × (l.left ≤ l.n)
-
-abbrev pub decreases-loop-left : goal.decreases-loop-left
-decreases-loop-left l = l.left
+abbrev pub invariant-loop-passed : goal.invariant-loop-passed
+invariant-loop-passed l = Probing l.table l.key l.n l.s (l.n - l._passed)

@@ -15,6 +15,3 @@ hash-small key n =
 
 pub overflow_mul-result : goal.overflow_mul-result
 overflow_mul-result c = let s = hash-small c.args.key c.args.n in let e = c.hash.ensures in record { fits = omega arith }
-
-pub returns : goal.returns
-returns c = rw c.hash.ensures

@@ -18,5 +18,5 @@ returns-then-info-new c =
 pub returns-else-info-new : goal.returns-else-info-new
 returns-else-info-new c =
     renewed-low c.args.size (words_of c.args.image.now) _ _ _ _ _ c.unpack-new.ensures _
-    c.unpack-info.ensures c.if-old-eq0.false c.buffer_length.ensures.1
+    c.unpack-info.ensures c.if-old-eq0.false c.told-buffer
     c.if-info-new.false

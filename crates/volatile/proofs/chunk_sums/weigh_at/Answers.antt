@@ -1,21 +1,11 @@
 -- `weigh_at` meets its contract.
 -- Assumes nothing.
 use Rattle.spec.specs.Words.{words_of}
-use Rattle.volatile.proofs.Weights.{at-extent, at-padding, at-wrong, at_entry}
+use Rattle.volatile.proofs.Weights.{at-extent, at_entry}
 use Rattle.volatile.proofs.chunk_sums.weigh_at.Goals as goal
 
 pub returns-then-extent-gt0 : goal.returns-then-extent-gt0
 returns-then-extent-gt0 c = at-extent c.args.size (words_of c.args.image.now) _ _ _ c.if-extent-gt0.true c.weigh_extent.ensures
-
-pub returns-in-Padding : goal.returns-in-Padding
-returns-in-Padding c =
-    at-padding c.args.size (words_of c.args.image.now) _ _ _ _ c.load.ensures
-    c.first_of-first.ensures c.in-Padding.is
-
-pub returns-in-Wrong : goal.returns-in-Wrong
-returns-in-Wrong c =
-    at-wrong c.args.size (words_of c.args.image.now) _ _ _ _ c.load.ensures
-    c.first_of-first.ensures c.in-Wrong.is
 
 pub returns-in-Entry : goal.returns-in-Entry
 returns-in-Entry c =
