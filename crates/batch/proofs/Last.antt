@@ -4,8 +4,10 @@
 use mathlib.Core.Path.{◌≡◌, refl, sym, ◌∙◌, ap}
 use mathlib.Core.Bool.{Bool, true, false}
 use mathlib.Core.Option.{Option, none, some}
+use Rattle.std.specs.Prelude.{Some, None}
+use Rattle.std.specs.declared.option as O
 use mathlib.Core.List.{List, [], ◌∷◌, ◌++◌, append-nil}
-use Prim.Native.Nat.{ℕ, suc, ◌≤◌}
+use Prim.Native.Nat.{ℕ, suc}
 use native.Mathlib.Omega.{arith}
 use lib.Dec.{eqb}
 use lib.Seq.{append_snoc}
@@ -20,16 +22,16 @@ use Rattle.theory_log.specs.Fold.{fold_e}
 use Rattle.theory_log.proofs.Contents.{better, best, version_of, chosen-best, highest-best, better-none, best-append, best-above, counts_same, highest-insert}
 use Rattle.session.specs.Fits.{key_list}
 use Rattle.batch.specs.declared.Latest.{Latest}
-use Rattle.batch.specs.Items.{nothing, pass, latest_of}
+use Rattle.batch.specs.Items.{pass, latest_of}
 
 -- the last item of a key, q where there is none
 abbrev pub last_of : ℕ → Option Entry → List Entry → Option Entry
 last_of k q [] = q
 last_of k q (e ∷ items) = last_of k (pick (eqb e.key k) (some e) q) items
 
-abbrev pub latest_by : Option Entry → Latest
-latest_by none = nothing
-latest_by (some e) = record { op = e.op; version = e.version }
+abbrev pub latest_by : Option Entry → O.Option.Option Latest
+latest_by none = None
+latest_by (some e) = Some (record { op = e.op; version = e.version })
 
 abbrev or_last : Option Entry → Option Entry → Option Entry
 or_last none q = q
@@ -37,9 +39,9 @@ or_last (some e) q = some e
 
 fold-last : (k : ℕ) (q : Option Entry) (items : List Entry) → fold_e (pass k) (latest_by q) items ≡ latest_by (last_of k q items)
 fold-last k q [] = refl
-fold-last k q (e ∷ items) = ap (λ (l : Latest). fold_e (pass k) l items) (go (eqb e.key k)) ∙ fold-last k (pick (eqb e.key k) (some e) q) items
+fold-last k q (e ∷ items) = ap (λ (l : O.Option.Option Latest). fold_e (pass k) l items) (go (eqb e.key k)) ∙ fold-last k (pick (eqb e.key k) (some e) q) items
   where
-    go : (t : Bool) → pick t (record { op = e.op; version = e.version }) (latest_by q) ≡ latest_by (pick t (some e) q)
+    go : (t : Bool) → pick t (Some (record { op = e.op; version = e.version })) (latest_by q) ≡ latest_by (pick t (some e) q)
     go true = refl
     go false = refl
 
@@ -92,27 +94,17 @@ best-last k (e ∷ items) es c =
     let rec = best-last k items (es ++ (e ∷ [])) (counts-front es e items c.1) in
     (rw append_snoc at rec) ∙ ap (λ (q : Option Entry). last_of k q items) (one_more k es e c.0)
 
--- versions count from 1
-abbrev Low : Option Entry → Type 0
-Low none = Unit {0}
-Low (some e) = 1 ≤ e.version
-
-last-low : (k : ℕ) (q : Option Entry) (items es : List Entry) → CountsOn es items → Low q → Low (last_of k q items)
-last-low k q [] es c l = l
-last-low k q (e ∷ items) es c l = last-low k (pick (eqb e.key k) (some e) q) items (e ∷ es) c.1 (go (eqb e.key k))
-  where
-    go : (t : Bool) → Low (pick t (some e) q)
-    go true = let v = c.0 in omega arith
-    go false = l
-
--- WHAT THE LAST STAGED ITEM SAYS: a version other than 0 if the key is staged, and then that of both; else those
+-- WHAT THE LAST STAGED ITEM SAYS, if there is one: the version is that of staged and committed entries; else those
 -- committed decide.
 pub record KeyStaged (k : ℕ) (es items : List Entry) : Type 0 where
+  pub latest : Latest
+  pub is : latest_of k items ≡ Some latest
   pub among : is_in k (key_list items) ≡ true
-  pub version : (latest_of k items).version ≡ highest k (es ++ items)
-  pub put : eqb (latest_of k items).op 1 ≡ present k es items
+  pub version : latest.version ≡ highest k (es ++ items)
+  pub put : eqb latest.op 1 ≡ present k es items
 
 pub record KeyUnstaged (k : ℕ) (es items : List Entry) : Type 0 where
+  pub is : latest_of k items ≡ None
   pub among : is_in k (key_list items) ≡ false
   pub version : highest k (es ++ items) ≡ highest k es
   pub same : chosen k (es ++ items) ≡ chosen k es
@@ -127,36 +119,37 @@ module _ (k : ℕ) (es items : List Entry) (c : CountsOn es items) where
 
   staged : (e : Entry) → last_of k none items ≡ some e → KeyStaged k es items
   staged e h =
-      let l : latest_of k items ≡ latest_by (some e) = latest-last k items ∙ ap latest_by h in
       record {
+        latest = record { op = e.op; version = e.version };
+        is = latest-last k items ∙ ap latest_by h;
         among = sym (last-among k items) ∙ ap is_some h;
-        version = ap (λ (x : Latest). x.version) l ∙ sym (highest-or ∙ rw h);
-        put = ap (λ (x : Latest). eqb x.op 1) l ∙ sym (ap is_put (chosen-or ∙ ap (λ (q : Option Entry). or_last q (chosen k es)) h));
+        version = sym (highest-or ∙ rw h);
+        put = sym (ap is_put (chosen-or ∙ ap (λ (q : Option Entry). or_last q (chosen k es)) h));
       }
 
   unstaged : last_of k none items ≡ none → KeyUnstaged k es items
   unstaged h =
       record {
+        is = latest-last k items ∙ ap latest_by h;
         among = sym (last-among k items) ∙ ap is_some h;
         version = highest-or ∙ rw h (highest-best k es);
         same = chosen-or ∙ rw h;
       }
 
-  pub key-staged : ((latest_of k items).version ≡ 0 → ⊥) → KeyStaged k es items
-  key-staged n = go (last_of k none items) refl
+  -- by what the pass finds
+  pub key-staged : (l : Latest) → latest_of k items ≡ Some l → KeyStaged k es items
+  key-staged l is = go (last_of k none items) refl
     where
       go : (q : Option Entry) → last_of k none items ≡ q → KeyStaged k es items
-      go none h = absurd (n (ap (λ (x : Latest). x.version) (latest-last k items ∙ ap latest_by h)))
+      go none h = absurd (let z : None ≡ Some l = sym (latest-last k items ∙ ap latest_by h) ∙ is in let y : ◌≡◌ {A = ℕ} 0 1 = cc in omega arith)
       go (some e) h = staged e h
 
-  pub key-unstaged : (latest_of k items).version ≡ 0 → KeyUnstaged k es items
-  key-unstaged z = go (last_of k none items) refl (last-low k none items es c tt)
+  pub key-unstaged : latest_of k items ≡ None → KeyUnstaged k es items
+  key-unstaged is = go (last_of k none items) refl
     where
-      go : (q : Option Entry) → last_of k none items ≡ q → Low q → KeyUnstaged k es items
-      go none h l = unstaged h
-      go (some e) h l =
-          let v : (latest_of k items).version ≡ e.version = ap (λ (x : Latest). x.version) (latest-last k items ∙ ap latest_by h) in
-          absurd (omega arith)
+      go : (q : Option Entry) → last_of k none items ≡ q → KeyUnstaged k es items
+      go none h = unstaged h
+      go (some e) h = absurd (let z = sym (latest-last k items ∙ ap latest_by h) ∙ is in let y : ◌≡◌ {A = ℕ} 0 1 = cc in omega arith)
 
   -- the same by whether the key is among the items
   pub among-staged : is_in k (key_list items) ≡ true → KeyStaged k es items

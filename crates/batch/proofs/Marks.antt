@@ -20,7 +20,8 @@ use Rattle.session.specs.State.{buffer_part}
 use Rattle.buffer.specs.Areas.{filter_place}
 use Rattle.session.specs.Filter.{filter_bit, is_marked, AllMarked}
 use Rattle.batch.specs.declared.Latest.{Latest}
-use Rattle.batch.specs.Items.{nothing, pass, latest_of}
+use Rattle.std.specs.Prelude.{Option, None}
+use Rattle.batch.specs.Items.{pass, latest_of}
 use Rattle.batch.specs.Marks.{marks_of, MarkedWith}
 
 -- A BIT SET, as the code shifts it
@@ -53,13 +54,13 @@ pub marked_more : (b : List ℕ) (words next : ℕ) (items : List Entry) (e : En
 marked_more b words next items e m w a = more-marked (marks_of b words) next e.key m items e refl (marks-all b words words items (λ z. z) w a)
 
 -- a key whose bit is 0
-passed : (w key : ℕ) (latest : Latest) (items : List Entry) → is_marked w key ≡ false → AllMarked w items → fold_e (pass key) latest items ≡ latest
+passed : (w key : ℕ) (latest : Option Latest) (items : List Entry) → is_marked w key ≡ false → AllMarked w items → fold_e (pass key) latest items ≡ latest
 passed w key latest [] u a = refl
-passed w key latest (e ∷ items) u a = ap (λ (l : Latest). fold_e (pass key) l items) (rw (ne_eqb e.key key other)) ∙ passed w key latest items u a.1
+passed w key latest (e ∷ items) u a = ap (λ (l : Option Latest). fold_e (pass key) l items) (rw (ne_eqb e.key key other)) ∙ passed w key latest items u a.1
   where
     other : e.key ≡ key → ⊥
     other q = not-both (is_marked w key) (ap (is_marked w) (sym q) ∙ a.0) u
 
-pub unmarked-none : (w key : ℕ) (items : List Entry) → is_marked w key ≡ false → AllMarked w items → nothing ≡ latest_of key items
+pub unmarked-none : (w key : ℕ) (items : List Entry) → is_marked w key ≡ false → AllMarked w items → None ≡ latest_of key items
 unfolding latest_of
-unmarked-none w key items u a = sym (passed w key nothing items u a)
+unmarked-none w key items u a = sym (passed w key None items u a)

@@ -16,6 +16,7 @@ use Rattle.buffer.specs.Areas.{batch_room}
 use Rattle.session.specs.State.{buffer_part}
 use Rattle.session.proofs.Part.{length_part}
 use Rattle.batch.specs.declared.Item.{Item}
+use Rattle.std.specs.Prelude.{Option}
 use Rattle.batch.specs.declared.Latest.{Latest}
 use Rattle.batch.specs.Items.{StagedIn, item_by, item_of, later_of, pass}
 use Rattle.batch.proofs.Part.{part-behind}
@@ -158,6 +159,6 @@ module _ {S : Type 0} (b : List ℕ) (words : ℕ) (whole : List Entry → S) wh
         q.2 ∙ ap rest n.split ∙ h n.head n.tail n.op
 
 -- what the code does with the item: the last of a key
-pub later-pass : (key : ℕ) (latest next : Latest) (i : Item) → next ≡ later_of key latest i.key i.op i.version
+pub later-pass : (key : ℕ) (latest next : Option Latest) (i : Item) → next ≡ later_of key latest i.key i.op i.version
     → (e : Entry) (tail : List Entry) → i.op ≡ e.op → i.version ≡ e.version → i.key ≡ e.key → fold_e (pass key) latest (e ∷ tail) ≡ fold_e (pass key) next tail
-later-pass key latest next i told e tail o v k = ap (λ (l : Latest). fold_e (pass key) l tail) (sym (told ∙ rw (o, v, k)))
+later-pass key latest next i told e tail o v k = ap (λ (l : Option Latest). fold_e (pass key) l tail) (sym (told ∙ rw (o, v, k)))

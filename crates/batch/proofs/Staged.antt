@@ -2,6 +2,7 @@
 -- Assumes nothing.
 use mathlib.Core.Path.{◌≡◌, refl, sym, ◌∙◌, ap}
 use mathlib.Core.List.{List, [], ◌∷◌}
+use Rattle.std.specs.Prelude.{Option, Some, None}
 use Prim.Native.Nat.{ℕ, zero, suc, ◌+◌, ◌-◌, ◌*◌, ◌/◌, ◌%◌, ◌≤◌, ◌<◌}
 use native.Mathlib.Nat.{zero-add, add-zero}
 use native.Mathlib.Omega.{arith}
@@ -14,11 +15,10 @@ use Rattle.theory_log.specs.Batch.{Kind, put, block, delete, Right}
 use Rattle.theory_log.proofs.Batch.{first-right}
 use Rattle.session.specs.State.{buffer_part}
 use Rattle.session.proofs.Part.{length_part}
-use Rattle.logs.specs.declared.Short.{Short}
-use Rattle.logs.specs.declared.Short.TheVariants as S
-use Rattle.batch.specs.declared.StagedItem.{StagedItem}
-use Rattle.batch.specs.declared.StagedItem.TheVariants as I
-use Rattle.batch.specs.Staged.{Taken, StagedFrom, Staged, ShortStaged}
+use Rattle.logs.specs.declared.ShortPut.{ShortPut}
+use Rattle.logs.specs.Short.{ToldAt}
+use Rattle.batch.specs.declared.StagedEntry.{StagedEntry}
+use Rattle.batch.specs.Staged.{Taken, StagedFrom, Staged, ShortStaged, put_of}
 
 -- A part of the buffer.
 part-drop : (b : List ℕ) (i m n : ℕ) → drop m (buffer_part b i (m + n)) ≡ buffer_part b (i + m) n
@@ -59,17 +59,17 @@ headed b at end e es r h =
 
 module _ (b : List ℕ) (at end : ℕ) where
   -- nothing stands behind the end,
-  pub staged-end : end ≤ at → Staged b at end I.Nothing
+  pub staged-end : end ≤ at → Staged b at end None
   staged-end l [] s = refl
   staged-end l (e ∷ es) s = let f = (headed b at end e es s.0.0 s.1).fits in absurd (omega arith)
 
   module _ (w : FirstWord) (is-first : w ≡ first_of_word (get_or b at 0)) where
     -- and no word of entries is padding, or wrong,
-    pub staged-padding : w ≡ F.Padding → Staged b at end I.Nothing
+    pub staged-padding : w ≡ F.Padding → Staged b at end None
     staged-padding q [] s = refl
     staged-padding q (e ∷ es) s = let f = (headed b at end e es s.0.0 s.1).first in absurd (let z : ◌≡◌ {A = ℕ} 0 1 = cc in omega arith)
 
-    pub staged-wrong : w ≡ F.Wrong → Staged b at end I.Nothing
+    pub staged-wrong : w ≡ F.Wrong → Staged b at end None
     staged-wrong q [] s = refl
     staged-wrong q (e ∷ es) s = let f = (headed b at end e es s.0.0 s.1).first in absurd (let z : ◌≡◌ {A = ℕ} 0 1 = cc in omega arith)
 
@@ -82,14 +82,14 @@ module _ (b : List ℕ) (at end : ℕ) where
           r.words ∙ sym (size ∙ rw (p, q))
 
       -- nor is one too long
-      pub staged-long : end - at < 2 + words → Staged b at end I.Nothing
+      pub staged-long : end - at < 2 + words → Staged b at end None
       staged-long l [] s = refl
       staged-long l (e ∷ es) s = let d = headed b at end e es s.0.0 s.1 in let m = own-size e es s.0.0 d in let f = d.fits in absurd (omega arith)
 
-      pub staged-entry : at < end → 2 + words ≤ end - at → Staged b at end (I.Entry op pl v x (get_or b (at + 1) 0) words)
+      pub staged-entry : at < end → 2 + words ≤ end - at → Staged b at end (Some (record { op = op; placement = pl; version = v; field = x; key = get_or b (at + 1) 0; words = words }))
       staged-entry l m = (omega arith, entry)
         where
-          entry : (rest : List Entry) → StagedFrom b at end rest → Taken b at end op pl v x (get_or b (at + 1) 0) words rest
+          entry : (rest : List Entry) → StagedFrom b at end rest → Taken b at end (record { op = op; placement = pl; version = v; field = x; key = get_or b (at + 1) 0; words = words }) rest
           entry [] s = let n = ap length s.1 in let k = length_part b at (end - at) in absurd (omega arith)
           entry (e ∷ es) s =
               let d = headed b at end e es s.0.0 s.1 in
@@ -114,42 +114,42 @@ put_word _ _ v x w (put l) h e q = let a : w / 16 ≡ v + 1048576 * x = omega ar
 put_word _ _ v x w block h e q = absurd (omega arith)
 put_word _ _ v _ w delete h e q = absurd (omega arith)
 
-module _ (b : List ℕ) (at end w field words : ℕ) (is_word : w ≡ get_or b at 0) (is_field : field ≡ w / 16777216) (is-words : words ≡ (field + 7) / 8) where
-  pub short-staged : w % 16 ≡ 1 → at < end → 2 + words ≤ end - at → ShortStaged b at end (S.Put (w / 16 % 1048576) field (get_or b (at + 1) 0) words)
-  short-staged low l m = (omega arith, entry)
-    where
-      entry : (rest : List Entry) → StagedFrom b at end rest → Taken b at end 1 0 (w / 16 % 1048576) field (get_or b (at + 1) 0) words rest
-      entry [] s = let n = ap length s.1 in let k = length_part b at (end - at) in absurd (omega arith)
-      entry (e ∷ es) s =
-          let r = s.0.0 in
-          let d = headed b at end e es r s.1 in
-          let p = put_word e.op e.placement e.version e.field w r.kind r.high (is_word ∙ d.word) low in
-          let x : e.field ≡ field = p.3 ∙ sym is_field in
-          let n : length e.value ≡ words = r.words ∙ rw (p.1, x) (sym is-words) in
-          record {
-            entry = e;
-            others = es;
-            all = refl;
-            of-op = p.0;
-            of-placement = p.1;
-            of-version = p.2;
-            of_field = x;
-            of-key = sym d.key;
-            size = n;
-            behind = rw (← n) d.behind;
-          }
+pub short-staged : (b : List ℕ) (at end : ℕ) (r : Option ShortPut) → ToldAt b at end r → ShortStaged b at end r
+short-staged b at end None told = tt
+short-staged b at end (Some p) told = (told.within, entry)
+  where
+    entry : (rest : List Entry) → StagedFrom b at end rest → Taken b at end (put_of p) rest
+    entry [] s = let n = ap length s.1 in let k = length_part b at (end - at) in let w = told.within in absurd (omega arith)
+    entry (e ∷ es) s =
+        let r = s.0.0 in
+        let d = headed b at end e es r s.1 in
+        let q = put_word e.op e.placement e.version e.field (get_or b at 0) r.kind r.high d.word told.low in
+        let x : e.field ≡ p.field = q.3 ∙ sym told.field in
+        let n : length e.value ≡ p.words = r.words ∙ rw (q.1, x) (sym told.words) in
+        record {
+          entry = e;
+          others = es;
+          all = refl;
+          of-op = q.0;
+          of-placement = q.1;
+          of-version = q.2 ∙ sym told.version;
+          of_field = x;
+          of-key = sym d.key ∙ sym told.key;
+          size = n;
+          behind = rw (← n) d.behind;
+        }
 
 -- what the answer says, for a caller that goes by its case
-pub told-short : (b : List ℕ) (at end : ℕ) (r : Short) → ShortStaged b at end r → (version field key words : ℕ) → r ≡ S.Put version field key words → Staged b at end (I.Entry 1 0 version field key words)
-told-short b at end r told version field key words e = rw e at told
+pub told-short : (b : List ℕ) (at end : ℕ) (r : Option ShortPut) → ShortStaged b at end r → (p : ShortPut) → r ≡ Some p → Staged b at end (Some (put_of p))
+told-short b at end r told p e = rw e at told
 
-module _ (b : List ℕ) (at end : ℕ) (r : StagedItem) (told : Staged b at end r) where
-  pub told_none : r ≡ I.Nothing → (rest : List Entry) → StagedFrom b at end rest → rest ≡ []
+module _ (b : List ℕ) (at end : ℕ) (r : Option StagedEntry) (told : Staged b at end r) where
+  pub told_none : r ≡ None → (rest : List Entry) → StagedFrom b at end rest → rest ≡ []
   told_none e = rw e at told
 
-  module _ (op placement version field key words : ℕ) (e : r ≡ I.Entry op placement version field key words) where
-    pub told-fits : at + (2 + words) ≤ end
+  module _ (t : StagedEntry) (e : r ≡ Some t) where
+    pub told-fits : at + (2 + t.words) ≤ end
     told-fits = (rw e at told).0
 
-    pub told-entry : (rest : List Entry) → StagedFrom b at end rest → Taken b at end op placement version field key words rest
+    pub told-entry : (rest : List Entry) → StagedFrom b at end rest → Taken b at end t rest
     told-entry = (rw e at told).1

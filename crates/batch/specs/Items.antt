@@ -1,6 +1,6 @@
 -- The staged items in the words of the record's buffer: an item at a word, and the last item of a key.
 -- Assumes nothing.
-use Rattle.std.specs.Prelude.{◌≡◌, Bool, List, ℕ, ◌+◌, ◌/◌, ◌%◌, min, eqb, get_or}
+use Rattle.std.specs.Prelude.{◌≡◌, Bool, List, ℕ, ◌+◌, ◌/◌, ◌%◌, min, eqb, get_or, Option, Some, None}
 use Rattle.spec.specs.Basics.{pick, all, negate, is_empty}
 use Rattle.spec.specs.Log.{Entry, words_for, parse, encode_all}
 use Rattle.spec.specs.Contents.{listed}
@@ -32,20 +32,17 @@ abbrev pub item_of : (word key : ℕ) → Item
 item_of w key = record { op = w % 4; version = w / 16 % 1048576; key = key; size = 2 + words_for (w / 4 % 4) (w / 16777216) }
 
 -- the last item of a key, gathered in one pass
-abbrev pub nothing : Latest
-nothing = record { op = 0; version = 0 }
+abbrev pub later_of : ℕ → Option Latest → ℕ → ℕ → ℕ → Option Latest
+later_of key latest k op version = pick (eqb k key) (Some (record { op = op; version = version })) latest
 
-abbrev pub later_of : ℕ → Latest → ℕ → ℕ → ℕ → Latest
-later_of key latest k op version = pick (eqb k key) (record { op = op; version = version }) latest
-
-abbrev pub pass : ℕ → Latest → Entry → Latest
+abbrev pub pass : ℕ → Option Latest → Entry → Option Latest
 pass key latest e = later_of key latest e.key e.op e.version
 
-unfoldable pub latest_of : ℕ → List Entry → Latest
-latest_of key items = fold_e (pass key) nothing items
+unfoldable pub latest_of : ℕ → List Entry → Option Latest
+latest_of key items = fold_e (pass key) None items
 
 -- the contracts of the two passes
-abbrev pub LastStaged : List ℕ → ℕ → ℕ → Latest → Type 0
+abbrev pub LastStaged : List ℕ → ℕ → ℕ → Option Latest → Type 0
 LastStaged buffer words key r = (items : List Entry) → StagedIn buffer words items → r ≡ latest_of key items
 
 abbrev pub OnlyDeletes : List ℕ → ℕ → Bool → Type 0

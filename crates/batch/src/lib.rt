@@ -1,10 +1,8 @@
 // The staged entries, kept in the batch of the station record's buffer as the very words that a commit writes.
 #![tactic(auto)]
 
-ghost use Rattle.std.specs.Prelude.{◌≡◌, ◌+◌, ◌/◌, ◌^◌, ◌<◌, ◌≤◌, length, get_or, drop};
-ghost use Rattle.std.proofs.Math.Seq.{slice};
+ghost use Rattle.std.specs.Prelude.{◌≡◌, ◌+◌, ◌/◌, ◌^◌, ◌<◌, ◌≤◌, length, get_or};
 ghost use Rattle.spec.specs.Words.{packed};
-ghost use Rattle.spec.specs.Log.{words_for, filled, step_of};
 ghost use Rattle.spec.specs.Plans.{entry};
 ghost use Rattle.words.specs.Overlay.{overlay};
 ghost use Rattle.buffer.specs.Areas.{batch_room, buffer_words};
@@ -14,13 +12,13 @@ ghost use Rattle.batch.specs.Marks.{marks_of, MarkedWith};
 ghost use Rattle.batch.specs.Added.{Added};
 ghost use Rattle.batch.specs.Staged.{Staged, ShortStaged};
 
-use buffer::{BATCH_WORDS, Buffer, FILTER, buffer_length};
+use buffer::{BATCH_WORDS, Buffer, FILTER};
 use codec::{first_of, first_word};
-use logs::{Short, words_for};
+use logs::{ShortPut, next_entry, told_put, words_for};
 use spec::{FirstWord, LogStep};
-use words::{last_word, lesser, read_word};
+use words::{last_word, read_word};
 
-// What the last staged item of a key says, 0 and 0 where there is none.
+// What the last staged item of a key says.
 #[derive(Clone, Copy)]
 pub struct Latest {
     pub op: u64,
@@ -36,18 +34,15 @@ pub struct Item {
     pub size: usize,
 }
 
-// What stands at a place of the staged words: an entry that ends within them, or nothing.
+// An entry that stands at a place of the staged words and ends within them.
 #[derive(Clone, Copy)]
-pub enum StagedItem {
-    Nothing,
-    Entry {
-        op: u64,
-        placement: u64,
-        version: u64,
-        field: u64,
-        key: u64,
-        words: usize,
-    },
+pub struct StagedEntry {
+    pub op: u64,
+    pub placement: u64,
+    pub version: u64,
+    pub field: u64,
+    pub key: u64,
+    pub words: usize,
 }
 
 // What two words say, of an item's: of others something, and a size.
@@ -68,21 +63,20 @@ fn item_at(buffer: &Buffer, at: usize) -> Item
     requires { at < batch_room }
     ensures { (result ≡ item_of (get_or buffer.now at 0) (get_or buffer.now (at + 1) 0)) × (1 ≤ result.size) × (result.size < 2 ^ 62) }
 {
-    let word = buffer[at];
-    let key = buffer[at + 1];
-    item_of(word, key)
+    item_of(buffer[at], buffer[at + 1])
 }
 
-fn later(latest: Latest, key: u64, item: Item) -> Latest
+fn later(latest: Option<Latest>, key: u64, item: Item) -> Option<Latest>
     ensures { result ≡ later_of key latest item.key item.op item.version }
 {
     if item.key == key {
-        return Latest {
+        Some(Latest {
             op: item.op,
             version: item.version,
-        };
+        })
+    } else {
+        latest
     }
-    latest
 }
 
 // THE FILTER of the staged keys: a word with a bit for each
@@ -98,10 +92,7 @@ fn filter_bit(key: u64) -> u64
 fn marks_of(buffer: &Buffer, words: usize) -> u64
     ensures { result ≡ marks_of buffer.now words }
 {
-    if words == 0 {
-        return 0;
-    }
-    buffer[FILTER]
+    if words == 0 { 0 } else { buffer[FILTER] }
 }
 
 fn is_marked(marks: u64, key: u64) -> bool
@@ -117,11 +108,11 @@ fn marked_with(marks: u64, key: u64) -> u64
 }
 
 // The last staged item of a key, looked for in all of them.
-fn last_of(buffer: &Buffer, words: usize, key: u64) -> Latest
+fn last_of(buffer: &Buffer, words: usize, key: u64) -> Option<Latest>
     ensures { LastStaged buffer.now words key result }
 {
-    let end = lesser(words, BATCH_WORDS);
-    let mut latest = Latest { op: 0, version: 0 };
+    let end = words.min(BATCH_WORDS);
+    let mut latest = None;
     let mut at = 0;
     while at < end {
         let item = item_at(buffer, at);
@@ -132,46 +123,43 @@ fn last_of(buffer: &Buffer, words: usize, key: u64) -> Latest
 }
 
 // The last staged item of a key: a key that the filter has not is not looked for.
-pub fn last_staged(buffer: &Buffer, words: usize, key: u64) -> Latest
+pub fn last_staged(buffer: &Buffer, words: usize, key: u64) -> Option<Latest>
     ensures { LastStaged buffer.now words key result }
 {
     let marks = marks_of(buffer, words);
     if is_marked(marks, key) {
-        return last_of(buffer, words, key);
+        last_of(buffer, words, key)
+    } else {
+        None
     }
-    Latest { op: 0, version: 0 }
 }
 
 // Whether all staged items are deletes.
 pub fn only_deletes(buffer: &Buffer, words: usize) -> bool
     ensures { OnlyDeletes buffer.now words result }
 {
-    let end = lesser(words, BATCH_WORDS);
+    let end = words.min(BATCH_WORDS);
     let mut at = 0;
     while at < end {
-        let word = buffer[at];
-        if word % 4 == 2 {
-            let item = item_at(buffer, at);
-            at += item.size;
-        } else {
+        let item = item_at(buffer, at);
+        if item.op != 2 {
             return false;
         }
+        at += item.size;
     }
     true
 }
 
 // The entry that stands at word `at` of the staged words before word `end`, if one does. Its fill is not looked at.
-pub fn staged_entry(buffer: &Buffer, at: usize, end: usize) -> StagedItem
+pub fn staged_entry(buffer: &Buffer, at: usize, end: usize) -> Option<StagedEntry>
     requires { end ≤ batch_room }
     ensures { Staged buffer.now at end result }
 {
     if end <= at {
-        return StagedItem::Nothing;
+        return None;
     }
-    let first = first_of(buffer[at]);
-    match first {
-        FirstWord::Padding => StagedItem::Nothing,
-        FirstWord::Wrong => StagedItem::Nothing,
+    match first_of(buffer[at]) {
+        FirstWord::Padding | FirstWord::Wrong => None,
         FirstWord::Entry {
             op,
             placement,
@@ -180,115 +168,37 @@ pub fn staged_entry(buffer: &Buffer, at: usize, end: usize) -> StagedItem
         } => {
             let words = words_for(placement, field);
             if end - at < 2 + words {
-                return StagedItem::Nothing;
+                return None;
             }
-            StagedItem::Entry {
+            Some(StagedEntry {
                 op,
                 placement,
                 version,
                 field,
                 key: buffer[at + 1],
                 words,
-            }
+            })
         }
     }
 }
 
 // The put with its value in the log that stands at word `at` of the staged words before word `end`, if one does.
-pub fn short_at(buffer: &Buffer, at: usize, end: usize) -> Short
+pub fn short_at(buffer: &Buffer, at: usize, end: usize) -> Option<ShortPut>
     requires { end ≤ batch_room }
     ensures { ShortStaged buffer.now at end result }
 {
-    if end <= at {
-        return Short::Other;
-    }
-    let word = buffer[at];
-    let field = word / 16777216;
-    if word % 16 == 1 {
-        if 256 < field {
-            return Short::Other;
-        }
-        let words = (field as usize + 7) / 8;
-        if end - at < 2 + words {
-            return Short::Other;
-        }
-        return Short::Put {
-            version: word / 16 % 1048576,
-            field,
-            key: buffer[at + 1],
-            words,
-        };
-    }
-    Short::Other
-}
-
-// Whether the value of an item at word `at`, which takes so many words and ends within the batch, is zero-filled.
-fn fill_right(buffer: &Buffer, at: usize, placement: u64, field: u64, words: usize) -> bool
-    requires { (words ≡ words_for placement field) × (at + (2 + words) ≤ batch_room) }
-    ensures { result ≡ filled placement field (drop at buffer.now) }
-{
-    if placement != 0 {
-        return true;
-    }
-    let odd = field % 8;
-    if odd == 0 {
-        return true;
-    }
-    let last = buffer[at + (1 + words)];
-    last < 1 << (8 * odd)
-}
-
-// What stands at word `at` of the batch, of the words before word `end`.
-fn step_at(buffer: &Buffer, at: usize, end: usize) -> LogStep
-    requires { end ≤ batch_room }
-    ensures { result ≡ step_of (slice at end buffer.now) }
-{
-    buffer_length(buffer);
-    if end <= at {
-        return LogStep::End;
-    }
-    let f = first_of(buffer[at]);
-    match f {
-        FirstWord::Padding => LogStep::Padding,
-        FirstWord::Wrong => LogStep::Wrong,
-        FirstWord::Entry {
-            op,
-            placement,
-            version,
-            field,
-        } => {
-            let words = words_for(placement, field);
-            if end - at < 2 + words {
-                return LogStep::Wrong;
-            }
-            if fill_right(buffer, at, placement, field, words) {
-                let key = buffer[at + 1];
-                LogStep::Entry {
-                    op,
-                    placement,
-                    version,
-                    field,
-                    key,
-                    words,
-                }
-            } else {
-                LogStep::Wrong
-            }
-        }
-    }
+    told_put(buffer, at, end)
 }
 
 // Whether the staged words say an item, whatever they are: words that are no batch say none.
 pub fn any_item(buffer: &Buffer, words: usize) -> bool
     ensures { result ≡ any_item buffer.now words }
 {
-    let end = lesser(words, BATCH_WORDS);
+    let end = words.min(BATCH_WORDS);
     let mut any = false;
     let mut at = 0;
-    buffer_length(buffer);
     loop {
-        let s = step_at(buffer, at, end);
-        match s {
+        match next_entry(buffer, at, end) {
             LogStep::End => {
                 return any;
             }
@@ -298,16 +208,9 @@ pub fn any_item(buffer: &Buffer, words: usize) -> bool
             LogStep::Padding => {
                 at += 1;
             }
-            LogStep::Entry {
-                op: _,
-                placement: _,
-                version: _,
-                field: _,
-                key: _,
-                words: more,
-            } => {
+            LogStep::Entry { words: value, .. } => {
                 any = true;
-                at += 2 + more;
+                at += 2 + value;
             }
         }
     }
@@ -321,17 +224,12 @@ pub fn pack_into(value: &[u8], buffer: &mut Buffer, at: usize)
 {
     let count = (value.len() + 7) / 8;
     let whole = value.len() / 8;
-    let mut i = 0;
-    while i < whole {
-        let v = read_word(value, i);
-        buffer[at + i] = v;
-        i += 1;
+    for i in 0..whole {
+        buffer[at + i] = read_word(value, i);
     }
-    if count <= i {
-        return;
+    if whole < count {
+        buffer[at + whole] = last_word(value, whole);
     }
-    let v = last_word(value, i);
-    buffer[at + i] = v;
 }
 
 // One more staged item, if it fits: its words behind the others, its key in the filter. The answer is the number of
@@ -348,12 +246,8 @@ pub fn add_entry(
 ) -> usize
     ensures { Added buffer.old buffer.new words result (entry op placement version field key (packed value.now)) }
 {
-    buffer_length(buffer);
     let more = 2 + (value.len() + 7) / 8;
-    if BATCH_WORDS < words {
-        return words;
-    }
-    if BATCH_WORDS - words < more {
+    if BATCH_WORDS < words || BATCH_WORDS - words < more {
         return words;
     }
     let marks = marks_of(buffer, words);

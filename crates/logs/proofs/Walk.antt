@@ -2,6 +2,7 @@
 -- Assumes nothing.
 use mathlib.Core.Path.{◌≡◌, refl, sym, ◌∙◌, ap}
 use mathlib.Core.Option.{none, some}
+use Rattle.std.specs.Prelude.{Option, Some, Result, Ok}
 use mathlib.Core.List.{List, [], ◌∷◌, ◌++◌, append-nil}
 use Prim.Native.Nat.{ℕ, suc, ◌+◌, ◌-◌, ◌<◌, ◌≤◌}
 use native.Mathlib.Nat.{suc-mul}
@@ -16,10 +17,9 @@ use Rattle.theory_log.proofs.Image.{prepend-wrong}
 use Rattle.theory_log.proofs.Walk.{slice-more, parse-end, parse-wrong, parse-padding, parse-next, room-padding, room-entry}
 use Rattle.theory_log.proofs.Fold.{fold-cons}
 use Rattle.logs.specs.declared.Cursor.{Cursor}
-use Rattle.logs.specs.declared.Next.{Next}
-use Rattle.logs.specs.declared.Next.TheVariants as N
-use Rattle.logs.specs.Stands.{entry_in}
-use Rattle.logs.specs.Cursor.{cursor_at, start, remaining, left, Opened, Handed, Advanced}
+use Rattle.logs.specs.declared.Entry as F
+use Rattle.logs.specs.declared.WrongEntry.{WrongEntry}
+use Rattle.logs.specs.Cursor.{cursor_at, start, remaining, left, with_value, Opened, Handed, Advanced}
 use Rattle.logs.proofs.Stands.{take-drop, found-stands}
 
 join-cons : (e : Entry) (q r : Parsed) → join (cons e q) r ≡ cons e (join q r)
@@ -77,7 +77,7 @@ module _ (p n : ℕ) (ws : List ℕ) (chunk at end : ℕ) where
   left-padding q = let r = room-padding ws at end q in omega arith
 
   pub next-found : (op pl v x k m : ℕ) → step_of (slice at end ws) ≡ S.Entry op pl v x k m
-      → Handed p n ws (cursor_at chunk at end) op pl v x k m at (cursor_at chunk (at + (2 + m)) end)
+      → Handed p n ws (cursor_at chunk at end) (record { op = op; placement = pl; version = v; field = x; key = k; words = m; place = at; behind = cursor_at chunk (at + (2 + m)) end })
   unfolding remaining left
   next-found op pl v x k m q =
       let r = room-entry ws at end op pl v x k m q in
@@ -93,37 +93,35 @@ module _ (p n : ℕ) (ws : List ℕ) (chunk at end : ℕ) where
       }
 
 -- from an earlier cursor, from which the same remains
-pub handed-from : (p n : ℕ) (ws : List ℕ) (c d : Cursor) (op pl v x k m a : ℕ) (behind : Cursor) → remaining p n ws c ≡ remaining p n ws d → left n ws d ≤ left n ws c
-    → Handed p n ws d op pl v x k m a behind → Handed p n ws c op pl v x k m a behind
-handed-from p n ws c d op pl v x k m a behind same less h =
+pub handed-from : (p n : ℕ) (ws : List ℕ) (c d : Cursor) (e : F.Entry) → remaining p n ws c ≡ remaining p n ws d → left n ws d ≤ left n ws c
+    → Handed p n ws d e → Handed p n ws c e
+handed-from p n ws c d e same less h =
     let f = h.falls in
     record { whole = same ∙ h.whole; falls = omega arith; size = h.size; stands = h.stands }
 
--- What the answer says, for a caller that goes by its case.
-module _ (p n : ℕ) (ws : List ℕ) (c : Cursor) (r : Next) (told : Advanced p n ws c r) where
-  pub handed : (op pl v x k m a : ℕ) (behind : Cursor) → r ≡ N.Entry op pl v x k m a behind → Handed p n ws c op pl v x k m a behind
-  handed op pl v x k m a behind e = rw e at told
+-- what the answer says, for a caller that goes by its case
+pub handed : (p n : ℕ) (ws : List ℕ) (c : Cursor) (r : Result (Option F.Entry) WrongEntry) → Advanced p n ws c r → (e : F.Entry) → r ≡ Ok (Some e) → Handed p n ws c e
+handed p n ws c r told e q = rw q at told
 
+module _ (p n : ℕ) (ws : List ℕ) (c : Cursor) where
   -- one law for every pass over the log
   module _ {St : Type 0} (f : St → Entry → St) (s : St) where
-    pub fold_done : r ≡ N.Done → fold_p f s (remaining p n ws c) ≡ some s
-    fold_done e = rw (rw e at told)
+    pub fold_done : remaining p n ws c ≡ Entries [] → fold_p f s (remaining p n ws c) ≡ some s
+    fold_done told = rw told
 
-    pub fold-wrong : r ≡ N.Wrong → fold_p f s (remaining p n ws c) ≡ none
-    fold-wrong e = rw (rw e at told)
+    pub fold-wrong : remaining p n ws c ≡ Wrong → fold_p f s (remaining p n ws c) ≡ none
+    fold-wrong told = rw told
 
-    pub fold-entry : (op pl v x k m a : ℕ) (behind : Cursor) → r ≡ N.Entry op pl v x k m a behind
-        → fold_p f s (remaining p n ws c) ≡ fold_p f (f s (entry_in ws op pl v x k m a)) (remaining p n ws behind)
-    fold-entry op pl v x k m a behind e = rw (handed op pl v x k m a behind e).whole (fold-cons f s (entry_in ws op pl v x k m a) (remaining p n ws behind))
+    pub fold-entry : (e : F.Entry) → Handed p n ws c e → fold_p f s (remaining p n ws c) ≡ fold_p f (f s (with_value ws e)) (remaining p n ws e.behind)
+    fold-entry e told = rw told.whole (fold-cons f s (with_value ws e) (remaining p n ws e.behind))
 
   -- the entries passed so far, for a caller that speaks of them
   module _ (whole : Parsed) (xs : List Entry) (so_far : whole ≡ prepend xs (remaining p n ws c)) where
-    pub passed-done : r ≡ N.Done → whole ≡ Entries xs
-    passed-done e = so_far ∙ rw (rw e at told) (prepend-entries xs [] ∙ rw append-nil)
+    pub passed-done : remaining p n ws c ≡ Entries [] → whole ≡ Entries xs
+    passed-done told = so_far ∙ rw told (prepend-entries xs [] ∙ rw append-nil)
 
-    pub passed-wrong : r ≡ N.Wrong → whole ≡ Wrong
-    passed-wrong e = so_far ∙ rw (rw e at told) (prepend-wrong xs)
+    pub passed-wrong : remaining p n ws c ≡ Wrong → whole ≡ Wrong
+    passed-wrong told = so_far ∙ rw told (prepend-wrong xs)
 
-    pub passed_entry : (op pl v x k m a : ℕ) (behind : Cursor) → r ≡ N.Entry op pl v x k m a behind
-        → whole ≡ prepend (xs ++ (entry_in ws op pl v x k m a ∷ [])) (remaining p n ws behind)
-    passed_entry op pl v x k m a behind e = so_far ∙ rw (handed op pl v x k m a behind e).whole (sym (prepend-more xs (entry_in ws op pl v x k m a) (remaining p n ws behind)))
+    pub passed_entry : (e : F.Entry) → Handed p n ws c e → whole ≡ prepend (xs ++ (with_value ws e ∷ [])) (remaining p n ws e.behind)
+    passed_entry e told = so_far ∙ rw told.whole (sym (prepend-more xs (with_value ws e) (remaining p n ws e.behind)))

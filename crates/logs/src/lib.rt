@@ -1,19 +1,55 @@
 // Walking the entries of an image: what stands at a place, and the log in order.
 #![tactic(auto)]
 
-ghost use Rattle.std.specs.Prelude.{◌≡◌, ◌+◌, ◌*◌, ◌/◌, ◌≤◌, length, drop};
+ghost use Rattle.std.specs.Prelude.{◌≡◌, List, ℕ, ◌+◌, ◌*◌, ◌/◌, ◌^◌, ◌≤◌, ◌<◌, length, get_or, drop};
 ghost use Rattle.std.proofs.Math.Seq.{slice};
 ghost use Rattle.spec.specs.Words.{words_of};
 ghost use Rattle.places.specs.Sizes.{power_of};
 ghost use Rattle.spec.specs.Log.{words_for, filled, step_of};
 ghost use Rattle.logs.specs.Cursor.{Opened, Advanced, start};
 ghost use Rattle.logs.specs.Best.{raise, best_in};
-ghost use Rattle.logs.specs.Short.{ShortAt};
+ghost use Rattle.logs.specs.Short.{ToldAt, ShortAt};
 
 use codec::first_of;
 use directory::lines_of;
 use spec::{FirstWord, LogStep, Size};
-use words::{lesser, load};
+use words::read_word;
+
+// WORDS that are asked for one by one: an image's, or a buffer's.
+pub trait WordList: Copy {
+    ghost list: { Self → List ℕ };
+
+    fn count(self) -> usize
+        ensures { result ≡ length (list self) };
+
+    fn word(self, i: usize) -> u64
+        requires { i < length (list self) }
+        ensures { result ≡ get_or (list self) i 0 };
+}
+
+impl WordList for &[u8] {
+    ghost list = { λ s. words_of s.now };
+
+    fn count(self) -> usize {
+        self.len() / 8
+    }
+
+    fn word(self, i: usize) -> u64 {
+        read_word(self, i)
+    }
+}
+
+impl<const N: usize> WordList for &[u64; N] {
+    ghost list = { λ s. s.now };
+
+    fn count(self) -> usize {
+        N
+    }
+
+    fn word(self, i: usize) -> u64 {
+        self[i]
+    }
+}
 
 // A place in the walk of the log: the chunk, the next word to look at, and the end of the chunk's committed words.
 #[derive(Clone, Copy)]
@@ -23,34 +59,30 @@ pub struct Cursor {
     pub end: usize,
 }
 
-// What comes next in the log: `place` is the entry's first word, `cursor` the place behind the entry.
+// An entry of the log: `place` is its first word, `words` those that its value takes there, `behind` the place behind it.
 #[derive(Clone, Copy)]
-pub enum Next {
-    Done,
-    Wrong,
-    Entry {
-        op: u64,
-        placement: u64,
-        version: u64,
-        field: u64,
-        key: u64,
-        words: usize,
-        place: usize,
-        cursor: Cursor,
-    },
+pub struct Entry {
+    pub op: u64,
+    pub placement: u64,
+    pub version: u64,
+    pub field: u64,
+    pub key: u64,
+    pub words: usize,
+    pub place: usize,
+    pub behind: Cursor,
 }
 
-// A put with its value in the log that stands at a word, or anything else: for a pass that goes by the common case
-// first.
+// What comes next in the log is no entry, and no padding either.
+#[derive(Clone, Copy, PartialEq, Eq, Debug)]
+pub struct WrongEntry;
+
+// A put with its value in the log: for a pass that goes by the common case first.
 #[derive(Clone, Copy)]
-pub enum Short {
-    Put {
-        version: u64,
-        field: u64,
-        key: u64,
-        words: usize,
-    },
-    Other,
+pub struct ShortPut {
+    pub version: u64,
+    pub field: u64,
+    pub key: u64,
+    pub words: usize,
 }
 
 // A top entry: its version and its first word, both 0 where there is none.
@@ -65,38 +97,32 @@ pub fn words_for(placement: u64, field: u64) -> usize
     ensures { (result ≡ words_for placement field) × (8 * result ≤ field + 7) }
 {
     if placement == 0 {
-        (field / 8 + (field % 8 + 7) / 8) as usize
+        field.div_ceil(8) as usize
     } else {
         0
     }
 }
 
-// Whether the value of an entry at word `at`, which takes so many words and ends within the image, is zero-filled.
-fn fill_right(img: &[u8], at: usize, placement: u64, field: u64, words: usize) -> bool
-    requires { (words ≡ words_for placement field) × (at + (2 + words) ≤ length img.now / 8) }
-    ensures { result ≡ filled placement field (drop at (words_of img.now)) }
+// Whether the value of an entry at word `at`, which takes so many words and ends within the list, is zero-filled.
+fn fill_right<W: WordList>(list: W, at: usize, placement: u64, field: u64, words: usize) -> bool
+    requires size { words ≡ words_for placement field }
+    requires within { at + (2 + words) ≤ length (W.list list) }
+    requires few { at + (2 + words) < 2 ^ 64 }
+    ensures { result ≡ filled placement field (drop at (W.list list)) }
 {
-    if placement != 0 {
-        return true;
-    }
     let odd = field % 8;
-    if odd == 0 {
-        return true;
-    }
-    let last = load(img, at + (1 + words));
-    last < 1 << (8 * odd)
+    placement != 0 || odd == 0 || list.word(at + (1 + words)) < 1 << (8 * odd)
 }
 
-// What stands at word `at`, of the words before word `end`.
-pub fn next_entry(img: &[u8], at: usize, end: usize) -> LogStep
-    ensures { result ≡ step_of (slice at end (words_of img.now)) }
+// What stands at word `at` of a list, of the words before word `end`.
+pub fn next_entry<W: WordList>(list: W, at: usize, end: usize) -> LogStep
+    ensures { result ≡ step_of (slice at end (W.list list)) }
 {
-    let stop = lesser(end, img.len() / 8);
+    let stop = end.min(list.count());
     if stop <= at {
         return LogStep::End;
     }
-    let f = first_of(load(img, at));
-    match f {
+    match first_of(list.word(at)) {
         FirstWord::Padding => LogStep::Padding,
         FirstWord::Wrong => LogStep::Wrong,
         FirstWord::Entry {
@@ -106,17 +132,13 @@ pub fn next_entry(img: &[u8], at: usize, end: usize) -> LogStep
             field,
         } => {
             let words = words_for(placement, field);
-            if stop - at < 2 + words {
-                return LogStep::Wrong;
-            }
-            if fill_right(img, at, placement, field, words) {
-                let key = load(img, at + 1);
+            if 2 + words <= stop - at && fill_right(list, at, placement, field, words) {
                 LogStep::Entry {
                     op,
                     placement,
                     version,
                     field,
-                    key,
+                    key: list.word(at + 1),
                     words,
                 }
             } else {
@@ -126,40 +148,43 @@ pub fn next_entry(img: &[u8], at: usize, end: usize) -> LogStep
     }
 }
 
+// The put with its value in the log that the words at `at` tell of, of the words before word `end`. Whether its version
+// and its fill are right is not asked.
+pub fn told_put<W: WordList>(list: W, at: usize, end: usize) -> Option<ShortPut>
+    requires { end ≤ length (W.list list) }
+    ensures { ToldAt (W.list list) at end result }
+{
+    if end <= at {
+        return None;
+    }
+    let word = list.word(at);
+    let field = word / 16777216;
+    if word % 16 != 1 || 256 < field {
+        return None;
+    }
+    let words = (field as usize + 7) / 8;
+    if end - at < 2 + words {
+        return None;
+    }
+    Some(ShortPut {
+        version: word / 16 % 1048576,
+        field,
+        key: list.word(at + 1),
+        words,
+    })
+}
+
 // The put with its value in the log that stands at word `at` of the committed words before `end`, if one does and is
 // right.
-pub fn short_put(img: &[u8], at: usize, end: usize) -> Short
+pub fn short_put(img: &[u8], at: usize, end: usize) -> Option<ShortPut>
     ensures { ShortAt (words_of img.now) at end result }
 {
-    let stop = lesser(end, img.len() / 8);
-    if stop <= at {
-        return Short::Other;
+    let told = told_put(img, at, end.min(img.len() / 8))?;
+    if told.version != 0 && fill_right(img, at, 0, told.field, told.words) {
+        Some(told)
+    } else {
+        None
     }
-    let word = load(img, at);
-    let version = word / 16 % 1048576;
-    let field = word / 16777216;
-    if word % 16 == 1 {
-        if version == 0 {
-            return Short::Other;
-        }
-        if 256 < field {
-            return Short::Other;
-        }
-        let words = (field as usize + 7) / 8;
-        if stop < at + (2 + words) {
-            return Short::Other;
-        }
-        if fill_right(img, at, 0, field, words) {
-            let key = load(img, at + 1);
-            return Short::Put {
-                version,
-                field,
-                key,
-                words,
-            };
-        }
-    }
-    Short::Other
 }
 
 // The beginning of the log.
@@ -194,33 +219,30 @@ pub fn chunk_cursor(img: &[u8], c: usize, size: Size) -> Cursor
     }
 }
 
-// The next entry from a cursor, in the log of an image of `count` chunks: past padding, and on to the next chunks.
-pub fn next_in_log(img: &[u8], count: usize, cursor: Cursor, size: Size) -> Next
+// The next entry from a cursor, in the log of an image of `count` chunks, if one is left: past padding, and on to the
+// next chunks.
+pub fn next_in_log(
+    img: &[u8],
+    count: usize,
+    cursor: Cursor,
+    size: Size,
+) -> Result<Option<Entry>, WrongEntry>
     ensures { Advanced (power_of size) count (words_of img.now) cursor result }
 {
-    let mut chunk = cursor.chunk;
-    let mut at = cursor.at;
-    let mut end = cursor.end;
+    let mut here = cursor;
     loop {
-        let s = next_entry(img, at, end);
-        match s {
+        match next_entry(img, here.at, here.end) {
             LogStep::End => {
-                if count <= chunk {
-                    return Next::Done;
+                if count.saturating_sub(1) <= here.chunk {
+                    return Ok(None);
                 }
-                if count - chunk == 1 {
-                    return Next::Done;
-                }
-                let next = chunk_cursor(img, chunk + 1, size);
-                chunk = next.chunk;
-                at = next.at;
-                end = next.end;
+                here = chunk_cursor(img, here.chunk + 1, size);
             }
             LogStep::Wrong => {
-                return Next::Wrong;
+                return Err(WrongEntry);
             }
             LogStep::Padding => {
-                at += 1;
+                here.at += 1;
             }
             LogStep::Entry {
                 op,
@@ -230,20 +252,19 @@ pub fn next_in_log(img: &[u8], count: usize, cursor: Cursor, size: Size) -> Next
                 key,
                 words,
             } => {
-                return Next::Entry {
+                return Ok(Some(Entry {
                     op,
                     placement,
                     version,
                     field,
                     key,
                     words,
-                    place: at,
-                    cursor: Cursor {
-                        chunk,
-                        at: at + (2 + words),
-                        end,
+                    place: here.at,
+                    behind: Cursor {
+                        at: here.at + (2 + words),
+                        ..here
                     },
-                };
+                }));
             }
         }
     }
@@ -253,47 +274,34 @@ pub fn next_in_log(img: &[u8], count: usize, cursor: Cursor, size: Size) -> Next
 fn raised(best: Best, key: u64, k: u64, version: u64, place: usize) -> Best
     ensures { result ≡ raise key best k version place }
 {
-    if k == key {
-        if best.version < version {
-            return Best { version, place };
-        }
+    if k == key && best.version < version {
+        Best { version, place }
+    } else {
+        best
     }
-    best
 }
 
 // The chosen top entry of a key, by a scan of the log of an image of `count` chunks; none where an entry is wrong.
 pub fn best_of(img: &[u8], count: usize, key: u64, size: Size) -> Best
     ensures { result ≡ best_in (power_of size) count (words_of img.now) key }
 {
-    let mut best = Best {
+    let none = Best {
         version: 0,
         place: 0,
     };
+    let mut best = none;
     let mut cursor = first_cursor();
     loop {
-        let n = next_in_log(img, count, cursor, size);
-        match n {
-            Next::Done => {
+        match next_in_log(img, count, cursor, size) {
+            Ok(Some(e)) => {
+                best = raised(best, key, e.key, e.version, e.place);
+                cursor = e.behind;
+            }
+            Ok(None) => {
                 return best;
             }
-            Next::Wrong => {
-                return Best {
-                    version: 0,
-                    place: 0,
-                };
-            }
-            Next::Entry {
-                op: _,
-                placement: _,
-                version,
-                field: _,
-                key: k,
-                words: _,
-                place,
-                cursor: after,
-            } => {
-                best = raised(best, key, k, version, place);
-                cursor = after;
+            Err(_) => {
+                return none;
             }
         }
     }

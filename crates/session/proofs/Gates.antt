@@ -2,11 +2,11 @@
 -- that ask there; and what is known behind the gate.
 -- Assumes nothing.
 use mathlib.Core.Path.{◌≡◌, refl, sym, ◌∙◌, ap}
-use mathlib.Core.Logic.{◌⊎◌, inl, inr, by_cases}
+use mathlib.Core.Logic.{◌⊎◌, inl, inr}
 use mathlib.Core.Bool.{Bool, true, false}
 use mathlib.Core.Option.{none, some}
 use mathlib.Core.List.{List, [], ◌∷◌}
-use Prim.Native.Nat.{ℕ, ◌/◌, ◌≤◌}
+use Prim.Native.Nat.{ℕ, ◌/◌}
 use native.Mathlib.Decide.{ℕ_discrete}
 use native.Mathlib.Omega.{arith}
 use lib.Dec.{eqb}
@@ -78,50 +78,34 @@ read-state c k b bytes words = go (eqb c.phase 1) (eqb c.phase 2) (eqb c.phase 3
     go false false false false false true h g items m o3 o6 a2 a3 a4 a5 a6 = refl
     go false false false false false false h g items m o3 o6 a2 a3 a4 a5 a6 = refl
 
--- the phases with nothing open, and the others
-module _ (phase : ℕ) (n : Refusal) where
-  pub closed-yes : (phase ≡ 1 → ⊥) → (phase ≡ 2 → ⊥) → (phase ≡ 3 → ⊥) → (phase ≡ 5 → ⊥) → (phase ≡ 6 → ⊥) → N.NotOpen ≡ closed_or phase n
-  closed-yes a b c d e = rw (ne_eqb phase 1 a, ne_eqb phase 2 b, ne_eqb phase 3 c, ne_eqb phase 5 d, ne_eqb phase 6 e)
-
-  pub closed-no : phase ≤ 6 → (phase ≡ 0 → ⊥) → (phase ≡ 4 → ⊥) → n ≡ closed_or phase n
-  closed-no l z f =
-      by_cases (ℕ_discrete phase 1) (λ a. rw (eq-eqb phase 1 a)) (λ a.
-      by_cases (ℕ_discrete phase 2) (λ b. rw (ne_eqb phase 1 a, eq-eqb phase 2 b)) (λ b.
-      by_cases (ℕ_discrete phase 3) (λ c. rw (ne_eqb phase 1 a, ne_eqb phase 2 b, eq-eqb phase 3 c)) (λ c.
-      by_cases (ℕ_discrete phase 5) (λ d. rw (ne_eqb phase 1 a, ne_eqb phase 2 b, ne_eqb phase 3 c, eq-eqb phase 5 d)) (λ d.
-      let e : phase ≡ 6 = omega arith in
-      rw (ne_eqb phase 1 a, ne_eqb phase 2 b, ne_eqb phase 3 c, ne_eqb phase 5 d, eq-eqb phase 6 e)))))
-
 -- the record's gate by its phase, as the code asks
 module _ (c : Control) (k : Setup) (b : List ℕ) (bytes words : ℕ) where
-  pub gate-open : k.image ≡ bytes → k.table ≡ words → c.phase ≡ 1 → gate (state_at c k b) bytes words ≡ none
-  gate-open i t p = gate-state c k b bytes words ∙ rw (eq-eqb _ _ i, eq-eqb _ _ t, eq-eqb _ _ p)
+  pub gate-open : same_lengths k bytes words ≡ true → c.phase ≡ 1 → gate (state_at c k b) bytes words ≡ none
+  gate-open s p = gate-state c k b bytes words ∙ rw (s, eq-eqb _ _ p)
 
-  pub gate-unfinished : k.image ≡ bytes → k.table ≡ words → (c.phase ≡ 1 → ⊥) → gate (state_at c k b) bytes words ≡ some (closed_or c.phase N.Unfinished)
-  gate-unfinished i t p = gate-state c k b bytes words ∙ rw (eq-eqb _ _ i, eq-eqb _ _ t, ne_eqb _ _ p) (go (begun_at c.phase))
+  pub gate-unfinished : same_lengths k bytes words ≡ true → (c.phase ≡ 1 → ⊥) → gate (state_at c k b) bytes words ≡ some (closed_or c.phase N.Unfinished)
+  gate-unfinished s p = gate-state c k b bytes words ∙ rw (s, ne_eqb _ _ p) (go (begun_at c.phase))
     where
       go : (x : Bool) → pick x (some N.Unfinished) (some N.NotOpen) ≡ some (pick x N.Unfinished N.NotOpen)
       go true = refl
       go false = refl
 
-  unlike : same_lengths k bytes words ≡ false → gate (state_at c k b) bytes words ≡ some (closed_or c.phase N.ImageLength)
-  unlike s = gate-state c k b bytes words ∙ rw s (go (eqb c.phase 1) (begun_at c.phase))
+  pub gate-unlike : same_lengths k bytes words ≡ false → gate (state_at c k b) bytes words ≡ some (closed_or c.phase N.ImageLength)
+  gate-unlike s = gate-state c k b bytes words ∙ rw s (go (eqb c.phase 1) (begun_at c.phase))
     where
       go : (x y : Bool) → pick x (some N.ImageLength) (pick y (some N.ImageLength) (some N.NotOpen)) ≡ some (pick (either x y) N.ImageLength N.NotOpen)
       go true y = refl
       go false true = refl
       go false false = refl
 
-  pub gate-table : k.image ≡ bytes → (k.table ≡ words → ⊥) → gate (state_at c k b) bytes words ≡ some (closed_or c.phase N.ImageLength)
-  gate-table i t = unlike (rw (eq-eqb _ _ i, ne_eqb _ _ t))
-
-  pub gate-image : (k.image ≡ bytes → ⊥) → gate (state_at c k b) bytes words ≡ some (closed_or c.phase N.ImageLength)
-  gate-image i = unlike (rw (ne_eqb _ _ i))
-
 -- the same of look-up
 module _ (c : Control) (k : Setup) (b : List ℕ) (bytes words : ℕ) where
-  pub read-open : k.image ≡ bytes → k.table ≡ words → read_at c.phase ≡ true → read_gate (state_at c k b) bytes words ≡ none
-  read-open i t p = read-state c k b bytes words ∙ rw (eq-eqb _ _ i, eq-eqb _ _ t, p)
+  pub read-open : same_lengths k bytes words ≡ true → read_at c.phase ≡ true → read_gate (state_at c k b) bytes words ≡ none
+  read-open s p = read-state c k b bytes words ∙ rw (s, p)
+
+  -- at rest, which is asked first
+  pub rest-open : same_lengths k bytes words ≡ true → c.phase ≡ 1 → read_gate (state_at c k b) bytes words ≡ none
+  rest-open s p = read-open s (rw p)
 
   -- of a phase in which it does not answer
   never-read : (phase : ℕ) (n : Refusal) → read_at phase ≡ false → pick (eqb phase 5) (some n) (some N.NotOpen) ≡ some (closed_or phase n)
@@ -135,8 +119,8 @@ module _ (c : Control) (k : Setup) (b : List ℕ) (bytes words : ℕ) where
       go true = refl
       go false = refl
 
-  pub read-unfinished : k.image ≡ bytes → k.table ≡ words → read_at c.phase ≡ false → read_gate (state_at c k b) bytes words ≡ some (closed_or c.phase N.Unfinished)
-  read-unfinished i t p = read-state c k b bytes words ∙ rw (eq-eqb _ _ i, eq-eqb _ _ t, p) (never-read c.phase N.Unfinished p)
+  pub read-unfinished : same_lengths k bytes words ≡ true → read_at c.phase ≡ false → read_gate (state_at c k b) bytes words ≡ some (closed_or c.phase N.Unfinished)
+  read-unfinished s p = read-state c k b bytes words ∙ rw (s, p) (never-read c.phase N.Unfinished p)
 
   read-closed : (phase : ℕ) → read_at phase ≡ true → closed_or phase N.ImageLength ≡ N.ImageLength
   read-closed phase h = by (eqb phase 1) (eqb phase 2) (eqb phase 3) (eqb phase 5) (eqb phase 6) h
@@ -149,22 +133,12 @@ module _ (c : Control) (k : Setup) (b : List ℕ) (bytes words : ℕ) where
       by false false false false true q = refl
       by false false false false false q = absurd (let z : ◌≡◌ {A = ℕ} 0 1 = cc in omega arith)
 
-  read-unlike : same_lengths k bytes words ≡ false → read_gate (state_at c k b) bytes words ≡ some (closed_or c.phase N.ImageLength)
+  pub read-unlike : same_lengths k bytes words ≡ false → read_gate (state_at c k b) bytes words ≡ some (closed_or c.phase N.ImageLength)
   read-unlike s = read-state c k b bytes words ∙ rw s (go (read_at c.phase) refl)
     where
       go : (x : Bool) → read_at c.phase ≡ x → pick x (some N.ImageLength) (pick (eqb c.phase 5) (some N.ImageLength) (some N.NotOpen)) ≡ some (closed_or c.phase N.ImageLength)
       go true h = ap (λ (r : Refusal). some r) (sym (read-closed c.phase h))
       go false h = never-read c.phase N.ImageLength h
-
-  pub read_table : k.image ≡ bytes → (k.table ≡ words → ⊥) → read_gate (state_at c k b) bytes words ≡ some (closed_or c.phase N.ImageLength)
-  read_table i t = read-unlike (rw (eq-eqb _ _ i, ne_eqb _ _ t))
-
-  pub read-image : (k.image ≡ bytes → ⊥) → read_gate (state_at c k b) bytes words ≡ some (closed_or c.phase N.ImageLength)
-  read-image i = read-unlike (rw (ne_eqb _ _ i))
-
-  -- at rest, which is asked first
-  pub rest-open : k.image ≡ bytes → k.table ≡ words → eqb c.phase 1 ≡ true → read_gate (state_at c k b) bytes words ≡ none
-  rest-open i t p = read-open i t (rw p)
 
 -- ## A refusal at the gate
 

@@ -1,6 +1,6 @@
 -- What every call on an open register asks first: 2, 1, 8, by the record's phase and the lent lengths.
 -- Assumes nothing.
-use Rattle.std.specs.Prelude.{◌≡◌, Bool, List, ℕ, eqb}
+use Rattle.std.specs.Prelude.{◌≡◌, Bool, List, ℕ, eqb, Result, Ok, Err}
 use Rattle.std.proofs.Math.Option.{Option, none, some}
 use Rattle.spec.specs.Basics.{pick, both, either}
 use Rattle.spec.specs.Machine.{gate, read_gate}
@@ -11,8 +11,6 @@ use Rattle.spec.specs.declared.Refusal.TheVariants as N
 use Rattle.session.specs.State.{state_at}
 use Rattle.session.specs.declared.Phase.{Phase}
 use Rattle.session.specs.declared.Phase.TheVariants as P
-use Rattle.session.specs.declared.Gated.{Gated}
-use Rattle.session.specs.declared.Gated.TheVariants as G
 
 -- the phase that a number stands for
 abbrev pub phase_of : ℕ → Phase
@@ -53,14 +51,15 @@ closed_or phase n = pick (either (eqb phase 1) (begun_at phase)) n N.NotOpen
 abbrev pub same_lengths : Setup → ℕ → ℕ → Bool
 same_lengths k bytes words = both (eqb k.image bytes) (eqb k.table words)
 
-abbrev pub gate_of : Gated → Option Refusal
-gate_of G.Open = none
-gate_of (G.Refused n) = some n
+-- a refusal, or none
+abbrev pub gate_of : Result (Unit {0}) Refusal → Option Refusal
+gate_of (Ok _) = none
+gate_of (Err n) = some n
 
 -- the answer is the definition's, whatever the buffer holds
-pub record Asking (c : Control) (k : Setup) (bytes words : ℕ) (r : Gated) : Type 0 where
+pub record Asking (c : Control) (k : Setup) (bytes words : ℕ) (r : Result (Unit {0}) Refusal) : Type 0 where
   pub asked : (b : List ℕ) → gate (state_at c k b) bytes words ≡ gate_of r
 
 -- the same of look-up
-pub record ReadAsking (c : Control) (k : Setup) (bytes words : ℕ) (r : Gated) : Type 0 where
+pub record ReadAsking (c : Control) (k : Setup) (bytes words : ℕ) (r : Result (Unit {0}) Refusal) : Type 0 where
   pub asked : (b : List ℕ) → read_gate (state_at c k b) bytes words ≡ gate_of r

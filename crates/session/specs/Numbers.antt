@@ -19,26 +19,26 @@ opened keys = record { phase = 1; next = 0; items = 0; words = 0; keys = keys; f
 
 -- another next action
 abbrev pub at_action : ℕ → Control → Control
-at_action n c = record { phase = c.phase; next = n; items = c.items; words = c.words; keys = c.keys; fresh = c.fresh }
+at_action n c = record c { next = n }
 
 -- before an action of a call of this phase; the same, with the known keys and the staged ones that are not known
 -- counted anew
 abbrev pub in_phase : (phase next : ℕ) → Control → Control
-in_phase phase next c = record { phase = phase; next = next; items = c.items; words = c.words; keys = c.keys; fresh = c.fresh }
+in_phase phase next c = record c { phase = phase; next = next }
 
 abbrev pub with_keys : (phase next keys fresh : ℕ) → Control → Control
-with_keys phase next keys fresh c = record { phase = phase; next = next; items = c.items; words = c.words; keys = keys; fresh = fresh }
+with_keys phase next keys fresh c = record c { phase = phase; next = next; keys = keys; fresh = fresh }
 
 -- at rest with nothing staged; at rest with what is staged
 abbrev pub ended_empty : Control → Control
 ended_empty c = record { phase = 1; next = 0; items = 0; words = 0; keys = c.keys; fresh = 0 }
 
 abbrev pub ended : Control → Control
-ended c = record { phase = 1; next = 0; items = c.items; words = c.words; keys = c.keys; fresh = c.fresh }
+ended c = record c { phase = 1; next = 0 }
 
 -- a staging of one more item begun
 abbrev pub staged_more : (next words fresh : ℕ) → Control → Control
-staged_more next words fresh c = record { phase = 2; next = next; items = c.items + 1; words = words; keys = c.keys; fresh = fresh }
+staged_more next words fresh c = record c { phase = 2; next = next; items = c.items + 1; words = words; fresh = fresh }
 
 -- a formatting begun
 abbrev pub formatting_in : ℕ → Control
@@ -51,43 +51,13 @@ abbrev pub empty_setup : Setup
 empty_setup = record { image = 0; table = 0; power = 0; chunk = 0; old = 0; lines = 0; first = 0; least = 0; fields = 0; station = 0; centre = 0; source = no_source }
 
 abbrev pub opened_setup : (image table : ℕ) → Size → Setup
-opened_setup image table size =
-    record { image = image; table = table; power = power_of size; chunk = 0; old = 0; lines = 0; first = 1; least = chunk_lines (power_of size); fields = 0; station = 0; centre = 0; source = no_source }
+opened_setup image table size = record empty_setup { image = image; table = table; power = power_of size; first = 1; least = chunk_lines (power_of size) }
 
 abbrev pub format_setup : (image table : ℕ) → Size → (fields station centre : ℕ) → Setup
-format_setup image table size fields station centre =
-    record { image = image; table = table; power = power_of size; chunk = 0; old = 0; lines = 0; first = 0; least = 0; fields = fields; station = station; centre = centre; source = no_source }
+format_setup image table size fields station centre = record empty_setup { image = image; table = table; power = power_of size; fields = fields; station = station; centre = centre }
 
 abbrev pub block_setup : Setup → (chunk old lines fields : ℕ) → Setup
-block_setup k chunk old lines fields =
-    record {
-      image = k.image;
-      table = k.table;
-      power = k.power;
-      chunk = chunk;
-      old = old;
-      lines = lines;
-      first = k.first;
-      least = k.least;
-      fields = fields;
-      station = k.station;
-      centre = k.centre;
-      source = k.source;
-    }
+block_setup k chunk old lines fields = record k { chunk = chunk; old = old; lines = lines; fields = fields }
 
 abbrev pub append_setup : Setup → (chunk old lines first least : ℕ) → Source → Setup
-append_setup k chunk old lines first least source =
-    record {
-      image = k.image;
-      table = k.table;
-      power = k.power;
-      chunk = chunk;
-      old = old;
-      lines = lines;
-      first = first;
-      least = least;
-      fields = k.fields;
-      station = k.station;
-      centre = k.centre;
-      source = source;
-    }
+append_setup k chunk old lines first least source = record k { chunk = chunk; old = old; lines = lines; first = first; least = least; source = source }

@@ -32,8 +32,8 @@ use Rattle.session.specs.declared.Setup.{Setup}
 use Rattle.session.specs.declared.Source.{Source}
 use Rattle.session.specs.declared.Session.{Session}
 use Rattle.spec.specs.declared.Size.{Size}
-use Rattle.spec.specs.declared.Given.{Given}
-use Rattle.spec.specs.declared.Given.TheVariants as G
+use Rattle.spec.specs.Basics.{Given}
+use Rattle.std.specs.declared.option.Option.TheVariants as G
 
 -- n words of the buffer from word i, read one by one
 abbrev pub buffer_part : List ℕ → ℕ → ℕ → List ℕ
@@ -70,7 +70,7 @@ commit_actions c k b = append_actions k (batch_words c b)
 
 -- a formatting's actions: what it was told, by the header's map
 abbrev pub given_by : ℕ → ℕ → Given
-given_by bit x = pick (eqb bit 1) (G.Number x) G.Absent
+given_by bit x = pick (eqb bit 1) (G.Some x) G.None
 
 unfoldable pub format_actions : Setup → List Action
 format_actions k = format_of (power_in k) (chunks_in (power_in k) k.image) (given_by (k.fields / 2 % 2) k.station) (given_by (k.fields / 4 % 2) k.centre)

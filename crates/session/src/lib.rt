@@ -6,16 +6,60 @@ ghost use Rattle.std.specs.Prelude.{◌≡◌, ◌<◌, eqb};
 ghost use Rattle.session.specs.State.{no_source};
 ghost use Rattle.session.specs.Numbers.{closed, opened, at_action, in_phase, with_keys, ended, ended_empty, staged_more, formatting_in, empty_setup, opened_setup, format_setup, block_setup, append_setup};
 ghost use Rattle.spec.specs.Reports.{number};
-ghost use Rattle.session.specs.Asks.{phase_of, read_at, closed_or, Asking, ReadAsking};
+ghost use Rattle.session.specs.Asks.{phase_of, read_at, closed_or, same_lengths, Asking, ReadAsking};
 
 use buffer::Buffer;
 use spec::{Refusal, Report, Size};
+
+// THE PHASE: what is begun.
+#[derive(Clone, Copy, PartialEq, Eq, Debug)]
+pub enum Phase {
+    Closed,
+    Rest,
+    Staging,
+    Commit,
+    Format,
+    Reformat,
+    Cleaning,
+}
+
+// The phases as the record's number says them.
+pub const CLOSED: u64 = 0;
+
+pub const REST: u64 = 1;
+
+pub const STAGING: u64 = 2;
+
+pub const COMMIT: u64 = 3;
+
+pub const FORMAT: u64 = 4;
+
+pub const REFORMAT: u64 = 5;
+
+pub const CLEANING: u64 = 6;
+
+// The phase that a number stands for: a number past them all is read as 0.
+impl From<u64> for Phase {
+    ghost from_gives = { λ number phase. phase ≡ phase_of number };
+
+    fn from(number: u64) -> Phase {
+        match number {
+            REST => Phase::Rest,
+            STAGING => Phase::Staging,
+            COMMIT => Phase::Commit,
+            FORMAT => Phase::Format,
+            REFORMAT => Phase::Reformat,
+            CLEANING => Phase::Cleaning,
+            _ => Phase::Closed,
+        }
+    }
+}
 
 // The numbers that change from call to call: what is begun (0 nothing open, 1 open and at rest, 2 a staging, 3 a
 // commit, 4 a formatting begun with nothing open, 5 one begun on an open register, 6 a cleaning), the number of its
 // next action, the staged items, their words, the known keys, and the staged keys that are not known.
 #[repr(C)]
-#[derive(Clone, Copy)]
+#[derive(Clone, Copy, PartialEq, Eq, Debug)]
 pub struct Control {
     pub phase: u64,
     pub next: usize,
@@ -28,7 +72,7 @@ pub struct Control {
 // What a cleaning has begun with: the chunk that it frees, that chunk's directory word and committed lines before, the
 // words that it keeps (in the buffer's second area), and how many entries these are.
 #[repr(C)]
-#[derive(Clone, Copy)]
+#[derive(Clone, Copy, PartialEq, Eq, Debug)]
 pub struct Source {
     pub chunk: usize,
     pub old: u64,
@@ -46,7 +90,7 @@ pub struct Source {
 // of a large value `lines` is the block's first unit in its chunk, and `fields` the block size that a free chunk is
 // taken for, 0 where the chunk has it already.
 #[repr(C)]
-#[derive(Clone, Copy)]
+#[derive(Clone, Copy, PartialEq, Eq, Debug)]
 pub struct Setup {
     pub image: usize,
     pub table: usize,
@@ -90,7 +134,7 @@ pub fn closed() -> Control
     ensures { result ≡ closed }
 {
     Control {
-        phase: 0,
+        phase: CLOSED,
         next: 0,
         items: 0,
         words: 0,
@@ -104,12 +148,9 @@ pub fn opened(keys: usize) -> Control
     ensures { result ≡ opened keys }
 {
     Control {
-        phase: 1,
-        next: 0,
-        items: 0,
-        words: 0,
+        phase: REST,
         keys,
-        fresh: 0,
+        ..closed()
     }
 }
 
@@ -117,35 +158,14 @@ pub fn opened(keys: usize) -> Control
 pub fn at_action(control: Control, next: usize) -> Control
     ensures { result ≡ at_action next control }
 {
-    Control {
-        phase: control.phase,
-        next,
-        items: control.items,
-        words: control.words,
-        keys: control.keys,
-        fresh: control.fresh,
-    }
+    Control { next, ..control }
 }
-
-// The phases of the calls that act on a batch, as a begun one says them.
-pub const STAGING: u64 = 2;
-
-pub const COMMIT: u64 = 3;
-
-pub const CLEANING: u64 = 6;
 
 // A formatting is begun.
 pub fn formatting(phase: u64) -> Control
     ensures { result ≡ formatting_in phase }
 {
-    Control {
-        phase,
-        next: 0,
-        items: 0,
-        words: 0,
-        keys: 0,
-        fresh: 0,
-    }
+    Control { phase, ..closed() }
 }
 
 // A call of this phase is before its action of this number.
@@ -155,10 +175,7 @@ pub fn in_phase(control: Control, phase: u64, next: usize) -> Control
     Control {
         phase,
         next,
-        items: control.items,
-        words: control.words,
-        keys: control.keys,
-        fresh: control.fresh,
+        ..control
     }
 }
 
@@ -169,10 +186,9 @@ pub fn with_keys(control: Control, phase: u64, next: usize, keys: usize, fresh: 
     Control {
         phase,
         next,
-        items: control.items,
-        words: control.words,
         keys,
         fresh,
+        ..control
     }
 }
 
@@ -180,28 +196,14 @@ pub fn with_keys(control: Control, phase: u64, next: usize, keys: usize, fresh: 
 pub fn ended(control: Control) -> Control
     ensures { result ≡ ended control }
 {
-    Control {
-        phase: 1,
-        next: 0,
-        items: control.items,
-        words: control.words,
-        keys: control.keys,
-        fresh: control.fresh,
-    }
+    in_phase(control, REST, 0)
 }
 
 // At rest, with nothing staged.
 pub fn ended_empty(control: Control) -> Control
     ensures { result ≡ ended_empty control }
 {
-    Control {
-        phase: 1,
-        next: 0,
-        items: 0,
-        words: 0,
-        keys: control.keys,
-        fresh: 0,
-    }
+    opened(control.keys)
 }
 
 // A staging of one more item is begun, before its action of this number: so many words are staged then, and so many
@@ -211,12 +213,12 @@ pub fn one_more(control: Control, next: usize, words: usize, fresh: usize) -> Co
     ensures { result ≡ staged_more next words fresh control }
 {
     Control {
-        phase: 2,
+        phase: STAGING,
         next,
         items: control.items + 1,
         words,
-        keys: control.keys,
         fresh,
+        ..control
     }
 }
 
@@ -249,15 +251,9 @@ pub fn opened_setup(image: usize, table: usize, size: Size) -> Setup
         image,
         table,
         power: places::power_of(size),
-        chunk: 0,
-        old: 0,
-        lines: 0,
         first: 1,
         least: places::lines(size),
-        fields: 0,
-        station: 0,
-        centre: 0,
-        source: no_source(),
+        ..empty_setup()
     }
 }
 
@@ -276,15 +272,10 @@ pub fn format_setup(
         image,
         table,
         power: places::power_of(size),
-        chunk: 0,
-        old: 0,
-        lines: 0,
-        first: 0,
-        least: 0,
         fields,
         station,
         centre,
-        source: no_source(),
+        ..empty_setup()
     }
 }
 
@@ -292,20 +283,12 @@ pub fn format_setup(
 pub fn block_setup(setup: Setup, chunk: usize, old: u64, lines: usize, fields: u64) -> Setup
     ensures { result ≡ block_setup setup chunk old lines fields }
 {
-    let source = setup.source;
     Setup {
-        image: setup.image,
-        table: setup.table,
-        power: setup.power,
         chunk,
         old,
         lines,
-        first: setup.first,
-        least: setup.least,
         fields,
-        station: setup.station,
-        centre: setup.centre,
-        source,
+        ..setup
     }
 }
 
@@ -323,18 +306,13 @@ pub fn append_setup(
     ensures { result ≡ append_setup setup chunk old lines first least source }
 {
     Setup {
-        image: setup.image,
-        table: setup.table,
-        power: setup.power,
         chunk,
         old,
         lines,
         first,
         least,
-        fields: setup.fields,
-        station: setup.station,
-        centre: setup.centre,
         source,
+        ..setup
     }
 }
 
@@ -353,122 +331,60 @@ pub struct Stepped {
     pub report: Report,
 }
 
-// LOOK-UP
-// What a call on an open register finds at first: a refusal, or none.
-#[derive(Clone, Copy)]
-pub enum Gated {
-    Open,
-    Refused(Refusal),
-}
-
-// THE PHASE: what is begun.
-#[derive(Clone, Copy)]
-pub enum Phase {
-    Closed,
-    Rest,
-    Staging,
-    Commit,
-    Format,
-    Reformat,
-    Cleaning,
-}
-
-// The phase that a number stands for: a number past them all is read as 0.
-pub fn phase_of(number: u64) -> Phase
-    ensures { result ≡ phase_of number }
-{
-    match number {
-        1 => Phase::Rest,
-        2 => Phase::Staging,
-        3 => Phase::Commit,
-        4 => Phase::Format,
-        5 => Phase::Reformat,
-        6 => Phase::Cleaning,
-        _ => Phase::Closed,
-    }
-}
-
+// THE GATES
 // 2 for a phase with nothing open, and else another refusal.
 fn closed_or(number: u64, refusal: Refusal) -> Refusal
     ensures { result ≡ closed_or number refusal }
 {
-    let phase = phase_of(number);
-    match phase {
-        Phase::Closed => Refusal::NotOpen,
-        Phase::Format => Refusal::NotOpen,
-        Phase::Rest => refusal,
-        Phase::Staging => refusal,
-        Phase::Commit => refusal,
-        Phase::Reformat => refusal,
-        Phase::Cleaning => refusal,
+    match Phase::from(number) {
+        Phase::Closed | Phase::Format => Refusal::NotOpen,
+        _ => refusal,
     }
 }
 
-fn is_at_rest(number: u64) -> bool
-    ensures { result ≡ eqb number 1 }
+// Whether the lent lengths are those at the opening.
+fn has_lengths(setup: Setup, bytes: usize, words: usize) -> bool
+    ensures { result ≡ same_lengths setup bytes words }
 {
-    let phase = phase_of(number);
-    match phase {
-        Phase::Rest => true,
-        Phase::Closed => false,
-        Phase::Staging => false,
-        Phase::Commit => false,
-        Phase::Format => false,
-        Phase::Reformat => false,
-        Phase::Cleaning => false,
-    }
+    setup.image == bytes && setup.table == words
 }
 
 // 2, 1, 8: nothing open, lengths unlike those at the opening, a call unfinished. An open register at rest is found by
 // three comparisons.
-pub fn gate(control: Control, setup: Setup, bytes: usize, words: usize) -> Gated
+pub fn gate(control: Control, setup: Setup, bytes: usize, words: usize) -> Result<(), Refusal>
     ensures { Asking control setup bytes words result }
 {
-    let phase = control.phase;
-    if setup.image == bytes {
-        if setup.table == words {
-            if is_at_rest(phase) {
-                return Gated::Open;
-            }
-            return Gated::Refused(closed_or(phase, Refusal::Unfinished));
-        }
-        return Gated::Refused(closed_or(phase, Refusal::ImageLength));
+    if !has_lengths(setup, bytes, words) {
+        return Err(closed_or(control.phase, Refusal::ImageLength));
     }
-    Gated::Refused(closed_or(phase, Refusal::ImageLength))
+    if control.phase == REST {
+        return Ok(());
+    }
+    Err(closed_or(control.phase, Refusal::Unfinished))
 }
 
-// The phases in which look-up answers: at rest, in a staging, a commit and a cleaning.
-const READ_PHASES: [u64; 7] = [0, 1, 1, 1, 0, 0, 1];
+// The phases in which look-up answers: at rest, in a staging, a commit and a cleaning. (By `matches!` the compiler makes
+// one test of these phases and the one at rest, and a look-up is slower.)
+const READ_PHASES: [bool; 7] = [false, true, true, true, false, false, true];
 
 fn is_read(number: u64) -> bool
     ensures { result ≡ read_at number }
 {
-    if number < 7 {
-        return READ_PHASES[number as usize] == 1;
-    }
-    false
+    number < 7 && READ_PHASES[number as usize]
 }
 
 // LOOK-UP'S GATE: the same, but that look-up answers in an unfinished call, too, unless that is a formatting. An open
-// register at rest is found by three comparisons: it is asked apart, and the other phases by a table, so that the
-// compiler does not make one test of both.
-pub fn read_gate(control: Control, setup: Setup, bytes: usize, words: usize) -> Gated
+// register at rest is found by three comparisons: it is asked apart.
+pub fn read_gate(control: Control, setup: Setup, bytes: usize, words: usize) -> Result<(), Refusal>
     ensures { ReadAsking control setup bytes words result }
 {
-    let phase = control.phase;
-    if setup.image == bytes {
-        if setup.table == words {
-            if is_at_rest(phase) {
-                return Gated::Open;
-            }
-            if is_read(phase) {
-                return Gated::Open;
-            }
-            return Gated::Refused(closed_or(phase, Refusal::Unfinished));
-        }
-        return Gated::Refused(closed_or(phase, Refusal::ImageLength));
+    if !has_lengths(setup, bytes, words) {
+        return Err(closed_or(control.phase, Refusal::ImageLength));
     }
-    Gated::Refused(closed_or(phase, Refusal::ImageLength))
+    if control.phase == REST || is_read(control.phase) {
+        return Ok(());
+    }
+    Err(closed_or(control.phase, Refusal::Unfinished))
 }
 
 // A refusal's number in the rules' table.

@@ -8,14 +8,15 @@ use Rattle.words.proofs.Values.{length-packed}
 use Rattle.batch.proofs.Add as Add
 use Rattle.batch.specs.Marks.{MarkedWith}
 use Rattle.batch.proofs.add_entry.Goals as goal
+use Rattle.batch.proofs.add_entry.Goals.{then-words-gt-BATCH_WORDS-via-then-words-gt-BATCH_WORDS, then-words-gt-BATCH_WORDS-via-else-words-gt-BATCH_WORDS+then-words-more}
 
 pub returns-then-words-gt-BATCH_WORDS : goal.returns-then-words-gt-BATCH_WORDS
-returns-then-words-gt-BATCH_WORDS c = let a = c.args in Add.add_none a.buffer.now a.words _ (omega arith) (omega arith)
-
-pub returns-then-words-more : goal.returns-then-words-more
-returns-then-words-more c =
+returns-then-words-gt-BATCH_WORDS c =
     let a = c.args in
-    Add.add_none a.buffer.now a.words _ (omega arith) (omega (arith, length-packed a.value.now))
+    elim c.then-words-gt-BATCH_WORDS.branch [
+      | then-words-gt-BATCH_WORDS-via-then-words-gt-BATCH_WORDS w ↦ Add.add_none a.buffer.now a.words _ (omega arith) (omega arith)
+      | then-words-gt-BATCH_WORDS-via-else-words-gt-BATCH_WORDS+then-words-more w ↦ Add.add_none a.buffer.now a.words _ (omega arith) (omega (arith, length-packed a.value.now))
+    ]
 
 pub returns : goal.returns
 returns c =

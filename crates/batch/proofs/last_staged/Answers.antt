@@ -7,8 +7,8 @@ use Rattle.buffer.specs.Areas.{batch_room}
 use Rattle.batch.proofs.Marks.{marks-all, unmarked-none}
 use Rattle.batch.proofs.last_staged.Goals as goal
 
-pub returns : goal.returns
-returns c items s =
+pub returns-else-is_marked : goal.returns-else-is_marked
+returns-else-is_marked c items s =
     let a = c.args in
     let marks = c.marks_of-marks in
     let test = c.is_marked in

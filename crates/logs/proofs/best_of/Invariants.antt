@@ -9,8 +9,10 @@ use Rattle.logs.specs.Cursor.{remaining, left}
 use Rattle.logs.specs.Best.{nothing, pass}
 use Rattle.logs.proofs.best_of.Given as goal
 
-abbrev pub invariant-loop-best : goal.invariant-loop-best
-invariant-loop-best l = fold_p (pass l.key) nothing (image_entries (power_of l.size) l.count (words_of l.img)) ≡ fold_p (pass l.key) l.best (remaining (power_of l.size) l.count (words_of l.img) l.cursor)
+abbrev pub invariant-loop-e : goal.invariant-loop-e
+invariant-loop-e l =
+    fold_p (pass l.key) nothing (image_entries (power_of l.size) l.count (words_of l.img))
+    ≡ fold_p (pass l.key) l.best (remaining (power_of l.size) l.count (words_of l.img) l.cursor)
 
-abbrev pub decreases-loop-best : goal.decreases-loop-best
-decreases-loop-best l = left l.count (words_of l.img) l.cursor
+abbrev pub decreases-loop-e : goal.decreases-loop-e
+decreases-loop-e l = left l.count (words_of l.img) l.cursor

@@ -33,7 +33,3 @@ overflow_add-result c =
     let b = chunk-within a.size (length a.img.now) a.c (omega arith) in
     let f = c.first_word-at.ensures in
     omega arith
-
-pub returns : goal.returns
-returns c =
-    record { chunk = refl; entries = rw (c.lines_of-lines.ensures.0, c.first_word-at.ensures) }

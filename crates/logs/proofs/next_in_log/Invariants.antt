@@ -4,13 +4,15 @@ use Prim.Native.Nat.{◌≤◌}
 use mathlib.Core.Path.{◌≡◌}
 use Rattle.spec.specs.Words.{words_of}
 use Rattle.places.specs.Sizes.{power_of}
-use Rattle.logs.specs.Cursor.{cursor_at, remaining, left}
+use Rattle.logs.specs.Cursor.{remaining, left}
 use Rattle.logs.proofs.next_in_log.Given as goal
 
-abbrev pub invariant-loop-next : goal.invariant-loop-next
-invariant-loop-next l =
-    (remaining (power_of l.size) l.count (words_of l.img) (cursor_at l.initial.chunk l.initial.at l.initial.end) ≡ remaining (power_of l.size) l.count (words_of l.img) (cursor_at l.chunk l.at l.end))
-    × (left l.count (words_of l.img) (cursor_at l.chunk l.at l.end) ≤ left l.count (words_of l.img) (cursor_at l.initial.chunk l.initial.at l.initial.end))
+abbrev pub invariant-loop-here : goal.invariant-loop-here
+invariant-loop-here l =
+    record {
+      same : remaining (power_of l.size) l.count (words_of l.img) l.fn.cursor ≡ remaining (power_of l.size) l.count (words_of l.img) l.here;
+      nearer : left l.count (words_of l.img) l.here ≤ left l.count (words_of l.img) l.fn.cursor;
+    }
 
-abbrev pub decreases-loop-next : goal.decreases-loop-next
-decreases-loop-next l = left l.count (words_of l.img) (cursor_at l.chunk l.at l.end)
+abbrev pub decreases-loop-here : goal.decreases-loop-here
+decreases-loop-here l = left l.count (words_of l.img) l.here

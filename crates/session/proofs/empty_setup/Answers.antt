@@ -1,6 +1,0 @@
--- `session::empty_setup` meets its contract.
--- Assumes nothing.
-use Rattle.session.proofs.empty_setup.Goals as goal
-
-pub returns : goal.returns
-returns c = rw c.no_source.ensures
