@@ -3,7 +3,7 @@
 use mathlib.Core.Path.{◌≡◌, refl, sym, ◌∙◌, ap}
 use mathlib.Core.Bool.{Bool, true, false}
 use mathlib.Core.List.{List, [], ◌∷◌, ◌++◌}
-use Prim.Native.Nat.{ℕ, zero, suc, ◌+◌, ◌-◌, ◌*◌, ◌/◌, ◌<◌, ◌≤◌, min}
+use Prim.Native.Nat.{ℕ, ◌+◌, ◌-◌, ◌*◌, ◌<◌, ◌≤◌, min}
 use native.Mathlib.Decide.{ℕ_discrete}
 use native.Mathlib.Omega.{arith}
 use lib.Dec.{eqb}
@@ -12,12 +12,10 @@ use borrow.Author.Tests.{eq-eqb, ne_eqb}
 use Rattle.spec.specs.Basics.{pick}
 use Rattle.spec.specs.Places.{directory_word, line_of}
 use Rattle.spec.specs.Medium.{Action, Flush, Fence}
-use Rattle.spec.specs.Directory.{freed_word}
 use Rattle.spec.specs.Actions.{lines_for, free_of}
 use Rattle.spec.specs.Reports.{as_report}
 use Rattle.session.specs.declared.Setup.{Setup}
 use Rattle.spec.specs.declared.Report.{Report}
-use Rattle.spec.specs.declared.Report.TheVariants as R
 use Rattle.buffer.specs.Areas.{second_start, second_room}
 use Rattle.session.specs.State.{power_in, buffer_part, chunk_in, lines_in, source_in, kept_words, append_actions, copy_actions, clean_actions}
 use Rattle.session.proofs.Part.{length_part}
@@ -76,23 +74,6 @@ module _ (k : Setup) (words : ℕ) (b : List ℕ) where
   pub copied_none : words ≡ 0 → copy_actions k words b ≡ []
   unfolding copy_actions
   copied_none e = rw (eq-eqb (min words second_room) 0 (omega arith))
-
--- THE FREEING
-module _ (c old at : ℕ) where
-  pub frees-store : (w v : ℕ) → at ≡ 0 → w ≡ 8 + c → v ≡ freed_word old → R.Store w v ≡ nth_report (free_of c old) at
-  frees-store w v e q r = rw (e, q, r)
-
-  pub frees-flush : (line : ℕ) → at ≡ 1 → line ≡ (8 + c) / 8 → R.Flush line ≡ nth_report (free_of c old) at
-  frees-flush line e q = rw (e, q)
-
-  pub frees-fence : 2 ≤ at → R.Fence ≡ nth_report (free_of c old) at
-  frees-fence h = go at h
-    where
-      go : (i : ℕ) → 2 ≤ i → R.Fence ≡ nth_report (free_of c old) i
-      go zero q = absurd (omega arith)
-      go (suc zero) q = absurd (omega arith)
-      go (suc (suc zero)) q = refl
-      go (suc (suc (suc i))) q = refl
 
 -- ALL OF THEM
 module _ (k : Setup) (f : Source) (b : List ℕ) where

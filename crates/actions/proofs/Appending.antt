@@ -3,21 +3,22 @@
 -- Assumes nothing.
 use mathlib.Core.Path.{◌≡◌, sym, ◌∙◌, ap}
 use mathlib.Core.List.{List}
-use Prim.Native.Nat.{ℕ, ◌+◌, ◌-◌, ◌*◌, ◌/◌, ◌<◌, ◌≤◌}
+use Prim.Native.Nat.{ℕ, ◌+◌, ◌-◌, ◌*◌, ◌<◌, ◌≤◌}
 use native.Mathlib.Omega.{arith}
 use lib.ListN.{length, get_or, get_or-eq_default}
-use Rattle.spec.specs.Places.{base, first_line, directory_word, line_of}
+use Rattle.spec.specs.Places.{base, first_line}
 use Rattle.spec.specs.declared.Size.{Size}
 use Rattle.places.specs.Sizes.{power_of}
 use Rattle.spec.specs.Directory.{log_word}
-use Rattle.spec.specs.Actions.{lines_for, padded}
+use Rattle.spec.specs.Actions.{lines_for, padded, seal_of}
 use Rattle.spec.specs.Reports.{as_report}
 use Rattle.session.specs.declared.Setup.{Setup}
+use Rattle.spec.specs.declared.Report.{Report}
 use Rattle.spec.specs.declared.Report.TheVariants as R
 use Rattle.session.specs.State.{size_in, power_in, buffer_part, chunk_in, lines_in, append_actions}
 use Rattle.session.proofs.Part.{length_part, part-word}
-use Rattle.actions.specs.Nth.{nth_report}
-use Rattle.actions.proofs.Appends.{padded-word, nth-store, nth-flush, nth-fence, nth-seal, nth-seal-flush, nth_last}
+use Rattle.actions.specs.Nth.{nth_report, word_of}
+use Rattle.actions.proofs.Appends.{padded-word, nth-store, nth-flush, nth-fence, nth-sealed}
 
 -- THE WORDS, n of them from word `from` of the buffer on: word i, padded, among them and behind them
 pub word-inside : (b : List ℕ) (from n i j : ℕ) → i < n → j ≡ from + i → get_or b j 0 ≡ get_or (padded (buffer_part b from n)) i 0
@@ -44,16 +45,8 @@ module _ (k : Setup) (words : List ℕ) (at lines : ℕ) (es : lines ≡ lines_f
   pub shows-fence : at ≡ 9 * lines → R.Fence ≡ nth_report (append_actions k words) at
   shows-fence e = sym (ap as_report (nth-fence (power_in k) (chunk_in k) k.old (lines_in k) words at (omega arith)))
 
-  pub shows-seal : (w v n : ℕ) → at ≡ 9 * lines + 1 → w ≡ 8 + chunk_in k → n ≡ lines_in k + lines → v ≡ log_word k.old n → R.Store w v ≡ nth_report (append_actions k words) at
-  shows-seal w v n e q r s =
-      let x : w ≡ directory_word (chunk_in k) = omega arith in
+  pub shows-seal : (r : Report) (v n : ℕ) → 9 * lines + 1 ≤ at → n ≡ lines_in k + lines → v ≡ log_word k.old n → r ≡ nth_report (word_of (8 + chunk_in k) v) (at - (9 * lines + 1)) → r ≡ nth_report (append_actions k words) at
+  shows-seal r v n h q s e =
       let y : n ≡ lines_in k + lines_for (length words) = omega arith in
-      rw (s, x, y) (sym (ap as_report (nth-seal (power_in k) (chunk_in k) k.old (lines_in k) words at (omega arith))))
-
-  pub shows-seal-flush : (line : ℕ) → at ≡ 9 * lines + 2 → line ≡ (8 + chunk_in k) / 8 → R.Flush line ≡ nth_report (append_actions k words) at
-  shows-seal-flush line e q =
-      ap R.Flush (let z : line ≡ line_of (directory_word (chunk_in k)) = omega arith in z)
-      ∙ sym (ap as_report (nth-seal-flush (power_in k) (chunk_in k) k.old (lines_in k) words at (omega arith)))
-
-  pub shows-last : 9 * lines + 3 ≤ at → R.Fence ≡ nth_report (append_actions k words) at
-  shows-last h = sym (ap as_report (nth_last (power_in k) (chunk_in k) k.old (lines_in k) words at (omega arith)))
+      e ∙ ap (λ (x : ℕ). nth_report (seal_of (chunk_in k) x) (at - (9 * lines + 1))) (s ∙ ap (log_word k.old) y)
+      ∙ sym (ap as_report (nth-sealed (power_in k) (chunk_in k) k.old (lines_in k) words at (at - (9 * lines + 1)) (omega arith)))

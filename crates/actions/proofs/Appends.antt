@@ -77,6 +77,9 @@ module _ (p c old l : ℕ) (words : List ℕ) where
   pub nth-fence : (at : ℕ) → at ≡ 9 * lines → nth acts at ≡ Fence
   nth-fence at e = in-seal at 0 (omega arith)
 
+  pub nth-sealed : (at i : ℕ) → at ≡ 9 * lines + 1 + i → nth acts at ≡ nth S i
+  nth-sealed at i e = in-seal at (suc i) (omega arith)
+
   pub nth-seal : (at : ℕ) → at ≡ 9 * lines + 1 → nth acts at ≡ Store (directory_word c) (log_word old (l + lines))
   nth-seal at e = in-seal at 1 e
 

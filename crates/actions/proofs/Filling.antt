@@ -3,7 +3,7 @@
 use mathlib.Core.Path.{◌≡◌, refl, sym, ◌∙◌, ap}
 use mathlib.Core.Logic.{by_cases}
 use mathlib.Core.List.{List, ◌++◌}
-use Prim.Native.Nat.{ℕ, suc, ◌+◌, ◌-◌, ◌/◌, ◌%◌, ◌^◌, ◌<◌, ◌≤◌, min}
+use Prim.Native.Nat.{ℕ, zero, suc, ◌+◌, ◌-◌, ◌%◌, ◌^◌, ◌<◌, ◌≤◌}
 use native.Mathlib.Omega.{arith}
 use native.Mathlib.Decide.{ℕ_discrete}
 use borrow.Author.Tests.{eq-eqb, ne_eqb}
@@ -11,7 +11,6 @@ use lib.ListN.{length, get_or, length-append, get_or-eq_default}
 use Rattle.spec.specs.Places.{unit_word, line_of}
 use Rattle.spec.specs.Medium.{Action, Store, Flush, Fence}
 use Rattle.spec.specs.Directory.{data_word}
-use Rattle.spec.specs.Blocks.{block_limit}
 use Rattle.spec.specs.Actions.{writes, flushes, lines_for, take_of, block_of}
 use Rattle.spec.specs.Reports.{as_report}
 use Rattle.spec.specs.declared.Report.{Report}
@@ -20,15 +19,15 @@ use Rattle.places.specs.Sizes.{power_of}
 use Rattle.spec.specs.declared.Report.TheVariants as R
 use Rattle.codec.specs.Units.{unit_at}
 use Rattle.codec.proofs.Units.{unit-of}
-use Rattle.buffer.specs.Areas.{second_start, second_room}
+use Rattle.buffer.specs.Areas.{second_start}
 use Rattle.session.specs.declared.Setup.{Setup}
 use Rattle.session.specs.State.{size_in, power_in, chunk_in}
 use Rattle.session.proofs.Part.{length_part, part-word}
 use Rattle.theory_crash.proofs.Cells.{length-writes, length-flushes}
-use Rattle.actions.specs.Nth.{nth, nth_report}
+use Rattle.actions.specs.Nth.{nth, nth_report, word_of}
 use Rattle.actions.proofs.Bounds.{unit-few, held-few}
 use Rattle.actions.proofs.Nth.{nth-writes, nth-flushes, nth-front, nth-back}
-use Rattle.session.specs.State.{most_bytes, held_count, held_words, unit_of, block_actions, behind_all}
+use Rattle.session.specs.State.{held_count, held_words, unit_of, block_actions, behind_all}
 
 -- THE BLOCK, by number
 module _ (u : ℕ) (words : List ℕ) where
@@ -61,14 +60,6 @@ module _ (u : ℕ) (words : List ℕ) where
   nth_past at h = get_or-eq_default (block_of u words) Fence (rw length-block h)
 
 -- WHAT THE CODE SHOWS at each return
--- of the words held: n of the least of two numbers of bytes
-pub held-shown : (k : Setup) (b : List ℕ) (size : Size) (most n : ℕ) → size ≡ size_in k → most ≡ block_limit (power_of size)
-    → n ≡ 1 + (min (get_or b second_start 0) most + 7) / 8 → (n ≡ held_count k b) × (n ≤ second_room)
-held-shown k b size most n z m e =
-    let q : most ≡ most_bytes k = m ∙ ap (λ (x : Size). block_limit (power_of x)) z in
-    let f = held-few (size_in k) (get_or b second_start 0) in
-    (omega arith, omega arith)
-
 held-length : (k : Setup) (b : List ℕ) → length (held_words k b) ≡ held_count k b
 unfolding held_words
 held-length k b = length_part b second_start (held_count k b)
@@ -92,15 +83,10 @@ module _ (k : Setup) (u : ℕ) (b : List ℕ) (n at : ℕ) (en : n ≡ held_coun
   shows-past h = sym (ap as_report (nth_past u (held_words k b) at (rw size h)))
 
 -- THE CHUNK TAKEN, by number
-module _ (c old s at : ℕ) where
-  pub take-store : (w v : ℕ) → at ≡ 0 → w ≡ 8 + c → v ≡ data_word old s → R.Store w v ≡ nth_report (take_of c old s) at
-  take-store w v e q r = rw (e, q, r)
-
-  pub take-flush : (line : ℕ) → at ≡ 1 → line ≡ (8 + c) / 8 → R.Flush line ≡ nth_report (take_of c old s) at
-  take-flush line e q = rw (e, q)
-
-  pub take_past : 2 ≤ at → R.Fence ≡ nth_report (take_of c old s) at
-  take_past h = sym (ap as_report (get_or-eq_default (take_of c old s) Fence h))
+taken : (c old s at : ℕ) → at < 2 → nth_report (word_of (8 + c) (data_word old s)) at ≡ nth_report (take_of c old s) at
+taken c old s zero h = refl
+taken c old s (suc zero) h = refl
+taken c old s (suc (suc i)) h = absurd (omega arith)
 
 -- THE UNIT, as the code reckons it
 pub unit-is : (k : Setup) (size : Size) (u : ℕ) → size ≡ size_in k → u ≡ unit_at (power_of size) (chunk_in k) k.lines → (u ≡ unit_of k) × (u < 131072)
@@ -142,9 +128,10 @@ module _ (k : Setup) (b : List ℕ) where
   pub whole_plain : (r : Report) (u at : ℕ) → k.fields ≡ 0 → u ≡ unit_of k → r ≡ nth_report (block_of u (held_words k b)) at → r ≡ nth_report (block_actions k b) at
   whole_plain r u at z e q = q ∙ ap (λ (x : ℕ). nth_report (block_of x (held_words k b)) at) e ∙ ap (λ (l : List Action). nth_report l at) (sym (plain z))
 
-  pub whole_take : (r : Report) (at : ℕ) → (k.fields ≡ 0 → ⊥) → at < 2 → r ≡ nth_report (take_of (chunk_in k) k.old (k.fields % 2 ^ 56)) at → r ≡ nth_report (block_actions k b) at
-  whole_take r at z h q =
-      q ∙ sym (ap as_report (nth-front (take_of (chunk_in k) k.old (k.fields % 2 ^ 56)) (block_of (unit_of k) (held_words k b)) at h)) ∙ ap (λ (l : List Action). nth_report l at) (sym (taking z))
+  pub whole_take : (r : Report) (at v : ℕ) → (k.fields ≡ 0 → ⊥) → at < 2 → v ≡ data_word k.old (k.fields % 2 ^ 56) → r ≡ nth_report (word_of (8 + chunk_in k) v) at → r ≡ nth_report (block_actions k b) at
+  whole_take r at v z h e q =
+      q ∙ ap (λ (x : ℕ). nth_report (word_of (8 + chunk_in k) x) at) e ∙ taken (chunk_in k) k.old (k.fields % 2 ^ 56) at h
+      ∙ sym (ap as_report (nth-front (take_of (chunk_in k) k.old (k.fields % 2 ^ 56)) (block_of (unit_of k) (held_words k b)) at h)) ∙ ap (λ (l : List Action). nth_report l at) (sym (taking z))
 
   pub whole-fill : (r : Report) (u at i : ℕ) → (k.fields ≡ 0 → ⊥) → at ≡ 2 + i → u ≡ unit_of k → r ≡ nth_report (block_of u (held_words k b)) i → r ≡ nth_report (block_actions k b) at
   whole-fill r u at i z h e q =

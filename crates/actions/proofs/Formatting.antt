@@ -2,7 +2,7 @@
 -- Assumes nothing.
 use mathlib.Core.Path.{◌≡◌, refl, sym, ◌∙◌, ap}
 use mathlib.Core.List.{List, [], ◌∷◌, ◌++◌, append_assoc}
-use Prim.Native.Nat.{ℕ, zero, suc, ◌+◌, ◌-◌, ◌/◌, ◌%◌, ◌<◌, ◌≤◌}
+use Prim.Native.Nat.{ℕ, suc, ◌+◌, ◌-◌, ◌/◌, ◌%◌, ◌<◌, ◌≤◌}
 use native.Mathlib.Omega.{arith}
 use lib.ListN.{length, get_or, drop, get_or-eq_default}
 use Rattle.spec.specs.Places.{max_chunks, chunks_in}
@@ -10,7 +10,7 @@ use Rattle.spec.specs.Medium.{Action, Store, Flush, Fence}
 use Rattle.spec.specs.Header.{header_map, header_tail, header_words}
 use Rattle.spec.specs.Actions.{writes, flushes, first_word_of, fill_of, blank_of, format_of}
 use Rattle.spec.specs.Reports.{as_report}
-use Rattle.spec.specs.declared.Given.{Given}
+use Rattle.spec.specs.Basics.{Given}
 use Rattle.spec.specs.declared.Size.{Size}
 use Rattle.places.specs.Sizes.{power_of}
 use Rattle.session.specs.declared.Setup.{Setup}
@@ -73,12 +73,6 @@ module _ (words : List ℕ) (count lines first : ℕ) (sized : length words ≡ 
 
   fill-back : (at i : ℕ) → at ≡ 4 + count + lines + i → nth all at ≡ nth (first_word_of first) i
   fill-back at i e = ending at (suc i) (omega arith)
-
-pub fence-from : (v i : ℕ) → 2 ≤ i → R.Fence ≡ nth_report (first_word_of v) i
-fence-from v zero h = absurd (omega arith)
-fence-from v (suc zero) h = absurd (omega arith)
-fence-from v (suc (suc zero)) h = refl
-fence-from v (suc (suc (suc i))) h = refl
 
 -- A FORMATTING
 module _ (k : Setup) where

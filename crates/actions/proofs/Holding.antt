@@ -24,19 +24,6 @@ part-laid b (x ∷ xs) i h =
     let r = part-laid b xs (suc i) (λ k j e l. h (suc k) j (omega arith) (omega arith)) in
     cc
 
--- a value too long
-pub held_none : (size : Size) (b v : List ℕ) → length b ≡ buffer_words → block_limit (power_of size) < length v → Kept size b b v
-held_none size b v n h = record {
-  whole = n;
-  long = refl;
-  below = λ i l. refl;
-  above = λ i l. refl;
-  bits = λ u. refl;
-  large = λ l. refl;
-  written = λ l. absurd (omega arith);
-  held = λ k z l. absurd (omega arith);
-}
-
 module _ (size : Size) (b d v : List ℕ) (n : length b ≡ buffer_words) (h : length v ≤ block_limit (power_of size)) (stored : d ≡ overlay (set b second_start (length v)) (second_start + 1) (packed v)) where
   words : length (packed v) ≡ (length v + 7) / 8
   words = length-packed v

@@ -1,9 +1,9 @@
 -- The actions of a call by number, and how many there are.
 -- Assumes nothing.
-use Rattle.std.specs.Prelude.{List, ℕ, ◌+◌, ◌*◌, ◌/◌, ◌%◌, min, get_or}
-use Rattle.spec.specs.Places.{chunks_in}
+use Rattle.std.specs.Prelude.{List, [], ◌∷◌, ℕ, ◌+◌, ◌*◌, ◌/◌, ◌%◌, min, get_or}
+use Rattle.spec.specs.Places.{chunks_in, line_of}
 use Rattle.spec.specs.Header.{header_words}
-use Rattle.spec.specs.Medium.{Action, Fence}
+use Rattle.spec.specs.Medium.{Action, Store, Flush, Fence}
 use Rattle.spec.specs.Actions.{lines_for}
 use Rattle.spec.specs.Reports.{as_report}
 use Rattle.spec.specs.declared.Report.{Report}
@@ -17,6 +17,10 @@ nth acts i = get_or acts i Fence
 
 abbrev pub nth_report : List Action → ℕ → Report
 nth_report acts i = as_report (nth acts i)
+
+-- a word stored, its line flushed, and a fence
+abbrev pub word_of : ℕ → ℕ → List Action
+word_of w v = Store w v ∷ Flush (line_of w) ∷ Fence ∷ []
 
 -- a commit of so many staged words, and a formatting
 abbrev pub commit_count : ℕ → ℕ

@@ -8,11 +8,11 @@ ghost use Rattle.session.specs.State.{power_in, buffer_part, chunk_in, lines_in,
 ghost use Rattle.actions.specs.Nth.{nth_report, commit_count};
 ghost use Rattle.actions.specs.Record.{copy_count};
 
+use crate::word_action;
 use buffer::{BATCH, BATCH_WORDS, Buffer, SECOND_WORDS};
 use places::{first_line, first_word, size_by};
 use session::{Control, Setup};
 use spec::Report;
-use words::lesser;
 
 // WORDS BEHIND THE COMMITTED LINES of a chunk
 // How many lines so many staged words take, and so many kept by a cleaning: more than there is room for are read as
@@ -20,13 +20,13 @@ use words::lesser;
 pub fn batch_lines(words: usize) -> usize
     ensures { result ≡ lines_for (min words batch_room) }
 {
-    (lesser(words, BATCH_WORDS) + 7) / 8
+    (words.min(BATCH_WORDS) + 7) / 8
 }
 
 pub fn kept_lines(words: usize) -> usize
     ensures { result ≡ lines_for (min words second_room) }
 {
-    (lesser(words, SECOND_WORDS) + 7) / 8
+    (words.min(SECOND_WORDS) + 7) / 8
 }
 
 // Word i of so many words of the buffer from word `from` on, padded to whole lines: 0 behind them.
@@ -34,10 +34,7 @@ fn append_word(buffer: &Buffer, from: usize, words: usize, i: usize) -> u64
     requires { (from ≤ batch_room) × (words ≤ second_room) }
     ensures { result ≡ get_or (padded (buffer_part buffer.now from words)) i 0 }
 {
-    if i < words {
-        return buffer[from + i];
-    }
-    0
+    if i < words { buffer[from + i] } else { 0 }
 }
 
 // The action number `at` of those that put so many words of the buffer, from word `from` on, behind the committed lines
@@ -53,29 +50,19 @@ pub fn append_action(setup: Setup, buffer: &Buffer, from: usize, words: usize, a
     let stores = 8 * lines;
     let fence = 9 * lines;
     let seal = fence + 1;
-    let flush = fence + 2;
     if at < stores {
-        let word = first_word(size, chunk) + 8 * committed + at;
-        let value = append_word(buffer, from, words, at);
-        return Report::Store { word, value };
-    }
-    if at < fence {
-        let line = first_line(size, chunk) + committed + (at - stores);
-        return Report::Flush(line);
-    }
-    if at == fence {
-        return Report::Fence;
-    }
-    if at <= seal {
-        let word = 8 + chunk;
+        Report::Store {
+            word: first_word(size, chunk) + 8 * committed + at,
+            value: append_word(buffer, from, words, at),
+        }
+    } else if at < fence {
+        Report::Flush(first_line(size, chunk) + committed + (at - stores))
+    } else if at < seal {
+        Report::Fence
+    } else {
         let value = codec::log_word(setup.old, (committed + lines) as u64);
-        return Report::Store { word, value };
+        word_action(8 + chunk, value, at - seal)
     }
-    if at <= flush {
-        let line = (8 + chunk) / 8;
-        return Report::Flush(line);
-    }
-    Report::Fence
 }
 
 // COMMIT
@@ -83,16 +70,14 @@ pub fn append_action(setup: Setup, buffer: &Buffer, from: usize, words: usize, a
 pub fn commit_count(words: usize) -> usize
     ensures { result ≡ commit_count words }
 {
-    let lines = batch_lines(words);
-    9 * lines + 4
+    9 * batch_lines(words) + 4
 }
 
 // How many of these store a word of the batch: they come first.
 pub fn commit_stores(words: usize) -> usize
     ensures { result ≡ 8 * lines_for (min words batch_room) }
 {
-    let lines = batch_lines(words);
-    8 * lines
+    8 * batch_lines(words)
 }
 
 // The word of the image where the batch begins.
@@ -107,8 +92,7 @@ pub fn batch_start(setup: Setup) -> usize
 pub fn commit_action(control: Control, setup: Setup, buffer: &Buffer, at: usize) -> Report
     ensures { result ≡ nth_report (commit_actions control setup buffer.now) at }
 {
-    let words = lesser(control.words, BATCH_WORDS);
-    append_action(setup, buffer, BATCH, words, at)
+    append_action(setup, buffer, BATCH, control.words.min(BATCH_WORDS), at)
 }
 
 // How many actions copy so many kept words: none where there are none.
@@ -116,7 +100,8 @@ pub fn copy_count(words: usize) -> usize
     ensures { result ≡ copy_count words }
 {
     if words == 0 {
-        return 0;
+        0
+    } else {
+        9 * kept_lines(words) + 4
     }
-    9 * kept_lines(words) + 4
 }

@@ -1,19 +1,19 @@
 // A large value on its way: kept in the second area of the record's buffer, and the actions that put it into its block,
 // one by one, made without reading the image.
-ghost use Rattle.std.specs.Prelude.{◌≡◌, ◌%◌, ◌^◌, ◌<◌, ◌≤◌, length};
-ghost use Rattle.spec.specs.Actions.{take_of, block_of};
+ghost use Rattle.std.specs.Prelude.{◌≡◌, ◌<◌, ◌≤◌, length};
+ghost use Rattle.spec.specs.Actions.{block_of};
 ghost use Rattle.buffer.specs.Areas.{second_room};
 ghost use Rattle.actions.specs.Nth.{nth_report};
 ghost use Rattle.session.specs.State.{held_count, held_words, unit_of, block_actions};
 ghost use Rattle.actions.specs.Staging.{Kept};
 
+use crate::word_action;
 use batch::pack_into;
-use buffer::{Buffer, SECOND, buffer_length};
+use buffer::{Buffer, SECOND};
 use codec::Unit;
 use places::size_by;
 use session::Setup;
 use spec::{Report, Size};
-use words::lesser;
 
 // THE VALUE
 // Its words stand behind its length, which is the first word of the second area.
@@ -23,12 +23,10 @@ const VALUE: usize = SECOND + 1;
 pub fn hold_value(buffer: &mut Buffer, value: &[u8], size: Size)
     ensures { Kept size buffer.old buffer.new value.now }
 {
-    buffer_length(buffer);
-    if places::largest_value(size) < value.len() {
-        return;
+    if value.len() <= places::largest_value(size) {
+        buffer[SECOND] = value.len() as u64;
+        pack_into(value, buffer, VALUE);
     }
-    buffer[SECOND] = value.len() as u64;
-    pack_into(value, buffer, VALUE);
 }
 
 // How many words are held there: the length word, and those of the value.
@@ -36,7 +34,7 @@ pub fn held_words(setup: Setup, buffer: &Buffer) -> usize
     ensures { (result ≡ held_count setup buffer.now) × (result ≤ second_room) }
 {
     let size = size_by(setup.power);
-    let bytes = lesser(buffer[SECOND] as usize, places::largest_value(size));
+    let bytes = places::largest_value(size).min(buffer[SECOND] as usize);
     1 + (bytes + 7) / 8
 }
 
@@ -56,26 +54,10 @@ pub fn block_count(setup: Setup, buffer: &Buffer) -> usize
     let words = held_words(setup, buffer);
     let flushes = (words + 7) / 8;
     if setup.fields == 0 {
-        return words + flushes;
+        words + flushes
+    } else {
+        2 + words + flushes
     }
-    2 + words + flushes
-}
-
-// The action number `at` of those that take a free chunk: its directory word, and that word's line.
-fn take_action(chunk: usize, old: u64, size: u64, at: usize) -> Report
-    requires { chunk < 512 }
-    ensures { result ≡ nth_report (take_of chunk old (size % 2 ^ 56)) at }
-{
-    if at == 0 {
-        let word = 8 + chunk;
-        let value = codec::data_word(old, size);
-        return Report::Store { word, value };
-    }
-    if at == 1 {
-        let line = (8 + chunk) / 8;
-        return Report::Flush(line);
-    }
-    Report::Fence
 }
 
 // The action number `at` of those that fill the block: the words held, then a flush for each line stored to.
@@ -87,29 +69,30 @@ fn fill_action(setup: Setup, unit: Unit, buffer: &Buffer, at: usize) -> Report
     let start = unit.word_offset();
     let lines = (words + 7) / 8;
     if at < words {
-        let word = start + at;
-        let value = buffer[SECOND + at];
-        return Report::Store { word, value };
+        Report::Store {
+            word: start + at,
+            value: buffer[SECOND + at],
+        }
+    } else if at < words + lines {
+        Report::Flush(start / 8 + (at - words))
+    } else {
+        Report::Fence
     }
-    if at < words + lines {
-        let line = start / 8 + (at - words);
-        return Report::Flush(line);
-    }
-    Report::Fence
 }
 
-// The action number `at` of a staging of a large value.
+// The action number `at` of a staging of a large value: those that take a free chunk, its directory word and that word's
+// line, where the chunk is free; then those that fill the block.
 pub fn block_action(setup: Setup, buffer: &Buffer, at: usize) -> Report
     ensures { result ≡ nth_report (block_actions setup buffer.now) at }
 {
     let unit = unit_of(setup);
     let size = setup.fields;
     if size == 0 {
-        return fill_action(setup, unit, buffer, at);
-    }
-    if at < 2 {
+        fill_action(setup, unit, buffer, at)
+    } else if at < 2 {
         let chunk = setup.chunk % 512;
-        return take_action(chunk, setup.old, size, at);
+        word_action(8 + chunk, codec::data_word(setup.old, size), at)
+    } else {
+        fill_action(setup, unit, buffer, at - 2)
     }
-    fill_action(setup, unit, buffer, at - 2)
 }

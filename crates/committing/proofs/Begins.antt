@@ -2,7 +2,7 @@
 -- Assumes nothing.
 use mathlib.Core.Path.{◌≡◌, refl, sym, ◌∙◌, ap, subst}
 use mathlib.Core.Logic.{inl, inr}
-use mathlib.Core.Bool.{Bool, true, false}
+use mathlib.Core.Bool.{Bool}
 use mathlib.Core.Option.{Option, none, some}
 use mathlib.Core.List.{List, [], ◌∷◌, ◌++◌}
 use Prim.Native.Nat.{ℕ, suc, ◌%◌, ◌≤◌, ◌<◌, min}
@@ -29,7 +29,6 @@ use Rattle.spec.specs.declared.Refusal.{Refusal}
 use Rattle.spec.specs.declared.Refusal.TheVariants as N
 use Rattle.spec.specs.declared.Report.{Report}
 use Rattle.spec.specs.declared.Report.TheVariants as R
-use Rattle.theory_base.proofs.Lists.{not-both}
 use Rattle.buffer.specs.Areas.{batch_room}
 use Rattle.session.specs.State.{batch_words, batch_items, commit_actions, commit_olds, size_in, power_in, state_of}
 use Rattle.session.specs.Fits.{ItemsFit, Opens, Hint, sole_mark, batch_place, RestFits, CommitFits, Shown, Reads, Fits}
@@ -38,20 +37,18 @@ use Rattle.session.proofs.Part.{length_part, chunk_in_lem, lines-in, words-count
 use Rattle.batch.specs.Items.{OnlyDeletes}
 use Rattle.placing.specs.declared.lines.Place.{Place}
 use Rattle.placing.specs.declared.lines.Placed.{Placed}
-use Rattle.placing.specs.Found.{place_of, Searched, Searching}
+use Rattle.placing.specs.Found.{place_in, place_of, Searched, Searching}
+use Rattle.placing.proofs.PlaceFound.{placed-nowhere}
 use Rattle.placing.proofs.Hint.{same-space}
 use Rattle.actions.specs.Nth.{nth, commit_count}
 use Rattle.actions.proofs.Committing.{length-commit, commit-next}
-use Rattle.session.specs.declared.Gated.{Gated}
-use Rattle.session.specs.declared.Gated.TheVariants as G
 use Rattle.session.specs.Asks.{gate_of, Asking}
 use Rattle.session.proofs.Gates as Gates
-use Rattle.committing.specs.declared.CommitPlan.{CommitPlan}
-use Rattle.committing.specs.declared.CommitPlan.TheVariants as P
-use Rattle.committing.specs.Planned.{PlaceFor, CommitPlanned, committing, writing_to}
+use Rattle.std.specs.Prelude.{Some, None, Result, Ok, Err}
+use Rattle.committing.specs.Planned.{PlaceFor, committing, writing_to}
 use Rattle.forward.proofs.Commits.{Forward, forward}
 use Rattle.actions.proofs.States.{at-3}
-use Rattle.session.specs.Promise.{Does, memory, memory_of}
+use Rattle.session.specs.Promise.{Does, memory}
 use Rattle.session.specs.Fits.{Proper}
 
 -- a commit's begin leaves the staged items
@@ -173,13 +170,9 @@ plan-at : (p n : ℕ) (ws : List ℕ) (f : Entry) (fs : List Entry) (d : ℕ) �
 unfolding plan_commit
 plan-at p n ws f fs d h = rw h
 
-found_none : (p : ℕ) (ws : List ℕ) (q : Option ℕ) (place : Place) → place ≡ place_of p ws q → place.found ≡ false → q ≡ none
-found_none p ws none place e h = refl
-found_none p ws (some d) place e h = absurd (not-both place.found (ap (λ (x : Place). x.found) e) h)
-
-found_some : (p : ℕ) (ws : List ℕ) (q : Option ℕ) (place : Place) → place ≡ place_of p ws q → place.found ≡ true → (d : ℕ) × (q ≡ some d) × (place ≡ place_of p ws (some d))
-found_some p ws none place e h = absurd (not-both place.found h (ap (λ (x : Place). x.found) e))
-found_some p ws (some d) place e h = (d, refl, e)
+found_some : (p : ℕ) (ws : List ℕ) (q : Option ℕ) (place : Place) → Some place ≡ place_of p ws q → (d : ℕ) × (q ≡ some d) × (place ≡ place_in p ws d)
+found_some p ws none place e = absurd (let z : ◌≡◌ {A = ℕ} 0 1 = cc in omega arith)
+found_some p ws (some d) place e = (d, refl, cc)
 
 -- the place that the code looked for
 pub place-shown : (size : Size) (b : List ℕ) (words : ℕ) (bytes : List ℕ) (count lines : ℕ) (deletes : Bool) (needed first least : ℕ) (place : Placed)
@@ -199,21 +192,12 @@ module _ (c : Control) (k : Setup) (b bytes table : List ℕ) where
   abbrev s : Session
   s = record { control = c; setup = k; buffer = b }
 
-  -- by the plan
-  module _ (plan : CommitPlan) (right : CommitPlanned c k b bytes table plan) where
-    pub plan-refused : (n : Refusal) → plan ≡ P.Refused n → Does Commit (memory s bytes table) (memory s bytes table) (R.Refused n)
-    plan-refused n e = rw e at right
-
-    pub plan-begun : (chunk old lines first least actions : ℕ) → plan ≡ P.At chunk old lines first least actions
-        → Does Commit (memory s bytes table) (memory_of (committing c) (writing_to k chunk old lines first least) b bytes table) (R.Begun actions)
-    plan-begun chunk old lines first least actions e = rw e at right
-
   -- by the gate
-  module _ (g : Gated) (asks : Asking c k (length bytes) (length table) g) where
-    pub gate-refuses : (n : Refusal) → g ≡ G.Refused n → Does Commit (memory s bytes table) (memory s bytes table) (R.Refused n)
+  module _ (g : Result (Unit {0}) Refusal) (asks : Asking c k (length bytes) (length table) g) where
+    pub gate-refuses : (n : Refusal) → g ≡ Err n → Does Commit (memory s bytes table) (memory s bytes table) (R.Refused n)
     gate-refuses n e = Gates.turned_down s bytes table n (asks.asked b ∙ ap gate_of e) Commit tt
 
-    module _ (e : g ≡ G.Open) where
+    module _ (e : g ≡ Ok tt) where
       opened : gate (state_of s) (length bytes) (length table) ≡ none
       opened = asks.asked b ∙ ap gate_of e
 
@@ -236,16 +220,13 @@ module _ (c : Control) (k : Setup) (b bytes table : List ℕ) where
         abbrev at_place : List Entry → Option ℕ
         at_place items = log_place (power_in k) (chunks_in (power_in k) (length bytes)) (words_of bytes) (lines_for (length (encode_all items))) 0 (free_needed items)
 
-        abbrev place : Place
-        place = placed.place
-
         place_is : (items : List Entry) → RestFits s (words_of bytes) table items → k.image ≡ length bytes
             → Searched (power_in k) (words_of bytes) (chunks_in (power_in k) (length bytes)) (lines_for (length (encode_all items))) (free_needed items) placed
         unfolding batch_words
         place_is items r same = searched items (record { written = r.batch.written; right = r.batch.right; marked = r.batch.marked }) (rw same at r.hint)
 
         -- 13
-        pub no-space : place.found ≡ false → Does Commit (memory s bytes table) (memory s bytes table) (R.Refused N.NoSpace)
+        pub no-space : placed.place ≡ None → Does Commit (memory s bytes table) (memory s bytes table) (R.Refused N.NoSpace)
         no-space h =
             Gates.refused s bytes table N.NoSpace Commit refl (λ q. q) (λ q. let a = rests q in rw (opened, a.state) (by a.items a.fits a.same_bytes)) (passed (R.Refused N.NoSpace))
             (inr (inr (inr (inr (inl refl))))) (refl, refl) (inl (N.NoSpace, refl))
@@ -253,7 +234,7 @@ module _ (c : Control) (k : Setup) (b bytes table : List ℕ) where
             by : (items : List Entry) → RestFits s (words_of bytes) table items → k.image ≡ length bytes → R.Refused N.NoSpace ≡ planned (plan_commit (power_in k) (chunks_in (power_in k) (length bytes)) (words_of bytes) items)
             by [] r same = absurd (some-staged r.batch.count)
             by (f ∷ fs) r same =
-                sym (ap planned (plan-full (power_in k) (chunks_in (power_in k) (length bytes)) (words_of bytes) f fs (found_none (power_in k) (words_of bytes) (at_place (f ∷ fs)) place (place_is (f ∷ fs) r same).place h)))
+                sym (ap planned (plan-full (power_in k) (chunks_in (power_in k) (length bytes)) (words_of bytes) f fs (placed-nowhere (power_in k) (words_of bytes) (at_place (f ∷ fs)) (sym h ∙ (place_is (f ∷ fs) r same).place))))
 
         -- begun
         abbrev began : Place → Session
@@ -262,7 +243,7 @@ module _ (c : Control) (k : Setup) (b bytes table : List ℕ) where
         module _ (f : Entry) (fs : List Entry) (q : Fits s (words_of bytes) table) (σ : state_of s ≡ Rest (power_in k) k.image k.table (f ∷ fs)) (r : RestFits s (words_of bytes) table (f ∷ fs)) (same : k.image ≡ length bytes)
             (d : ℕ) (found : at_place (f ∷ fs) ≡ some d) (low : placed.first % sole_mark ≤ d) (sole : sole_mark ≤ placed.first → d ≡ placed.first % sole_mark) where
           abbrev s' : Session
-          s' = began (place_of (power_in k) (words_of bytes) (some d))
+          s' = began (place_in (power_in k) (words_of bytes) d)
 
           found' : log_place (power_in k) (chunks_in (power_in k) k.image) (words_of bytes) (lines_for (length (encode_all (f ∷ fs)))) 0 (free_needed (f ∷ fs)) ≡ some d
           found' = rw same found
@@ -294,8 +275,8 @@ module _ (c : Control) (k : Setup) (b bytes table : List ℕ) where
             fits = (q.0, rw (at-3 s'.control s'.setup b refl, items-are, begun_first c k b (words_of bytes) table f fs r d found' placed.first placed.least hint low sole) (begun-fits c k b (words_of bytes) table f fs r d found' placed.first placed.least hint low sole, begun-reads c k b (words_of bytes) table f fs r d found' placed.first placed.least hint low sole));
           }
 
-        pub begins : place.found ≡ true → (a : ℕ) → a ≡ commit_count c.words → Does Commit (memory s bytes table) (memory (began place) bytes table) (R.Begun a)
-        begins h a e = rw e (record {
+        pub begins : (place : Place) → placed.place ≡ Some place → (a : ℕ) → a ≡ commit_count c.words → Does Commit (memory s bytes table) (memory (began place) bytes table) (R.Begun a)
+        begins place h a e = rw e (record {
           exact = λ q. let t = rests q in by t.items q t.state t.fits t.same_bytes;
           first = passed (R.Begun (commit_count c.words));
           image = refl;
@@ -318,7 +299,7 @@ module _ (c : Control) (k : Setup) (b bytes table : List ℕ) where
             by [] q σ r same = absurd (some-staged r.batch.count)
             by (f ∷ fs) q σ r same =
                 let p = place_is (f ∷ fs) r same in
-                let t = found_some (power_in k) (words_of bytes) (at_place (f ∷ fs)) place p.place h in
+                let t = found_some (power_in k) (words_of bytes) (at_place (f ∷ fs)) place (sym h ∙ p.place) in
                 let e : place.chunk ≡ t.0 = ap (λ (x : Place). x.chunk) t.2 in
-                let l : placed.first % sole_mark ≤ place.chunk = p.low h in
-                subst (λ (x : Place). Exact Proper state_of Fits Commit s (began x) bytes bytes table table (R.Begun (commit_count c.words))) (sym t.2) (exact-at f fs q σ r same t.0 t.1 (omega arith) (λ y. sym e ∙ p.sole h y))
+                let l : placed.first % sole_mark ≤ place.chunk = p.low place h in
+                subst (λ (x : Place). Exact Proper state_of Fits Commit s (began x) bytes bytes table table (R.Begun (commit_count c.words))) (sym t.2) (exact-at f fs q σ r same t.0 t.1 (omega arith) (λ y. sym e ∙ p.sole place h y))

@@ -1,6 +1,6 @@
 -- What a commit finds before it is begun, and the record at its begin.
 -- Assumes nothing.
-use Rattle.std.specs.Prelude.{List, ℕ, length}
+use Rattle.std.specs.Prelude.{List, ℕ, length, Result, Ok, Err}
 use Rattle.spec.specs.Words.{words_of}
 use Rattle.spec.specs.Places.{chunks_in}
 use Rattle.spec.specs.Log.{Entry, encode_all}
@@ -9,13 +9,13 @@ use Rattle.spec.specs.Plans.{free_needed}
 use Rattle.spec.specs.Machine.{Commit}
 use Rattle.session.specs.declared.Control.{Control}
 use Rattle.session.specs.declared.Setup.{Setup}
+use Rattle.spec.specs.declared.Refusal.{Refusal}
 use Rattle.spec.specs.declared.Report.TheVariants as R
 use Rattle.session.specs.Fits.{Hint}
 use Rattle.batch.specs.Items.{StagedIn}
 use Rattle.placing.specs.declared.lines.Placed.{Placed}
 use Rattle.placing.specs.Found.{Searched}
 use Rattle.committing.specs.declared.CommitPlan.{CommitPlan}
-use Rattle.committing.specs.declared.CommitPlan.TheVariants as P
 use Rattle.session.specs.Promise.{Does, memory_of}
 use Rattle.session.specs.Numbers.{in_phase, append_setup}
 
@@ -35,8 +35,8 @@ writing_to k chunk old lines first least =
     append_setup k chunk old lines first least k.source
 
 -- a plan is right if the call that follows it does what it promises
-abbrev pub CommitPlanned : Control → Setup → (buffer image table : List ℕ) → CommitPlan → Type 0
-CommitPlanned c k b image table (P.Refused n) =
+abbrev pub CommitPlanned : Control → Setup → (buffer image table : List ℕ) → Result CommitPlan Refusal → Type 0
+CommitPlanned c k b image table (Err n) =
     Does Commit (memory_of c k b image table) (memory_of c k b image table) (R.Refused n)
-CommitPlanned c k b image table (P.At chunk old lines first least actions) =
-    Does Commit (memory_of c k b image table) (memory_of (committing c) (writing_to k chunk old lines first least) b image table) (R.Begun actions)
+CommitPlanned c k b image table (Ok p) =
+    Does Commit (memory_of c k b image table) (memory_of (committing c) (writing_to k p.chunk p.old p.lines p.first p.least) b image table) (R.Begun p.actions)

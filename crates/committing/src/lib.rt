@@ -10,22 +10,19 @@ ghost use Rattle.session.specs.Promise.{Does, memory_of};
 
 use buffer::Buffer;
 use placing::lines::Placed;
-use session::{Control, Gated, Outcome, Setup};
+use session::{Control, Outcome, Setup};
 use spec::{Refusal, Report, Size};
 
-// What a commit finds: a refusal, or where it writes (chunk, its directory word, its committed lines), where the next
-// one looks for space, and how many actions it has.
+// What a commit finds: where it writes (chunk, its directory word, its committed lines), where the next one looks for
+// space, and how many actions it has.
 #[derive(Clone, Copy)]
-pub enum CommitPlan {
-    Refused(Refusal),
-    At {
-        chunk: usize,
-        old: u64,
-        lines: usize,
-        first: usize,
-        least: usize,
-        actions: usize,
-    },
+pub struct CommitPlan {
+    pub chunk: usize,
+    pub old: u64,
+    pub lines: usize,
+    pub first: usize,
+    pub least: usize,
+    pub actions: usize,
 }
 
 // How many free chunks a commit asks for.
@@ -60,32 +57,25 @@ pub fn plan_commit(
     buffer: &Buffer,
     image: &[u8],
     table: &[u64],
-) -> CommitPlan
+) -> Result<CommitPlan, Refusal>
     ensures { CommitPlanned control setup buffer.now image.now table.now result }
 {
-    let gated = session::gate(control, setup, image.len(), table.len());
-    match gated {
-        Gated::Refused(n) => CommitPlan::Refused(n),
-        Gated::Open => {
-            if control.items == 0 {
-                return CommitPlan::Refused(Refusal::NothingStaged);
-            }
-            let size = places::size_by(setup.power);
-            let placed = commit_place(buffer, control.words, setup.first, setup.least, image, size);
-            let place = placed.place;
-            if place.found {
-                let actions = actions::append::commit_count(control.words);
-                return CommitPlan::At {
-                    chunk: place.chunk,
-                    old: place.old,
-                    lines: place.committed,
-                    first: placed.first,
-                    least: placed.least,
-                    actions,
-                };
-            }
-            CommitPlan::Refused(Refusal::NoSpace)
-        }
+    session::gate(control, setup, image.len(), table.len())?;
+    if control.items == 0 {
+        return Err(Refusal::NothingStaged);
+    }
+    let size = places::size_by(setup.power);
+    let placed = commit_place(buffer, control.words, setup.first, setup.least, image, size);
+    match placed.place {
+        Some(place) => Ok(CommitPlan {
+            chunk: place.chunk,
+            old: place.old,
+            lines: place.committed,
+            first: placed.first,
+            least: placed.least,
+            actions: actions::append::commit_count(control.words),
+        }),
+        None => Err(Refusal::NoSpace),
     }
 }
 
@@ -99,43 +89,24 @@ pub fn commit_core(
 ) -> Outcome
     ensures { Does Commit (memory_of control setup buffer.now image.now table.now) (memory_of result.control result.setup buffer.now image.now table.now) result.report }
 {
-    let plan = plan_commit(control, setup, buffer, image, table);
-    match plan {
-        CommitPlan::Refused(n) => Outcome {
+    match plan_commit(control, setup, buffer, image, table) {
+        Err(refusal) => Outcome {
             control,
             setup,
-            report: Report::Refused(n),
+            report: Report::Refused(refusal),
         },
-        CommitPlan::At {
-            chunk,
-            old,
-            lines,
-            first,
-            least,
-            actions,
-        } => {
-            let begun = session::in_phase(control, session::COMMIT, 0);
-            let source = setup.source;
-            // A literal: through constructors zkv_commit takes twelve instructions more (bench/instructions.sh).
-            let bound = Setup {
-                image: setup.image,
-                table: setup.table,
-                power: setup.power,
-                chunk,
-                old,
-                lines,
-                first,
-                least,
-                fields: setup.fields,
-                station: setup.station,
-                centre: setup.centre,
-                source,
-            };
-            Outcome {
-                control: begun,
-                setup: bound,
-                report: Report::Begun(actions),
-            }
-        }
+        // By `session::append_setup` zkv_commit takes twelve instructions more (bench/instructions.sh).
+        Ok(plan) => Outcome {
+            control: session::in_phase(control, session::COMMIT, 0),
+            setup: Setup {
+                chunk: plan.chunk,
+                old: plan.old,
+                lines: plan.lines,
+                first: plan.first,
+                least: plan.least,
+                ..setup
+            },
+            report: Report::Begun(plan.actions),
+        },
     }
 }

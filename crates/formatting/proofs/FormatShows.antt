@@ -22,8 +22,9 @@ use Rattle.spec.specs.Machine.{Format, Formatting, is_unfinished, is_open, next}
 use Rattle.session.specs.declared.Control.{Control}
 use Rattle.session.specs.declared.Setup.{Setup}
 use Rattle.session.specs.declared.Session.{Session}
-use Rattle.spec.specs.declared.Given.{Given}
-use Rattle.spec.specs.declared.Given.TheVariants as H
+use Rattle.spec.specs.Basics.{Given}
+use Rattle.std.specs.Option.{unwrap_or}
+use Rattle.std.specs.declared.option.Option.TheVariants as H
 use Rattle.spec.specs.declared.Refusal.TheVariants as N
 use Rattle.spec.specs.declared.Report.TheVariants as R
 use Rattle.theory_base.proofs.Lists.{not-both, both_l}
@@ -35,6 +36,11 @@ use Rattle.formatting.specs.Begun.{number_in, unfinished_at, formatting_at}
 use Rattle.session.specs.Promise.{Does, memory, memory_of}
 use Rattle.session.specs.Numbers.{formatting_in, format_setup}
 
+-- the number given, 0 where none is, as the code takes it
+pub number-given : (g : Given) → unwrap_or g 0 ≡ number_in g
+number-given (H.Some x) = refl
+number-given H.None = refl
+
 module _ (c : Control) (k : Setup) (b bytes table : List ℕ) where
   abbrev s : Session
   s = record { control = c; setup = k; buffer = b }
@@ -43,14 +49,14 @@ module _ (c : Control) (k : Setup) (b bytes table : List ℕ) where
   told : (size : Size) (station centre : Given)
       → (given_by (header_map (power_of size) station centre / 2 % 2) (number_in station) ≡ station) × (given_by (header_map (power_of size) station centre / 4 % 2) (number_in centre) ≡ centre)
   unfolding power_bit
-  told S.Small (H.Number x) (H.Number y) = (refl, refl)
-  told S.Small (H.Number x) H.Absent = (refl, refl)
-  told S.Small H.Absent (H.Number y) = (refl, refl)
-  told S.Small H.Absent H.Absent = (refl, refl)
-  told S.Large (H.Number x) (H.Number y) = (refl, refl)
-  told S.Large (H.Number x) H.Absent = (refl, refl)
-  told S.Large H.Absent (H.Number y) = (refl, refl)
-  told S.Large H.Absent H.Absent = (refl, refl)
+  told S.Small (H.Some x) (H.Some y) = (refl, refl)
+  told S.Small (H.Some x) H.None = (refl, refl)
+  told S.Small H.None (H.Some y) = (refl, refl)
+  told S.Small H.None H.None = (refl, refl)
+  told S.Large (H.Some x) (H.Some y) = (refl, refl)
+  told S.Large (H.Some x) H.None = (refl, refl)
+  told S.Large H.None (H.Some y) = (refl, refl)
+  told S.Large H.None H.None = (refl, refl)
 
   -- a size is kept as its power
   by-power : (size : Size) → size_by (power_of size) ≡ size

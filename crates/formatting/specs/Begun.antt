@@ -2,18 +2,18 @@
 -- Assumes nothing.
 use Rattle.std.specs.Prelude.{Bool, true, false, ℕ, eqb, leb}
 use Rattle.spec.specs.Basics.{pick, both}
-use Rattle.spec.specs.declared.Given.{Given}
-use Rattle.spec.specs.declared.Given.TheVariants as G
+use Rattle.spec.specs.Basics.{Given}
+use Rattle.std.specs.declared.option.Option.TheVariants as G
 
 -- a number told with a mark whether it is given
 abbrev pub given : Bool → ℕ → Given
-given true x = G.Number x
-given false x = G.Absent
+given true x = G.Some x
+given false x = G.None
 
 -- the number given, 0 where none is
 abbrev pub number_in : Given → ℕ
-number_in (G.Number x) = x
-number_in G.Absent = 0
+number_in (G.Some x) = x
+number_in G.None = 0
 
 -- by the record's phase: whether a call is unfinished, and the phase of a formatting that is begun where none is
 abbrev pub unfinished_at : ℕ → Bool

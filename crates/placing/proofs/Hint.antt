@@ -2,7 +2,7 @@
 -- hint.
 -- Assumes nothing.
 use mathlib.Core.Path.{◌≡◌, refl, sym, ◌∙◌, ap}
-use mathlib.Core.Logic.{inl, inr, ⊎_elim, by_cases}
+use mathlib.Core.Logic.{⊎_elim, by_cases}
 use mathlib.Core.Bool.{Bool, true, false}
 use mathlib.Core.Option.{none, some}
 use mathlib.Core.List.{List, [], ◌∷◌}
@@ -17,16 +17,16 @@ use Rattle.spec.specs.Places.{chunk_lines, directory_word}
 use Rattle.spec.specs.Directory.{is_log, is_free, role_at, lines_of, free_chunks}
 use Rattle.spec.specs.Plans.{has_space, free_chunk, log_place}
 use Rattle.theory_base.proofs.Lists.{not-both}
+use Rattle.std.specs.Prelude.{Option, Some, None}
+use Rattle.std.proofs.lemmas.Option.{none-some, same_Some}
 use Rattle.session.specs.Fits.{NoneBelow, NoneAbove, NoneFree, sole_mark, Hint}
-use Rattle.directory.specs.declared.Found.{Found}
-use Rattle.directory.specs.declared.Found.TheVariants as F
 use Rattle.directory.specs.Found.{found_of, Stops, FreeFound}
 use Rattle.directory.proofs.Search.{taken, taken-before, first-here}
 use Rattle.directory.proofs.Answer.{found_at, found_nothing}
 use Rattle.placing.specs.declared.lines.Place.{Place}
 use Rattle.placing.specs.declared.lines.Placed.{Placed}
 use Rattle.placing.specs.declared.lines.Start.{Start}
-use Rattle.placing.specs.Found.{place_of, Near, Started, FreeStart, Hinted, Searched, Searching}
+use Rattle.placing.specs.Found.{place_in, place_of, Sought, Near, Started, FreeStart, Hinted, Searched, Searching}
 
 -- no space for some lines is none for more
 pub less-space : (p : ℕ) (ws : List ℕ) (a b c : ℕ) → a ≤ b → has_space p ws a 0 c ≡ false → has_space p ws b 0 c ≡ false
@@ -46,13 +46,6 @@ same-space p ws ws' b x c e = rw e
 pub stops_same : (p : ℕ) (ws : List ℕ) (a b from count r : ℕ) → a ≡ b → Stops (has_space p ws a 0) from count r → Stops (has_space p ws b 0) from count r
 stops_same p ws a b from count r e s = rw e at s
 
--- THE START
-pub started-one : (first' least lines : ℕ) → Started first' least lines (record { from = 1; sole = false })
-started-one first' least lines = record { low = omega arith; at = inl refl; sole = λ e. absurd (not-both false e refl) }
-
-pub started-hint : (first' least lines from : ℕ) (sole' : Bool) → from ≡ first' % sole_mark → least ≤ lines → 1 ≤ from → (sole' ≡ true → sole_mark ≤ first') → Started first' least lines (record { from = from; sole = sole' })
-started-hint first' least lines from sole' e l low h = record { low = low; at = inr (l, e); sole = λ s. (l, h s, e) }
-
 -- THE NUMBER OF A HINT, and what it says
 hint-by : (p n : ℕ) (ws : List ℕ) (chunk least : ℕ) (sole : Bool) (r : ℕ) → Hinted chunk sole r → NoneBelow p n ws chunk least → (sole ≡ true → NoneAbove p n ws chunk least) → (sole ≡ true → NoneFree p n ws chunk)
     → Hint p n ws r least
@@ -61,12 +54,6 @@ hint-by p n ws chunk least sole r h below above taken' = record {
   above = λ s c l m. let q = h.marked s in let z = q.1 in above q.0 c (omega arith) m;
   taken = λ s c l u m. let q = h.marked s in let z = q.1 in taken' q.0 c l (omega arith) m;
 }
-
-pub hinted-sole : (chunk : ℕ) (sole : Bool) → sole ≡ true → chunk < sole_mark → Hinted chunk sole (sole_mark + chunk)
-hinted-sole chunk sole e l = record { under = omega arith; marked = λ h. (e, omega arith) }
-
-pub hinted-plain : (chunk : ℕ) (sole : Bool) (r : ℕ) → r ≡ min chunk 511 → Hinted chunk sole r
-hinted-plain chunk sole r e = record { under = omega arith; marked = λ h. absurd (omega arith) }
 
 -- the first free chunk lies in the image, and no chunk below it is free
 abbrev FirstOf : (ℕ → Bool) → (a m c : ℕ) → Type 0
@@ -165,12 +152,12 @@ module _ (p : ℕ) (ws : List ℕ) (count lines needed first' least : ℕ) (star
     placed-log r h pl f l = record {
       place = pl ∙ sym (ap (place_of p ws) (in-log h));
       hint = rw l (hint-by p count ws next room start.sole r.first f none-next (λ s. let e = is-start s in λ c u m. alone s c (omega arith) m) (λ s. let e = is-start s in λ c v u m. all-taken s c v (omega arith) m));
-      low = λ q. let e = chunk-is in let b = wide.behind in let z = f.under in omega arith;
-      sole = λ q s. let e = chunk-is in let z = (f.marked s).1 in let y = is-start (f.marked s).0 in let x = at-start (f.marked s).0 in omega arith;
+      low = λ q t. let e = chunk-is q t in let b = wide.behind in let z = f.under in omega arith;
+      sole = λ q t s. let e = chunk-is q t in let z = (f.marked s).1 in let y = is-start (f.marked s).0 in let x = at-start (f.marked s).0 in omega arith;
     }
       where
-        chunk-is : r.place.chunk ≡ at'
-        chunk-is = ap (λ (x : Place). x.chunk) pl
+        chunk-is : (q : Place) → r.place ≡ Some q → q.chunk ≡ at'
+        chunk-is q t = ap (λ (x : Place). x.chunk) (same_Some q (place_in p ws at') (sym t ∙ pl))
 
         at-start : start.sole ≡ true → at' ≡ start.from
         at-start s = let a = stops.behind in let b = wide.behind in only at' s (omega arith) h (more_room (wide.here h))
@@ -178,16 +165,16 @@ module _ (p : ℕ) (ws : List ℕ) (count lines needed first' least : ℕ) (star
         is-start : start.sole ≡ true → next ≡ start.from
         is-start s = let a = stops.behind in let b = wide.behind in let c = at-start s in omega arith
 
-    module _ (free : Found) (told : free ≡ found_of (free_chunk p count ws needed)) where
-      pub placed-free : (r : Placed) (c chunk : ℕ) (full : Bool) → (full ≡ true → count ≤ next) → count ≤ at' → free ≡ F.At c → r.place ≡ place_of p ws (some c) → chunk ≡ min next c → Hinted chunk full r.first → r.least ≡ room
+    module _ (free : Option ℕ) (told : free ≡ found_of (free_chunk p count ws needed)) where
+      pub placed-free : (r : Placed) (c chunk : ℕ) (full : Bool) → (full ≡ true → count ≤ next) → count ≤ at' → free ≡ Some c → r.place ≡ place_of p ws (some c) → chunk ≡ min next c → Hinted chunk full r.first → r.least ≡ room
           → Searched p ws count lines needed r
       placed-free r c chunk full fe h q pl ec f l = record {
         place = pl ∙ sym (ap (place_of p ws) (in-free h ∙ found));
         hint = rw l (hint-by p count ws chunk room full r.first f (λ d v u m. none-next d v (omega arith) m)
             (λ s. let a = fe s in λ d u m. none-next d (omega arith) (omega arith) m)
             (λ s. λ d v u m. low_free.1 d v (omega arith)));
-        low = λ t. let e = chunk-is in let z = f.under in omega arith;
-        sole = λ t s. let e = chunk-is in let z = (f.marked s).1 in let y = fe (f.marked s).0 in let x = low_free.0 in omega arith;
+        low = λ q t. let e = chunk-is q t in let z = f.under in omega arith;
+        sole = λ q t s. let e = chunk-is q t in let z = (f.marked s).1 in let y = fe (f.marked s).0 in let x = low_free.0 in omega arith;
       }
         where
           found : free_chunk p count ws needed ≡ some c
@@ -196,15 +183,15 @@ module _ (p : ℕ) (ws : List ℕ) (count lines needed first' least : ℕ) (star
           low_free : (c < count) × ((d : ℕ) → 1 ≤ d → d < c → is_free (role_at p ws d) ≡ false)
           low_free = lowest-free p ws count needed c found
 
-          chunk-is : r.place.chunk ≡ c
-          chunk-is = ap (λ (x : Place). x.chunk) pl
+          chunk-is : (q : Place) → r.place ≡ Some q → q.chunk ≡ c
+          chunk-is q t = ap (λ (x : Place). x.chunk) (same_Some q (place_in p ws c) (sym t ∙ pl))
 
-      pub placed-nowhere : (r : Placed) → count ≤ at' → free ≡ F.Nothing → r.place ≡ record { found = false; chunk = 0; committed = 0; old = 0 } → Hinted next false r.first → r.least ≡ room → Searched p ws count lines needed r
+      pub placed-nowhere : (r : Placed) → count ≤ at' → free ≡ None → r.place ≡ None → Hinted next false r.first → r.least ≡ room → Searched p ws count lines needed r
       placed-nowhere r h q pl f l = record {
         place = pl ∙ sym (ap (place_of p ws) (in-free h ∙ found_nothing (free_chunk p count ws needed) (sym told ∙ q)));
         hint = rw l (hint-by p count ws next room false r.first f none-next (λ s. absurd (not-both false s refl)) (λ s. absurd (not-both false s refl)));
-        low = λ t. absurd (not-both r.place.found t (ap (λ (x : Place). x.found) pl));
-        sole = λ t. absurd (not-both r.place.found t (ap (λ (x : Place). x.found) pl));
+        low = λ q t. absurd (none-some q (sym pl ∙ t));
+        sole = λ q t. absurd (none-some q (sym pl ∙ t));
       }
 
 -- WHAT THE CODE SHOWS at each return
@@ -219,39 +206,35 @@ module _ (p : ℕ) (ws : List ℕ) (count lines needed first' least : ℕ) (star
         let s = stops p ws count lines needed first' least start next hint st near' in
         wide (record { behind = omega arith; before = λ c l u. absurd (omega arith); here = λ h. rw er (s.here h) })
 
-  pub shows-log : (place : Place) (first'' : ℕ) → at' < count → place ≡ place_of p ws (some at') → Hinted next start.sole first'' → Searching p ws count lines needed first' least (record { place = place; first = first''; least = room })
-  shows-log place first'' h pl f hint = placed-log p ws count lines needed first' least start next hint st near' at' (wide' hint) (record { place = place; first = first''; least = room }) h pl f er
+  pub shows-log : (place : Place) (first'' : ℕ) → at' < count → place ≡ place_in p ws at' → Hinted next start.sole first'' → Searching p ws count lines needed first' least (record { place = Some place; first = first''; least = room })
+  shows-log place first'' h pl f hint = placed-log p ws count lines needed first' least start next hint st near' at' (wide' hint) (record { place = Some place; first = first''; least = room }) h (ap Some pl) f er
 
-  module _ (low : ℕ) (from : FreeStart start count low) (free : Found) (looked : FreeFound p ws low count needed free) where
+  module _ (low : ℕ) (from : FreeStart start count low) (free : Option ℕ) (looked : FreeFound p ws low count needed free) where
     module _ (hint : Hint p count ws first' least) where
       told : free ≡ found_of (free_chunk p count ws needed)
       told = looked (λ c l u. ⊎_elim (λ e. absurd (omega arith)) (λ q. let a = q.1 in let b = q.2 in all-taken p ws count lines needed first' least start next hint st near' q.0 c l (omega arith) (omega arith)) from.at)
 
-    pub shows-free : (place : Place) (c chunk : ℕ) (full : Bool) (first'' : ℕ) → (full ≡ true → count ≤ next) → count ≤ at' → free ≡ F.At c → place ≡ place_of p ws (some c) → chunk ≡ min next c → Hinted chunk full first''
-        → Searching p ws count lines needed first' least (record { place = place; first = first''; least = room })
+    pub shows-free : (place : Place) (c chunk : ℕ) (full : Bool) (first'' : ℕ) → (full ≡ true → count ≤ next) → count ≤ at' → free ≡ Some c → place ≡ place_in p ws c → chunk ≡ min next c → Hinted chunk full first''
+        → Searching p ws count lines needed first' least (record { place = Some place; first = first''; least = room })
     shows-free place c chunk full first'' fe h q pl e f hint =
-        placed-free p ws count lines needed first' least start next hint st near' at' (wide' hint) free (told hint) (record { place = place; first = first''; least = room }) c chunk full fe h q pl e f er
+        placed-free p ws count lines needed first' least start next hint st near' at' (wide' hint) free (told hint) (record { place = Some place; first = first''; least = room }) c chunk full fe h q (ap Some pl) e f er
 
-    pub shows-nowhere : (first'' : ℕ) → count ≤ at' → free ≡ F.Nothing → Hinted next false first''
-        → Searching p ws count lines needed first' least (record { place = record { found = false; chunk = 0; committed = 0; old = 0 }; first = first''; least = room })
+    pub shows-nowhere : (first'' : ℕ) → count ≤ at' → free ≡ None → Hinted next false first''
+        → Searching p ws count lines needed first' least (record { place = None; first = first''; least = room })
     shows-nowhere first'' h q f hint =
         placed-nowhere p ws count lines needed first' least start next hint st near' at' (wide' hint) free (told hint)
-        (record { place = record { found = false; chunk = 0; committed = 0; old = 0 }; first = first''; least = room }) h q refl f er
+        (record { place = None; first = first''; least = room }) h q refl f er
 
--- a search for the only chunk that may have space: it has, it has not, or it lies past the image
-module _ (p : ℕ) (ws : List ℕ) (from count lines : ℕ) (sole : Bool) (s : sole ≡ true) where
-  pub near-here : has_space p ws lines 0 from ≡ true → Near p ws from count lines sole from
-  near-here h = record { behind = omega arith; stops = λ above. record { behind = omega arith; before = λ c l u. absurd (omega arith); here = λ m. h } }
-
-  pub near_none : from < count → has_space p ws lines 0 from ≡ false → Near p ws from count lines sole count
-  near_none l h = record {
-    behind = omega arith;
-    stops = λ above. record {
-      behind = omega arith;
-      before = λ c u m. by_cases (ℕ_discrete c from) (λ e. rw e h) (λ n. above s c (omega arith) m);
-      here = λ m. absurd (omega arith);
-    };
+-- a search that is over: it found a number, or stopped past all
+module _ (test : ℕ → Bool) (from count : ℕ) where
+  pub sought-at : (c : ℕ) → from ≤ c → c < count → ((d : ℕ) → from ≤ d → d < c → test d ≡ false) → test c ≡ true → Sought test from count (Some c)
+  sought-at c l u before here = record {
+    stops = record { behind = l; before = before; here = λ h. here };
+    inside = λ d e. let z = same_Some c d e in omega arith;
   }
 
-  pub near-past : count ≤ from → Near p ws from count lines sole from
-  near-past l = record { behind = omega arith; stops = λ above. record { behind = omega arith; before = λ c u m. absurd (omega arith); here = λ m. absurd (omega arith) } }
+  pub sought-none : ((d : ℕ) → from ≤ d → d < count → test d ≡ false) → Sought test from count None
+  sought-none before = record {
+    stops = record { behind = omega arith; before = λ d l u. before d l (omega arith); here = λ h. absurd (omega arith) };
+    inside = λ d e. absurd (none-some d e);
+  }

@@ -22,14 +22,6 @@ use Rattle.batch.proofs.Pass.{Reached, reached-start, reached-end, reached-next}
 use Rattle.placing.specs.declared.blocks.Met.{Met}
 use Rattle.placing.specs.Blocks.{met_by, spare}
 
--- THE TEST OF ONE ENTRY, as the code asks it
-pub both-no : (a b c : Bool) → a ≡ false → both (both a b) c ≡ false
-both-no a b c e = rw e
-
-pub both-second : (a b c : Bool) → b ≡ false → both (both a b) c ≡ false
-both-second true b c e = rw e
-both-second false b c e = refl
-
 -- THE PASS
 -- what the first word of the first item left says
 reads : (b : List ℕ) (end at : ℕ) (e : Entry) (items : List Entry) → at < end → Reached b end at (e ∷ items)

@@ -1,8 +1,9 @@
 -- Where a large value goes: what the searches for a block and for a slot answer, where the bits and the staged words
 -- are those of entries and items, and what holds of the answer anyway.
 -- Assumes nothing.
-use Rattle.std.specs.Prelude.{◌≡◌, ◌⊎◌, Bool, true, false, List, ◌++◌, ℕ, ◌+◌, ◌-◌, ◌*◌, ◌/◌, ◌%◌, ◌^◌, ◌≤◌, ◌<◌, eqb, length, get_or}
-use Rattle.std.proofs.Math.Option.{Option, none, some}
+use Rattle.std.specs.Prelude.{◌≡◌, ◌⊎◌, Bool, true, false, List, ◌++◌, ℕ, ◌+◌, ◌-◌, ◌*◌, ◌/◌, ◌%◌, ◌^◌, ◌≤◌, ◌<◌, eqb, length, get_or, Option, Some, None}
+use Rattle.std.proofs.Math.Option as maybe
+use Rattle.std.proofs.Math.Option.{none, some}
 use Rattle.spec.specs.Basics.{pick, both, negate, filter, first, is_in, up_from}
 use Rattle.spec.specs.Words.{words_of}
 use Rattle.spec.specs.Places.{chunk_units, first_unit, unit_chunk, unit_word, directory_word, chunks_in}
@@ -19,8 +20,6 @@ use Rattle.codec.specs.declared.Unit.{Unit as UnitNumber}
 use Rattle.buffer.specs.Bits.{has_bit}
 use Rattle.batch.specs.Items.{StagedIn}
 use Rattle.placing.specs.declared.blocks.Met.{Met}
-use Rattle.placing.specs.declared.blocks.Block.{Block}
-use Rattle.placing.specs.declared.blocks.Block.TheVariants as B
 use Rattle.placing.specs.declared.blocks.Slot.{Slot}
 use Rattle.placing.specs.declared.blocks.Slot.TheVariants as S
 
@@ -47,7 +46,7 @@ abbrev pub Spare : Size → List ℕ → ℕ → ℕ → Bool → Type 0
 Spare size buffer words u r = (es items : List Entry) → Says size buffer words es items → r ≡ spare es items u
 
 -- the first block of size s in n chunks that is neither live nor staged
-abbrev pub first_spare : ℕ → ℕ → List ℕ → List Entry → List Entry → ℕ → Option ℕ
+abbrev pub first_spare : ℕ → ℕ → List ℕ → List Entry → List Entry → ℕ → maybe.Option ℕ
 first_spare p n ws es items s = first (filter (λ u. negate (is_in u (live_blocks es ++ pointers items))) (blocks_from p ws s (up_from 1 (n - 1))))
 
 -- bit i of these words
@@ -74,9 +73,9 @@ ToLookAt size ws buffer c word blocks full r = (r ≡ pick (eqb (get_or ws (dire
 abbrev pub unit : ℕ → UnitNumber
 unit u = record { 0 = u }
 
-abbrev pub block_by : Option ℕ → Block
-block_by none = B.Nothing
-block_by (some u) = B.At (unit u)
+abbrev pub block_by : maybe.Option ℕ → Option UnitNumber
+block_by none = None
+block_by (some u) = Some (unit u)
 
 -- unit u starts s units within the image, in a data chunk of blocks of s units, below chunk n
 pub record InImage (p : ℕ) (image : List ℕ) (n s u : ℕ) : Type 0 where
@@ -86,16 +85,16 @@ pub record InImage (p : ℕ) (image : List ℕ) (n s u : ℕ) : Type 0 where
   pub ends : 8 * unit_word (u + s) ≤ length image
   pub size : size_of p (words_of image) (unit_chunk p u) ≡ s
 
-pub record BlockFound (size : Size) (image : List ℕ) (count s : ℕ) (buffer : List ℕ) (words : ℕ) (r : Block) : Type 0 where
+pub record BlockFound (size : Size) (image : List ℕ) (count s : ℕ) (buffer : List ℕ) (words : ℕ) (r : Option UnitNumber) : Type 0 where
   pub exact : count ≤ chunks_in (power_of size) (length image) → (es items : List Entry) → Says size buffer words es items → r ≡ block_by (first_spare (power_of size) count (words_of image) es items s)
-  pub anyway : (u : UnitNumber) → r ≡ B.At u → InImage (power_of size) image count s u.0
+  pub anyway : (u : UnitNumber) → r ≡ Some u → InImage (power_of size) image count s u.0
 
-abbrev pub slot_by : K.Slot → Slot
-slot_by (InData u) = S.Data (unit u)
-slot_by (InFree c) = S.Free c
-slot_by K.Nowhere = S.Nowhere
+abbrev pub slot_by : K.Slot → Option Slot
+slot_by (InData u) = Some (S.Data (unit u))
+slot_by (InFree c) = Some (S.Free c)
+slot_by K.Nowhere = None
 
-pub record SlotFound (size : Size) (image : List ℕ) (count s : ℕ) (buffer : List ℕ) (words : ℕ) (r : Slot) : Type 0 where
+pub record SlotFound (size : Size) (image : List ℕ) (count s : ℕ) (buffer : List ℕ) (words : ℕ) (r : Option Slot) : Type 0 where
   pub exact : count ≤ chunks_in (power_of size) (length image) → (es items : List Entry) → Says size buffer words es items → r ≡ slot_by (slot_for (power_of size) count (words_of image) es items s)
-  pub data' : (u : UnitNumber) → r ≡ S.Data u → InImage (power_of size) image count s u.0
-  pub free : (c : ℕ) → r ≡ S.Free c → (1 ≤ c) × (c < count) × (is_free (role_at (power_of size) (words_of image) c) ≡ true)
+  pub data' : (u : UnitNumber) → r ≡ Some (S.Data u) → InImage (power_of size) image count s u.0
+  pub free : (c : ℕ) → r ≡ Some (S.Free c) → (1 ≤ c) × (c < count) × (is_free (role_at (power_of size) (words_of image) c) ≡ true)

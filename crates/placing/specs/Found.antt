@@ -1,7 +1,8 @@
 -- What a search for space answers, and the place that it gives.
 -- Assumes nothing.
-use Rattle.std.specs.Prelude.{◌≡◌, ◌⊎◌, Bool, true, false, List, ℕ, ◌%◌, ◌≤◌, ◌<◌, get_or}
-use Rattle.std.proofs.Math.Option.{Option, none, some}
+use Rattle.std.specs.Prelude.{◌≡◌, ◌⊎◌, Bool, true, List, ℕ, ◌%◌, ◌≤◌, ◌<◌, max, get_or, Option, Some, None, unwrap_or}
+use Rattle.std.proofs.Math.Option as maybe
+use Rattle.std.proofs.Math.Option.{none, some}
 use Rattle.spec.specs.Places.{directory_word}
 use Rattle.spec.specs.Directory.{lines_of}
 use Rattle.spec.specs.Plans.{has_space, log_place}
@@ -11,10 +12,20 @@ use Rattle.placing.specs.declared.lines.Place.{Place}
 use Rattle.placing.specs.declared.lines.Placed.{Placed}
 use Rattle.placing.specs.declared.lines.Start.{Start}
 
--- the chunk found, its committed lines and its directory word
-abbrev pub place_of : ℕ → List ℕ → Option ℕ → Place
-place_of p ws none = record { found = false; chunk = 0; committed = 0; old = 0 }
-place_of p ws (some c) = record { found = true; chunk = c; committed = lines_of p ws c; old = get_or ws (directory_word c) 0 }
+-- a chunk, its committed lines and its directory word
+abbrev pub place_in : ℕ → List ℕ → ℕ → Place
+place_in p ws c = record { chunk = c; committed = lines_of p ws c; old = get_or ws (directory_word c) 0 }
+
+-- the chunk found, if one was
+abbrev pub place_of : ℕ → List ℕ → maybe.Option ℕ → Option Place
+place_of p ws none = None
+place_of p ws (some c) = Some (place_in p ws c)
+
+-- the first number from `from` on and below `count` that a test takes; a search that finds none stops at the first that
+-- is neither
+pub record Sought (test : ℕ → Bool) (from count : ℕ) (r : Option ℕ) : Type 0 where
+  pub stops : Stops test from count (unwrap_or r (max from count))
+  pub inside : (c : ℕ) → r ≡ Some c → c < count
 
 -- a search for a log chunk with space; where `sole` is told, there is none behind `from`
 pub record Near (p : ℕ) (ws : List ℕ) (from count lines : ℕ) (sole : Bool) (r : ℕ) : Type 0 where
@@ -40,8 +51,8 @@ pub record Hinted (chunk : ℕ) (sole : Bool) (r : ℕ) : Type 0 where
 pub record Searched (p : ℕ) (ws : List ℕ) (count lines needed : ℕ) (r : Placed) : Type 0 where
   pub place : r.place ≡ place_of p ws (log_place p count ws lines 0 needed)
   pub hint : Hint p count ws r.first r.least
-  pub low : r.place.found ≡ true → r.first % sole_mark ≤ r.place.chunk
-  pub sole : r.place.found ≡ true → sole_mark ≤ r.first → r.place.chunk ≡ r.first % sole_mark
+  pub low : (q : Place) → r.place ≡ Some q → r.first % sole_mark ≤ q.chunk
+  pub sole : (q : Place) → r.place ≡ Some q → sole_mark ≤ r.first → q.chunk ≡ r.first % sole_mark
 
 -- so it is where the hint given holds
 abbrev pub Searching : (p : ℕ) (ws : List ℕ) (count lines needed first least : ℕ) → Placed → Type 0

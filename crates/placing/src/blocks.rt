@@ -13,24 +13,15 @@ ghost use Rattle.placing.specs.Blocks.{met_by, StagedBlock, Spare, EachUsed, Has
 
 use buffer::{BATCH_WORDS, BITS, Buffer, has_bit};
 use codec::{Unit, data_word, first_of, role_of};
-use directory::{Found, directory_word, free_chunk, size_in};
+use directory::{directory_word, free_chunk, size_in};
 use logs::words_for;
 use spec::{FirstWord, Size};
-use words::lesser;
 
-// A block that was looked for, by its first unit.
-#[derive(Clone, Copy)]
-pub enum Block {
-    At(Unit),
-    Nothing,
-}
-
-// Where a large value goes: to a block of a data chunk, to the first block of a free chunk, or nowhere.
+// Where a large value goes: to a block of a data chunk, or to the first block of a free chunk.
 #[derive(Clone, Copy)]
 pub enum Slot {
     Data(Unit),
     Free(usize),
-    Nowhere,
 }
 
 // What stands at a word of the batch: whether it is a put whose value is in the block asked for, and the number of
@@ -46,38 +37,27 @@ pub struct Met {
 fn points_to(op: u64, placement: u64, field: u64, unit: Unit) -> bool
     ensures { result ≡ both (both (eqb op 1) (eqb placement 1)) (eqb field unit.0) }
 {
-    if op == 1 {
-        if placement == 1 {
-            return field == unit.0;
-        }
-    }
-    false
+    op == 1 && placement == 1 && field == unit.0
 }
 
 fn met_at(buffer: &Buffer, at: usize, unit: Unit) -> Met
     requires { at < batch_room }
     ensures { (result ≡ met_by unit.0 (first_of_word (get_or buffer.now at 0))) × (1 ≤ result.size) × (result.size < 2 ^ 62) }
 {
-    let f = first_of(buffer[at]);
-    match f {
-        FirstWord::Padding => Met {
-            here: false,
-            size: 1,
-        },
-        FirstWord::Wrong => Met {
+    match first_of(buffer[at]) {
+        FirstWord::Padding | FirstWord::Wrong => Met {
             here: false,
             size: 1,
         },
         FirstWord::Entry {
             op,
             placement,
-            version: _,
             field,
-        } => {
-            let here = points_to(op, placement, field, unit);
-            let size = 2 + words_for(placement, field);
-            Met { here, size }
-        }
+            ..
+        } => Met {
+            here: points_to(op, placement, field, unit),
+            size: 2 + words_for(placement, field),
+        },
     }
 }
 
@@ -85,7 +65,7 @@ fn met_at(buffer: &Buffer, at: usize, unit: Unit) -> Met
 pub fn is_staged(buffer: &Buffer, words: usize, unit: Unit) -> bool
     ensures { StagedBlock buffer.now words unit.0 result }
 {
-    let end = lesser(words, BATCH_WORDS);
+    let end = words.min(BATCH_WORDS);
     let mut at = 0;
     while at < end {
         let met = met_at(buffer, at, unit);
@@ -101,13 +81,7 @@ pub fn is_staged(buffer: &Buffer, words: usize, unit: Unit) -> bool
 pub fn is_spare(buffer: &Buffer, words: usize, unit: Unit, size: Size) -> bool
     ensures { Spare size buffer.now words unit.0 result }
 {
-    if has_bit(buffer, unit, size) {
-        return false;
-    }
-    if is_staged(buffer, words, unit) {
-        return false;
-    }
-    true
+    !has_bit(buffer, unit, size) && !is_staged(buffer, words, unit)
 }
 
 // THE BITS OF A CHUNK: bit i says whether a block in use starts at its unit i. They are a quarter of a word in small
@@ -333,27 +307,20 @@ fn full_bits(size: Size, units: usize) -> [u64; 4]
 fn has_small_bits(buffer: &Buffer, c: usize, bits: [u64; 4]) -> bool
     ensures { HasBits Small buffer.now c bits result }
 {
-    if c < 504 {
-        let word = buffer[BITS + c / 4];
-        return (word >> (16 * (c % 4))) % 0x1_0000 == bits[0];
-    }
-    false
+    c < 504 && (buffer[BITS + c / 4] >> (16 * (c % 4))) % 0x1_0000 == bits[0]
 }
 
 fn has_large_bits(buffer: &Buffer, c: usize, bits: [u64; 4]) -> bool
     ensures { HasBits Large buffer.now c bits result }
 {
-    if c < 504 {
-        let at = BITS + 4 * c;
-        if buffer[at] == bits[0] {
-            if buffer[at + 1] == bits[1] {
-                if buffer[at + 2] == bits[2] {
-                    return buffer[at + 3] == bits[3];
-                }
-            }
-        }
+    if 504 <= c {
+        return false;
     }
-    false
+    let at = BITS + 4 * c;
+    buffer[at] == bits[0]
+        && buffer[at + 1] == bits[1]
+        && buffer[at + 2] == bits[2]
+        && buffer[at + 3] == bits[3]
 }
 
 fn has_bits(buffer: &Buffer, c: usize, bits: [u64; 4], size: Size) -> bool
@@ -370,13 +337,11 @@ fn has_bits(buffer: &Buffer, c: usize, bits: [u64; 4], size: Size) -> bool
 fn blocks_of(size: Size, word: u64, units: usize) -> usize
     ensures { result ≡ pick (eqb (size_in (role_of (power_of size) word)) units) (chunk_units (power_of size) / units) 0 }
 {
-    if units == 0 {
-        return 0;
+    if units != 0 && size_in(role_of(size, word)) == units {
+        places::units(size) / units
+    } else {
+        0
     }
-    if size_in(role_of(size, word)) == units {
-        return places::units(size) / units;
-    }
-    0
 }
 
 // How many blocks of chunk c are to be looked at: all where its directory word is that one, but none where its bits say
@@ -392,13 +357,11 @@ fn blocks_in(
 ) -> usize
     ensures { ToLookAt size (words_of image.now) buffer.now c word blocks full result }
 {
-    if directory_word(image, c) == word {
-        if has_bits(buffer, c, full, size) {
-            return 0;
-        }
-        return blocks;
+    if directory_word(image, c) == word && !has_bits(buffer, c, full, size) {
+        blocks
+    } else {
+        0
     }
-    0
 }
 
 // The first unit of the first data chunk of that block size with a block neither live nor staged, lowest block, of an
@@ -410,31 +373,29 @@ pub fn find_block(
     buffer: &Buffer,
     words: usize,
     size: Size,
-) -> Block
+) -> Option<Unit>
     ensures { BlockFound size image.now count units buffer.now words result }
 {
-    let chunks = lesser(count, places::chunks_in(size, image.len()));
+    let chunks = count.min(places::chunks_in(size, image.len()));
     let word = data_word(0, units as u64);
     let most = blocks_of(size, word, units);
     let full = full_bits(size, units);
     let whole = places::units(size);
-    let mut found = Block::Nothing;
-    'chunks: for c in 1..chunks {
+    for c in 1..chunks {
         let blocks = blocks_in(image, buffer, c, word, most, full, size);
         for j in 0..blocks {
             // By the number itself: `Unit::of` here costs two instructions for each chunk that is passed over.
             let u = whole * c + units * j;
             let unit = Unit(u as u64);
             if is_spare(buffer, words, unit, size) {
-                found = Block::At(unit);
-                break 'chunks;
+                return Some(unit);
             }
         }
     }
-    found
+    None
 }
 
-// Where a value that needs blocks of that size goes.
+// Where a value that needs blocks of that size goes, if it has a place.
 pub fn slot_for(
     image: &[u8],
     count: usize,
@@ -442,18 +403,12 @@ pub fn slot_for(
     buffer: &Buffer,
     words: usize,
     size: Size,
-) -> Slot
+) -> Option<Slot>
     ensures { SlotFound size image.now count units buffer.now words result }
 {
-    let block = find_block(image, count, units, buffer, words, size);
-    match block {
-        Block::At(u) => Slot::Data(u),
-        Block::Nothing => {
-            let free = free_chunk(image, count, 3, size);
-            match free {
-                Found::At(c) => Slot::Free(c),
-                Found::Nothing => Slot::Nowhere,
-            }
-        }
+    if let Some(unit) = find_block(image, count, units, buffer, words, size) {
+        return Some(Slot::Data(unit));
     }
+    let chunk = free_chunk(image, count, 3, size)?;
+    Some(Slot::Free(chunk))
 }

@@ -5,7 +5,7 @@ use Prim.Native.Nat.{◌%◌}
 use native.Mathlib.Omega.{arith}
 use Rattle.session.specs.State.{buffer_part}
 use Rattle.actions.proofs.Bounds.{base-few}
-use Rattle.actions.proofs.Appending.{lines-of, shows-store, shows-flush, shows-fence, shows-seal, shows-seal-flush, shows-last}
+use Rattle.actions.proofs.Appending.{lines-of, shows-store, shows-flush, shows-fence, shows-seal}
 use borrow.Author.Rules.{rules}
 use Rattle.actions.proofs.append.append_action.Goals as goal
 
@@ -14,13 +14,13 @@ first_word-requires c =
     let f = base-few c.size_by-size.result (c.args.setup.chunk % 512) (omega arith) in
     omega arith
 
-pub overflow_add-word : goal.overflow_add-word
-overflow_add-word c =
+pub overflow_add-result : goal.overflow_add-result
+overflow_add-result c =
     let f = base-few c.size_by-size.result (c.args.setup.chunk % 512) (omega arith) in
     search rules
 
-pub overflow_add-word-then-at-stores : goal.overflow_add-word-then-at-stores
-overflow_add-word-then-at-stores c =
+pub overflow_add-result-then-at-stores : goal.overflow_add-result-then-at-stores
+overflow_add-result-then-at-stores c =
     let f = base-few c.size_by-size.result (c.args.setup.chunk % 512) (omega arith) in
     search rules
 
@@ -29,7 +29,7 @@ returns-then-at-stores c =
     let a = c.args in
     let b = a.buffer.now in
     shows-store a.setup (buffer_part b a.from a.words) a.at _ (lines-of b a.from a.words _ refl) c.size_by-size.result c.size_by-size.ensures _ _
-    (omega arith) (omega arith) c.append_word-value.ensures
+    (omega arith) (omega arith) c.append_word.ensures
 
 pub returns-then-at-fence : goal.returns-then-at-fence
 returns-then-at-fence c =
@@ -38,30 +38,16 @@ returns-then-at-fence c =
     shows-flush a.setup (buffer_part b a.from a.words) a.at _ (lines-of b a.from a.words _ refl) c.size_by-size.result c.size_by-size.ensures _
     (omega arith) (omega arith) (omega arith)
 
-pub returns-then-at-fence-2 : goal.returns-then-at-fence-2
-returns-then-at-fence-2 c =
+pub returns-then-at-seal : goal.returns-then-at-seal
+returns-then-at-seal c =
     let a = c.args in
     let b = a.buffer.now in
     shows-fence a.setup (buffer_part b a.from a.words) a.at _ (lines-of b a.from a.words _ refl)
     (omega arith)
 
-pub returns-then-at-seal : goal.returns-then-at-seal
-returns-then-at-seal c =
+pub returns-else-at-seal : goal.returns-else-at-seal
+returns-else-at-seal c =
     let a = c.args in
     let b = a.buffer.now in
     shows-seal a.setup (buffer_part b a.from a.words) a.at _ (lines-of b a.from a.words _ refl) _ _ _
-    (omega arith) (omega arith) (omega arith) c.log_word-value.ensures
-
-pub returns-then-at-flush : goal.returns-then-at-flush
-returns-then-at-flush c =
-    let a = c.args in
-    let b = a.buffer.now in
-    shows-seal-flush a.setup (buffer_part b a.from a.words) a.at _ (lines-of b a.from a.words _ refl) _
-    (omega arith) (omega arith)
-
-pub returns : goal.returns
-returns c =
-    let a = c.args in
-    let b = a.buffer.now in
-    shows-last a.setup (buffer_part b a.from a.words) a.at _ (lines-of b a.from a.words _ refl)
-    (omega arith)
+    (omega arith) (omega arith) c.log_word-value.ensures c.word_action.ensures

@@ -9,5 +9,5 @@ use Rattle.actions.proofs.append.append_word.Goals as goal
 pub returns-then-i-words : goal.returns-then-i-words
 returns-then-i-words c = let a = c.args in word-inside a.buffer.now a.from a.words a.i (a.from + a.i) (omega arith) refl
 
-pub returns : goal.returns
-returns c = let a = c.args in word-behind a.buffer.now a.from a.words a.i (omega arith)
+pub returns-else-i-words : goal.returns-else-i-words
+returns-else-i-words c = let a = c.args in word-behind a.buffer.now a.from a.words a.i (omega arith)

@@ -5,4 +5,4 @@ use Rattle.actions.proofs.append.commit_action.Goals as goal
 
 pub returns : goal.returns
 unfolding commit_actions batch_words
-returns c = rw c.lesser-words.ensures at c.append_action.ensures
+returns c = rw c.min.ensures at c.append_action.ensures

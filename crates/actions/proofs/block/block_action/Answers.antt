@@ -13,10 +13,10 @@ returns-then-size-eq0 c =
 pub returns-then-at-lt2 : goal.returns-then-at-lt2
 returns-then-at-lt2 c =
     let a = c.args in
-    whole_take a.setup a.buffer.now _ a.at c.if-size-eq0.false (omega arith) c.take_action.ensures
+    whole_take a.setup a.buffer.now _ a.at _ c.if-size-eq0.false (omega arith) c.data_word.ensures c.word_action.ensures
 
-pub returns : goal.returns
-returns c =
+pub returns-else-at-lt2 : goal.returns-else-at-lt2
+returns-else-at-lt2 c =
     let a = c.args in
     let u = c.unit_of-unit in
-    whole-fill a.setup a.buffer.now _ u.result.0 a.at _ c.if-size-eq0.false (omega arith) u.ensures.0 c.fill_action-2.ensures
+    whole-fill a.setup a.buffer.now _ u.result.0 a.at _ c.if-size-eq0.false (omega arith) u.ensures.0 c.fill_action-else-at-lt2.ensures

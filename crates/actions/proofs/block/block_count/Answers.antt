@@ -9,8 +9,8 @@ returns-then-setup-eq0 c =
     let h = c.held_words-words in
     count-plain a.setup a.buffer.now h.result h.ensures.0 c.if-setup-eq0.true
 
-pub returns : goal.returns
-returns c =
+pub returns-else-setup-eq0 : goal.returns-else-setup-eq0
+returns-else-setup-eq0 c =
     let a = c.args in
     let h = c.held_words-words in
     count-taking a.setup a.buffer.now h.result h.ensures.0 c.if-setup-eq0.false

@@ -16,8 +16,8 @@ returns-then-at-words-2 c =
     let h = c.held_words-words in
     shows-flush a.setup a.unit.0 a.buffer.now h.result a.at h.ensures.0 _ (omega arith) (omega arith) (omega arith)
 
-pub returns : goal.returns
-returns c =
+pub returns-else-at-words-2 : goal.returns-else-at-words-2
+returns-else-at-words-2 c =
     let a = c.args in
     let h = c.held_words-words in
     shows-past a.setup a.unit.0 a.buffer.now h.result a.at h.ensures.0 (omega arith)

@@ -8,10 +8,10 @@ pub returns-then-at-copies : goal.returns-then-at-copies
 returns-then-at-copies c =
     let a = c.args in
     let m = c.copy_count-copies in
-    shows-copy a.setup a.source a.buffer.now _ a.at m.result m.ensures (omega arith) (rw c.lesser-kept.ensures at c.append_action.ensures)
+    shows-copy a.setup a.source a.buffer.now _ a.at m.result m.ensures (omega arith) (rw c.min-kept.ensures at c.append_action.ensures)
 
-pub returns : goal.returns
-returns c =
+pub returns-else-at-copies : goal.returns-else-at-copies
+returns-else-at-copies c =
     let a = c.args in
     let m = c.copy_count-copies in
     shows-free a.setup a.source a.buffer.now _ a.at m.result m.ensures (omega arith) c.free_action.ensures

@@ -11,5 +11,5 @@ returns-then-i-lt8 c =
     word-shown a.setup s.result a.i _ _ _ _ s.ensures c.chunks_in-count.ensures.0 c.given-station.ensures c.given-centre.ensures
     c.header_word.ensures
 
-pub returns : goal.returns
-returns c = word-behind c.args.setup c.args.i (omega arith)
+pub returns-else-i-lt8 : goal.returns-else-i-lt8
+returns-else-i-lt8 c = word-behind c.args.setup c.args.i (omega arith)

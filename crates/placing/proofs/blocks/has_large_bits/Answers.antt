@@ -1,25 +1,22 @@
--- `placing::blocks::has_large_bits` meets its contract.
+-- `placing::blocks::has_large_bits` meets its contract: each test was reached by those before it.
 -- Assumes nothing.
+use mathlib.Core.Path.{◌≡◌, sym, ◌∙◌}
+use Prim.Native.Nat.{ℕ}
+use native.Mathlib.Omega.{arith}
 use borrow.Author.Tests.{eqb-true}
-use mathlib.Core.Path.{refl}
-use mathlib.Core.Bool.{false}
-use Rattle.theory_base.proofs.Lists.{not-both}
 use Rattle.placing.proofs.Full.{large-bits}
 use Rattle.placing.proofs.blocks.has_large_bits.Goals as goal
+use Rattle.placing.proofs.blocks.has_large_bits.Goals.{then-buffer-at, else-buffer-at, then-buffer-at-2, else-buffer-at-2}
 
 pub returns-then-buffer-at-3 : goal.returns-then-buffer-at-3
 returns-then-buffer-at-3 c =
     let a = c.args in
-    record { same = λ e. large-bits a.buffer.now a.c a.bits c.if-c-lt504.true c.if-buffer-at.true c.if-buffer-at-2.true c.if-buffer-at-3.true (eqb-true _ _ e) }
-
-pub returns-else-buffer-at-3 : goal.returns-else-buffer-at-3
-returns-else-buffer-at-3 c = record { same = λ e. absurd (not-both false e refl) }
-
-pub returns-else-buffer-at-2 : goal.returns-else-buffer-at-2
-returns-else-buffer-at-2 c = record { same = λ e. absurd (not-both false e refl) }
-
-pub returns-else-buffer-at : goal.returns-else-buffer-at
-returns-else-buffer-at c = record { same = λ e. absurd (not-both false e refl) }
-
-pub returns-else-c-lt504 : goal.returns-else-c-lt504
-returns-else-c-lt504 c = record { same = λ e. absurd (not-both false e refl) }
+    elim c.if-buffer-at-2.branch [
+      | then-buffer-at-2 w ↦ elim c.if-buffer-at.branch [
+        | then-buffer-at v ↦ record {
+          same = λ e. large-bits a.buffer.now a.c a.bits c.if-c-ge504.false v.if-buffer-at.true (eqb-true _ _ (sym v.value-is ∙ w.if-buffer-at-2.true)) (eqb-true _ _ (sym w.value-is ∙ c.if-buffer-at-3.true)) (eqb-true _ _ e);
+        }
+        | else-buffer-at v ↦ absurd (v.if-buffer-at.false (eqb-true _ _ (sym v.value-is ∙ w.if-buffer-at-2.true)))
+      ]
+      | else-buffer-at-2 w ↦ absurd (let z : ◌≡◌ {A = ℕ} 0 1 = cc in omega arith)
+    ]

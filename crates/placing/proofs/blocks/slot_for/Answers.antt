@@ -3,25 +3,26 @@
 use Rattle.placing.proofs.SlotFound.{slot-data, slot-free, slot-nowhere}
 use Rattle.placing.proofs.blocks.slot_for.Goals as goal
 
-pub returns-in-At : goal.returns-in-At
-returns-in-At c =
+pub returns-in-Some : goal.returns-in-Some
+returns-in-Some c =
     let a = c.args in
-    let f = c.find_block-block in
+    let f = c.find_block in
     slot-data a.size a.image.now a.count a.units a.buffer.now a.words f.result f.ensures _
-    c.in-At.is
+    c.in-Some.is
 
-pub returns-in-At-free : goal.returns-in-At-free
-returns-in-At-free c =
+pub returns : goal.returns
+returns c =
     let a = c.args in
-    let f = c.find_block-block in
-    let g = c.free_chunk-free in
+    let f = c.find_block in
+    let g = c.free_chunk in
     slot-free a.size a.image.now a.count a.units a.buffer.now a.words f.result f.ensures g.result
-    c.in-Nothing.is g.ensures _ c.in-At-free.is
+    c.in_default.is g.ensures _ c.in_ok-chunk.was
 
-pub returns-in-Nothing-free : goal.returns-in-Nothing-free
-returns-in-Nothing-free c =
+pub returns-in_err-chunk : goal.returns-in_err-chunk
+returns-in_err-chunk c =
     let a = c.args in
-    let f = c.find_block-block in
-    let g = c.free_chunk-free in
-    slot-nowhere a.size a.image.now a.count a.units a.buffer.now a.words f.result f.ensures g.result
-    c.in-Nothing.is g.ensures c.in-Nothing-free.is
+    let f = c.find_block in
+    let g = c.free_chunk in
+    rw c.from_residual.ensures
+    (slot-nowhere a.size a.image.now a.count a.units a.buffer.now a.words f.result f.ensures g.result
+    c.in_default.is g.ensures c.in_err-chunk.was)

@@ -1,5 +1,5 @@
 -- The loops of `placing::lines::next_chunk`. The loop's invariant: no chunk from the start on and before c has space.
-use Prim.Native.Nat.{ℕ, ◌≤◌, ◌<◌, ◌-◌}
+use Prim.Native.Nat.{ℕ, ◌≤◌, ◌<◌}
 use mathlib.Core.Path.{◌≡◌}
 use mathlib.Core.Bool.{false}
 use Rattle.spec.specs.Words.{words_of}
@@ -8,7 +8,4 @@ use Rattle.spec.specs.Plans.{has_space}
 use Rattle.placing.proofs.lines.next_chunk.Given as goal
 
 abbrev pub invariant-loop-c : goal.invariant-loop-c
-invariant-loop-c l = (l.from ≤ l.c) × ((d : ℕ) → l.from ≤ d → d < l.c → has_space (power_of l.size) (words_of l.image) l.lines l.x d ≡ false)
-
-abbrev pub decreases-loop-c : goal.decreases-loop-c
-decreases-loop-c l = l.count - l.c
+invariant-loop-c l = (d : ℕ) → l.from ≤ d → d < l.c → has_space (power_of l.size) (words_of l.image) l.lines l.x d ≡ false
