@@ -3,15 +3,15 @@
 use mathlib.Core.Path.{◌≡◌, refl, sym, ◌∙◌}
 use mathlib.Core.Bool.{Bool, true, false}
 use mathlib.Core.List.{List, [], ◌∷◌, ◌++◌}
-use Prim.Native.Nat.{ℕ, ◌+◌, ◌-◌, ◌*◌, ◌/◌, ◌%◌, ◌^◌, ◌≤◌, ◌<◌, min}
+use Prim.Native.Nat.{ℕ, ◌+◌, ◌-◌, ◌*◌, ◌/◌, ◌%◌, ◌^◌, ◌≤◌, min}
 use native.Mathlib.Nat.{add-zero}
 use native.Mathlib.Decide.{dec_le}
 use native.Mathlib.Omega.{arith}
-use lib.Dec.{leb, ltb}
+use lib.Dec.{ltb}
 use lib.ListN.{length, get_or, get_or-eq_default}
-use borrow.Author.Tests.{eq-eqb, ne_eqb, le-leb, lt-leb, lt-ltb, le-ltb, leb-true}
+use borrow.Author.Tests.{ne_eqb, le-leb, leb-true}
 use Rattle.spec.specs.Basics.{both, every}
-use Rattle.spec.specs.Places.{unit_chunk, unit_in, unit_word, chunk_units}
+use Rattle.spec.specs.Places.{unit_chunk, unit_word}
 use Rattle.spec.specs.Blocks.{start_tests, length_tests, block_test, block_right}
 use Rattle.spec.specs.Directory.{size_of}
 use Rattle.theory_base.proofs.Lists.{every_true}
@@ -26,40 +26,13 @@ every_append [] ys = refl
 every_append (true ∷ xs) ys = every_append xs ys
 every_append (false ∷ xs) ys = refl
 
--- The start: the unit's chunk, and its place there.
-module _ (p n u s chunk place : ℕ) (is-chunk : chunk ≡ unit_chunk p u) (is-place : place ≡ unit_in p u) where
-  pub start-chunk : chunk < 1 → false ≡ every (start_tests p n u s)
-  start-chunk h = rw (← is-chunk, lt-leb 1 chunk h)
-
-  pub start-past : n ≤ chunk → 1 ≤ chunk → false ≡ every (start_tests p n u s)
-  start-past h l = rw (← is-chunk, le-leb 1 chunk l, le-ltb chunk n h)
-
-  module _ (low : 1 ≤ chunk) (high : chunk < n) where
-    pub start-free : s < 1 → false ≡ every (start_tests p n u s)
-    start-free h = rw (← is-chunk, le-leb 1 chunk low, lt-ltb chunk n high, lt-leb 1 s h)
-
-    pub start-within : 1 ≤ s → (place % s ≡ 0 → ⊥) → false ≡ every (start_tests p n u s)
-    start-within h d = rw (← is-chunk, ← is-place, le-leb 1 chunk low, lt-ltb chunk n high, le-leb 1 s h, ne_eqb (place % s) 0 d)
-
-    pub start_fits : 1 ≤ s → place % s ≡ 0 → leb (place + s) (chunk_units p) ≡ every (start_tests p n u s)
-    start_fits h d = rw (← is-chunk, ← is-place, le-leb 1 chunk low, lt-ltb chunk n high, le-leb 1 s h, eq-eqb (place % s) 0 d) (sym (both_true (leb (place + s) (chunk_units p))))
-
 -- what a right start says of the block size
 pub start-size : (p n u s : ℕ) → every (start_tests p n u s) ≡ true → 1 ≤ s
 start-size p n u s h = leb-true 1 s (every_true (start_tests p n u s) h).1.1.0
 
 -- The length and the fill.
 module _ (s len last : ℕ) where
-  pub length-low : len < 257 → false ≡ every (length_tests s len last)
-  length-low h = rw (lt-leb 257 len h)
-
-  pub length_high : 257 ≤ len → 256 * s < len + 8 → false ≡ every (length_tests s len last)
-  length_high l h = rw (le-leb 257 len l, lt-leb (len + 8) (256 * s) h)
-
   module _ (low : 257 ≤ len) (high : len + 8 ≤ 256 * s) where
-    pub length_whole : len % 8 ≡ 0 → true ≡ every (length_tests s len last)
-    length_whole h = rw (le-leb 257 len low, le-leb (len + 8) (256 * s) high, h)
-
     pub length-filled : (len % 8 ≡ 0 → ⊥) → ltb last (1 * 2 ^ (8 * (len % 8)) % 2 ^ 64) ≡ every (length_tests s len last)
     length-filled h = rw (le-leb 257 len low, le-leb (len + 8) (256 * s) high, ne_eqb (len % 8) 0 h, shift-bytes (len % 8) (omega arith)) (sym (both_true (ltb last (256 ^ (len % 8)))))
 

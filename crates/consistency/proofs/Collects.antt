@@ -2,6 +2,7 @@
 -- Assumes nothing.
 use mathlib.Core.Path.{◌≡◌, refl, sym, ◌∙◌, ap}
 use mathlib.Core.Bool.{Bool, true, false}
+use Rattle.std.specs.Prelude.{Option, Some, None}
 use mathlib.Core.List.{List, [], ◌∷◌, ◌++◌, append-nil}
 use Prim.Native.Nat.{ℕ, ◌+◌, ◌/◌, ◌≤◌, ◌<◌}
 use native.Mathlib.Omega.{arith}
@@ -24,10 +25,8 @@ use Rattle.volatile.proofs.Grow.{capacity-same}
 use Rattle.volatile.proofs.Image.{image_bounded}
 use Rattle.volatile.proofs.Fill.{fill_start, fill-old, fill-new, fill_end}
 use Rattle.logs.specs.declared.Cursor.{Cursor}
-use Rattle.logs.specs.declared.Next.{Next}
-use Rattle.logs.specs.declared.Next.TheVariants as N
-use Rattle.logs.specs.Cursor.{start, cursor_at, Advanced}
-use Rattle.logs.specs.Stands.{entry_in}
+use Rattle.logs.specs.declared.Entry as H
+use Rattle.logs.specs.Cursor.{start, cursor_at, remaining, with_value, Handed}
 use Rattle.consistency.specs.Classes.{class_of, within, marked, asked, class_in}
 use Rattle.consistency.specs.Passing.{Passed, PassedOver, Entering, Collecting}
 use Rattle.consistency.proofs.Classes.{class-bounded}
@@ -44,11 +43,11 @@ module _ (low high : ℕ) (xs : List Entry) (e : Entry) where
   class-other h = filter-append (λ (x : Entry). within low high x.key) xs (e ∷ []) ∙ rw (h, append-nil (class_in low high xs))
 
 module _ (size : Size) (table : List ℕ) (keys low high key own : ℕ) where
-  pub enter-other : within low high key ≡ false → Entering size table table keys low high key own true keys
-  enter-other h = record { sized = refl; enters = λ xs e k o b inv t. rw (class-other low high xs e (ap (within low high) k ∙ h)) inv }
+  pub enter-other : within low high key ≡ false → Entering size table table keys low high key own (Some keys)
+  enter-other h = record { sized = refl; enters = λ xs e k o b inv keys' t. let q : keys ≡ keys' = cc in rw (← q, class-other low high xs e (ap (within low high) k ∙ h)) inv }
 
-  pub enter-full : (table' : List ℕ) → length table' ≡ length table → Entering size table table' keys low high key own false keys
-  enter-full table' l = record { sized = l; enters = λ xs e k o b inv t. absurd (not-both true refl (sym t)) }
+  pub enter-full : (table' : List ℕ) → length table' ≡ length table → Entering size table table' keys low high key own None
+  enter-full table' l = record { sized = l; enters = λ xs e k o b inv keys' t. cc }
 
   module _ (h : within low high key ≡ true) (slot old : ℕ) (is-slot : slot ≡ stop_of table key) (is_word : old ≡ info_at table slot) (table' : List ℕ) (info : ℕ) (is-info : info ≡ noted size old own)
       (is-put : table' ≡ put_at table slot key info) where
@@ -61,20 +60,22 @@ module _ (size : Size) (table : List ℕ) (keys low high key own : ℕ) where
     long : length table' ≡ length table
     long = ap length is-table ∙ insert-length table key info
 
-    pub enter-new : old ≡ 0 → keys < table_room (length table) → Entering size table table' keys low high key own true (keys + 1)
+    pub enter-new : old ≡ 0 → keys < table_room (length table) → Entering size table table' keys low high key own (Some (keys + 1))
     enter-new z c = record {
       sized = long;
-      enters = λ xs e k o b inv t.
+      enters = λ xs e k o b inv keys' t.
           let last = class-last low high xs e (ap (within low high) k ∙ h) in
-          rw last (fill-new size (length table) (class_in low high xs) e table table' keys old info inv (rw last at b) (rw k is-old) (rw o is-info) (rw k is-table) z (rw (capacity-same (length table)) c));
+          let q : keys + 1 ≡ keys' = cc in
+          rw (← q, last) (fill-new size (length table) (class_in low high xs) e table table' keys old info inv (rw last at b) (rw k is-old) (rw o is-info) (rw k is-table) z (rw (capacity-same (length table)) c));
     }
 
-    pub enter-old : (old ≡ 0 → ⊥) → Entering size table table' keys low high key own true keys
+    pub enter-old : (old ≡ 0 → ⊥) → Entering size table table' keys low high key own (Some keys)
     enter-old n = record {
       sized = long;
-      enters = λ xs e k o b inv t.
+      enters = λ xs e k o b inv keys' t.
           let last = class-last low high xs e (ap (within low high) k ∙ h) in
-          rw last (fill-old size (length table) (class_in low high xs) e table table' keys old info inv (rw last at b) (rw k is-old) (rw o is-info) (rw k is-table) n);
+          let q : keys ≡ keys' = cc in
+          rw (← q, last) (fill-old size (length table) (class_in low high xs) e table table' keys old info inv (rw last at b) (rw k is-old) (rw o is-info) (rw k is-table) n);
     }
 
 -- ## The pass
@@ -117,32 +118,33 @@ module _ (size : Size) (n : ℕ) (ws : List ℕ) (low high : ℕ) where
           );
     }
 
-  module _ (words : ℕ) (table : List ℕ) (keys : ℕ) (c : Cursor) (inv : Reached size n ws words table keys low high c) (r : Next) (told : Advanced (power_of size) n ws c r) where
-    module _ (op pl v x k m a : ℕ) (behind : Cursor) (q : r ≡ N.Entry op pl v x k m a behind) (own : ℕ) (is-own : own ≡ alone size (extent_of size pl x) a v) (table' : List ℕ) (fits : Bool) (keys' : ℕ)
-        (entered : Entering size table table' keys low high k own fits keys') where
-      pub reached-next : fits ≡ true → Reached size n ws words table' keys' low high behind
+  module _ (words : ℕ) (table : List ℕ) (keys : ℕ) (c : Cursor) (inv : Reached size n ws words table keys low high c) where
+    module _ (h : H.Entry) (given : Handed (power_of size) n ws c h) (own : ℕ) (is-own : own ≡ alone size (extent_of size h.placement h.field) h.place h.version) (table' : List ℕ) (fits : Option ℕ) (keys' : ℕ)
+        (entered : Entering size table table' keys low high h.key own fits) where
+      pub reached-next : fits ≡ Some keys' → Reached size n ws words table' keys' low high h.behind
       reached-next t = record {
         sized = entered.sized ∙ inv.sized;
-        holds = λ most es h.
-            let i = inv.holds most es h in
-            let f = entry_in ws op pl v x k m a in
-            let p = passed-next (power_of size) n ws c es i.0 r told i.1 op pl v x k m a behind q in
-            let small = class-bounded size low high (i.0 ++ f ∷ []) (bounded-front size (i.0 ++ f ∷ []) p.rest (rw p.split at (image_bounded size n ws es h most))) in
-            (i.0 ++ f ∷ [], p, rw inv.sized at (entered.enters i.0 f refl (sym is-own) small (rw inv.sized i.2) t));
+        holds = λ most es g.
+            let i = inv.holds most es g in
+            let f = with_value ws h in
+            let p = passed-next (power_of size) n ws c es i.0 i.1 h given in
+            let small = class-bounded size low high (i.0 ++ f ∷ []) (bounded-front size (i.0 ++ f ∷ []) p.rest (rw p.split at (image_bounded size n ws es g most))) in
+            (i.0 ++ f ∷ [], p, rw inv.sized at (entered.enters i.0 f refl (sym is-own) small (rw inv.sized i.2) keys' t));
       }
 
     module _ (before : List ℕ) (cleared : words ≡ length (zeros (length before))) where
       same : words ≡ length before
       same = cleared ∙ length-replicate (length before) 0
 
-      pub reached-full : (table' : List ℕ) → length table' ≡ length table → (fits : Bool) → fits ≡ false → (keys' : ℕ) → Collecting size n ws before table' low high fits keys'
-      reached-full table' l fits f keys' = record { sized = l ∙ inv.sized ∙ same; holds = λ most es h t. absurd (not-both fits t f) }
+      pub reached-full : (table' : List ℕ) → length table' ≡ length table → (fits : Option ℕ) → fits ≡ None → Collecting size n ws before table' low high None
+      reached-full table' l fits f = record { sized = l ∙ inv.sized ∙ same; holds = λ most es h keys' t. cc }
 
-      pub reached-done : r ≡ N.Done → Collecting size n ws before table low high true keys
+      pub reached-done : remaining (power_of size) n ws c ≡ Entries [] → Collecting size n ws before table low high (Some keys)
       reached-done q = record {
         sized = inv.sized ∙ same;
-        holds = λ most es h t.
+        holds = λ most es h keys' t.
             let i = inv.holds most es h in
-            let all = passed-done (power_of size) n ws c es i.0 r told i.1 q in
-            fill_end size words (class_in low high es) table keys (rw all at i.2);
+            let k : keys ≡ keys' = cc in
+            let all = passed-done (power_of size) n ws c es i.0 i.1 q in
+            rw (← k) (fill_end size words (class_in low high es) table keys (rw all at i.2));
       }

@@ -1,5 +1,4 @@
 pub mod Classes
-pub mod Asked
 pub mod Passed
 pub mod Collects
 pub mod Twins

@@ -21,44 +21,38 @@ use Rattle.theory_log.proofs.Contents.{mem-cases}
 use Rattle.theory_log.proofs.Parse.{cons_inv}
 use Rattle.theory_log.proofs.Walk.{step-first, step-short, step-fill}
 use Rattle.logs.specs.declared.Cursor.{Cursor}
-use Rattle.logs.specs.declared.Next.{Next}
-use Rattle.logs.specs.declared.Next.TheVariants as N
+use Rattle.logs.specs.declared.Entry as H
 use Rattle.logs.specs.Stands.{entry_in}
-use Rattle.logs.specs.Cursor.{start, cursor_at, remaining, left, Handed, Advanced}
-use Rattle.logs.proofs.Walk.{remaining-start, handed, next-wrong, next-padding, next-found}
+use Rattle.logs.specs.Cursor.{start, cursor_at, remaining, left, with_value, Handed}
+use Rattle.logs.proofs.Walk.{remaining-start, next-wrong, next-padding, next-found}
 use Rattle.consistency.specs.Classes.{asked}
 use Rattle.consistency.specs.Passing.{Passed, PassedOver}
 
 pub passed_start : (p n : ℕ) (ws : List ℕ) (c : Cursor) (es : List Entry) → c ≡ start → image_entries p n ws ≡ Entries es → Passed p n ws c es []
 passed_start p n ws c es q h = record { rest = es; split = refl; remains = ap (remaining p n ws) q ∙ remaining-start p n ws ∙ h }
 
-module _ (p n : ℕ) (ws : List ℕ) (c : Cursor) (es xs : List Entry) (r : Next) (told : Advanced p n ws c r) (inv : Passed p n ws c es xs) where
-  pub passed-done : r ≡ N.Done → xs ≡ es
-  passed-done q =
-      let a : remaining p n ws c ≡ Entries [] = rw q at told in
+module _ (p n : ℕ) (ws : List ℕ) (c : Cursor) (es xs : List Entry) (inv : Passed p n ws c es xs) where
+  pub passed-done : remaining p n ws c ≡ Entries [] → xs ≡ es
+  passed-done a =
       let b = inv.remains in
       let z : inv.rest ≡ [] = cc in
       sym (inv.split ∙ ap (xs ++◌) z ∙ append-nil xs)
 
-  pub passed-wrong : r ≡ N.Wrong → ⊥
-  passed-wrong q =
-      let a : remaining p n ws c ≡ Wrong = rw q at told in
+  pub passed-wrong : remaining p n ws c ≡ Wrong → ⊥
+  passed-wrong a =
       let b = inv.remains in
       let z : ◌≡◌ {A = ℕ} 0 1 = cc in
       omega arith
 
-  module _ (op pl v x k m a : ℕ) (behind : Cursor) (q : r ≡ N.Entry op pl v x k m a behind) where
-    given : Handed p n ws c op pl v x k m a behind
-    given = handed p n ws c r told op pl v x k m a behind q
+  module _ (h : H.Entry) (given : Handed p n ws c h) where
+    next : (ys : List Entry) × (remaining p n ws h.behind ≡ Entries ys) × (inv.rest ≡ with_value ws h ∷ ys)
+    next = cons_inv (with_value ws h) (remaining p n ws h.behind) inv.rest (sym given.whole ∙ inv.remains)
 
-    next : (ys : List Entry) × (remaining p n ws behind ≡ Entries ys) × (inv.rest ≡ entry_in ws op pl v x k m a ∷ ys)
-    next = cons_inv (entry_in ws op pl v x k m a) (remaining p n ws behind) inv.rest (sym given.whole ∙ inv.remains)
-
-    pub passed-split : (ys : List Entry) × (es ≡ xs ++ entry_in ws op pl v x k m a ∷ ys)
+    pub passed-split : (ys : List Entry) × (es ≡ xs ++ with_value ws h ∷ ys)
     passed-split = (next.0, inv.split ∙ ap (xs ++◌) next.2)
 
-    pub passed-next : Passed p n ws behind es (xs ++ entry_in ws op pl v x k m a ∷ [])
-    passed-next = record { rest = next.0; split = inv.split ∙ ap (xs ++◌) next.2 ∙ sym (append_assoc xs (entry_in ws op pl v x k m a ∷ []) next.0); remains = next.1 }
+    pub passed-next : Passed p n ws h.behind es (xs ++ with_value ws h ∷ [])
+    passed-next = record { rest = next.0; split = inv.split ∙ ap (xs ++◌) next.2 ∙ sym (append_assoc xs (with_value ws h ∷ []) next.0); remains = next.1 }
 
 -- ## Passing over
 
@@ -157,11 +151,10 @@ module _ (ws : List ℕ) (end : ℕ) (single : Bool) (marks : List ℕ) (low hig
       on : (p n c : ℕ) (es xs : List Entry) → Passed p n ws (cursor_at c at' end) es (xs ++ so_far.over)
           → (step_of (slice at' end ws) ≡ S.Wrong) ⊎ (step_of (slice at' end ws) ≡ S.Entry 1 0 (w / 16 % 1048576) (w / 16777216) (get_or ws (at' + 1) 0) ((w / 16777216 + 7) / 8))
           → Passed p n ws (cursor_at c (at' + (2 + m)) end) es (xs ++ (so_far.over ++ f ∷ []))
-      on p n c es xs s (inl q) = absurd (passed-wrong p n ws (cursor_at c at' end) es (xs ++ so_far.over) N.Wrong (next-wrong p n ws c at' end q) s refl)
+      on p n c es xs s (inl q) = absurd (passed-wrong p n ws (cursor_at c at' end) es (xs ++ so_far.over) s (next-wrong p n ws c at' end q))
       on p n c es xs s (inr q) =
           rw (append_assoc xs so_far.over (f ∷ [])) at
-          (passed-next p n ws (cursor_at c at' end) es (xs ++ so_far.over) (N.Entry 1 0 v x k m at' (cursor_at c (at' + (2 + m)) end)) (next-found p n ws c at' end 1 0 v x k m (q ∙ rw (is_key, is-words))) s 1 0 v x k m at'
-          (cursor_at c (at' + (2 + m)) end) refl)
+          (passed-next p n ws (cursor_at c at' end) es (xs ++ so_far.over) s _ (next-found p n ws c at' end 1 0 v x k m (q ∙ rw (is_key, is-words))))
 
   -- its first two words and the value's, counted together
   pub over-put : (at' : ℕ) → PassedOver ws end single marks low high at at' → at' < end → at' < length ws → (w : ℕ) → w ≡ get_or ws at' 0 → w % 16 ≡ 1 → (k : ℕ) → k ≡ get_or ws (at' + 1) 0

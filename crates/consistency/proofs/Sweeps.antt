@@ -11,7 +11,7 @@ use Rattle.spec.specs.declared.Size.{Size}
 use Rattle.places.specs.Sizes.{power_of, power-low, power-high}
 use Rattle.spec.specs.Basics.{pick, both, all}
 use Rattle.spec.specs.Places.{base}
-use Rattle.spec.specs.Log.{Entry}
+use Rattle.spec.specs.Log.{Entry, Wrong, Entries}
 use Rattle.spec.specs.Blocks.{pointed}
 use Rattle.spec.specs.Contents.{is_top, chosen}
 use Rattle.spec.specs.Opening.{fine, agree_with}
@@ -24,10 +24,8 @@ use Rattle.buffer.specs.Bits.{has_bit, WordsKept}
 use Rattle.buffer.proofs.Laws.{kept-all, kept_then}
 use Rattle.index.specs.Index.{get}
 use Rattle.logs.specs.declared.Cursor.{Cursor}
-use Rattle.logs.specs.declared.Next.{Next}
-use Rattle.logs.specs.declared.Next.TheVariants as N
-use Rattle.logs.specs.Stands.{entry_in}
-use Rattle.logs.specs.Cursor.{start, cursor_at, remaining, Advanced}
+use Rattle.logs.specs.declared.Entry as H
+use Rattle.logs.specs.Cursor.{start, cursor_at, remaining, with_value, Handed}
 use Rattle.volatile.specs.Check.{Live, CheckInv}
 use Rattle.volatile.specs.Known.{several}
 use Rattle.volatile.specs.Plain.{Single}
@@ -127,50 +125,40 @@ module _ (size : Size) (n : ℕ) (ws table : List ℕ) (fits single : Bool) (mar
           let z = run.unpointed e f.0 in
           inr (λ t. (rw z, single-agrees es e (singly e.key f.1 (run.unasked e f.0)) (part e f.0) t), z)
 
-  -- on to a cursor from which the same remains
-  pub going_on : (now : List ℕ) (s : Checked) (c d : Cursor) → Going size n ws table fits single marks low high so before now s c → remaining (power_of size) n ws c ≡ remaining (power_of size) n ws d
-      → Going size n ws table fits single marks low high so before now s d
-  going_on now s c d inv q = record {
-    kept = inv.kept;
-    sound = inv.sound;
-    tests = λ es xs a singly first. let i = inv.tests es xs a singly first in let p = i.1 in (i.0, record { rest = p.rest; split = p.split; remains = sym q ∙ p.remains }, i.2);
-  }
-
-  module _ (now : List ℕ) (s : Checked) (c : Cursor) (inv : Going size n ws table fits single marks low high so before now s c) (r : Next) (told : Advanced (power_of size) n ws c r) where
-    pub going_done : r ≡ N.Done → SweptAs size n ws table fits single marks low high so before now s
+  module _ (now : List ℕ) (s : Checked) (c : Cursor) (inv : Going size n ws table fits single marks low high so before now s c) where
+    pub going_done : remaining (power_of size) n ws c ≡ Entries [] → SweptAs size n ws table fits single marks low high so before now s
     going_done q = record {
       kept = inv.kept;
-      right = λ es xs a singly first t. let i = inv.tests es xs a singly first in rw (passed-done (power_of size) n ws c es i.0 r told i.1 q) at i.2;
+      right = λ es xs a singly first t. let i = inv.tests es xs a singly first in rw (passed-done (power_of size) n ws c es i.0 i.1 q) at i.2;
       wrong = λ es xs a singly t first f. absurd (not-both s.blocks (inv.sound t) f);
     }
 
-    pub going-wrong : r ≡ N.Wrong → SweptAs size n ws table fits single marks low high so before now s
+    pub going-wrong : remaining (power_of size) n ws c ≡ Wrong → SweptAs size n ws table fits single marks low high so before now s
     going-wrong q = record {
       kept = inv.kept;
-      right = λ es xs a singly first t. let i = inv.tests es xs a singly first in absurd (passed-wrong (power_of size) n ws c es i.0 r told i.1 q);
+      right = λ es xs a singly first t. let i = inv.tests es xs a singly first in absurd (passed-wrong (power_of size) n ws c es i.0 i.1 q);
       wrong = λ es xs a singly t first f. absurd (not-both s.blocks (inv.sound t) f);
     }
 
-    module _ (op pl v x k m a : ℕ) (behind : Cursor) (q : r ≡ N.Entry op pl v x k m a behind) (after : List ℕ) (s' : Checked)
-        (visited : VisitedIs size n ws table fits low high s (record { op = op; placement = pl; version = v; field = x; key = k; place = a }) now after s') where
+    module _ (h : H.Entry) (given : Handed (power_of size) n ws c h) (after : List ℕ) (s' : Checked) (visited : VisitedIs size n ws table fits low high s h now after s') where
       more : WordsKept before before → WordsKept before after
       more k = let w = inv.kept k in kept_then before now after w (visited.kept (kept-all now (w.long ∙ w.size)))
 
       abbrev e : Entry
-      e = entry_in ws op pl v x k m a
+      e = with_value ws h
 
       module _ (es xs : List Entry) (ahead : Ahead size n ws table fits low high es xs) (ps : List Entry) (passed : Passed (power_of size) n ws c es ps) where
         split : (ys : List Entry) × (es ≡ ps ++ e ∷ ys)
-        split = passed-split (power_of size) n ws c es ps r told passed op pl v x k m a behind q
+        split = passed-split (power_of size) n ws c es ps passed h given
 
         member : Mem e es
         member = rw split.1 (mem-r e ps (e ∷ split.0) (inl refl))
 
-        fresh : within low high k ≡ true → Mem e (xs ++ class_in low high ps) → ⊥
+        fresh : within low high h.key ≡ true → Mem e (xs ++ class_in low high ps) → ⊥
         fresh w i = go (mem-cases e xs (class_in low high ps) i)
           where
             go : Mem e xs ⊎ Mem e (class_in low high ps) → ⊥
-            go (inl j) = not-both (within low high k) w (ahead.others e j)
+            go (inl j) = not-both (within low high h.key) w (ahead.others e j)
             go (inr j) =
                 let rises = rw split.1 at (all_sound (power_of size) (power-low size) (power-high size) (n - 1) 1 ws es ahead.listed.entries).rising in
                 let z = rising-before (base (power_of size) 1) (base (power_of size) (1 + (n - 1))) ps split.0 e e rises (mem-filter (λ (f : Entry). within low high f.key) e ps j).0 in
@@ -179,16 +167,16 @@ module _ (size : Size) (n : ℕ) (ws table : List ℕ) (fits single : Bool) (mar
         part : Part (xs ++ class_in low high ps) es
         part = class-part low high es xs ps ahead.inside (λ f i. rw split.1 (mem-l f ps (e ∷ split.0) i))
 
-      pub going_next : s'.blocks ≡ true → Going size n ws table fits single marks low high so before after s' behind
+      pub going_next : s'.blocks ≡ true → Going size n ws table fits single marks low high so before after s' h.behind
       going_next t = record {
         kept = more;
         sound = λ u. t;
         tests = λ es xs ahead singly first.
             let i = inv.tests es xs ahead singly first in (
               _,
-              passed-next (power_of size) n ws c es i.0 r told i.1 op pl v x k m a behind q,
+              passed-next (power_of size) n ws c es i.0 i.1 h given,
               rw (class-grown low high xs i.0 (e ∷ []))
-                  (visited.right es (xs ++ class_in low high i.0) m ahead.listed (member es xs ahead i.0 i.1) (part es xs ahead i.0 i.1) (fresh es xs ahead i.0 i.1) i.2 t),
+                  (visited.right es (xs ++ class_in low high i.0) ahead.listed (member es xs ahead i.0 i.1) (part es xs ahead i.0 i.1) (fresh es xs ahead i.0 i.1) i.2 t),
             );
       }
 
@@ -196,18 +184,10 @@ module _ (size : Size) (n : ℕ) (ws table : List ℕ) (fits single : Bool) (mar
       going-stop f = record {
         kept = more;
         right = λ es xs ahead singly first t. absurd (not-both s'.blocks t f);
-        wrong = λ es xs ahead singly t first g. let i = inv.tests es xs ahead singly first in visited.wrong es m ahead.listed (member es xs ahead i.0 i.1) (inv.sound t) f;
+        wrong = λ es xs ahead singly t first g. let i = inv.tests es xs ahead singly first in visited.wrong es ahead.listed (member es xs ahead i.0 i.1) (inv.sound t) f;
       }
 
 -- ## A range
-
--- where marks are taken, the table holds the keys
-pub marks-fit : (fits single taken : Bool) → taken ≡ pick single false fits → taken ≡ true → fits ≡ true
-marks-fit fits single taken q t = go single (sym q ∙ t)
-  where
-    go : (b : Bool) → pick b false fits ≡ true → fits ≡ true
-    go true h = absurd (not-both true refl (sym h))
-    go false h = h
 
 -- a key of the range that is not asked for where some have twins has no mark
 not-marked : (a b : Bool) → both a b ≡ false → a ≡ true → b ≡ false

@@ -3,18 +3,18 @@
 use mathlib.Core.Path.{◌≡◌, refl, sym, ◌∙◌, ap}
 use mathlib.Core.Logic.{◌⊎◌, inl, inr}
 use mathlib.Core.Bool.{Bool, true, false}
+use Rattle.std.specs.Prelude.{Option, Some, None, unwrap_or}
+use Rattle.std.specs.Option.{option_and}
 use mathlib.Core.List.{List, [], ◌++◌}
 use Prim.Native.Nat.{ℕ, ◌-◌, ◌≤◌}
 use native.Mathlib.Omega.{arith}
-use lib.Dec.{ltb}
-use borrow.Author.Tests.{ltb-false}
 use Rattle.spec.specs.declared.Size.{Size}
 use Rattle.places.specs.Sizes.{power_of, power-low, power-high}
-use Rattle.spec.specs.Basics.{either, negate}
+use Rattle.spec.specs.Basics.{negate}
 use Rattle.spec.specs.Places.{max_chunks}
 use Rattle.spec.specs.Log.{Entry, Entries, image_entries}
 use Rattle.spec.specs.Opening.{blocks_test}
-use Rattle.theory_base.proofs.Lists.{not-both, either-no, filter_none}
+use Rattle.theory_base.proofs.Lists.{not-both, filter_none}
 use Rattle.theory_log.specs.Batch.{AllRight}
 use Rattle.theory_log.specs.Contents.{Mem}
 use Rattle.theory_log.proofs.Places.{all_sound}
@@ -26,7 +26,8 @@ use Rattle.volatile.specs.Check.{CheckInv}
 use Rattle.volatile.specs.Plain.{Single}
 use Rattle.volatile.proofs.Check.{check-start, check-blocks, check-tops, check-live}
 use Rattle.volatile.proofs.Plain.{plain-check}
-use Rattle.consistency.specs.Classes.{within, class_in}
+use Rattle.std.specs.Borrow.{Bor}
+use Rattle.consistency.specs.Classes.{within, class_in, table_in, holds_keys}
 use Rattle.consistency.specs.Passing.{Collecting}
 use Rattle.consistency.proofs.Classes.{not_within, within-other, within_first, within-second, within-either, class-all}
 use Rattle.consistency.specs.declared.Checked.{Checked}
@@ -69,9 +70,16 @@ class-either low high es h e m = let f = mem-filter (λ (x : Entry). within 0 hi
     go i (inl w) = mem-l e (class_in 0 low es) (class_in low high es) (filter-mem (λ (x : Entry). within 0 low x.key) e es i w)
     go i (inr w) = mem-r e (class_in 0 low es) (class_in low high es) (filter-mem (λ (x : Entry). within low high x.key) e es i w)
 
--- a range that is not done as it is has two classes or more
-pub wide_enough : (fits : Bool) (width : ℕ) → either fits (ltb width 2) ≡ false → 2 ≤ width
-wide_enough fits width h = let n = (either-no fits (ltb width 2) h).1 in ltb-false width 2 n
+-- a table is known to hold the keys if it has room for them
+abbrev pub Known : Option ℕ → List ℕ → Bool → List ℕ → Type 0
+Known keys held fits table = fits ≡ true → (keys ≡ Some (unwrap_or keys 0)) × (table ≡ held)
+
+pub known_of : (keys : Option ℕ) (own : Bor (List ℕ)) (known : Option (Bor (List ℕ))) → known ≡ option_and keys (Some own) → Known keys own.now (holds_keys known) (table_in known)
+known_of keys own known q = rw q (go keys)
+  where
+    go : (k : Option ℕ) → Known k own.now (holds_keys (option_and k (Some own))) (table_in (option_and k (Some own)))
+    go None = λ t. absurd (not-both true refl (sym t))
+    go (Some k) = λ t. (refl, refl)
 
 -- the classes below `low` are done, and no block was wrong
 pub record Done (size : Size) (n : ℕ) (ws : List ℕ) (before now : List ℕ) (s : Checked) (low : ℕ) : Type 0 where
@@ -90,11 +98,11 @@ module _ (size : Size) (n : ℕ) (ws : List ℕ) (before : List ℕ) where
       tested = λ es few h z. told-right size n ws es h now s inv.sound (rw (q, class-all es) at (inv.tests es few h z));
     }
 
-    module _ (high : ℕ) (rises : low ≤ high) (own table : List ℕ) (fits : Bool) (keys : ℕ) (collected : Collecting size n ws own table low high fits keys) (after : List ℕ) (s' : Checked)
+    module _ (high : ℕ) (rises : low ≤ high) (own held table : List ℕ) (fits : Bool) (keys : Option ℕ) (collected : Collecting size n ws own held low high keys) (known : Known keys held fits table) (after : List ℕ) (s' : Checked)
         (checked : ClassChecked size n ws table fits false low high s now after s') where
       ahead : (es : List Entry) → n ≤ max_chunks → image_entries (power_of size) n ws ≡ Entries es → Ahead size n ws table fits low high es (class_in 0 low es)
       ahead es few h = record {
-        listed = record { few = few; entries = h; keys = keys; indexed = collected.holds few es h };
+        listed = record { few = few; entries = h; keys = unwrap_or keys 0; indexed = λ t. let k = known t in rw k.1 (collected.holds few es h (unwrap_or keys 0) k.0) };
         inside = λ e m. (mem-filter (λ (x : Entry). within 0 low x.key) e es m).0;
         others = λ e m. within-other low high e.key rises (mem-filter (λ (x : Entry). within 0 low x.key) e es m).1;
       }

@@ -1,6 +1,7 @@
 -- Classes of keys, ranges of them, and marks by which a pass over the log tells the keys that it is asked for.
 -- Assumes nothing.
-use Rattle.std.specs.Prelude.{Bool, true, false, List, ℕ, ◌+◌, ◌*◌, ◌/◌, ◌%◌, leb, ltb, length, get_or}
+use Rattle.std.specs.Prelude.{Bool, true, false, Option, Some, None, List, [], ℕ, ◌+◌, ◌*◌, ◌/◌, ◌%◌, leb, ltb, length, get_or}
+use Rattle.std.specs.Borrow.{Bor}
 use Rattle.spec.specs.Basics.{pick, both, filter}
 use Rattle.spec.specs.Log.{Entry}
 
@@ -26,3 +27,12 @@ asked single marks low high key = pick single false (both (within low high key) 
 -- the entries of a range of classes
 abbrev pub class_in : (low high : ℕ) → List Entry → List Entry
 class_in low high es = filter (λ (e : Entry). within low high e.key) es
+
+-- the key table that is known to hold the keys of a range, if one is, and whether one is
+abbrev pub table_in : Option (Bor (List ℕ)) → List ℕ
+table_in None = []
+table_in (Some table) = table.now
+
+abbrev pub holds_keys : Option (Bor (List ℕ)) → Bool
+holds_keys None = false
+holds_keys (Some table) = true

@@ -1,14 +1,7 @@
--- An entry by its parts, as the pass carries it, and the comparison of words of an image.
+-- The comparison of words of an image, and the puts whose values are in blocks.
 -- Assumes nothing.
 use Rattle.std.specs.Prelude.{Bool, true, List, ℕ, zero, suc, eqb, get_or}
 use Rattle.spec.specs.Basics.{both}
-use Rattle.spec.specs.Log.{Entry}
-use Rattle.logs.specs.Stands.{entry_in}
-use Rattle.consistency.specs.declared.Head.{Head}
-
--- the entry with these parts, with so many words behind its key
-abbrev pub entry_of : List ℕ → Head → ℕ → Entry
-entry_of ws h words = entry_in ws h.op h.placement h.version h.field h.key words h.place
 
 -- n words from word a are those from word b
 abbrev pub same_from : List ℕ → ℕ → ℕ → ℕ → Bool

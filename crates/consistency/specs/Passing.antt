@@ -1,6 +1,6 @@
 -- What a pass over some classes tells: the entries that it passed over, and the table of the others.
 -- Assumes nothing.
-use Rattle.std.specs.Prelude.{◌≡◌, Bool, true, false, List, [], ◌∷◌, ◌++◌, ℕ, ◌+◌, ◌≤◌, ◌<◌, length}
+use Rattle.std.specs.Prelude.{◌≡◌, Bool, true, false, Option, Some, List, [], ◌∷◌, ◌++◌, ℕ, ◌+◌, ◌≤◌, ◌<◌, length}
 use Rattle.spec.specs.declared.Size.{Size}
 use Rattle.places.specs.Sizes.{power_of}
 use Rattle.spec.specs.Places.{max_chunks}
@@ -37,16 +37,16 @@ pub record Onward (p n : ℕ) (ws : List ℕ) (c : ℕ) (r : Cursor) : Type 0 wh
   pub same : remaining p n ws first ≡ remaining p n ws r
 
 -- the table before and after one more entry of a key, of which it would hold `own` with this entry alone; with the
--- numbers of keys before and after
-pub record Entering (size : Size) (table table' : List ℕ) (keys low high key own : ℕ) (fits : Bool) (keys' : ℕ) : Type 0 where
+-- number of keys before, and after if they fit
+pub record Entering (size : Size) (table table' : List ℕ) (keys low high key own : ℕ) (r : Option ℕ) : Type 0 where
   pub sized : length table' ≡ length table
   pub enters : (xs : List Entry) (e : Entry) → e.key ≡ key → own_of size e ≡ own → Bounded size (class_in low high (xs ++ e ∷ [])) → FillInv size (length table) (class_in low high xs) table keys true
-      → fits ≡ true → FillInv size (length table) (class_in low high (xs ++ e ∷ [])) table' keys' true
+      → (keys' : ℕ) → r ≡ Some keys' → FillInv size (length table) (class_in low high (xs ++ e ∷ [])) table' keys' true
 
--- the table before and after a pass over the log of an image of n chunks
-pub record Collecting (size : Size) (n : ℕ) (ws table table' : List ℕ) (low high : ℕ) (fits : Bool) (keys : ℕ) : Type 0 where
+-- the table before and after a pass over the log of an image of n chunks, with the number of its keys if they fit
+pub record Collecting (size : Size) (n : ℕ) (ws table table' : List ℕ) (low high : ℕ) (r : Option ℕ) : Type 0 where
   pub sized : length table' ≡ length table
-  pub holds : n ≤ max_chunks → (es : List Entry) → image_entries (power_of size) n ws ≡ Entries es → fits ≡ true → Indexed size table' keys (class_in low high es)
+  pub holds : n ≤ max_chunks → (es : List Entry) → image_entries (power_of size) n ws ≡ Entries es → (keys : ℕ) → r ≡ Some keys → Indexed size table' keys (class_in low high es)
 
 -- the mark of a key is set if its word has the bit of several top entries, and no mark is taken away
 pub record OneMarked (marks marks' : List ℕ) (key info : ℕ) : Type 0 where

@@ -5,35 +5,25 @@
 #![tactic(auto)]
 
 ghost use Rattle.std.specs.Prelude.{◌≡◌, ◌+◌, ◌-◌, ◌*◌, ◌^◌, ◌≤◌, ◌<◌, true, false, ltb};
-ghost use Rattle.spec.specs.Basics.{pick, either, every};
+ghost use Rattle.spec.specs.Basics.{pick, every};
 ghost use Rattle.spec.specs.Words.{words_of};
 ghost use Rattle.spec.specs.Blocks.{start_tests, length_tests, block_right};
 ghost use Rattle.places.specs.Sizes.{power_of};
+ghost use Rattle.consistency.specs.Classes.{table_in, holds_keys};
 ghost use Rattle.consistency.specs.Heads.{same_from, points};
 ghost use Rattle.consistency.specs.Pass.{AgreesWith, TopIs, AgreedIs, MarkedIs, VisitedIs, SweptAs, ClassChecked, AllChecked, Examined};
 
 pub mod partition;
 
-use crate::partition::{MARKS, collect, is_within, mark_twins, onward, pass_over};
+use crate::partition::{Asked, CLASSES, Classes, MARKS, collect, mark_twins, pass_over};
 use buffer::{Buffer, clear_bits, has_bit, set_bit};
 use codec::Unit;
 use directory::size_of;
 use index::get;
-use logs::{Best, best_of, next_entry, words_for};
+use logs::{Best, Cursor, Entry, best_of, first_cursor, next_in_log, words_for};
 use packing::unpack;
-use spec::{LogStep, Size};
-use words::{lesser, load};
-
-// An entry of the log but for its value: `place` is its first word.
-#[derive(Clone, Copy)]
-pub struct Head {
-    pub op: u64,
-    pub placement: u64,
-    pub version: u64,
-    pub field: u64,
-    pub key: u64,
-    pub place: usize,
-}
+use spec::Size;
+use words::load;
 
 // What the pass finds: no wrong block, no top entries that disagree, no block of two keys.
 #[derive(Clone, Copy)]
@@ -51,19 +41,10 @@ fn starts(count: usize, unit: Unit, units: usize, size: Size) -> bool
 {
     let chunk = unit.chunk(size) as usize;
     let place = unit.place(size) as usize;
-    if chunk < 1 {
+    if chunk < 1 || count <= chunk || units < 1 {
         return false;
     }
-    if count <= chunk {
-        return false;
-    }
-    if units < 1 {
-        return false;
-    }
-    if place % units == 0 {
-        return place + units <= places::units(size);
-    }
-    false
+    place % units == 0 && place + units <= places::units(size)
 }
 
 // Whether a block of so many units may have this length and its value ends in this word.
@@ -72,17 +53,8 @@ fn length_right(units: usize, length: u64, last: u64) -> bool
     ensures { result ≡ every (length_tests units length last) }
 {
     let room = 256 * (units as u64) - 8;
-    if length < 257 {
-        return false;
-    }
-    if room < length {
-        return false;
-    }
     let odd = length % 8;
-    if odd == 0 {
-        return true;
-    }
-    last < 1 << (8 * odd)
+    257 <= length && length <= room && (odd == 0 || last < 1 << (8 * odd))
 }
 
 // Whether a unit of an image of `count` chunks starts a block, its length is right and its value zero-filled.
@@ -90,13 +62,13 @@ pub fn block_right(image: &[u8], count: usize, unit: Unit, size: Size) -> bool
     ensures { result ≡ block_right (power_of size) count (words_of image.now) unit.0 }
 {
     let units = size_of(image, unit.chunk(size) as usize, size);
-    if starts(count, unit, units, size) {
-        let at = unit.word_offset();
-        let length = load(image, at);
-        let last = load(image, at + words_for(0, length));
-        return length_right(units, length, last);
+    if !starts(count, unit, units, size) {
+        return false;
     }
-    false
+    let at = unit.word_offset();
+    let length = load(image, at);
+    let last = load(image, at + words_for(0, length));
+    length_right(units, length, last)
 }
 
 // AGREEMENT
@@ -105,40 +77,38 @@ pub fn same_words(image: &[u8], a: usize, b: usize, n: usize) -> bool
     requires { (a < 2 ^ 62) × (b < 2 ^ 62) × (n < 2 ^ 62) }
     ensures { result ≡ same_from (words_of image.now) a b n }
 {
-    let mut i = 0;
-    while i < n {
-        let x = load(image, a + i);
-        let y = load(image, b + i);
-        if x != y {
+    for i in 0..n {
+        if load(image, a + i) != load(image, b + i) {
             return false;
         }
-        i += 1;
     }
     true
 }
 
 // Whether an entry is, word for word, the one that stands at word `place`.
-fn agrees(image: &[u8], e: Head, place: usize) -> bool
+fn agrees(image: &[u8], e: Entry, place: usize) -> bool
     ensures { AgreesWith (words_of image.now) e place result }
 {
     let end = image.len() / 8;
     let words = words_for(e.placement, e.field);
-    same_words(image, lesser(e.place, end), lesser(place, end), 2 + words)
+    same_words(image, e.place.min(end), place.min(end), 2 + words)
 }
 
 // TOP ENTRIES
-// The chosen top entry of a key: by the key table where it holds the keys, else by a scan.
-pub fn top_of(image: &[u8], count: usize, table: &[u64], fits: bool, key: u64, size: Size) -> Best
-    ensures { TopIs size count (words_of image.now) table.now fits key result }
+// The chosen top entry of a key: by the key table where it is known to hold the keys, else by a scan.
+pub fn top_of(image: &[u8], count: usize, known: Option<&[u64]>, key: u64, size: Size) -> Best
+    ensures { TopIs size count (words_of image.now) (table_in known.entry) (holds_keys known.entry) key result }
 {
-    if fits {
-        let info = unpack(size, get(table, key));
-        return Best {
-            version: info.version,
-            place: info.place as usize,
-        };
+    match known {
+        Some(table) => {
+            let info = unpack(size, get(table, key));
+            Best {
+                version: info.version,
+                place: info.place as usize,
+            }
+        }
+        None => best_of(image, count, key, size),
     }
-    best_of(image, count, key, size)
 }
 
 // MARKS
@@ -146,216 +116,136 @@ pub fn top_of(image: &[u8], count: usize, table: &[u64], fits: bool, key: u64, s
 pub fn points(op: u64, placement: u64) -> bool
     ensures { result ≡ points op placement }
 {
-    if op == 1 {
-        return placement == 1;
-    }
-    false
+    op == 1 && placement == 1
 }
 
 // A top entry's block is marked if it is the chosen one of its key, which stands at word `place`: the others have the
 // same block, or disagree. The answer is whether no two keys share a block: one that is marked already is another
 // key's.
-fn marked(buffer: &mut Buffer, apart: bool, e: Head, place: usize, size: Size) -> bool
+fn marked(buffer: &mut Buffer, apart: bool, e: Entry, place: usize, size: Size) -> bool
     ensures { MarkedIs size apart e place buffer.old buffer.new result }
 {
-    if e.place != place {
+    if e.place != place || !points(e.op, e.placement) {
         return apart;
     }
-    if points(e.op, e.placement) {
-        let unit = Unit(e.field);
-        if has_bit(buffer, unit, size) {
-            return false;
-        }
-        set_bit(buffer, unit, size);
+    let unit = Unit(e.field);
+    if has_bit(buffer, unit, size) {
+        return false;
     }
+    set_bit(buffer, unit, size);
     apart
 }
 
 // THE PASS
-// Whether the block of an entry with these parts is right, if it points to one.
-pub fn block_fine(
-    image: &[u8],
-    count: usize,
-    op: u64,
-    placement: u64,
-    field: u64,
-    size: Size,
-) -> bool
-    ensures { result ≡ pick (points op placement) (block_right (power_of size) count (words_of image.now) field) true }
+// Whether the block of an entry is right, if it points to one.
+pub fn block_fine(image: &[u8], count: usize, e: Entry, size: Size) -> bool
+    ensures { result ≡ pick (points e.op e.placement) (block_right (power_of size) count (words_of image.now) e.field) true }
 {
-    if points(op, placement) {
-        return block_right(image, count, Unit(field), size);
-    }
-    true
+    !points(e.op, e.placement) || block_right(image, count, Unit(e.field), size)
 }
 
 // Whether the top entries agree, with one more; the chosen one of its key stands at word `place`.
-pub fn agreed(image: &[u8], so: bool, e: Head, place: usize) -> bool
+pub fn agreed(image: &[u8], so: bool, e: Entry, place: usize) -> bool
     ensures { AgreedIs (words_of image.now) so e place result }
 {
-    if e.place == place {
-        return so;
-    }
-    if so {
-        return agrees(image, e, place);
-    }
-    false
+    so && (e.place == place || agrees(image, e, place))
 }
 
 // One entry of the pass, which looks at a range of classes.
 fn visit(
     image: &[u8],
     count: usize,
-    table: &[u64],
-    fits: bool,
-    low: u64,
-    high: u64,
+    known: Option<&[u64]>,
+    classes: Classes,
     buffer: &mut Buffer,
     s: Checked,
-    e: Head,
+    e: Entry,
     size: Size,
 ) -> Checked
-    ensures { VisitedIs size count (words_of image.now) table.now fits low high s e buffer.old buffer.new result }
+    ensures { VisitedIs size count (words_of image.now) (table_in known.entry) (holds_keys known.entry) classes.low classes.high s e buffer.old buffer.new result }
 {
-    if is_within(low, high, e.key) {
-        let top = top_of(image, count, table, fits, e.key, size);
-        if e.version != top.version {
-            return s;
-        }
-        if block_fine(image, count, e.op, e.placement, e.field, size) {
-            let agreeing = agreed(image, s.agreeing, e, top.place);
-            let apart = marked(buffer, s.apart, e, top.place, size);
-            return Checked {
-                blocks: true,
-                agreeing,
-                apart,
-            };
-        }
-        return Checked {
-            blocks: false,
-            agreeing: s.agreeing,
-            apart: s.apart,
-        };
+    if !classes.holds(e.key) {
+        return s;
     }
-    s
+    let top = top_of(image, count, known, e.key, size);
+    if e.version != top.version {
+        return s;
+    }
+    if !block_fine(image, count, e, size) {
+        return Checked { blocks: false, ..s };
+    }
+    Checked {
+        blocks: true,
+        agreeing: agreed(image, s.agreeing, e, top.place),
+        apart: marked(buffer, s.apart, e, top.place, size),
+    }
 }
 
-// The pass over the log of an image of `count` chunks, for a range of classes. The table holds their keys where `fits`.
-// Puts with their values in the log are passed over where no mark is set for their keys: such a key has one top entry.
+// The pass over the log of an image of `count` chunks, for a range of classes, of which a table may be known to hold
+// the keys. Puts with their values in the log are passed over where they are not asked for: such a key has one top
+// entry.
 fn sweep(
     image: &[u8],
     count: usize,
-    table: &[u64],
-    fits: bool,
-    single: bool,
-    marks: &[u8],
-    low: u64,
-    high: u64,
+    known: Option<&[u64]>,
+    asked: Asked,
     buffer: &mut Buffer,
     so: Checked,
     size: Size,
 ) -> Checked
-    ensures { SweptAs size count (words_of image.now) table.now fits single marks.now low high so buffer.old buffer.new result }
+    ensures { SweptAs size count (words_of image.now) (table_in known.entry) (holds_keys known.entry) asked.entry.single asked.entry.marks.now asked.entry.classes.low asked.entry.classes.high so buffer.old buffer.new result }
 {
     let mut s = so;
-    let mut chunk: usize = 0;
-    let mut place: usize = 0;
-    let mut end: usize = 0;
+    let mut cursor = first_cursor();
     loop {
-        let at = pass_over(image, place, end, single, marks, low, high);
-        let step = next_entry(image, at, end);
-        match step {
-            LogStep::End => {
-                if count <= chunk {
+        let at = pass_over(image, cursor.at, cursor.end, asked);
+        match next_in_log(image, count, Cursor { at, ..cursor }, size) {
+            Ok(Some(e)) => {
+                s = visit(image, count, known, asked.classes, buffer, s, e, size);
+                if !s.blocks {
                     return s;
                 }
-                if count - chunk == 1 {
-                    return s;
-                }
-                let next = onward(image, count, chunk + 1, size);
-                chunk = next.chunk;
-                place = next.at;
-                end = next.end;
+                cursor = e.behind;
             }
-            LogStep::Wrong => {
-                return s;
-            }
-            LogStep::Padding => {
-                place = at + 1;
-            }
-            LogStep::Entry {
-                op,
-                placement,
-                version,
-                field,
-                key,
-                words,
-            } => {
-                let e = Head {
-                    op,
-                    placement,
-                    version,
-                    field,
-                    key,
-                    place: at,
-                };
-                s = visit(image, count, table, fits, low, high, buffer, s, e, size);
-                if s.blocks {
-                    place = at + (2 + words);
-                } else {
-                    return s;
-                }
-            }
+            Ok(None) => return s,
+            Err(_) => return s,
         }
     }
 }
 
-// Whether marks are of use: the table tells which keys have several top entries, and it may be that some have.
-fn takes_marks(fits: bool, single: bool) -> bool
-    ensures { result ≡ pick single false fits }
-{
-    if single {
-        return false;
-    }
-    fits
-}
-
-// A range of classes, of which the table holds the keys where `fits`; else each top entry is found by a scan. Where
-// each key has a `single` top entry, no marks are needed.
+// A range of classes, of which a table may be known to hold the keys; else each top entry is found by a scan. Marks are
+// of use where the table tells which keys have several top entries and it may be that some have, not where each key has
+// a `single` one.
 fn check_class(
     image: &[u8],
     count: usize,
-    table: &[u64],
-    fits: bool,
+    known: Option<&[u64]>,
     single: bool,
-    low: u64,
-    high: u64,
+    classes: Classes,
     buffer: &mut Buffer,
     so: Checked,
     size: Size,
 ) -> Checked
-    ensures { ClassChecked size count (words_of image.now) table.now fits single low high so buffer.old buffer.new result }
+    ensures { ClassChecked size count (words_of image.now) (table_in known.entry) (holds_keys known.entry) single classes.low classes.high so buffer.old buffer.new result }
 {
-    if takes_marks(fits, single) {
-        let mut marks: [u8; MARKS] = [0; MARKS];
-        mark_twins(table, &mut marks);
-        return sweep(
-            image, count, table, fits, false, &marks, low, high, buffer, so, size,
-        );
+    if let Some(table) = known {
+        if !single {
+            let mut marks: [u8; MARKS] = [0; MARKS];
+            mark_twins(table, &mut marks);
+            let asked = Asked {
+                single: false,
+                marks: &marks,
+                classes,
+            };
+            return sweep(image, count, known, asked, buffer, so, size);
+        }
     }
-    sweep(
-        image,
-        count,
-        table,
-        fits,
+    let asked = Asked {
         single,
-        &image[0..0],
-        low,
-        high,
-        buffer,
-        so,
-        size,
-    )
+        marks: &[],
+        classes,
+    };
+    sweep(image, count, known, asked, buffer, so, size)
 }
 
 // ALL CLASSES
@@ -364,11 +254,7 @@ pub fn range_end(low: u64, width: u64) -> u64
     requires { (low < 2 ^ 32) × (1 ≤ width) × (width ≤ 2 ^ 32) }
     ensures { (low < result) × (result ≤ 2 ^ 32) }
 {
-    if low + width < 0x1_0000_0000 {
-        low + width
-    } else {
-        0x1_0000_0000
-    }
+    (low + width).min(CLASSES)
 }
 
 // A table of the call's own has so many words, and holds so many keys.
@@ -382,23 +268,9 @@ pub fn next_width(width: u64, keys: usize) -> u64
     requires { (1 ≤ width) × (width ≤ 2 ^ 32) }
     ensures { (1 ≤ result) × (result ≤ 2 ^ 32) }
 {
-    let many = lesser(keys, OWN_KEYS) as u64;
+    let many = keys.min(OWN_KEYS) as u64;
     let room = OWN_KEYS as u64;
-    let w = width * room / (many + room / 8);
-    if w < 1 {
-        return 1;
-    }
-    if w < 0x1_0000_0000 { w } else { 0x1_0000_0000 }
-}
-
-// Whether a range is done as it is: its keys fit, or it is one class.
-pub fn is_enough(fits: bool, width: u64) -> bool
-    ensures { result ≡ either fits (ltb width 2) }
-{
-    if fits {
-        return true;
-    }
-    width < 2
+    (width * room / (many + room / 8)).clamp(1, CLASSES)
 }
 
 // All classes, with a table of the call's own for one range of them after the other. A range whose keys do not fit it
@@ -413,21 +285,24 @@ fn check_classes(image: &[u8], count: usize, buffer: &mut Buffer, size: Size) ->
         apart: true,
     };
     let mut low: u64 = 0;
-    let mut width: u64 = 0x1_0000_0000;
-    while low < 0x1_0000_0000 {
+    let mut width: u64 = CLASSES;
+    // (d) The ranges are of many widths, so no `for` has them.
+    while low < CLASSES {
         let high = range_end(low, width);
-        let c = collect(image, count, &mut own, low, high, size);
-        let fits = c.fits;
-        if is_enough(fits, width) {
-            s = check_class(image, count, &own, fits, false, low, high, buffer, s, size);
-            if s.blocks {
-                low = high;
-                width = next_width(width, c.keys);
-            } else {
-                return s;
-            }
-        } else {
-            width = width / 2;
+        let classes = Classes { low, high };
+        let keys = collect(image, count, &mut own, classes, size);
+        if keys.is_none() && 2 <= width {
+            width /= 2;
+            continue;
+        }
+        let known = keys.and(Some(&own[..]));
+        s = check_class(image, count, known, false, classes, buffer, s, size);
+        if !s.blocks {
+            return s;
+        }
+        low = high;
+        if let Some(keys) = keys {
+            width = next_width(width, keys);
         }
     }
     s
@@ -438,14 +313,13 @@ fn check_classes(image: &[u8], count: usize, buffer: &mut Buffer, size: Size) ->
 pub fn examine(
     image: &[u8],
     count: usize,
-    table: &[u64],
-    fits: bool,
+    known: Option<&[u64]>,
     single: bool,
     direct: bool,
     buffer: &mut Buffer,
     size: Size,
 ) -> Checked
-    ensures { Examined size count (words_of image.now) table.now fits single direct buffer.old buffer.new result }
+    ensures { Examined size count (words_of image.now) (table_in known.entry) (holds_keys known.entry) single direct buffer.old buffer.new result }
 {
     clear_bits(buffer, size);
     let s = Checked {
@@ -453,24 +327,15 @@ pub fn examine(
         agreeing: true,
         apart: true,
     };
-    if direct {
-        if single {
-            return s;
-        }
+    if direct && single {
+        return s;
     }
-    if fits {
-        return check_class(
-            image,
-            count,
-            table,
-            fits,
-            single,
-            0,
-            0x1_0000_0000,
-            buffer,
-            s,
-            size,
-        );
+    if known.is_none() {
+        return check_classes(image, count, buffer, size);
     }
-    check_classes(image, count, buffer, size)
+    let all = Classes {
+        low: 0,
+        high: CLASSES,
+    };
+    check_class(image, count, known, single, all, buffer, s, size)
 }

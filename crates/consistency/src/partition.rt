@@ -6,12 +6,15 @@ ghost use Rattle.places.specs.Sizes.{power_of};
 ghost use Rattle.consistency.specs.Classes.{class_of, within, asked};
 ghost use Rattle.consistency.specs.Passing.{PassedOver, Onward, Entering, Collecting, OneMarked, QuietFrom, TwinsMarked};
 
-use logs::{Cursor, Next};
+use logs::Cursor;
 use spec::Size;
-use words::{lesser, load};
+use words::load;
 
 // Marks of keys: one for each 2^18 classes.
 pub const MARKS: usize = 16384;
+
+// So many classes there are.
+pub const CLASSES: u64 = 0x1_0000_0000;
 
 // CLASSES
 // The class of a key: 32 bits, by other numbers than those by which the key table spreads its keys, so that the keys of
@@ -24,68 +27,64 @@ pub fn class_of(key: u64) -> u64
     (low + high) % 0x1_0000_0000
 }
 
-// Whether the class of a key is `low` or above, and below `high`.
-pub fn is_within(low: u64, high: u64, key: u64) -> bool
-    ensures { result ≡ within low high key }
-{
-    let class = class_of(key);
-    if low <= class {
-        return class < high;
-    }
-    false
+// A range of classes: from `low` on, and below `high`.
+#[derive(Clone, Copy)]
+pub struct Classes {
+    pub low: u64,
+    pub high: u64,
 }
 
-// Whether a key is asked for: none is where each key has a single top entry, else its class is within the range, and
-// its mark is set or there is none for it.
-fn is_asked(single: bool, marks: &[u8], low: u64, high: u64, key: u64) -> bool
-    ensures { result ≡ asked single marks.now low high key }
-{
-    if single {
-        return false;
+impl Classes {
+    // Whether the class of a key is one of them.
+    pub fn holds(self, key: u64) -> bool
+        ensures { result ≡ within self.low self.high key }
+    {
+        (self.low..self.high).contains(&class_of(key))
     }
-    let class = class_of(key);
-    if low <= class {
-        if class < high {
-            let at = (class / 0x4_0000) as usize;
-            if at < marks.len() {
-                return 0 < marks[at];
-            }
-            return true;
+}
+
+// The keys that a pass over the log asks for: none where each key has a `single` top entry, else those of a range of
+// classes whose marks are set, or for which there is no mark.
+#[derive(Clone, Copy)]
+pub struct Asked<'a> {
+    pub single: bool,
+    pub marks: &'a [u8],
+    pub classes: Classes,
+}
+
+impl Asked<'_> {
+    // Whether it asks for a key.
+    fn holds(self, key: u64) -> bool
+        ensures { result ≡ asked self.entry.single self.entry.marks.now self.entry.classes.low self.entry.classes.high key }
+    {
+        if self.single {
+            return false;
         }
+        let class = class_of(key);
+        let at = (class / 0x4_0000) as usize;
+        (self.classes.low..self.classes.high).contains(&class)
+            && (self.marks.len() <= at || 0 < self.marks[at])
     }
-    false
 }
 
 // PASSING
 // From word `at` on, past padding and puts with their values in the log whose keys are not asked for. Of a put it takes
 // the length from the first word and asks nothing more: in a log without a wrong entry that is where the next one
 // stands.
-pub fn pass_over(
-    image: &[u8],
-    at: usize,
-    end: usize,
-    single: bool,
-    marks: &[u8],
-    low: u64,
-    high: u64,
-) -> usize
-    ensures { PassedOver (words_of image.now) end single marks.now low high at result }
+pub fn pass_over(image: &[u8], at: usize, end: usize, asked: Asked) -> usize
+    ensures { PassedOver (words_of image.now) end asked.entry.single asked.entry.marks.now asked.entry.classes.low asked.entry.classes.high at result }
 {
-    let stop = lesser(end, image.len() / 8);
+    let stop = end.min(image.len() / 8);
     let mut place = at;
+    // (d) The steps are of many lengths, so no `for` has them.
     while place < stop {
         let word = load(image, place);
         if word == 0 {
             place += 1;
-        } else {
-            if word % 16 != 1 {
-                return place;
-            }
-            let key = load(image, place + 1);
-            if is_asked(single, marks, low, high, key) {
-                return place;
-            }
+        } else if word % 16 == 1 && !asked.holds(load(image, place + 1)) {
             place += ((word / 0x100_0000 + 23) / 8) as usize;
+        } else {
+            break;
         }
     }
     place
@@ -96,109 +95,74 @@ pub fn pass_over(
 pub fn onward(image: &[u8], count: usize, c: usize, size: Size) -> Cursor
     ensures { Onward (power_of size) count (words_of image.now) c result }
 {
+    let last = count.saturating_sub(1);
     let mut next = logs::chunk_cursor(image, c, size);
-    while next.chunk < count {
-        if next.at < next.end {
-            return next;
-        }
-        if count - next.chunk == 1 {
-            return next;
-        }
+    while next.end <= next.at && next.chunk < last {
         next = logs::chunk_cursor(image, next.chunk + 1, size);
     }
     next
 }
 
 // COLLECTING
-// Whether the keys fit the table so far, and how many it has.
-#[derive(Clone, Copy)]
-pub struct Collected {
-    pub fits: bool,
-    pub keys: usize,
-}
-
 // One more entry; `own` is what the table would hold of the key with this entry alone. An entry of another class
-// changes nothing.
+// changes nothing. The answer is how many keys the table has then, none where there is no room for one more.
 fn enter(
     table: &mut [u64],
     keys: usize,
-    low: u64,
-    high: u64,
+    classes: Classes,
     key: u64,
     own: u64,
     size: Size,
-) -> Collected
-    ensures { Entering size table.old table.new keys low high key own result.fits result.keys }
+) -> Option<usize>
+    ensures { Entering size table.old table.new keys classes.low classes.high key own result }
 {
-    if is_within(low, high, key) {
-        let slot = index::slot_of(table, key);
-        let old = index::word_at(table, slot);
-        if old == 0 {
-            if keys < index::capacity(table.len()) {
-                index::set_slot(table, slot, key, own);
-                return Collected {
-                    fits: true,
-                    keys: keys + 1,
-                };
-            }
-            return Collected { fits: false, keys };
-        }
+    if !classes.holds(key) {
+        return Some(keys);
+    }
+    let slot = index::slot_of(table, key);
+    let old = index::word_at(table, slot);
+    if old != 0 {
         let info = volatile::with_entry(size, old, own);
         index::set_slot(table, slot, key, info);
+        return Some(keys);
     }
-    Collected { fits: true, keys }
+    if index::capacity(table.len()) <= keys {
+        return None;
+    }
+    index::set_slot(table, slot, key, own);
+    Some(keys + 1)
 }
 
-// The entries of a range of classes go into the table, as far as it holds their keys: it is theirs alone.
+// The entries of a range of classes go into the table, which is theirs alone. The answer is how many keys it has then,
+// none where it has no room for them.
 pub fn collect(
     image: &[u8],
     count: usize,
     table: &mut [u64],
-    low: u64,
-    high: u64,
+    classes: Classes,
     size: Size,
-) -> Collected
-    ensures { Collecting size count (words_of image.now) table.old table.new low high result.fits result.keys }
+) -> Option<usize>
+    ensures { Collecting size count (words_of image.now) table.old table.new classes.low classes.high result }
 {
     index::clear(table);
-    let mut keys: usize = 0;
+    let asked = Asked {
+        single: false,
+        marks: &[],
+        classes,
+    };
+    let mut keys = 0;
     let mut cursor = logs::first_cursor();
     loop {
-        let chunk = cursor.chunk;
-        let end = cursor.end;
-        let at = pass_over(image, cursor.at, end, false, &image[0..0], low, high);
-        let n = logs::next_in_log(image, count, Cursor { chunk, at, end }, size);
-        match n {
-            Next::Done => {
-                return Collected { fits: true, keys };
+        let at = pass_over(image, cursor.at, cursor.end, asked);
+        match logs::next_in_log(image, count, Cursor { at, ..cursor }, size) {
+            Ok(Some(e)) => {
+                let extent = volatile::extent_of(size, e.placement, e.field);
+                let own = volatile::single_entry(size, extent, e.place, e.version);
+                keys = enter(table, keys, classes, e.key, own, size)?;
+                cursor = e.behind;
             }
-            Next::Wrong => {
-                return Collected { fits: false, keys };
-            }
-            Next::Entry {
-                op: _,
-                placement,
-                version,
-                field,
-                key,
-                words: _,
-                place,
-                cursor: behind,
-            } => {
-                let own = volatile::single_entry(
-                    size,
-                    volatile::extent_of(size, placement, field),
-                    place,
-                    version,
-                );
-                let e = enter(table, keys, low, high, key, own, size);
-                if e.fits {
-                    keys = e.keys;
-                    cursor = behind;
-                } else {
-                    return e;
-                }
-            }
+            Ok(None) => return Some(keys),
+            Err(_) => return None,
         }
     }
 }
@@ -237,6 +201,7 @@ pub fn mark_twins(table: &[u64], marks: &mut [u8])
 {
     let n = table.len() / 2;
     let mut s = 0;
+    // (d) The steps are of one slot or of four, so no `for` has them.
     while s < n {
         if is_quiet(table, s) {
             s += 4;

@@ -1,6 +1,6 @@
 -- What the listing calls show: a refusal at the gate, and behind it the register's keys.
 -- Assumes nothing.
-use mathlib.Core.Path.{◌≡◌, refl, sym, ◌∙◌, ap}
+use mathlib.Core.Path.{◌≡◌, refl, ◌∙◌, ap}
 use mathlib.Core.Bool.{Bool, true, false}
 use mathlib.Core.Option.{none, some}
 use mathlib.Core.List.{List}
@@ -22,7 +22,7 @@ use Rattle.spec.specs.declared.Size.{Size}
 use Rattle.spec.specs.declared.Refusal.{Refusal}
 use Rattle.spec.specs.declared.Refusal.TheVariants as N
 use Rattle.places.specs.Sizes.{power_of}
-use Rattle.theory_crash.specs.Accepted.{Ok}
+use Rattle.theory_crash.specs.Accepted.{Ok as Accepted}
 use Rattle.theory_crash.proofs.Opening.{opens_at}
 use Rattle.packing.specs.Packed.{unpack_of}
 use Rattle.index.specs.Index.{get}
@@ -31,31 +31,25 @@ use Rattle.order.specs.Order.{Taking}
 use Rattle.order.proofs.Rising.{order-length}
 use Rattle.session.specs.State.{size_in, power_in, state_at}
 use Rattle.session.specs.Fits.{Fits}
-use Rattle.session.specs.declared.Gated.{Gated}
-use Rattle.session.specs.declared.Gated.TheVariants as G
 use Rattle.session.specs.Asks.{gate_of, ReadAsking}
 use Rattle.lookup.specs.Look.{session_of}
 use Rattle.session.proofs.Gates.{read_at_lem}
-use Rattle.lookup.specs.declared.Listed.{Listed}
-use Rattle.lookup.specs.declared.Listed.TheVariants as L
-use Rattle.lookup.specs.declared.Counted.TheVariants as C
-use Rattle.lookup.specs.Listing.{present, present_keys, by_word, is_present}
-use Rattle.lookup.specs.Contract.{Taken, Gathering, words_read, ListingKeys, AbsentOr, ListingKey}
+use Rattle.std.specs.Prelude.{Result, Ok, Err}
+use Rattle.lookup.specs.Listing.{Listed, present_key, present, present_keys, by_word, is_present}
+use Rattle.lookup.specs.Contract.{Gathering, words_read, ListingKeys, AbsentOr, ListingKey}
 use Rattle.lookup.proofs.Looks.{read-power}
 use Rattle.lookup.proofs.Entries.{word-listed}
-use Rattle.lookup.proofs.Slots.{present-listed}
+use Rattle.lookup.proofs.Slots.{Taken, present-listed}
 
 -- ## A slot
 
-module _ (size : Size) (ws : List ℕ) (key word kept : ℕ) (out : List ℕ) (r : Listed) (is : r ≡ by_word size ws word) where
-  pub taken_none : (n : Refusal) → r ≡ L.Refused n → Taken size ws key word out out kept kept 0
-  taken_none n e =
-      let h : is_present (by_word size ws word) ≡ false = ap is_present (sym is ∙ e) in
+module _ (size : Size) (ws : List ℕ) (key word kept : ℕ) (out : List ℕ) where
+  pub taken_none : is_present (by_word size ws word) ≡ false → Taken size ws key word out out kept kept 0
+  taken_none h =
       record { sized = refl; counts = rw h; grows = omega arith; fits = λ l. (omega arith, l); behind = λ i l. refl; takes = λ ks q new. rw h q }
 
-  pub taken-some : (v n : ℕ) (b : Bool) (out' : List ℕ) (kept' : ℕ) → r ≡ L.Present v n b → Taking out out' kept key kept' → Taken size ws key word out out' kept kept' 1
-  taken-some v n b out' kept' e t =
-      let h : is_present (by_word size ws word) ≡ true = ap is_present (sym is ∙ e) in
+  pub taken-some : (out' : List ℕ) (kept' : ℕ) → is_present (by_word size ws word) ≡ true → Taking out out' kept key kept' → Taken size ws key word out out' kept kept' 1
+  taken-some out' kept' h t =
       record {
         sized = t.sized;
         counts = rw h;
@@ -73,7 +67,7 @@ pub record Register (size : Size) (ws vs : List ℕ) (bytes : ℕ) (table : List
   pub chunks : ℕ
   pub keys : ℕ
   pub entries : List Entry
-  pub ok : Ok (power_of size) chunks vs entries
+  pub ok : Accepted (power_of size) chunks vs entries
   pub sees : Past ws vs
   pub indexed : Indexed size table keys entries
   pub same : entries_in (power_of size) (chunks_in (power_of size) bytes) vs ≡ entries
@@ -118,27 +112,27 @@ word-absent size ws word = go (eqb word 0) (ltb 0 (unpack_of size word).extent) 
     v : ℕ
     v = (unpack_of size word).version
 
-    go : (b1 b2 b3 b4 : Bool) → AbsentOr (pick b1 (L.Refused N.KeyAbsent) (pick b2 (L.Present v ((unpack_of size word).extent + 1) false)
-        (pick b3 (L.Present v (w / 16777216) false) (pick b4 (L.Present v (get_or ws (unit_word (w / 16777216)) 0) true) (L.Refused N.KeyAbsent)))))
+    go : (b1 b2 b3 b4 : Bool) → AbsentOr (pick b1 (Err N.KeyAbsent) (pick b2 (present_key v ((unpack_of size word).extent + 1) false)
+        (pick b3 (present_key v (w / 16777216) false) (pick b4 (present_key v (get_or ws (unit_word (w / 16777216)) 0) true) (Err N.KeyAbsent)))))
     go true b2 b3 b4 = refl
     go false true b3 b4 = tt
     go false false true b4 = tt
     go false false false true = tt
     go false false false false = refl
 
-module _ (c : Control) (k : Setup) (bytes table : List ℕ) (g : Gated) (asks : ReadAsking c k (length bytes) (length table) g) where
-  is-refused : (n : Refusal) → g ≡ G.Refused n → (b : List ℕ) → read_gate (state_at c k b) (length bytes) (length table) ≡ some n
+module _ (c : Control) (k : Setup) (bytes table : List ℕ) (g : Result (Unit {0}) Refusal) (asks : ReadAsking c k (length bytes) (length table) g) where
+  is-refused : (n : Refusal) → g ≡ Err n → (b : List ℕ) → read_gate (state_at c k b) (length bytes) (length table) ≡ some n
   is-refused n e b = asks.asked b ∙ ap gate_of e
 
-  is_open : g ≡ G.Open → (b : List ℕ) → read_gate (state_at c k b) (length bytes) (length table) ≡ none
+  is_open : g ≡ Ok tt → (b : List ℕ) → read_gate (state_at c k b) (length bytes) (length table) ≡ none
   is_open e b = asks.asked b ∙ ap gate_of e
 
   -- ## The keys
 
-  pub keys-refused : (out : List ℕ) (n : Refusal) → g ≡ G.Refused n → ListingKeys c k bytes table out out (C.Refused n)
+  pub keys-refused : (out : List ℕ) (n : Refusal) → g ≡ Err n → ListingKeys c k bytes table out out (Err n)
   keys-refused out n e = record { sized = refl; answered = (is-refused n e, refl) }
 
-  pub keys-open : (out out' : List ℕ) (count : ℕ) → g ≡ G.Open → Gathering (size_in k) (words_of bytes) table out out' count → ListingKeys c k bytes table out out' (C.Keys count)
+  pub keys-open : (out out' : List ℕ) (count : ℕ) → g ≡ Ok tt → Gathering (size_in k) (words_of bytes) table out out' count → ListingKeys c k bytes table out out' (Ok count)
   keys-open out out' count e h = record {
     sized = h.sized;
     answered = (
@@ -153,14 +147,14 @@ module _ (c : Control) (k : Setup) (bytes table : List ℕ) (g : Gated) (asks : 
 
   -- ## A key
 
-  pub key-refused : (key : ℕ) (n : Refusal) → g ≡ G.Refused n → ListingKey c k key bytes table (L.Refused n)
+  pub key-refused : (key : ℕ) (n : Refusal) → g ≡ Err n → ListingKey c k key bytes table (Err n)
   key-refused key n e = record {
     gated = λ b m h. let q = is-refused n e b in cc;
     behind = λ b h. absurd (let q = is-refused n e b in let z : ◌≡◌ {A = ℕ} 0 1 = cc in omega arith);
     listed = λ b h f. absurd (let q = is-refused n e b in let z : ◌≡◌ {A = ℕ} 0 1 = cc in omega arith);
   }
 
-  pub key-open : (key word : ℕ) (r : Listed) → g ≡ G.Open → word ≡ get table key → r ≡ by_word (size_in k) (words_of bytes) word → ListingKey c k key bytes table r
+  pub key-open : (key word : ℕ) (r : Listed) → g ≡ Ok tt → word ≡ get table key → r ≡ by_word (size_in k) (words_of bytes) word → ListingKey c k key bytes table r
   key-open key word r e w h = record {
     gated = λ b n q. absurd (let o = is_open e b in let z : ◌≡◌ {A = ℕ} 0 1 = cc in omega arith);
     behind = λ b q. rw h (word-absent (size_in k) (words_of bytes) word);

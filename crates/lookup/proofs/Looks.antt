@@ -18,7 +18,7 @@ use Rattle.spec.specs.Directory.{size_of}
 use Rattle.spec.specs.Log.{Entry, Entries, words_for, image_entries}
 use Rattle.spec.specs.Blocks.{pointed}
 use Rattle.spec.specs.Contents.{chosen}
-use Rattle.spec.specs.Reports.{is_refused, number}
+use Rattle.spec.specs.Reports.{is_refused}
 use Rattle.spec.specs.Medium.{Action}
 use Rattle.spec.specs.Plans.{Staging, Committing, Cleaning, Olds, max_version, part_or, look_up}
 use Rattle.spec.specs.Machine.{LookUp, State, Closed, Rest, Busy, Formatting, state_power, read_gate, read_words, answer, next}
@@ -41,7 +41,7 @@ use Rattle.theory_log.proofs.Contents.{chosen_is}
 use Rattle.theory_log.proofs.Tops.{chosen-top}
 use Rattle.theory_crash.proofs.Far.{entry-far, block-far}
 use Rattle.theory_log.proofs.Stands.{head_first}
-use Rattle.theory_crash.specs.Accepted.{Ok}
+use Rattle.theory_crash.specs.Accepted.{Ok as Accepted}
 use Rattle.theory_crash.proofs.Opening.{opens_at}
 use Rattle.theory_crash.proofs.Blocks as Blocks
 use Rattle.logs.specs.Stands.{StandsIn}
@@ -54,12 +54,11 @@ use Rattle.volatile.proofs.Image.{image_bounded}
 use Rattle.volatile.proofs.Grow.{found_none, found-chosen}
 use Rattle.session.specs.State.{size_in, power_in, state_at, state_of}
 use Rattle.session.specs.Fits.{Fits}
-use Rattle.lookup.specs.declared.Located.{Located}
-use Rattle.lookup.specs.declared.Located.TheVariants as L
-use Rattle.session.specs.declared.Gated.{Gated}
-use Rattle.session.specs.declared.Gated.TheVariants as G
+use Rattle.std.specs.Prelude.{Result, Ok, Err}
+use Rattle.lookup.specs.declared.Part.{Part}
+use Rattle.lookup.specs.declared.Value.{Value}
 use Rattle.session.specs.Asks.{gate_of, ReadAsking}
-use Rattle.lookup.specs.Look.{report_of, within, block_part, part_by, first_word, part_at, PartIn, InImage, Looking, session_of, Locating, Showing}
+use Rattle.lookup.specs.Look.{Located, part, report_of, within, block_part, part_by, first_word, part_at, PartIn, InImage, Looking, session_of, Locating, Showing}
 use Rattle.session.proofs.Gates.{read-refused, read_at_lem}
 use Rattle.session.specs.Promise.{Does, memory}
 use Rattle.session.specs.Fits.{Proper}
@@ -69,7 +68,7 @@ use Rattle.session.specs.Fits.{Proper}
 within_in : (vn bytes a n : ℕ) → vn ≤ max_version → PartIn bytes (within vn bytes a n)
 within_in vn bytes a n most = go (leb (a + n) bytes) (leb-true (a + n) bytes)
   where
-    go : (t : Bool) → (t ≡ true → a + n ≤ bytes) → PartIn bytes (pick t (L.Part a n vn) (L.Refused N.KeyAbsent))
+    go : (t : Bool) → (t ≡ true → a + n ≤ bytes) → PartIn bytes (pick t (part a n vn) (Err N.KeyAbsent))
     go true h = (h refl, most)
     go false h = refl
 
@@ -80,17 +79,17 @@ pick-in bytes false x y p q = q
 part_in : (vn bytes : ℕ) (ws : List ℕ) (place w : ℕ) → vn ≤ max_version → PartIn bytes (part_by vn bytes ws place w)
 part_in vn bytes ws place w most =
     pick-in bytes (eqb (w % 16) 1) _ _ (within_in vn bytes (8 * (place + 2)) (w / 16777216) most)
-    (pick-in bytes (eqb (w % 16) 5) _ (L.Refused N.KeyAbsent) (within_in vn bytes (8 * (unit_word (w / 16777216) + 1)) (get_or ws (unit_word (w / 16777216)) 0) most) refl)
+    (pick-in bytes (eqb (w % 16) 5) _ (Err N.KeyAbsent) (within_in vn bytes (8 * (unit_word (w / 16777216) + 1)) (get_or ws (unit_word (w / 16777216)) 0) most) refl)
 
 in_image : (bytes : ℕ) (r : Located) → PartIn bytes r → InImage bytes r
-in_image bytes (L.Refused n) h = tt
-in_image bytes (L.Part a n v) h = h.0
+in_image bytes (Ok x) h = h.0
+in_image bytes (Err n) h = tt
 
 -- ## An accepted image: the part of its chosen entry
 
 -- the entry's own words say where its value is, in the log or in a block
 kind-part : (vn bytes : ℕ) (ws : List ℕ) (place w op pl x : ℕ) → Kind op pl x → w % 16 ≡ op + 4 * pl → w / 16777216 ≡ x
-    → part_by vn bytes ws place w ≡ pick (eqb op 1) (pick (eqb pl 1) (block_part vn bytes ws x) (within vn bytes (8 * (place + 2)) x)) (L.Refused N.KeyAbsent)
+    → part_by vn bytes ws place w ≡ pick (eqb op 1) (pick (eqb pl 1) (block_part vn bytes ws x) (within vn bytes (8 * (place + 2)) x)) (Err N.KeyAbsent)
 kind-part vn bytes ws place w op pl x (put l) a b = rw (a, b)
 kind-part vn bytes ws place w op pl x block a b = rw (a, b)
 kind-part vn bytes ws place w op pl x delete a b = rw a
@@ -115,7 +114,7 @@ entry-part bytes ws e stands has blocks logs =
     kind-small op pl x delete = omega arith
 
     go : (b1 b2 : Bool) → (both b1 b2 ≡ true → 8 * (unit_word e.field + 1) + get_or ws (unit_word e.field) 0 ≤ bytes) → (b1 ≡ true → b2 ≡ false → 8 * (e.at + 2) + e.field ≤ bytes)
-        → report_of (pick b1 (pick b2 (within e.version bytes (8 * (unit_word e.field + 1)) (get_or ws (unit_word e.field) 0)) (within e.version bytes (8 * (e.at + 2)) e.field)) (L.Refused N.KeyAbsent))
+        → report_of (pick b1 (pick b2 (within e.version bytes (8 * (unit_word e.field + 1)) (get_or ws (unit_word e.field) 0)) (within e.version bytes (8 * (e.at + 2)) e.field)) (Err N.KeyAbsent))
         ≡ pick b1 (pick (both b1 b2) (R.Part (8 * (unit_word e.field + 1)) (get_or ws (unit_word e.field) 0) e.version) (R.Part (8 * (e.at + 2)) e.field e.version)) (R.Refused N.KeyAbsent)
     go false b2 x y = refl
     go true true x y = rw (le-leb _ _ (x refl))
@@ -149,12 +148,12 @@ part-moves : (vn bytes : ℕ) (ws vs : List ℕ) (place w : ℕ) → (w % 16 ≡
 part-moves vn bytes ws vs place w h = go (eqb (w % 16) 5) (eqb-true (w % 16) 5)
   where
     go : (b : Bool) → (b ≡ true → w % 16 ≡ 5)
-        → pick (eqb (w % 16) 1) (within vn bytes (8 * (place + 2)) (w / 16777216)) (pick b (block_part vn bytes ws (w / 16777216)) (L.Refused N.KeyAbsent))
-        ≡ pick (eqb (w % 16) 1) (within vn bytes (8 * (place + 2)) (w / 16777216)) (pick b (block_part vn bytes vs (w / 16777216)) (L.Refused N.KeyAbsent))
+        → pick (eqb (w % 16) 1) (within vn bytes (8 * (place + 2)) (w / 16777216)) (pick b (block_part vn bytes ws (w / 16777216)) (Err N.KeyAbsent))
+        ≡ pick (eqb (w % 16) 1) (within vn bytes (8 * (place + 2)) (w / 16777216)) (pick b (block_part vn bytes vs (w / 16777216)) (Err N.KeyAbsent))
     go true f = ap (λ (x : ℕ). pick (eqb (w % 16) 1) (within vn bytes (8 * (place + 2)) (w / 16777216)) (within vn bytes (8 * (unit_word (w / 16777216) + 1)) x)) (h (f refl))
     go false f = refl
 
-module _ (size : Size) (n : ℕ) (bytes ws : List ℕ) (es : List Entry) (ok : Ok (power_of size) n ws es) (sees : Past (words_of bytes) ws) where
+module _ (size : Size) (n : ℕ) (bytes ws : List ℕ) (es : List Entry) (ok : Accepted (power_of size) n ws es) (sees : Past (words_of bytes) ws) where
   small : Bounded size es
   small = image_bounded size n ws es ok.parsed ok.most
 
@@ -221,13 +220,13 @@ module _ (size : Size) (n : ℕ) (bytes ws : List ℕ) (es : List Entry) (ok : O
 -- ## What the code shows
 
 module _ (vn bytes a n : ℕ) where
-  pub within-yes : a ≤ bytes → n ≤ bytes - a → L.Part a n vn ≡ within vn bytes a n
+  pub within-yes : a ≤ bytes → n ≤ bytes - a → part a n vn ≡ within vn bytes a n
   within-yes h l = sym (rw (le-leb (a + n) bytes (omega arith)))
 
-  pub within-no : bytes < a + n → L.Refused N.KeyAbsent ≡ within vn bytes a n
+  pub within-no : bytes < a + n → Err N.KeyAbsent ≡ within vn bytes a n
   within-no h = sym (rw (lt-leb (a + n) bytes h))
 
-  pub within_all : a + n ≤ bytes → L.Part a n vn ≡ within vn bytes a n
+  pub within_all : a + n ≤ bytes → part a n vn ≡ within vn bytes a n
   within_all h = sym (rw (le-leb (a + n) bytes h))
 
 -- the block at unit u, from its first byte and its first word
@@ -242,11 +241,11 @@ module _ (vn bytes : ℕ) (ws : List ℕ) (u start w : ℕ) (small : u < 2 ^ 40)
     read : n ≡ get_or ws w 0
     read = en ∙ rw (le-leb (8 * (w + 2)) bytes (omega arith))
 
-    pub block-yes : n ≤ bytes - (start + 8) → L.Part (start + 8) n vn ≡ block_part vn bytes ws u
-    block-yes h = block-any (L.Part (start + 8) n vn) n read (within-yes vn bytes (start + 8) n (omega arith) h)
+    pub block-yes : n ≤ bytes - (start + 8) → part (start + 8) n vn ≡ block_part vn bytes ws u
+    block-yes h = block-any (part (start + 8) n vn) n read (within-yes vn bytes (start + 8) n (omega arith) h)
 
-    pub block_no : bytes - (start + 8) < n → L.Refused N.KeyAbsent ≡ block_part vn bytes ws u
-    block_no h = block-any (L.Refused N.KeyAbsent) n read (within-no vn bytes (start + 8) n (omega arith))
+    pub block_no : bytes - (start + 8) < n → Err N.KeyAbsent ≡ block_part vn bytes ws u
+    block_no h = block-any (Err N.KeyAbsent) n read (within-no vn bytes (start + 8) n (omega arith))
 
 module _ (vn bytes : ℕ) (ws : List ℕ) (place word : ℕ) (is_word : word ≡ first_word bytes ws place) where
   pub part_log : (r : Located) → word % 16 ≡ 1 → r ≡ within vn bytes (8 * (place + 2)) (word / 16777216) → r ≡ part_at vn bytes ws place
@@ -255,7 +254,7 @@ module _ (vn bytes : ℕ) (ws : List ℕ) (place word : ℕ) (is_word : word ≡
   pub part-block : (r : Located) → word % 16 ≡ 5 → r ≡ block_part vn bytes ws (word / 16777216) → r ≡ part_at vn bytes ws place
   part-block r k h = h ∙ rw (← is_word, k)
 
-  pub part_none : (word % 16 ≡ 1 → ⊥) → (word % 16 ≡ 5 → ⊥) → L.Refused N.KeyAbsent ≡ part_at vn bytes ws place
+  pub part_none : (word % 16 ≡ 1 → ⊥) → (word % 16 ≡ 5 → ⊥) → Err N.KeyAbsent ≡ part_at vn bytes ws place
   part_none a b = rw (← is_word, ne_eqb (word % 16) 1 a, ne_eqb (word % 16) 5 b)
 
 -- an empty word has no extent and no place
@@ -270,11 +269,11 @@ empty-place S.Large = refl
 module _ (size : Size) (key : ℕ) (bytes table : List ℕ) (word : ℕ) (is : word ≡ get table key) where
   module _ (info : Info) (i : info ≡ unpack_of size word) where
     -- no entry stands at word 0
-    pub looking-none : info.place ≡ 0 → Looking size key bytes table (L.Refused N.KeyAbsent)
+    pub looking-none : info.place ≡ 0 → Looking size key bytes table (Err N.KeyAbsent)
     unfolding look_up
     looking-none z = record { inside = refl; exact = λ n keys vs es ok sees ix. sym (rw (found_none size table keys es ix (small size n bytes vs es ok sees) key word is (empty n keys vs es ok sees ix))) }
       where
-        empty : (n keys : ℕ) (vs : List ℕ) (es : List Entry) → Ok (power_of size) n vs es → Past (words_of bytes) vs → Indexed size table keys es → word ≡ 0
+        empty : (n keys : ℕ) (vs : List ℕ) (es : List Entry) → Accepted (power_of size) n vs es → Past (words_of bytes) vs → Indexed size table keys es → word ≡ 0
         empty n keys vs es ok sees ix =
             by_cases (ℕ_discrete word 0) (λ e. e)
             (λ nz.
@@ -350,16 +349,16 @@ next-same σ key ws bytes words = sym (pick_same (both (is_refused (answer (Look
 
 module _ (s : Session) (key : ℕ) (bytes table : List ℕ) where
   outcome : (r : Located) → PartIn (length bytes) r → Outcome Proper state_of Fits (LookUp key) s s table table (report_of r)
-  outcome (L.Refused n) h = (inr (inr (inr (inl h))), (refl, refl))
-  outcome (L.Part a n v) h = (refl, refl)
+  outcome (Ok x) h = (refl, refl)
+  outcome (Err n) h = (inr (inr (inr (inl h))), (refl, refl))
 
   anyway : (r : Located) → PartIn (length bytes) r → Anyway (LookUp key) (state_of s) (state_of s) (words_of bytes) (length bytes) (length table) (report_of r)
-  anyway (L.Refused n) h = inl (n, refl)
-  anyway (L.Part a n v) h = inr (a, (n, (v, (refl, h))))
+  anyway (Ok x) h = inr (x.start, (x.length, (x.version, (refl, h))))
+  anyway (Err n) h = inl (n, refl)
 
   unchanged : (r : Located) → Changed (report_of r) bytes bytes
-  unchanged (L.Refused n) = refl
-  unchanged (L.Part a n v) = refl
+  unchanged (Ok x) = refl
+  unchanged (Err n) = refl
 
   looked : (r : Located) → read_gate (state_of s) (length bytes) (length table) ≡ none → Looking (size_in s.setup) key bytes table r → Does (LookUp key) (memory s bytes table) (memory s bytes table) (report_of r)
   looked r g l = record {
@@ -382,22 +381,22 @@ module _ (s : Session) (key : ℕ) (bytes table : List ℕ) where
           let p : image_entries (power_in k) (chunks_in (power_in k) (length bytes)) vs ≡ Entries a.entries = rw n at o.0.parsed in
           rw (g, read-power s (length bytes) (length table) g, p) (l.exact (chunks_in (power_in k) k.image) s.control.keys vs a.entries o.0 (past-flip vs (words_of bytes) v) a.built.indexed)
 
-module _ (c : Control) (k : Setup) (key : ℕ) (bytes table : List ℕ) (g : Gated) (asks : ReadAsking c k (length bytes) (length table) g) where
-  pub locate-refused : (n : Refusal) → g ≡ G.Refused n → Locating c k key bytes table (L.Refused n)
+module _ (c : Control) (k : Setup) (key : ℕ) (bytes table : List ℕ) (g : Result (Unit {0}) Refusal) (asks : ReadAsking c k (length bytes) (length table) g) where
+  pub locate-refused : (n : Refusal) → g ≡ Err n → Locating c k key bytes table (Err n)
   locate-refused n e = record { called = λ b. read-refused (session_of c k b) bytes table n (asks.asked b ∙ ap gate_of e) key; inside = tt }
 
-  pub locate-open : (r : Located) → g ≡ G.Open → Looking (size_in k) key bytes table r → Locating c k key bytes table r
+  pub locate-open : (r : Located) → g ≡ Ok tt → Looking (size_in k) key bytes table r → Locating c k key bytes table r
   locate-open r e l = record { called = λ b. looked (session_of c k b) key bytes table r (asks.asked b ∙ ap gate_of e) l; inside = in_image (length bytes) r l.inside }
 
--- the part itself
+-- the value itself
 module _ (c : Control) (k : Setup) (key : ℕ) (bytes table : List ℕ) (r : Located) (found : Locating c k key bytes table r) where
-  pub part-inside : (a n v : ℕ) → r ≡ L.Part a n v → a + n ≤ length bytes
-  part-inside a n v e = rw e at found.inside
+  pub part-inside : (x : Part) → r ≡ Ok x → x.start + x.length ≤ length bytes
+  part-inside x e = rw e at found.inside
 
-  pub show-part : (a n v : ℕ) → r ≡ L.Part a n v → Showing c k key bytes table (take (a + n - a) (drop a bytes)) 0 v
-  show-part a n v e =
-      let d : a + n - a ≡ n = omega arith in
-      record { located = L.Part a n v; called = rw e at found.called; inside = rw e at found.inside; is-part = rw d (take-drop a n bytes); is_number = refl; is-version = refl }
+  pub show-part : (x : Part) (v : Value) → r ≡ Ok x → v.bytes.now ≡ take (x.start + x.length - x.start) (drop x.start bytes) → v.version ≡ x.version → Showing c k key bytes table (Ok v)
+  show-part x v e b n =
+      let d : x.start + x.length - x.start ≡ x.length = omega arith in
+      record { located = Ok x; called = rw e at found.called; inside = rw e at found.inside; shows = (b ∙ rw d (take-drop x.start x.length bytes), n) }
 
-  pub show-refused : (n : Refusal) (answer : ℕ) → r ≡ L.Refused n → answer ≡ number n → Showing c k key bytes table [] answer 0
-  show-refused n answer e m = record { located = L.Refused n; called = rw e at found.called; inside = tt; is-part = refl; is_number = m; is-version = refl }
+  pub show-refused : (n : Refusal) → r ≡ Err n → Showing c k key bytes table (Err n)
+  show-refused n e = record { located = Err n; called = rw e at found.called; inside = tt; shows = refl }

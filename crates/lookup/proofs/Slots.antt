@@ -29,7 +29,7 @@ use Rattle.order.specs.Order.{in_order, Least, Arranging}
 use Rattle.order.proofs.Rising.{Rising, order-length, order-member, member-order, order-rising, same-order}
 use Rattle.order.proofs.Leasts.{least-none}
 use Rattle.lookup.specs.Listing.{is_value, present, present_keys, by_word, is_present, slot_keys}
-use Rattle.lookup.specs.Contract.{Taken, Lists, Gathering}
+use Rattle.lookup.specs.Contract.{Lists, Gathering}
 use Rattle.lookup.proofs.Entries.{word-listed, listed-present}
 
 -- ## Numbers that a test takes
@@ -61,6 +61,16 @@ module _ (p : ℕ → Bool) where
       go : (b : Bool) → Once (filter p xs) → Once (pick b (x ∷ filter p xs) (filter p xs))
       go true r = (λ m. o.0 (filter-mem x xs m).0, r)
       go false r = r
+
+-- a slot's key is taken in if it is present; `more` is 1 then
+pub record Taken (size : Size) (ws : List ℕ) (key held : ℕ) (out out' : List ℕ) (kept kept' more : ℕ) : Type 0 where
+  pub sized : length out' ≡ length out
+  pub counts : more ≡ pick (is_present (by_word size ws held)) 1 0
+  pub grows : kept' ≤ kept + more
+  pub fits : kept ≤ length out → (kept ≤ kept') × (kept' ≤ length out)
+  pub behind : (i : ℕ) → kept' ≤ i → get_or out' i 0 ≡ get_or out i 0
+  pub takes : (ks : List ℕ) → Least ks out kept → (is_present (by_word size ws held) ≡ true → Mem key ks → ⊥)
+      → Least (pick (is_present (by_word size ws held)) (key ∷ ks) ks) out' kept'
 
 -- a slot has at most one key
 pub upto-slots : (size : Size) (ws : List ℕ) (key word : ℕ) (out out' : List ℕ) (kept kept' more : ℕ) → Taken size ws key word out out' kept kept' more → more ≤ 1

@@ -1,10 +1,8 @@
 -- What the listing calls answer and leave, for any memory and on memory as our calls left it.
 -- Assumes nothing.
-use Rattle.std.specs.Prelude.{◌≡◌, List, ◌∷◌, true, ℕ, ◌+◌, ◌/◌, ◌≤◌, length, get_or, take}
+use Rattle.std.specs.Prelude.{◌≡◌, List, ℕ, ◌/◌, ◌≤◌, length, get_or, take, Result, Ok, Err}
 use Rattle.std.proofs.Math.Option.{none, some}
-use Rattle.spec.specs.Basics.{pick}
 use Rattle.spec.specs.Words.{words_of}
-use Rattle.spec.specs.Medium.{Mem}
 use Rattle.spec.specs.Places.{chunks_in}
 use Rattle.spec.specs.Log.{Entry}
 use Rattle.spec.specs.Contents.{entries_in}
@@ -15,25 +13,11 @@ use Rattle.spec.specs.declared.Size.{Size}
 use Rattle.spec.specs.declared.Refusal.{Refusal}
 use Rattle.spec.specs.declared.Refusal.TheVariants as N
 use Rattle.index.specs.Index.{slots, Probed}
-use Rattle.order.specs.Order.{in_order, Least}
+use Rattle.order.specs.Order.{in_order}
 use Rattle.session.specs.State.{state_at}
 use Rattle.session.specs.Fits.{Fits}
 use Rattle.lookup.specs.Look.{session_of}
-use Rattle.lookup.specs.declared.Listed.{Listed}
-use Rattle.lookup.specs.declared.Listed.TheVariants as L
-use Rattle.lookup.specs.declared.Counted.{Counted}
-use Rattle.lookup.specs.declared.Counted.TheVariants as C
-use Rattle.lookup.specs.Listing.{present_keys, listed_of, by_word, is_present, slot_keys}
-
--- a slot's key is taken in if it is present; `more` is 1 then
-pub record Taken (size : Size) (ws : List ℕ) (key held : ℕ) (out out' : List ℕ) (kept kept' more : ℕ) : Type 0 where
-  pub sized : length out' ≡ length out
-  pub counts : more ≡ pick (is_present (by_word size ws held)) 1 0
-  pub grows : kept' ≤ kept + more
-  pub fits : kept ≤ length out → (kept ≤ kept') × (kept' ≤ length out)
-  pub behind : (i : ℕ) → kept' ≤ i → get_or out' i 0 ≡ get_or out i 0
-  pub takes : (ks : List ℕ) → Least ks out kept → (is_present (by_word size ws held) ≡ true → Mem key ks → ⊥)
-      → Least (pick (is_present (by_word size ws held)) (key ∷ ks) ks) out' kept'
+use Rattle.lookup.specs.Listing.{Listed, present_keys, listed_of, slot_keys}
 
 -- `out` gets the keys ks, which rise, as far as it reaches; `count` is how many there are
 pub record Lists (ks out out' : List ℕ) (count : ℕ) : Type 0 where
@@ -61,24 +45,24 @@ entries_of p bytes = entries_in p (chunks_in p (length bytes)) (words_of bytes)
 abbrev pub entries_read : Control → Setup → List ℕ → List ℕ → List Entry
 entries_read c k b bytes = entries_in (state_power (state_at c k b)) (chunks_in (state_power (state_at c k b)) (length bytes)) (words_read c k b bytes)
 
-abbrev pub KeysBehind : Control → Setup → (bytes table out out' : List ℕ) → Counted → Type 0
-KeysBehind c k bytes table out out' (C.Refused n) = ((b : List ℕ) → read_gate (state_at c k b) (length bytes) (length table) ≡ some n) × (out' ≡ out)
-KeysBehind c k bytes table out out' (C.Keys count) =
+abbrev pub KeysBehind : Control → Setup → (bytes table out out' : List ℕ) → Result ℕ Refusal → Type 0
+KeysBehind c k bytes table out out' (Err n) = ((b : List ℕ) → read_gate (state_at c k b) (length bytes) (length table) ≡ some n) × (out' ≡ out)
+KeysBehind c k bytes table out out' (Ok count) =
     ((b : List ℕ) → read_gate (state_at c k b) (length bytes) (length table) ≡ none)
     × (count ≤ length table / 2) × ((i : ℕ) → count ≤ i → get_or out' i 0 ≡ get_or out i 0)
     × ((b : List ℕ) → Fits (session_of c k b) (words_of bytes) table → Lists (present_keys (words_read c k b bytes) (entries_read c k b bytes)) out out' count)
 
-pub record ListingKeys (c : Control) (k : Setup) (bytes table out out' : List ℕ) (r : Counted) : Type 0 where
+pub record ListingKeys (c : Control) (k : Setup) (bytes table out out' : List ℕ) (r : Result ℕ Refusal) : Type 0 where
   pub sized : length out' ≡ length out
   pub answered : KeysBehind c k bytes table out out' r
 
 -- 2, 1, 8 by look-up's gate; and else what is listed of the key, or 11
 abbrev pub AbsentOr : Listed → Type 0
-AbsentOr (L.Refused n) = n ≡ N.KeyAbsent
-AbsentOr (L.Present version bytes block) = Unit {0}
+AbsentOr (Ok x) = Unit {0}
+AbsentOr (Err n) = n ≡ N.KeyAbsent
 
 pub record ListingKey (c : Control) (k : Setup) (key : ℕ) (bytes table : List ℕ) (r : Listed) : Type 0 where
-  pub gated : (b : List ℕ) (n : Refusal) → read_gate (state_at c k b) (length bytes) (length table) ≡ some n → r ≡ L.Refused n
+  pub gated : (b : List ℕ) (n : Refusal) → read_gate (state_at c k b) (length bytes) (length table) ≡ some n → r ≡ Err n
   pub behind : (b : List ℕ) → read_gate (state_at c k b) (length bytes) (length table) ≡ none → AbsentOr r
   pub listed : (b : List ℕ) → read_gate (state_at c k b) (length bytes) (length table) ≡ none → Fits (session_of c k b) (words_of bytes) table
       → r ≡ listed_of (words_read c k b bytes) (entries_read c k b bytes) key

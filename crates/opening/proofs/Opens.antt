@@ -39,10 +39,15 @@ use Rattle.consistency.specs.Pass.{Listed, Tested, Examined}
 use Rattle.session.specs.State.{batch_words, batch_items, state_at, state_of}
 use Rattle.session.specs.Fits.{RestFits}
 use Rattle.session.proofs.Kept.{none-fit}
-use Rattle.opening.specs.declared.CheckedImage.{CheckedImage}
-use Rattle.opening.specs.declared.CheckedImage.TheVariants as J
-use Rattle.opening.specs.Pass.{Filling}
-use Rattle.opening.specs.Judged.{first_refusal, Judged, JudgingLog, Judging}
+use Rattle.std.specs.Prelude.{Option, Some, Result, Ok, Err}
+use Rattle.std.specs.Option.{option_and, ok_or}
+use Rattle.std.specs.Bool.{then_some}
+use Rattle.std.specs.Borrow.{Bor}
+use Rattle.logs.specs.declared.WrongEntry.{WrongEntry}
+use Rattle.consistency.specs.Classes.{table_in, holds_keys}
+use Rattle.opening.specs.declared.fill.Filled.{Filled}
+use Rattle.opening.specs.Pass.{Filling, FilledIs}
+use Rattle.opening.specs.Judged.{Judged, JudgingLog, Judging}
 use Rattle.session.specs.Promise.{Does, memory}
 use Rattle.session.specs.Numbers.{closed, opened, opened_setup}
 
@@ -64,72 +69,99 @@ module _ (size : Size) (n : ℕ) (ws table table' start buffer : List ℕ) (fits
       go Wrong h = absurd (not-both true refl (f.wrong h))
       go (Entries es) h = (es, refl, (f.entries most es h).1)
 
-module _ (size : Size) (n : ℕ) (ws table table' start buffer : List ℕ) (right fits single direct : Bool) (keys : ℕ) (filled : Filling size n ws table table' start buffer right fits single direct keys) where
+-- a table is known to hold the keys if it has room for them
+known_by : (fits : Bool) (keys : ℕ) (own : Bor (List ℕ)) (held : Option (Bor (List ℕ))) → held ≡ option_and (then_some fits keys) (Some own) → holds_keys held ≡ true → (fits ≡ true) × (table_in held ≡ own.now)
+known_by true keys own held e t = (refl, ap table_in e)
+known_by false keys own held e t = absurd (not-both (holds_keys held) t (ap holds_keys e))
+
+module _ (size : Size) (n : ℕ) (ws table table' start buffer : List ℕ) where
   -- 4
-  pub log-wrong : right ≡ false → JudgingLog size n ws table table' start buffer (J.Refused N.EntryWrong)
-  log-wrong e = record {
-    sized = filled.sized;
-    kept = filled.kept.long;
-    judged = λ most long. (rw (fill-wrong size n ws table table' start buffer fits single direct keys (rw e at filled) most), inr (inr (inr (inl refl))));
+  pub log-wrong : (r : Result Filled WrongEntry) → FilledIs size n ws table table' start buffer r → ((f : Filled) → r ≡ Ok f → ⊥) → JudgingLog size n ws table table' start buffer (Err N.EntryWrong)
+  log-wrong (Ok f) told out = absurd (out f refl)
+  log-wrong (Err wrong) told out = record {
+    sized = told.sized;
+    kept = told.kept.long;
+    judged = λ most long. (rw (fill-wrong size n ws table table' start buffer false false false 0 told most), inr (inr (inr (inl refl))));
   }
 
-  module _ (buffer' : List ℕ) (r : Checked) (checked : Examined size n ws table' fits single direct buffer buffer' r) (so : right ≡ true) where
-    -- the entries, with what both passes say of them
-    module _ (most : n ≤ max_chunks) (long : base (power_of size) n ≤ length ws) where
-      found : (es : List Entry) × (image_entries (power_of size) n ws ≡ Entries es) × FillInv size (length table) es table' keys fits
-      found = fill-right size n ws table table' start buffer fits single direct keys (rw so at filled) most
+module _ (size : Size) (n : ℕ) (ws table : List ℕ) (own : Bor (List ℕ)) (start buffer : List ℕ) (f : Filled) (told : FilledIs size n ws table own.now start buffer (Ok f)) (held : Option (Bor (List ℕ))) (is-held : held ≡ option_and f.keys (Some own))
+    (buffer' : List ℕ) (r : Checked) (checked : Examined size n ws (table_in held) (holds_keys held) f.single f.direct buffer buffer' r) where
+  abbrev many : ℕ
+  many = told.0
 
-      abbrev es : List Entry
-      es = found.0
+  abbrev fit : Bool
+  fit = told.1
 
-      indexed : (t : Bool) → FillInv size (length table) es table' keys t → t ≡ true → Indexed size table' keys es
-      indexed true inv e = fill_end size (length table) es table' keys inv
-      indexed false inv e = absurd (not-both false e refl)
+  filled : Filling size n ws table own.now start buffer true fit f.single f.direct many
+  filled = told.2
 
-      listed : Listed size n ws table' fits es
-      listed = record { few = most; whole = long; entries = found.1; keys = keys; indexed = indexed fits found.2 }
+  -- the entries, with what both passes say of them
+  module _ (most : n ≤ max_chunks) (long : base (power_of size) n ≤ length ws) where
+    found : (es : List Entry) × (image_entries (power_of size) n ws ≡ Entries es) × FillInv size (length table) es own.now many fit
+    found = fill-right size n ws table own.now start buffer fit f.single f.direct many filled most
 
-      tested : Tested size n ws es buffer' r
-      tested = checked.tested es listed (filled.singly most es found.1) (filled.directly most es found.1)
+    abbrev es : List Entry
+    es = found.0
 
-      space : fits ≡ fits_table (length table) es
-      space = fill-fits size (length table) es table' keys fits found.2
+    indexed : (t : Bool) → FillInv size (length table) es own.now many t → t ≡ true → Indexed size own.now many es
+    indexed true inv e = fill_end size (length table) es own.now many inv
+    indexed false inv e = absurd (not-both false e refl)
 
-    -- 5
-    pub log-block : r.blocks ≡ false → JudgingLog size n ws table table' start buffer' (J.Refused N.BlockWrong)
-    log-block b = record {
-      sized = filled.sized;
-      kept = checked.kept.long ∙ filled.kept.long;
-      judged = λ most long.
-          let t : blocks_test (power_of size) n ws (es most long) ≡ false = sym (tested most long).blocks ∙ b in
-          (rw ((found most long).1, t), inr (inr (inr (inr (inl refl)))));
+    listed : Listed size n ws (table_in held) (holds_keys held) es
+    listed = record {
+      few = most;
+      whole = long;
+      entries = found.1;
+      keys = many;
+      indexed = λ t. let k = known_by fit many own held (is-held ∙ ap (λ (x : Option ℕ). option_and x (Some own)) told.3) t in rw k.1 (indexed fit found.2 k.0);
     }
 
-    -- 6, 7, or accepted
-    module _ (b : r.blocks ≡ true) (agreed : Bool) (is-agreed : agreed ≡ both r.agreeing r.apart) where
-      last : (most : n ≤ max_chunks) (long : base (power_of size) n ≤ length ws) (t : Bool) → agreed ≡ t → (u : Bool) → fits ≡ u
-          → Judged size (open_log (power_of size) n ws (length table) (image_entries (power_of size) n ws)) table' buffer' (first_refusal t N.TopsDisagree u N.TableFull keys)
-      last most long t h u i = go t h u i
-        where
-          five : blocks_test (power_of size) n ws (es most long) ≡ true
-          five = sym (tested most long).blocks ∙ b
+    tested : Tested size n ws es buffer' r
+    tested = checked.tested es listed (filled.singly most es found.1) (filled.directly most es found.1)
 
-          six : both (agree_test (es most long)) (apart_test (es most long)) ≡ agreed
-          six = sym (is-agreed ∙ (tested most long).tops b)
+    space : fit ≡ fits_table (length table) es
+    space = fill-fits size (length table) es own.now many fit found.2
 
-          go : (t : Bool) → agreed ≡ t → (u : Bool) → fits ≡ u → Judged size (open_log (power_of size) n ws (length table) (image_entries (power_of size) n ws)) table' buffer' (first_refusal t N.TopsDisagree u N.TableFull keys)
-          go false h u i = (rw ((found most long).1, five, six ∙ h), inr (inr (inr (inr (inr (inl refl))))))
-          go true h false i = (rw ((found most long).1, five, six ∙ h, sym (space most long) ∙ i), inr (inr (inr (inr (inr (inr (inl refl)))))))
-          go true h true i = (
-            es most long,
-            rw ((found most long).1, five, six ∙ h, sym (space most long) ∙ i),
-            indexed most long fits (found most long).2 i,
-            (tested most long).bits b (both_l r.agreeing r.apart (sym is-agreed ∙ h)),
-            summed_same size buffer buffer' (es most long) (λ j l. checked.kept.above j (omega arith)) (filled.summed most (es most long) (found most long).1 i),
-          )
+  -- 5
+  pub log-block : r.blocks ≡ false → JudgingLog size n ws table own.now start buffer' (Err N.BlockWrong)
+  log-block b = record {
+    sized = filled.sized;
+    kept = checked.kept.long ∙ filled.kept.long;
+    judged = λ most long.
+        let t : blocks_test (power_of size) n ws (es most long) ≡ false = sym (tested most long).blocks ∙ b in
+        (rw ((found most long).1, t), inr (inr (inr (inr (inl refl)))));
+  }
 
-      pub log-end : (v : CheckedImage) → v ≡ first_refusal agreed N.TopsDisagree fits N.TableFull keys → JudgingLog size n ws table table' start buffer' v
-      log-end v e = record { sized = filled.sized; kept = checked.kept.long ∙ filled.kept.long; judged = λ most long. rw e (last most long agreed refl fits refl) }
+  module _ (b : r.blocks ≡ true) where
+    module _ (most : n ≤ max_chunks) (long : base (power_of size) n ≤ length ws) where
+      five : blocks_test (power_of size) n ws (es most long) ≡ true
+      five = sym (tested most long).blocks ∙ b
+
+      six : both (agree_test (es most long)) (apart_test (es most long)) ≡ both r.agreeing r.apart
+      six = sym ((tested most long).tops b)
+
+    -- 6
+    pub log-tops : both r.agreeing r.apart ≡ false → JudgingLog size n ws table own.now start buffer' (Err N.TopsDisagree)
+    log-tops h = record {
+      sized = filled.sized;
+      kept = checked.kept.long ∙ filled.kept.long;
+      judged = λ most long. (rw ((found most long).1, five most long, six most long ∙ h), inr (inr (inr (inr (inr (inl refl))))));
+    }
+
+    -- 7, or accepted
+    pub log-end : both r.agreeing r.apart ≡ true → (v : Result ℕ Refusal) → v ≡ ok_or f.keys N.TableFull → JudgingLog size n ws table own.now start buffer' v
+    log-end h v e = record { sized = filled.sized; kept = checked.kept.long ∙ filled.kept.long; judged = λ most long. rw (e, told.3) (last most long fit refl) }
+      where
+        last : (most : n ≤ max_chunks) (long : base (power_of size) n ≤ length ws) (u : Bool) → fit ≡ u
+            → Judged size (open_log (power_of size) n ws (length table) (image_entries (power_of size) n ws)) own.now buffer' (ok_or (then_some u many) N.TableFull)
+        last most long false i = (rw ((found most long).1, five most long, six most long ∙ h, sym (space most long) ∙ i), inr (inr (inr (inr (inr (inr (inl refl)))))))
+        last most long true i = (
+          es most long,
+          rw ((found most long).1, five most long, six most long ∙ h, sym (space most long) ∙ i),
+          indexed most long fit (found most long).2 i,
+          (tested most long).bits b (both_l r.agreeing r.apart h),
+          summed_same size buffer buffer' (es most long) (λ j l. checked.kept.above j (omega arith)) (filled.summed most (es most long) (found most long).1 i),
+        )
 
 -- ## The image
 
@@ -146,13 +178,13 @@ module _ (bytes table : List ℕ) where
   whole = opening (length bytes) (words_of bytes) (length table)
 
   -- 1
-  pub judge-length : (buffer : List ℕ) (a : Bool) → a ≡ any_allowed (length bytes) → a ≡ false → Judging bytes table table buffer buffer (J.Refused N.ImageLength)
+  pub judge-length : (buffer : List ℕ) (a : Bool) → a ≡ any_allowed (length bytes) → a ≡ false → Judging bytes table table buffer buffer (Err N.ImageLength)
   unfolding opening
   judge-length buffer a is-a e = record { sized = refl; kept = refl; judged = (rw (sym is-a ∙ e), inl refl) }
 
   module _ (a : Bool) (is-a : a ≡ any_allowed (length bytes)) (yes-a : a ≡ true) (p : ℕ) (is-p : p ≡ header_power (words_of bytes)) (s : Bool) (is-s : s ≡ size_allowed p (length bytes)) where
     -- 2, by the power
-    pub judge-power : (buffer : List ℕ) → s ≡ false → Judging bytes table table buffer buffer (J.Refused N.NotOpen)
+    pub judge-power : (buffer : List ℕ) → s ≡ false → Judging bytes table table buffer buffer (Err N.NotOpen)
     unfolding opening
     judge-power buffer e = record { sized = refl; kept = refl; judged = (rw (sym is-a ∙ yes-a, ← is-p, sym is-s ∙ e), inr (inl refl)) }
 
@@ -168,7 +200,7 @@ module _ (bytes table : List ℕ) where
       by-chunks = rw (sym is-a ∙ yes-a, ← is-p, sym is-s ∙ yes-s, is-count, by-power)
 
       -- 2
-      pub judge-header : (buffer : List ℕ) → b ≡ false → Judging bytes table table buffer buffer (J.Refused N.NotOpen)
+      pub judge-header : (buffer : List ℕ) → b ≡ false → Judging bytes table table buffer buffer (Err N.NotOpen)
       judge-header buffer e = record { sized = refl; kept = refl; judged = (by-chunks ∙ rw (sym is_b ∙ e), inr (inl refl)) }
 
       -- by the next two tests
@@ -180,11 +212,11 @@ module _ (bytes table : List ℕ) where
         by_tests = by-chunks ∙ rw (is_b, is-d)
 
         -- 3
-        pub judge-directory : (buffer : List ℕ) → d ≡ false → Judging bytes table table buffer buffer (J.Refused N.DirectoryWrong)
+        pub judge-directory : (buffer : List ℕ) → d ≡ false → Judging bytes table table buffer buffer (Err N.DirectoryWrong)
         judge-directory buffer e = record { sized = refl; kept = refl; judged = (by_tests ∙ rw (yes-b, e), inr (inr (inl refl))) }
 
         -- 4 to 7
-        pub judge-rest : d ≡ true → (table' buffer buffer' : List ℕ) (r : CheckedImage) → JudgingLog size count (words_of bytes) table table' buffer buffer' r → Judging bytes table table' buffer buffer' r
+        pub judge-rest : d ≡ true → (table' buffer buffer' : List ℕ) (r : Result ℕ Refusal) → JudgingLog size count (words_of bytes) table table' buffer buffer' r → Judging bytes table table' buffer buffer' r
         judge-rest e table' buffer buffer' r j =
             let l = length-allowed (power_of size) (power-low size) (power-high size) (length bytes) (rw by-power allowed.1) in
             let w = length-words_of bytes in
@@ -217,12 +249,12 @@ unfolding state_at
 state-rest keys bytes words size b = rw (size_back size, no_items keys b)
 
 -- nothing is barred, and the image stays
-module _ (c : Control) (k : Setup) (buffer bytes table table' buffer' : List ℕ) (v : CheckedImage) (judging : Judging bytes table table' buffer buffer' v) where
-  pub opens-refused : (n : Refusal) → v ≡ J.Refused n → (table'' : List ℕ) → table'' ≡ zeros (length table')
+module _ (c : Control) (k : Setup) (buffer bytes table table' buffer' : List ℕ) (v : Result ℕ Refusal) (judging : Judging bytes table table' buffer buffer' v) where
+  pub opens-refused : (n : Refusal) → v ≡ Err n → (table'' : List ℕ) → table'' ≡ zeros (length table')
       → Does Open (memory (session c k buffer) bytes table) (memory (session closed k buffer') bytes table'') (R.Refused n)
   unfolding next
   opens-refused n e table'' z =
-      let j : Judged (size_by (header_power (words_of bytes))) (opening (length bytes) (words_of bytes) (length table)) table' buffer' (J.Refused n) = rw e at judging.judged in
+      let j : Judged (size_by (header_power (words_of bytes))) (opening (length bytes) (words_of bytes) (length table)) table' buffer' (Err n) = rw e at judging.judged in
       let t : table'' ≡ zeros (length table) = z ∙ ap zeros judging.sized in
       record {
         exact = λ proper. record {
@@ -268,10 +300,10 @@ module _ (c : Control) (k : Setup) (buffer bytes table table' buffer' : List ℕ
           hint = record { below = λ c l u m. absurd (omega arith); above = λ l. absurd (omega arith); taken = λ l. absurd (omega arith) };
         }
 
-    opens : (keys : ℕ) → v ≡ J.Accepted keys → Does Open (memory (session c k buffer) bytes table) (memory (session (opened keys) (opened_setup (length bytes) (length table) size) buffer') bytes table') R.Opened
+    opens : (keys : ℕ) → v ≡ Ok keys → Does Open (memory (session c k buffer) bytes table) (memory (session (opened keys) (opened_setup (length bytes) (length table) size) buffer') bytes table') R.Opened
     unfolding next
     opens keys e =
-        let j : Judged size (opening (length bytes) (words_of bytes) (length table)) table' buffer' (J.Accepted keys) = rw (e, ← is-size) at judging.judged in
+        let j : Judged size (opening (length bytes) (words_of bytes) (length table)) table' buffer' (Ok keys) = rw (e, ← is-size) at judging.judged in
         let rest = state-rest keys (length bytes) (length table) size buffer' in
         let power = ap (λ (p : ℕ). Rest p (length bytes) (length table) []) (sym (said j.0 j.1)) in
         record {
@@ -287,6 +319,6 @@ module _ (c : Control) (k : Setup) (buffer bytes table table' buffer' : List ℕ
           anyway = inr (refl, rest ∙ power);
         }
 
-    pub opens-accepted : (keys : ℕ) (c' : Control) (k' : Setup) → v ≡ J.Accepted keys → c' ≡ opened keys → k' ≡ opened_setup (length bytes) (length table) size
+    pub opens-accepted : (keys : ℕ) (c' : Control) (k' : Setup) → v ≡ Ok keys → c' ≡ opened keys → k' ≡ opened_setup (length bytes) (length table) size
         → Does Open (memory (session c k buffer) bytes table) (memory (session c' k' buffer') bytes table') R.Opened
     opens-accepted keys c' k' e p q = rw (p, q) (opens keys e)

@@ -27,9 +27,8 @@ use Rattle.volatile.proofs.Image.{image_bounded}
 use Rattle.volatile.proofs.Fill.{fill_start, fill-old, fill-new, fill-full, fill-over}
 use Rattle.volatile.proofs.Plain.{plain-start, plain-next, single-end, direct-end}
 use Rattle.logs.specs.declared.Cursor.{Cursor}
-use Rattle.logs.specs.declared.Next.TheVariants as N
-use Rattle.logs.specs.Stands.{entry_in}
-use Rattle.logs.specs.Cursor.{start, remaining, Handed}
+use Rattle.logs.specs.declared.Entry as H
+use Rattle.logs.specs.Cursor.{start, remaining, with_value, Handed}
 use Rattle.logs.proofs.Walk.{remaining-start, passed_entry, passed-done, passed-wrong}
 use Rattle.volatile.specs.Sums.{weight}
 use Rattle.volatile.specs.Change.{only, nothing, SumsAlone, Changed, Cleared, Weighed, Renewed}
@@ -158,55 +157,55 @@ Summing size words table keys fits fits' buffer place owed buffer' place' owed' 
     → fits' ≡ true → Owing size buffer' place' owed' (xs ++ e ∷ [])
 
 module _ (size : Size) (n : ℕ) (ws : List ℕ) (words : ℕ) (table : List ℕ) (keys : ℕ) (fits single direct : Bool) (buffer : List ℕ) (place owed : ℕ) (c : Cursor) (inv : Passing size n ws words table keys fits single direct buffer place owed c) where
-  pub pass-entry : (op pl v x k m a : ℕ) (behind : Cursor) → Handed (power_of size) n ws c op pl v x k m a behind → (direct' : Bool) → direct' ≡ pick (eqb pl 1) false direct
-      → (own : ℕ) → own ≡ alone size (extent_of size pl x) a v → (table' : List ℕ) (keys' : ℕ) (fits' single' : Bool) → Entering size table table' keys fits single k own keys' fits' single'
-      → (buffer' : List ℕ) (place' owed' : ℕ) → ((es : List Entry) → image_entries (power_of size) n ws ≡ Entries es → Summing size words table keys fits fits' buffer place owed buffer' place' owed' inv.passed es (entry_in ws op pl v x k m a))
-      → Passing size n ws words table' keys' fits' single' direct' buffer' place' owed' behind
-  pass-entry op pl v x k m a behind told direct' is-direct own is-own table' keys' fits' single' entered buffer' place' owed' summing = record {
+  pub pass-entry : (h : H.Entry) → Handed (power_of size) n ws c h → (direct' : Bool) → direct' ≡ pick (eqb h.placement 1) false direct
+      → (own : ℕ) → own ≡ alone size (extent_of size h.placement h.field) h.place h.version → (table' : List ℕ) (keys' : ℕ) (fits' single' : Bool) → Entering size table table' keys fits single h.key own keys' fits' single'
+      → (buffer' : List ℕ) (place' owed' : ℕ) → ((es : List Entry) → image_entries (power_of size) n ws ≡ Entries es → Summing size words table keys fits fits' buffer place owed buffer' place' owed' inv.passed es (with_value ws h))
+      → Passing size n ws words table' keys' fits' single' direct' buffer' place' owed' h.behind
+  pass-entry h told direct' is-direct own is-own table' keys' fits' single' entered buffer' place' owed' summing = record {
     sized = entered.sized ∙ inv.sized;
     passed = inv.passed ++ f ∷ [];
     so_far = more;
-    holds = λ most es h.
-        let front = prepend-front (inv.passed ++ f ∷ []) (remaining (power_of size) n ws behind) es (sym more ∙ h) in
-        let small = bounded-front size (inv.passed ++ f ∷ []) front.0 (rw front.1 at (image_bounded size n ws es h most)) in
-        let held = inv.holds most es h in
-        (rw inv.sized at (entered.enters inv.passed f refl (sym is-own) small (rw inv.sized held.0)), plain-next size inv.passed f single direct fits single' direct' fits' small held.1 (singler held.0) (λ t. no_pointer op pl direct (sym is-direct ∙ t)), summing es h (λ g i. rw front.1 (mem-l g (inv.passed ++ f ∷ []) front.0 i)) small held.0 held.2);
+    holds = λ most es g.
+        let front = prepend-front (inv.passed ++ f ∷ []) (remaining (power_of size) n ws h.behind) es (sym more ∙ g) in
+        let small = bounded-front size (inv.passed ++ f ∷ []) front.0 (rw front.1 at (image_bounded size n ws es g most)) in
+        let held = inv.holds most es g in
+        (rw inv.sized at (entered.enters inv.passed f refl (sym is-own) small (rw inv.sized held.0)), plain-next size inv.passed f single direct fits single' direct' fits' small held.1 (singler held.0) (λ t. no_pointer h.op h.placement direct (sym is-direct ∙ t)), summing es g (λ y i. rw front.1 (mem-l y (inv.passed ++ f ∷ []) front.0 i)) small held.0 held.2);
   }
     where
       f : Entry
-      f = entry_in ws op pl v x k m a
+      f = with_value ws h
 
-      more : image_entries (power_of size) n ws ≡ prepend (inv.passed ++ f ∷ []) (remaining (power_of size) n ws behind)
-      more = passed_entry (power_of size) n ws c (N.Entry op pl v x k m a behind) told (image_entries (power_of size) n ws) inv.passed inv.so_far op pl v x k m a behind refl
+      more : image_entries (power_of size) n ws ≡ prepend (inv.passed ++ f ∷ []) (remaining (power_of size) n ws h.behind)
+      more = passed_entry (power_of size) n ws c (image_entries (power_of size) n ws) inv.passed inv.so_far h told
 
-      singler : FillInv size words inv.passed table keys fits → single' ≡ true → (single ≡ true) × (fits' ≡ true) × (noted size (info_of size k inv.passed) (own_of size f) < 0x8000_0000_0000_0000)
-      singler held t = let p = entered.singly t in (p.0, p.2, rw ((held.whole p.1).0 k, is-own) at p.3)
+      singler : FillInv size words inv.passed table keys fits → single' ≡ true → (single ≡ true) × (fits' ≡ true) × (noted size (info_of size h.key inv.passed) (own_of size f) < 0x8000_0000_0000_0000)
+      singler held t = let p = entered.singly t in (p.0, p.2, rw ((held.whole p.1).0 h.key, is-own) at p.3)
 
 -- an entry that is entered
 module _ (size : Size) (n : ℕ) (ws : List ℕ) (words : ℕ) (table : List ℕ) (keys : ℕ) (fits single direct : Bool) (buffer : List ℕ) (c : Cursor) (inv : Passing size n ws words table keys fits single direct buffer 0 0 c) where
-  pub pass-entered : (op pl v x k m a : ℕ) (behind : Cursor) → Handed (power_of size) n ws c op pl v x k m a behind → (direct' : Bool) → direct' ≡ pick (eqb pl 1) false direct
-      → (own : ℕ) → own ≡ alone size (extent_of size pl x) a v → (w : ℕ) → Weighed op m w → (table' buffer' : List ℕ) (keys' : ℕ) (fits' single' : Bool) → EnteredIs size ws buffer buffer' table table' keys fits single k own w keys' fits' single'
-      → Passing size n ws words table' keys' fits' single' direct' buffer' 0 0 behind
-  pass-entered op pl v x k m a behind told direct' is-direct own is-own w weighed table' buffer' keys' fits' single' all =
-      pass-entry size n ws words table keys fits single direct buffer 0 0 c inv op pl v x k m a behind told direct' is-direct own is-own table' keys' fits' single' all.entered buffer' 0 0
-      (λ es h inside small held owing t.
+  pub pass-entered : (h : H.Entry) → Handed (power_of size) n ws c h → (direct' : Bool) → direct' ≡ pick (eqb h.placement 1) false direct
+      → (own : ℕ) → own ≡ alone size (extent_of size h.placement h.field) h.place h.version → (w : ℕ) → Weighed h.op h.words w → (table' buffer' : List ℕ) (keys' : ℕ) (fits' single' : Bool) → EnteredIs size ws buffer buffer' table table' keys fits single h.key own w keys' fits' single'
+      → Passing size n ws words table' keys' fits' single' direct' buffer' 0 0 h.behind
+  pass-entered h told direct' is-direct own is-own w weighed table' buffer' keys' fits' single' all =
+      pass-entry size n ws words table keys fits single direct buffer 0 0 c inv h told direct' is-direct own is-own table' keys' fits' single' all.entered buffer' 0 0
+      (λ es g inside small held owing t.
       let r = all.renewed t in
       let full = held.whole r.0 in
       let xs = inv.passed in
       owing-none size buffer' 0 (xs ++ e ∷ [])
       (r.1.renews xs (xs ++ e ∷ []) e
-      (joins-behind size ws (get table k) own w xs e (full.0 k) is-own is-weight (bounded-front size xs (e ∷ []) small) (small.each e (mem-r e xs (e ∷ []) (inl refl)))
-      (λ f q. image-stands (power_of size) (power-low size) (power-high size) n ws es h f (inside f (mem-l f xs (e ∷ []) (chosen_is k xs f q).in_list))))
+      (joins-behind size ws (get table h.key) own w xs e (full.0 h.key) is-own is-weight (bounded-front size xs (e ∷ []) small) (small.each e (mem-r e xs (e ∷ []) (inl refl)))
+      (λ f q. image-stands (power_of size) (power-low size) (power-high size) n ws es g f (inside f (mem-l f xs (e ∷ []) (chosen_is h.key xs f q).in_list))))
       (owing-summed size buffer 0 xs (owing r.0))))
     where
       e : Entry
-      e = entry_in ws op pl v x k m a
+      e = with_value ws h
 
-      is-weight : w ≡ weight (entry_in ws op pl v x k m a)
+      is-weight : w ≡ weight (with_value ws h)
       is-weight =
           let right = told.stands.right in
-          let size : length (entry_in ws op pl v x k m a).value ≡ m = right.words ∙ sym told.size in
-          let few = right-few (entry_in ws op pl v x k m a) right in
+          let size : length (with_value ws h).value ≡ h.words = right.words ∙ sym told.size in
+          let few = right-few (with_value ws h) right in
           weighed.is (omega arith) ∙ rw size
 
   module _ (before start-buffer : List ℕ) (cleared : words ≡ length (zeros (length before))) (kept : SumsAlone start-buffer buffer) where
@@ -215,7 +214,7 @@ module _ (size : Size) (n : ℕ) (ws : List ℕ) (words : ℕ) (table : List ℕ
 
     pub pass-done : remaining (power_of size) n ws c ≡ Entries [] → Filling size n ws before table start-buffer buffer true fits single direct keys
     pass-done told =
-        let all : image_entries (power_of size) n ws ≡ Entries inv.passed = passed-done (power_of size) n ws c N.Done told (image_entries (power_of size) n ws) inv.passed inv.so_far refl in
+        let all : image_entries (power_of size) n ws ≡ Entries inv.passed = passed-done (power_of size) n ws c (image_entries (power_of size) n ws) inv.passed inv.so_far told in
         record {
           sized = inv.sized ∙ same;
           kept = kept;
@@ -226,9 +225,9 @@ module _ (size : Size) (n : ℕ) (ws : List ℕ) (words : ℕ) (table : List ℕ
           directly = λ most es h t. let q : inv.passed ≡ es = cc in rw (← q) (direct-end size inv.passed single direct fits (inv.holds most es h).1 t);
         }
 
-    pub pass-wrong : remaining (power_of size) n ws c ≡ Wrong → Filling size n ws before table start-buffer buffer false fits single direct keys
+    pub pass-wrong : remaining (power_of size) n ws c ≡ Wrong → Filling size n ws before table start-buffer buffer false false false false 0
     pass-wrong told =
-        let all : image_entries (power_of size) n ws ≡ Wrong = passed-wrong (power_of size) n ws c N.Wrong told (image_entries (power_of size) n ws) inv.passed inv.so_far refl in
+        let all : image_entries (power_of size) n ws ≡ Wrong = passed-wrong (power_of size) n ws c (image_entries (power_of size) n ws) inv.passed inv.so_far told in
         record {
           sized = inv.sized ∙ same;
           kept = kept;

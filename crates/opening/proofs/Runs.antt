@@ -22,9 +22,6 @@ use Rattle.index.specs.Index.{info_at, stop_of, put_at, capacity as table_room}
 use Rattle.buffer.specs.Areas.{buffer_words}
 use Rattle.volatile.specs.Known.{extent_of, alone, noted}
 use Rattle.volatile.proofs.Info.{noted-new}
-use Rattle.logs.specs.declared.Short.{Short}
-use Rattle.logs.specs.declared.Short.TheVariants as P
-use Rattle.logs.specs.Short.{ShortAt}
 use Rattle.logs.specs.Cursor.{cursor_at, left}
 use Rattle.logs.proofs.Walk.{next-found}
 use Rattle.spec.specs.Log.{Entry, words_for}
@@ -36,11 +33,11 @@ use Rattle.index.proofs.Answers.{look_in}
 use Rattle.logs.specs.Stands.{entry_in, StandsIn}
 use Rattle.volatile.specs.Known.{info_of, Bounded}
 use Rattle.volatile.proofs.Info.{bounded-front, zero-chosen}
-use Rattle.volatile.specs.Change.{only, nothing, Changed, Weighed}
+use Rattle.volatile.specs.Change.{only, nothing, SumsAlone, Changed, Weighed}
 use Rattle.volatile.proofs.Laws.{alone-self, alone-then}
-use Rattle.opening.specs.Pass.{Entering, AgainIs, EnteredIs, Owing, Hastened}
+use Rattle.opening.specs.Pass.{Entering, AgainIs, EnteredIs, Owing, Passing, Hastened, Skipped}
 use Rattle.opening.proofs.Sums.{owing-more}
-use Rattle.opening.proofs.Pass.{enter-new, enter-old, entered-renewed, pass-entry, pass-entered, pass-paid, pass-turned}
+use Rattle.opening.proofs.Pass.{enter-new, enter-old, entered-renewed, pass-entry, pass-entered, pass-paid, pass-turned, pass_on}
 
 -- the word of a key with one entry has no bit of several top entries
 alone-low : (size : Size) → (extent place version : ℕ) → alone size extent place version < 0x8000_0000_0000_0000
@@ -68,10 +65,6 @@ same-chunk size at from at₀ end l g h one =
 
 pub one_chunk : (size : Size) (at end : ℕ) (wide : Bool) → wide ≡ ltb (word_chunk (power_of size) at) (word_chunk (power_of size) (end - 1)) → wide ≡ false → word_chunk (power_of size) (end - 1) ≤ word_chunk (power_of size) at
 one_chunk size at end wide is n = ltb-false (word_chunk (power_of size) at) (word_chunk (power_of size) (end - 1)) (sym is ∙ n)
-
--- what a put that was found says, for a caller that goes by its case
-pub put-told : (ws : List ℕ) (at end : ℕ) (r : Short) → ShortAt ws at end r → (v x k m : ℕ) → r ≡ P.Put v x k m → step_of (slice at end ws) ≡ S.Entry 1 0 v x k m
-put-told ws at end r told v x k m e = rw e at told
 
 pub run-start : (size : Size) → (ws : List ℕ) (end : ℕ) (fits : Bool) (table : List ℕ) (keys : ℕ) (single : Bool) (buffer : List ℕ) (at : ℕ) → length buffer ≡ buffer_words → Hastened size ws end fits table keys single buffer at table keys single buffer at at
 run-start size ws end fits table keys single buffer at long = record {
@@ -105,7 +98,7 @@ module _ (size : Size) (ws : List ℕ) (end : ℕ) (fits : Bool) (table₀ : Lis
     passes = λ n c words direct inv.
         let before = so_far.passes n c words direct inv in
         let told = next-found (power_of size) n ws c at end 1 0 v x k m q in
-        pass-entry size n ws words table keys fits single direct buffer from (at - from) (cursor_at c at end) before 1 0 v x k m at _ told direct refl own is-own table' (keys + 1) fits single entered
+        pass-entry size n ws words table keys fits single direct buffer from (at - from) (cursor_at c at end) before _ told direct refl own is-own table' (keys + 1) fits single entered
         buffer from (at + (2 + m) - from) (λ es h inside small held owing t. summed before.passed told.stands told.size small ((held.whole t).0 k) (owing t));
   }
     where
@@ -142,7 +135,7 @@ module _ (size : Size) (ws : List ℕ) (end : ℕ) (fits : Bool) (table₀ : Lis
         let before = so_far.passes n c words direct inv in
         let told = next-found (power_of size) n ws c at end 1 0 v x k m q in
         let settled = pass-paid size n ws words table keys fits single direct buffer paid from (at - from) (cursor_at c at end) before change in
-        let done = pass-entered size n ws words table keys fits single direct paid (cursor_at c at end) settled 1 0 v x k m at (cursor_at c (at + (2 + m)) end) told direct refl own is-own w weighed table' buffer' keys fits single' entered in
+        let done = pass-entered size n ws words table keys fits single direct paid (cursor_at c at end) settled _ told direct refl own is-own w weighed table' buffer' keys fits single' entered in
         let z : at + (2 + m) - (at + (2 + m)) ≡ 0 = omega arith in
         rw z (pass-turned size n ws words table' keys fits single' direct buffer' 0 (at + (2 + m)) (cursor_at c (at + (2 + m)) end) done);
   }
@@ -151,3 +144,19 @@ module _ (size : Size) (ws : List ℕ) (end : ℕ) (fits : Bool) (table₀ : Lis
       entered =
           rw so (entered-renewed size ws paid buffer' table table' keys true single k own w keys single' slot old is-slot is_word refl told-again.renewed
           (enter-old size table keys true single k own slot old is-slot is_word refl table' (noted size old own) refl told-again.put single' told-again.low known-key))
+
+-- ## A turn of the pass: padding is skipped, a run is made, and what it owes is paid
+
+module _ (size : Size) (n : ℕ) (ws : List ℕ) (end words : ℕ) (table : List ℕ) (keys : ℕ) (fits single direct : Bool) (buffer : List ℕ) (chunk at at' : ℕ) (inv : Passing size n ws words table keys fits single direct buffer 0 0 (cursor_at chunk at end))
+    (skipped : Skipped ws end at at') (table' : List ℕ) (keys' : ℕ) (single' : Bool) (run-buffer : List ℕ) (from place : ℕ) (run : Hastened size ws end fits table keys single buffer at' table' keys' single' run-buffer from place)
+    (buffer' : List ℕ) (paid : Changed run-buffer buffer' (only size from (place - from)) nothing) where
+  pub turn-passes : Passing size n ws words table' keys' fits single' direct buffer' 0 0 (cursor_at chunk place end)
+  turn-passes =
+      pass-paid size n ws words table' keys' fits single' direct run-buffer buffer' from (place - from) (cursor_at chunk place end)
+      (run.passes n chunk words direct (pass_on size n ws words table keys fits single direct buffer 0 0 (cursor_at chunk at end) (cursor_at chunk at' end) inv (skipped.same (power_of size) n chunk))) paid
+
+  pub turn-alone : (start : List ℕ) → SumsAlone start buffer → SumsAlone start buffer'
+  turn-alone start k = alone-then start run-buffer buffer' (alone-then start buffer run-buffer k run.kept) paid.kept
+
+  pub turn-nearer : (m c : ℕ) → left m ws (cursor_at c place end) ≤ left m ws (cursor_at c at end)
+  turn-nearer m c = let f = skipped.nearer m c in let g = run.nearer m c in omega arith

@@ -1,6 +1,7 @@
 -- What the first pass over the log does to key table and sums: one more entry, a run of them, and all of them.
 -- Assumes nothing.
-use Rattle.std.specs.Prelude.{◌≡◌, Bool, true, false, List, [], ◌∷◌, ◌++◌, ℕ, ◌+◌, ◌-◌, ◌%◌, ◌^◌, ◌≤◌, ◌<◌, length, get_or, ltb}
+use Rattle.std.specs.Prelude.{◌≡◌, Bool, true, false, List, [], ◌∷◌, ◌++◌, ℕ, ◌+◌, ◌-◌, ◌%◌, ◌^◌, ◌≤◌, ◌<◌, length, get_or, ltb, Result, Ok, Err}
+use Rattle.std.specs.Bool.{then_some}
 use Rattle.spec.specs.declared.Size.{Size}
 use Rattle.places.specs.Sizes.{power_of}
 use Rattle.spec.specs.Basics.{both}
@@ -13,6 +14,8 @@ use Rattle.buffer.specs.Areas.{sums_start, sums_count}
 use Rattle.volatile.specs.Sums.{chosen_sum, Summed}
 use Rattle.volatile.specs.Change.{only, SumsAlone, Renewed}
 use Rattle.logs.specs.declared.Cursor.{Cursor}
+use Rattle.logs.specs.declared.WrongEntry.{WrongEntry}
+use Rattle.opening.specs.declared.fill.Filled.{Filled}
 use Rattle.logs.specs.Cursor.{cursor_at, remaining, left}
 
 -- the table before and after one more entry of a key, of which it would hold `own` with this entry alone; with the
@@ -71,3 +74,8 @@ pub record Filling (size : Size) (n : ℕ) (ws table table' buffer buffer' : Lis
   pub singly : n ≤ max_chunks → (es : List Entry) → image_entries (power_of size) n ws ≡ Entries es → single ≡ true → Single es
   pub directly : n ≤ max_chunks → (es : List Entry) → image_entries (power_of size) n ws ≡ Entries es → direct ≡ true → Direct es
   pub summed : n ≤ max_chunks → (es : List Entry) → image_entries (power_of size) n ws ≡ Entries es → fits ≡ true → Summed size buffer' es
+
+-- the same by what the pass answers: a wrong entry, or the numbers of the table
+abbrev pub FilledIs : (size : Size) → ℕ → List ℕ → (table table' buffer buffer' : List ℕ) → Result Filled WrongEntry → Type 0
+FilledIs size n ws table table' buffer buffer' (Ok f) = (keys : ℕ) × (fits : Bool) × Filling size n ws table table' buffer buffer' true fits f.single f.direct keys × (f.keys ≡ then_some fits keys)
+FilledIs size n ws table table' buffer buffer' (Err wrong) = Filling size n ws table table' buffer buffer' false false false false 0

@@ -5,10 +5,11 @@ ghost use Rattle.spec.specs.Basics.{pick, both};
 ghost use Rattle.spec.specs.Words.{words_of};
 ghost use Rattle.spec.specs.Places.{word_chunk};
 ghost use Rattle.places.specs.Sizes.{power_of};
-ghost use Rattle.opening.specs.Pass.{AgainIs, EnteredIs, Hastened, Skipped, Filling};
+ghost use Rattle.opening.specs.Pass.{AgainIs, EnteredIs, Hastened, Skipped, FilledIs};
 
 use buffer::Buffer;
-use logs::Short;
+use consistency::partition::onward;
+use logs::WrongEntry;
 use spec::{LogStep, Size};
 
 // ONE ENTRY
@@ -16,20 +17,14 @@ use spec::{LogStep, Size};
 fn is_single(single: bool, info: u64) -> bool
     ensures { result ≡ both single (ltb info 0x8000_0000_0000_0000) }
 {
-    if single {
-        return info < 0x8000_0000_0000_0000;
-    }
-    false
+    single && info < 0x8000_0000_0000_0000
 }
 
 // Whether no value lies in a block so far.
 fn is_direct(direct: bool, placement: u64) -> bool
     ensures { result ≡ pick (eqb placement 1) false direct }
 {
-    if placement == 1 {
-        return false;
-    }
-    direct
+    placement != 1 && direct
 }
 
 // One more entry of a key that the table has: `old` is its word, in slot `slot`, `own` what it would be with this entry
@@ -55,9 +50,11 @@ fn enter_known(
     is_single(single, info)
 }
 
-// The table's keys, whether those of all entries so far fit, and whether each then has a single top entry.
+// What the table holds: so many keys, whether those of all entries so far fit, and whether each then has a single top
+// entry.
+// (d) The keys are those of the table also where not all fit, so that no Option would say both.
 #[derive(Clone, Copy)]
-struct Entered {
+struct Held {
     keys: usize,
     fits: bool,
     single: bool,
@@ -69,49 +66,51 @@ fn enter(
     image: &[u8],
     buffer: &mut Buffer,
     table: &mut [u64],
-    keys: usize,
-    fits: bool,
-    single: bool,
+    held: Held,
     key: u64,
     own: u64,
     weight: u64,
     size: Size,
-) -> Entered
-    ensures { EnteredIs size (words_of image.now) buffer.old buffer.new table.old table.new keys fits single key own weight result.keys result.fits result.single }
+) -> Held
+    ensures { EnteredIs size (words_of image.now) buffer.old buffer.new table.old table.new held.keys held.fits held.single key own weight result.keys result.fits result.single }
 {
     buffer::buffer_length(buffer);
-    if fits {
-        let slot = index::slot_of(table, key);
-        let old = index::word_at(table, slot);
-        if old == 0 {
-            volatile::chunk_sums::renew(image, buffer, old, own, weight, size);
-            if keys < index::capacity(table.len()) {
-                index::set_slot(table, slot, key, own);
-                return Entered {
-                    keys: keys + 1,
-                    fits: true,
-                    single: is_single(single, own),
-                };
-            }
-            return Entered {
-                keys,
-                fits: false,
-                single: false,
-            };
-        }
-        let lonely = enter_known(
-            image, buffer, table, single, slot, old, key, own, weight, size,
-        );
-        return Entered {
-            keys,
-            fits: true,
-            single: lonely,
+    if !held.fits {
+        return Held {
+            single: false,
+            ..held
         };
     }
-    Entered {
-        keys,
-        fits: false,
-        single: false,
+    let slot = index::slot_of(table, key);
+    let old = index::word_at(table, slot);
+    if old != 0 {
+        let single = enter_known(
+            image,
+            buffer,
+            table,
+            held.single,
+            slot,
+            old,
+            key,
+            own,
+            weight,
+            size,
+        );
+        return Held { single, ..held };
+    }
+    volatile::chunk_sums::renew(image, buffer, old, own, weight, size);
+    if index::capacity(table.len()) <= held.keys {
+        return Held {
+            fits: false,
+            single: false,
+            ..held
+        };
+    }
+    index::set_slot(table, slot, key, own);
+    Held {
+        keys: held.keys + 1,
+        single: is_single(held.single, own),
+        ..held
     }
 }
 
@@ -120,14 +119,13 @@ fn enter(
 fn is_wide(at: usize, end: usize, size: Size) -> bool
     ensures { result ≡ ltb (word_chunk (power_of size) at) (word_chunk (power_of size) (end - 1)) }
 {
-    let last = end - words::lesser(end, 1);
-    places::chunk_of_word(size, at) < places::chunk_of_word(size, last)
+    places::chunk_of_word(size, at) < places::chunk_of_word(size, end.saturating_sub(1))
 }
 
 // A run of the pass: how many keys the table has then, whether each has a single top entry, and how far it came. What
 // it passed from word `from` on is new and not yet in the sum of the chunk.
 #[derive(Clone, Copy)]
-struct PutsEntered {
+struct Run {
     keys: usize,
     single: bool,
     from: usize,
@@ -143,113 +141,69 @@ fn enter_puts(
     end: usize,
     table: &mut [u64],
     buffer: &mut Buffer,
-    keys: usize,
-    fits: bool,
-    single: bool,
+    held: Held,
     size: Size,
-) -> PutsEntered
-    ensures { Hastened size (words_of image.now) end fits table.old keys single buffer.old at table.new result.keys result.single buffer.new result.from result.at }
+) -> Run
+    ensures { Hastened size (words_of image.now) end held.fits table.old held.keys held.single buffer.old at table.new result.keys result.single buffer.new result.from result.at }
 {
     buffer::buffer_length(buffer);
-    if is_wide(at, end, size) {
-        return PutsEntered {
-            keys,
-            single,
-            from: at,
-            at,
-        };
+    let mut run = Run {
+        keys: held.keys,
+        single: held.single,
+        from: at,
+        at,
+    };
+    if !held.fits || is_wide(at, end, size) {
+        return run;
     }
     let room = index::capacity(table.len());
-    let mut count = keys;
-    let mut lonely = single;
-    let mut from = at;
-    let mut place = at;
-    while fits {
-        let s = logs::short_put(image, place, end);
-        match s {
-            Short::Other => {
-                return PutsEntered {
-                    keys: count,
-                    single: lonely,
-                    from,
-                    at: place,
-                };
+    while let Some(put) = logs::short_put(image, run.at, end) {
+        let slot = index::slot_of(table, put.key);
+        let old = index::word_at(table, slot);
+        let extent = volatile::extent_of(size, 0, put.field);
+        let own = volatile::single_entry(size, extent, run.at, put.version);
+        let behind = run.at + (2 + put.words);
+        if old != 0 {
+            let passed = run.at - run.from;
+            volatile::chunk_sums::add(buffer, run.from, passed as u64, size);
+            let weight = volatile::chunk_sums::weigh(1, put.words);
+            run.single = enter_known(
+                image, buffer, table, run.single, slot, old, put.key, own, weight, size,
+            );
+            run.from = behind;
+        } else {
+            if room <= run.keys {
+                break;
             }
-            Short::Put {
-                version,
-                field,
-                key,
-                words,
-            } => {
-                let slot = index::slot_of(table, key);
-                let old = index::word_at(table, slot);
-                if old != 0 {
-                    let passed = place - from;
-                    volatile::chunk_sums::add(buffer, from, passed as u64, size);
-                    let this = volatile::single_entry(
-                        size,
-                        volatile::extent_of(size, 0, field),
-                        place,
-                        version,
-                    );
-                    let weight = volatile::chunk_sums::weigh(1, words);
-                    lonely = enter_known(
-                        image, buffer, table, lonely, slot, old, key, this, weight, size,
-                    );
-                    from = place + (2 + words);
-                    place = from;
-                } else {
-                    if room <= count {
-                        return PutsEntered {
-                            keys: count,
-                            single: lonely,
-                            from,
-                            at: place,
-                        };
-                    }
-                    let extent = volatile::extent_of(size, 0, field);
-                    let own = volatile::single_entry(size, extent, place, version);
-                    index::set_slot(table, slot, key, own);
-                    count += 1;
-                    place += 2 + words;
-                }
-            }
+            index::set_slot(table, slot, put.key, own);
+            run.keys += 1;
         }
+        run.at = behind;
     }
-    PutsEntered {
-        keys: count,
-        single: lonely,
-        from,
-        at: place,
-    }
+    run
 }
 
 // The first word from word `at` on that is no padding, of the committed words before `end`; `at` past them.
 fn skip_padding(image: &[u8], at: usize, end: usize) -> usize
     ensures { Skipped (words_of image.now) end at result }
 {
-    let stop = words::lesser(end, image.len() / 8);
-    let mut place = at;
-    while place < stop {
-        if words::load(image, place) == 0 {
-            place += 1;
-        } else {
+    let stop = end.min(image.len() / 8);
+    for place in at..stop {
+        if words::load(image, place) != 0 {
             return place;
         }
     }
-    place
+    stop.max(at)
 }
 
 // THE PASS
-// What the pass finds: whether every entry is right, whether the keys fit, whether each has a single top entry, whether
-// every value is direct, none of them in a block, and how many keys the table has.
+// What the pass finds of a log without a wrong entry: how many keys the table has if all fit, whether each has a single
+// top entry, and whether every value is direct, none of them in a block.
 #[derive(Clone, Copy)]
 pub struct Filled {
-    pub right: bool,
-    pub fits: bool,
+    pub keys: Option<usize>,
     pub single: bool,
     pub direct: bool,
-    pub keys: usize,
 }
 
 // The pass over the log of an image of `count` chunks, from an empty table and sums of 0. It walks as
@@ -260,64 +214,41 @@ pub fn fill(
     table: &mut [u64],
     buffer: &mut Buffer,
     size: Size,
-) -> Filled
-    ensures { Filling size count (words_of image.now) table.old table.new buffer.old buffer.new result.right result.fits result.single result.direct result.keys }
+) -> Result<Filled, WrongEntry>
+    ensures { FilledIs size count (words_of image.now) table.old table.new buffer.old buffer.new result }
 {
     index::clear(table);
     volatile::chunk_sums::clear(buffer);
-    let mut keys: usize = 0;
-    let mut fits = true;
-    let mut single = true;
+    let mut held = Held {
+        keys: 0,
+        fits: true,
+        single: true,
+    };
     let mut direct = true;
-    let mut chunk: usize = 0;
-    let mut at: usize = 0;
-    let mut end: usize = 0;
+    let mut cursor = logs::first_cursor();
     loop {
-        at = skip_padding(image, at, end);
-        let r = enter_puts(image, at, end, table, buffer, keys, fits, single, size);
+        let at = skip_padding(image, cursor.at, cursor.end);
+        let r = enter_puts(image, at, cursor.end, table, buffer, held, size);
         let passed = r.at - r.from;
         volatile::chunk_sums::add(buffer, r.from, passed as u64, size);
-        keys = r.keys;
-        single = r.single;
-        at = r.at;
-        let s = logs::next_entry(image, at, end);
-        match s {
+        held = Held {
+            keys: r.keys,
+            single: r.single,
+            ..held
+        };
+        match logs::next_entry(image, r.at, cursor.end) {
             LogStep::End => {
-                if count <= chunk {
-                    return Filled {
-                        right: true,
-                        fits,
-                        single,
+                if count.saturating_sub(1) <= cursor.chunk {
+                    return Ok(Filled {
+                        keys: held.fits.then_some(held.keys),
+                        single: held.single,
                         direct,
-                        keys,
-                    };
+                    });
                 }
-                if count - chunk == 1 {
-                    return Filled {
-                        right: true,
-                        fits,
-                        single,
-                        direct,
-                        keys,
-                    };
-                }
-                let next = consistency::partition::onward(image, count, chunk + 1, size);
-                chunk = next.chunk;
-                at = next.at;
-                end = next.end;
+                cursor = onward(image, count, cursor.chunk + 1, size);
             }
-            LogStep::Wrong => {
-                return Filled {
-                    right: false,
-                    fits,
-                    single,
-                    direct,
-                    keys,
-                };
-            }
-            LogStep::Padding => {
-                at += 1;
-            }
+            LogStep::Wrong => return Err(WrongEntry),
+            LogStep::Padding => cursor.at = r.at + 1,
             LogStep::Entry {
                 op,
                 placement,
@@ -327,20 +258,11 @@ pub fn fill(
                 words,
             } => {
                 direct = is_direct(direct, placement);
-                let own = volatile::single_entry(
-                    size,
-                    volatile::extent_of(size, placement, field),
-                    at,
-                    version,
-                );
+                let extent = volatile::extent_of(size, placement, field);
+                let own = volatile::single_entry(size, extent, r.at, version);
                 let weight = volatile::chunk_sums::weigh(op, words);
-                let e = enter(
-                    image, buffer, table, keys, fits, single, key, own, weight, size,
-                );
-                keys = e.keys;
-                fits = e.fits;
-                single = e.single;
-                at += 2 + words;
+                held = enter(image, buffer, table, held, key, own, weight, size);
+                cursor.at = r.at + (2 + words);
             }
         }
     }

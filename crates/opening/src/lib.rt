@@ -3,13 +3,12 @@
 #![tactic(auto)]
 
 ghost use Rattle.std.specs.Prelude.{◌≡◌, length};
-ghost use Rattle.spec.specs.Basics.{both};
 ghost use Rattle.spec.specs.Words.{words_of};
 ghost use Rattle.spec.specs.Places.{any_allowed, size_allowed};
 ghost use Rattle.spec.specs.Header.{header_right, header_power};
 ghost use Rattle.spec.specs.Machine.{Open};
 ghost use Rattle.index.specs.Index.{zeros};
-ghost use Rattle.opening.specs.Judged.{first_refusal, JudgingLog, Judging};
+ghost use Rattle.opening.specs.Judged.{JudgingLog, Judging};
 ghost use Rattle.session.specs.Promise.{Does, memory_of};
 
 pub mod fill;
@@ -23,10 +22,7 @@ use spec::{Refusal, Report, Size};
 pub fn length_allowed(bytes: usize) -> bool
     ensures { result ≡ any_allowed bytes }
 {
-    if places::length_allowed(Size::Small, bytes) {
-        return true;
-    }
-    places::length_allowed(Size::Large, bytes)
+    places::length_allowed(Size::Small, bytes) || places::length_allowed(Size::Large, bytes)
 }
 
 // The chunk power that the header says.
@@ -45,122 +41,79 @@ pub fn power_said(image: &[u8]) -> u64
 pub fn power_fits(power: u64, bytes: usize) -> bool
     ensures { result ≡ size_allowed power bytes }
 {
-    if power == 12 {
-        return places::length_allowed(Size::Small, bytes);
+    match power {
+        12 => places::length_allowed(Size::Small, bytes),
+        16 => places::length_allowed(Size::Large, bytes),
+        _ => false,
     }
-    if power == 16 {
-        return places::length_allowed(Size::Large, bytes);
-    }
-    false
 }
 
 // 2: the header line is right, of an image of `count` chunks.
 pub fn header_fits(image: &[u8], count: usize) -> bool
     ensures { result ≡ header_right count (words_of image.now) }
 {
-    let words = [
-        words::load(image, 0),
-        words::load(image, 1),
-        words::load(image, 2),
-        words::load(image, 3),
-        words::load(image, 4),
-        words::load(image, 5),
-        words::load(image, 6),
-        words::load(image, 7),
-    ];
+    let mut words = [0; 8];
+    for i in 0..8 {
+        words[i] = words::load(image, i);
+    }
     codec::header_right(words, count as u64)
 }
 
 // OPENING
-// Why an image is refused, or how many keys it has.
-#[derive(Clone, Copy)]
-pub enum CheckedImage {
-    Refused(Refusal),
-    Accepted(usize),
-}
-
-fn both(a: bool, b: bool) -> bool
-    ensures { result ≡ both a b }
-{
-    if a {
-        return b;
-    }
-    false
-}
-
-// Accepted unless a test fails: the first that does gives the refusal.
-fn first_refusal(first: bool, a: Refusal, second: bool, b: Refusal, keys: usize) -> CheckedImage
-    ensures { result ≡ first_refusal first a second b keys }
-{
-    if first {
-        if second {
-            return CheckedImage::Accepted(keys);
-        }
-        return CheckedImage::Refused(b);
-    }
-    CheckedImage::Refused(a)
-}
-
-// 4 to 7, of an image of `count` chunks: key table, block bits and sums are built anew.
+// 4 to 7, of an image of `count` chunks: key table, block bits and sums are built anew. The answer is how many keys the
+// image has.
 pub fn check_log(
     image: &[u8],
     count: usize,
     table: &mut [u64],
     buffer: &mut Buffer,
     size: Size,
-) -> CheckedImage
+) -> Result<usize, Refusal>
     ensures { JudgingLog size count (words_of image.now) table.old table.new buffer.old buffer.new result }
 {
-    let filled = fill::fill(image, count, table, buffer, size);
-    if filled.right {
-        let checked = consistency::examine(
-            image,
-            count,
-            table,
-            filled.fits,
-            filled.single,
-            filled.direct,
-            buffer,
-            size,
-        );
-        if checked.blocks {
-            let agreed = both(checked.agreeing, checked.apart);
-            let room = filled.fits;
-            let keys = filled.keys;
-            return first_refusal(
-                agreed,
-                Refusal::TopsDisagree,
-                room,
-                Refusal::TableFull,
-                keys,
-            );
-        }
-        return CheckedImage::Refused(Refusal::BlockWrong);
+    let Ok(filled) = fill::fill(image, count, table, buffer, size) else {
+        return Err(Refusal::EntryWrong);
+    };
+    let known = filled.keys.and(Some(&*table));
+    let checked = consistency::examine(
+        image,
+        count,
+        known,
+        filled.single,
+        filled.direct,
+        buffer,
+        size,
+    );
+    if !checked.blocks {
+        return Err(Refusal::BlockWrong);
     }
-    CheckedImage::Refused(Refusal::EntryWrong)
+    if !checked.agreeing || !checked.apart {
+        return Err(Refusal::TopsDisagree);
+    }
+    filled.keys.ok_or(Refusal::TableFull)
 }
 
-// 1 to 7.
-fn check_image(image: &[u8], table: &mut [u64], buffer: &mut Buffer) -> CheckedImage
+// 1 to 7: how many keys the image has, or why it is refused.
+fn check_image(image: &[u8], table: &mut [u64], buffer: &mut Buffer) -> Result<usize, Refusal>
     ensures { Judging image.now table.old table.new buffer.old buffer.new result }
 {
     let bytes = image.len();
-    if length_allowed(bytes) {
-        let power = power_said(image);
-        if power_fits(power, bytes) {
-            let size = places::size_by(power);
-            let count = places::chunks_in(size, bytes);
-            if header_fits(image, count) {
-                if directory::directory_fits(image, count, size) {
-                    return check_log(image, count, table, buffer, size);
-                }
-                return CheckedImage::Refused(Refusal::DirectoryWrong);
-            }
-            return CheckedImage::Refused(Refusal::NotOpen);
-        }
-        return CheckedImage::Refused(Refusal::NotOpen);
+    if !length_allowed(bytes) {
+        return Err(Refusal::ImageLength);
     }
-    CheckedImage::Refused(Refusal::ImageLength)
+    let power = power_said(image);
+    if !power_fits(power, bytes) {
+        return Err(Refusal::NotOpen);
+    }
+    let size = places::size_by(power);
+    let count = places::chunks_in(size, bytes);
+    if !header_fits(image, count) {
+        return Err(Refusal::NotOpen);
+    }
+    if !directory::directory_fits(image, count, size) {
+        return Err(Refusal::DirectoryWrong);
+    }
+    check_log(image, count, table, buffer, size)
 }
 
 // A refused opening leaves nothing in the table.
@@ -182,20 +135,19 @@ pub fn open_core(
 {
     let bytes = image.len();
     let words = table.len();
-    let verdict = check_image(image, table, buffer);
-    match verdict {
-        CheckedImage::Refused(n) => {
-            empty(table);
-            Outcome {
-                control: session::closed(),
-                setup,
-                report: Report::Refused(n),
-            }
-        }
-        CheckedImage::Accepted(keys) => Outcome {
+    match check_image(image, table, buffer) {
+        Ok(keys) => Outcome {
             control: session::opened(keys),
             setup: session::opened_setup(bytes, words, places::size_by(power_said(image))),
             report: Report::Opened,
         },
+        Err(refusal) => {
+            empty(table);
+            Outcome {
+                control: session::closed(),
+                setup,
+                report: Report::Refused(refusal),
+            }
+        }
     }
 }

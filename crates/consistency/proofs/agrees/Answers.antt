@@ -10,6 +10,5 @@ pub returns : goal.returns
 returns c =
     let a = c.args in
     let w = c.words_for-words in
-    shows-agree (words_of a.image.now) a.e a.place c.lesser.result
-    c.lesser-2.result w.result _ c.same_words.result (sym (length-words_of a.image.now))
-    c.lesser.ensures c.lesser-2.ensures w.ensures.0 c.same_words.ensures
+    shows-agree (words_of a.image.now) a.e a.place c.min.result c.min-2.result w.result _ c.same_words.result (sym (length-words_of a.image.now))
+    c.min.ensures c.min-2.ensures w.ensures.0 c.same_words.ensures

@@ -1,10 +1,9 @@
 -- `consistency::block_fine` meets its contract, case by case.
 -- Assumes nothing.
-use mathlib.Core.Path.{sym, ◌∙◌}
 use Rattle.consistency.proofs.block_fine.Goals as goal
 
-pub returns-then-points : goal.returns-then-points
-returns-then-points c = rw (sym c.points.ensures ∙ c.if-points.true) c.block_right.ensures
+pub returns-then-not-points : goal.returns-then-not-points
+returns-then-not-points c = rw (← c.points.ensures, c.if-not-points.true)
 
-pub returns : goal.returns
-returns c = rw (sym c.points.ensures ∙ c.if-points.false)
+pub returns-else-not-points : goal.returns-else-not-points
+returns-else-not-points c = rw (← c.points.ensures, c.if-not-points.false) c.block_right.ensures

@@ -1,18 +1,16 @@
--- `consistency::top_of` meets its contract: by the table where it holds the keys, else by the scan.
+-- `consistency::top_of` meets its contract: by the table where it is known to hold the keys, else by the scan.
 -- Assumes nothing.
+use mathlib.Core.Path.{refl}
 use Rattle.spec.specs.Words.{words_of}
 use Rattle.consistency.proofs.Found.{shows-table, shows-scan}
 use Rattle.consistency.proofs.top_of.Goals as goal
 
-pub returns-then-fits : goal.returns-then-fits
-returns-then-fits c =
+pub returns-in-Some : goal.returns-in-Some
+returns-in-Some c =
     let a = c.args in
-    let ws = words_of a.image.now in
-    shows-table a.size a.count ws a.table.now a.fits a.key c.if-fits.true
-    c.get.result c.unpack-info.result c.get.ensures c.unpack-info.ensures
+    rw c.in-Some.is (shows-table a.size a.count (words_of a.image.now) _ _ a.key refl c.get.result c.unpack-info.result c.get.ensures c.unpack-info.ensures)
 
-pub returns : goal.returns
-returns c =
+pub returns-in-None : goal.returns-in-None
+returns-in-None c =
     let a = c.args in
-    let ws = words_of a.image.now in
-    shows-scan a.size a.count ws a.table.now a.fits a.key c.best_of.result c.best_of.ensures
+    rw c.in-None.is (shows-scan a.size a.count (words_of a.image.now) _ _ a.key c.best_of.result c.best_of.ensures)

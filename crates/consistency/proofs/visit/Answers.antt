@@ -3,34 +3,35 @@
 use mathlib.Core.Path.{sym, ◌∙◌}
 use native.Mathlib.Omega.{arith}
 use Rattle.spec.specs.Words.{words_of}
+use Rattle.consistency.specs.Classes.{table_in, holds_keys}
 use Rattle.consistency.proofs.Visits.{visited-out, visited-below, visited-wrong, visited-top}
 use Rattle.consistency.proofs.visit.Goals as goal
+
+pub returns-then-not-holds : goal.returns-then-not-holds
+returns-then-not-holds c =
+    let a = c.args in
+    visited-out a.size a.count (words_of a.image.now) (table_in a.known) (holds_keys a.known) a.classes.low a.classes.high a.e (sym c.holds.ensures ∙ c.if-not-holds.true) a.s a.buffer.now
 
 pub returns-then-e-top : goal.returns-then-e-top
 returns-then-e-top c =
     let a = c.args in
-    visited-below a.size a.count (words_of a.image.now) a.table.now a.fits a.low a.high a.e
-    (sym c.is_within.ensures ∙ c.if-is_within.true) c.top_of-top.result
+    visited-below a.size a.count (words_of a.image.now) (table_in a.known) (holds_keys a.known) a.classes.low a.classes.high a.e
+    (sym c.holds.ensures ∙ c.if-not-holds.false) c.top_of-top.result
     c.top_of-top.ensures a.s a.buffer.now (omega arith)
 
-pub returns-then-block_fine : goal.returns-then-block_fine
-returns-then-block_fine c =
+pub returns-then-not-block_fine : goal.returns-then-not-block_fine
+returns-then-not-block_fine c =
     let a = c.args in
-    visited-top a.size a.count (words_of a.image.now) a.table.now a.fits a.low a.high a.e
-    (sym c.is_within.ensures ∙ c.if-is_within.true) c.top_of-top.result
+    visited-wrong a.size a.count (words_of a.image.now) (table_in a.known) (holds_keys a.known) a.classes.low a.classes.high a.e
+    (sym c.holds.ensures ∙ c.if-not-holds.false) c.top_of-top.result
     c.top_of-top.ensures a.s a.buffer.now (omega arith)
-    (sym c.block_fine.ensures ∙ c.if-block_fine.true)
-    c.agreed-agreeing.result c.marked-apart.result _ c.agreed-agreeing.ensures c.marked-apart.ensures
-
-pub returns-then-is_within : goal.returns-then-is_within
-returns-then-is_within c =
-    let a = c.args in
-    visited-wrong a.size a.count (words_of a.image.now) a.table.now a.fits a.low a.high a.e
-    (sym c.is_within.ensures ∙ c.if-is_within.true) c.top_of-top.result
-    c.top_of-top.ensures a.s a.buffer.now (omega arith)
-    (sym c.block_fine.ensures ∙ c.if-block_fine.false)
+    (sym c.block_fine.ensures ∙ c.if-not-block_fine.true)
 
 pub returns : goal.returns
 returns c =
     let a = c.args in
-    visited-out a.size a.count (words_of a.image.now) a.table.now a.fits a.low a.high a.e (sym c.is_within.ensures ∙ c.if-is_within.false) a.s a.buffer.now
+    visited-top a.size a.count (words_of a.image.now) (table_in a.known) (holds_keys a.known) a.classes.low a.classes.high a.e
+    (sym c.holds.ensures ∙ c.if-not-holds.false) c.top_of-top.result
+    c.top_of-top.ensures a.s a.buffer.now (omega arith)
+    (sym c.block_fine.ensures ∙ c.if-not-block_fine.false)
+    c.agreed.result c.marked.result _ c.agreed.ensures c.marked.ensures

@@ -5,13 +5,13 @@ use Rattle.spec.specs.Words.{words_of}
 use Rattle.lookup.proofs.Entries.{by-log, by-block, by-none}
 use Rattle.lookup.proofs.by_entry.Goals as goal
 
-pub returns-then-form-eq1 : goal.returns-then-form-eq1
-returns-then-form-eq1 c = let a = c.args in by-log (words_of a.image.now) a.version a.word c.if-form-eq1.true
+pub returns-then-form-eq-IN_LOG : goal.returns-then-form-eq-IN_LOG
+returns-then-form-eq-IN_LOG c = let a = c.args in by-log (words_of a.image.now) a.version a.word c.if-form-eq-IN_LOG.true
 
-pub returns-then-form-eq5 : goal.returns-then-form-eq5
-returns-then-form-eq5 c =
+pub returns-then-form-eq-IN_BLOCK : goal.returns-then-form-eq-IN_BLOCK
+returns-then-form-eq-IN_BLOCK c =
     let at = c.word_offset in
-    let block = c.if-form-eq5 in
+    let block = c.if-form-eq-IN_BLOCK in
     let a = c.args in
     by-block (words_of a.image.now) a.version a.word at.result c.load-length.result block.true
     (omega arith) c.load-length.ensures
@@ -19,4 +19,4 @@ returns-then-form-eq5 c =
 pub returns : goal.returns
 returns c =
     let a = c.args in
-    by-none (words_of a.image.now) a.version a.word c.if-form-eq1.false c.if-form-eq5.false
+    by-none (words_of a.image.now) a.version a.word c.if-form-eq-IN_LOG.false c.if-form-eq-IN_BLOCK.false

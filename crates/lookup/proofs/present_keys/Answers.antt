@@ -1,33 +1,35 @@
--- `lookup::present_keys` meets its contract.
+-- `lookup::present_keys` meets its contract: a slot's key is taken in, if it is present.
 -- Assumes nothing.
-use mathlib.Core.Path.{◌∙◌, refl}
+use mathlib.Core.Path.{◌≡◌, sym, ap, ◌∙◌}
+use Prim.Native.Nat.{◌+◌}
 use native.Mathlib.Omega.{arith}
+use Rattle.std.specs.Prelude.{is_ok}
 use Rattle.spec.specs.Words.{words_of}
-use Rattle.lookup.proofs.Slots.{slotting-start, slotting-on, gathered, upto-slots}
+use Rattle.lookup.specs.Listing.{Listed}
+use Rattle.lookup.proofs.Answers.{taken_none, taken-some}
+use Rattle.lookup.proofs.Slots.{slotting-on, gathered}
 use Rattle.lookup.proofs.present_keys.Goals as goal
-
-pub loop-slot-init : goal.loop-slot-init
-loop-slot-init c = (refl, refl, omega arith, omega arith, slotting-start c.args.size _ _ _)
-
-pub overflow_add-count : goal.overflow_add-count
-overflow_add-count c =
-    omega (arith, c.take_slot-taken.ensures.grows, upto-slots c.args.size _ _ _ _ _ _ _ _ c.take_slot-taken.ensures)
+use Rattle.lookup.proofs.present_keys.Goals.{then-is_ok, else-is_ok}
 
 pub loop-slot-preserved : goal.loop-slot-preserved
 loop-slot-preserved c =
-    let t = c.take_slot-taken.ensures in
-    let m = upto-slots c.args.size _ _ _ _ _ _ _ _ t in
-    let s = slotting-on c.args.size (words_of c.args.image.now) c.args.table.now c.args.out.now
-    c.loop-slot.out _ c.loop-slot.slot c.loop-slot.kept c.loop-slot.count _ _
-    c.loop-slot.invariant.4 c.loop-slot-test.true t in
-    (s.sized, refl, omega arith, omega arith, s)
-
-pub shape_of-out : goal.shape_of-out
-shape_of-out c =
-    c.arrange.ensures.sized ∙ c.loop-slot.invariant.0
+    let a = c.args in
+    let l = c.loop-slot in
+    let present = sym (ap (λ (r : Listed). is_ok r) c.by_word.ensures) ∙ sym c.is_ok.ensures.value in
+    elim c.if-is_ok.branch [
+      | then-is_ok w ↦
+          let t = taken-some a.size (words_of a.image.now) _ _ l.kept l.out _ _ (present ∙ w.if-is_ok.true) w.take_in-kept.ensures in
+          let s = slotting-on a.size (words_of a.image.now) a.table.now a.out.now l.out _ l.slot l.kept l.count _ _ l.invariant.2 c.loop-slot-test.true t in
+          rw (w.out-is, w.kept-is, w.count-is) (s.sized, omega arith, s)
+      | else-is_ok w ↦
+          let t = taken_none a.size (words_of a.image.now) _ _ l.kept l.out (present ∙ w.if-is_ok.false) in
+          let s = slotting-on a.size (words_of a.image.now) a.table.now a.out.now l.out _ l.slot l.kept l.count _ _ l.invariant.2 c.loop-slot-test.true t in
+          let z : l.count + 0 ≡ l.count = omega arith in
+          rw (w.out-is, w.kept-is, w.count-is) (s.sized, omega arith, rw z at s)
+    ]
 
 pub returns : goal.returns
 returns c =
-    gathered c.args.size (words_of c.args.image.now) c.args.table.now c.args.out.now
-    c.loop-slot.out _ c.loop-slot.slot c.loop-slot.kept c.loop-slot.count c.loop-slot.invariant.4
-    c.loop-slot-test.false c.arrange.ensures
+    let a = c.args in
+    let l = c.loop-slot in
+    gathered a.size (words_of a.image.now) a.table.now a.out.now l.out _ l.slot l.kept l.count l.invariant.2 c.loop-slot-test.false c.arrange.ensures

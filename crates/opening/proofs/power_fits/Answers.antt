@@ -1,18 +1,18 @@
 -- `opening::power_fits` meets its contract: by the two powers that there are.
 -- Assumes nothing.
 use mathlib.Core.Path.{◌∙◌}
-use borrow.Author.Tests.{ne_eqb}
+use Rattle.std.proofs.Common.{ne_eqb, arith}
 use Rattle.spec.specs.Places.{size_allowed}
 use Rattle.opening.proofs.power_fits.Goals as goal
 
-pub returns-then-power-eq12 : goal.returns-then-power-eq12
+pub returns-in-12 : goal.returns-in-12
 unfolding size_allowed
-returns-then-power-eq12 c = c.length_allowed.ensures ∙ rw c.if-power-eq12.true
+returns-in-12 c = c.length_allowed.ensures ∙ rw c.in-12.is
 
-pub returns-then-power-eq16 : goal.returns-then-power-eq16
+pub returns-in-16 : goal.returns-in-16
 unfolding size_allowed
-returns-then-power-eq16 c = c.length_allowed-then-power-eq16.ensures ∙ rw c.if-power-eq16.true
+returns-in-16 c = c.length_allowed-in-16.ensures ∙ rw c.in-16.is
 
-pub returns : goal.returns
+pub returns-in_default : goal.returns-in_default
 unfolding size_allowed
-returns c = rw (ne_eqb _ 12 c.if-power-eq12.false, ne_eqb _ 16 c.if-power-eq16.false)
+returns-in_default c = rw (ne_eqb c.args.power 12 (λ q. omega arith), ne_eqb c.args.power 16 (λ q. omega arith))

@@ -1,7 +1,5 @@
 -- `consistency::partition::onward` meets its contract.
 -- Assumes nothing.
-use mathlib.Core.Path.{◌≡◌}
-use Prim.Native.Nat.{◌-◌, ◌<◌}
 use native.Mathlib.Omega.{arith}
 use Rattle.places.specs.Sizes.{power_of}
 use Rattle.spec.specs.Words.{words_of}
@@ -11,23 +9,13 @@ use Rattle.consistency.proofs.partition.onward.Goals as goal
 pub loop-next-init : goal.loop-next-init
 loop-next-init c = onward-start (power_of c.args.size) c.args.count (words_of c.args.image.now) c.args.c c.chunk_cursor-next.result c.chunk_cursor-next.ensures
 
-pub returns-then-next : goal.returns-then-next
-returns-then-next c = c.loop-next.invariant
-
-pub returns-then-count-next-eq1 : goal.returns-then-count-next-eq1
-returns-then-count-next-eq1 c =
-    c.loop-next.invariant
-
 pub loop-next-smaller : goal.loop-next-smaller
-loop-next-smaller c = let e = c.chunk_cursor-next-in-loop-next.ensures.chunk in omega arith
+loop-next-smaller c =
+    let e = c.chunk_cursor-next-in-loop-next.ensures.chunk in
+    omega (arith, c.saturating_sub-last.ensures)
 
 pub loop-next-preserved : goal.loop-next-preserved
 loop-next-preserved c =
     let a = c.args in
-    let below : c.loop-next.next.chunk < a.count = c.loop-next-test.true in
-    let more : a.count - c.loop-next.next.chunk ≡ 1 → ⊥ = c.if-count-next-eq1.false in
-    onward-more (power_of a.size) a.count _ _ c.loop-next.next c.loop-next.invariant (omega arith) (omega arith) _
+    onward-more (power_of a.size) a.count _ _ c.loop-next.next c.loop-next.invariant (omega arith) (omega (arith, c.saturating_sub-last.ensures)) _
     c.chunk_cursor-next-in-loop-next.ensures
-
-pub returns : goal.returns
-returns c = c.loop-next.invariant

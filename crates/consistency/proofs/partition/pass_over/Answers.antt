@@ -14,27 +14,17 @@ pub loop-place-preserved-then-word-eq0 : goal.loop-place-preserved-then-word-eq0
 loop-place-preserved-then-word-eq0 c =
     let a = c.args in
     let n = length-words_of a.image.now in
-    let s = c.lesser-stop.ensures in
-    over-padding (words_of a.image.now) a.end a.single a.marks.now a.low a.high a.at
+    let s = c.min-stop.ensures in
+    over-padding (words_of a.image.now) a.end a.asked.single a.asked.marks.now a.asked.classes.low a.asked.classes.high a.at
     c.loop-place.place c.loop-place.invariant (omega arith) (omega arith)
     (sym c.if-word-eq0.true ∙ c.load-word.ensures)
-
-pub returns-then-word-ne1 : goal.returns-then-word-ne1
-returns-then-word-ne1 c = c.loop-place.invariant
-
-pub returns-then-is_asked : goal.returns-then-is_asked
-returns-then-is_asked c =
-    c.loop-place.invariant
 
 pub loop-place-preserved : goal.loop-place-preserved
 loop-place-preserved c =
     let a = c.args in
     let n = length-words_of a.image.now in
-    let s = c.lesser-stop.ensures in
-    over-put (words_of a.image.now) a.end a.single a.marks.now a.low a.high a.at
+    let s = c.min-stop.ensures in
+    over-put (words_of a.image.now) a.end a.asked.single a.asked.marks.now a.asked.classes.low a.asked.classes.high a.at
     c.loop-place.place c.loop-place.invariant (omega arith) (omega arith) c.load-word.result
-    c.load-word.ensures (omega arith) c.load-key.result c.load-key.ensures
-    (sym c.is_asked.ensures ∙ c.if-is_asked.false)
-
-pub returns : goal.returns
-returns c = c.loop-place.invariant
+    c.load-word.ensures (omega arith) _ c.load.ensures
+    (sym c.holds.ensures ∙ c.if-not-holds.true)
