@@ -23,14 +23,13 @@ use Rattle.volatile.specs.Sums.{weight}
 use Rattle.volatile.specs.Change.{Weighed}
 use Rattle.session.specs.Fits.{ItemsFit}
 use Rattle.session.proofs.Part.{part-agree}
-use Rattle.batch.specs.declared.StagedItem.{StagedItem}
-use Rattle.batch.specs.declared.StagedItem.TheVariants as I
+use Rattle.batch.specs.declared.StagedEntry.{StagedEntry}
+use Rattle.std.specs.Prelude.{Some, None}
 use Rattle.volatile.specs.Blocks.{block_at, Claimed}
 use Rattle.apply.specs.Joining.{Later, Shown, Awaited, OneJoined, Left, Going, Fenced, Joining}
 use Rattle.batch.specs.Staged.{Taken, StagedFrom, Staged}
 use Rattle.apply.proofs.Joined.{which}
 use Rattle.apply.proofs.Claiming.{joined-shown}
-use Rattle.batch.proofs.Staged.{told_none, told-fits, told-entry}
 
 -- Items that count on are above the entries of their keys, also where they are placed.
 highest-more : (k : ℕ) (e : Entry) (es : List Entry) → highest k es ≤ highest k (e ∷ es)
@@ -96,15 +95,15 @@ left-start size n place words known buffer ws table front back items f = record 
 
 -- ## One more item
 
-left-next : (size : Size) → (n : ℕ) (ws buffer buffer' buffer'' table table' : List ℕ) (keys keys' place at end op placement version field key words extent own w : ℕ) (whole back : List Entry) → end ≤ batch_room
-    → ((rest : List Entry) → StagedFrom buffer at end rest → Taken buffer at end op placement version field key words rest) → at + (2 + words) ≤ end
-    → extent ≡ extent_of size placement field → own ≡ alone size extent (place + at) version → Weighed op words w → OneJoined size ws buffer buffer' table table' keys key own w keys' → Claimed size buffer' buffer'' (block_at op placement field)
-    → Left size n ws buffer table keys place at end whole back → Left size n ws buffer'' table' keys' place (at + (2 + words)) end whole back
-left-next size n ws buffer buffer' buffer'' table table' keys keys' place at end op placement version field key words extent own w whole back short taken fits is-extent is-own weighed one claimed l = record {
+left-next : (size : Size) → (n : ℕ) (ws buffer buffer' buffer'' table table' : List ℕ) (keys keys' place at end : ℕ) (told : StagedEntry) (extent own w : ℕ) (whole back : List Entry) → end ≤ batch_room
+    → ((rest : List Entry) → StagedFrom buffer at end rest → Taken buffer at end told rest) → at + (2 + told.words) ≤ end
+    → extent ≡ extent_of size told.placement told.field → own ≡ alone size extent (place + at) told.version → Weighed told.op told.words w → OneJoined size ws buffer buffer' table table' keys told.key own w keys' → Claimed size buffer' buffer'' (block_at told.op told.placement told.field)
+    → Left size n ws buffer table keys place at end whole back → Left size n ws buffer'' table' keys' place (at + (2 + told.words)) end whole back
+left-next size n ws buffer buffer' buffer'' table table' keys keys' place at end told extent own w whole back short taken fits is-extent is-own weighed one claimed l = record {
   joined = l.joined ++ e ∷ [];
   rest = es;
-  parts = parts ∙ sym (append_snoc l.joined e (placed (place + (at + (2 + words))) es ++ back));
-  words = part-agree buffer'' buffer (at + (2 + words)) (end - (at + (2 + words))) (λ j l h. (front-then buffer buffer' buffer'' one.kept (front_kept buffer' buffer'' claimed.kept)).below j (omega arith)) ∙ t.behind;
+  parts = parts ∙ sym (append_snoc l.joined e (placed (place + (at + (2 + told.words))) es ++ back));
+  words = part-agree buffer'' buffer (at + (2 + told.words)) (end - (at + (2 + told.words))) (λ j l h. (front-then buffer buffer' buffer'' one.kept (front_kept buffer' buffer'' claimed.kept)).below j (omega arith)) ∙ t.behind;
   right = (rw t.all at l.right).1;
   counts = counts_same (t.entry ∷ (l.joined ++ back)) ((l.joined ++ e ∷ []) ++ back) es (λ k. rw append_snoc (highest-insert k l.joined back e)) counts.1;
   fit = rw append_snoc (items-next size n ws l.joined back t.entry (place + at) es counts items);
@@ -115,7 +114,7 @@ left-next size n ws buffer buffer' buffer'' table table' keys keys' place at end
   room = rw one.sized l.room;
 }
   where
-    t : Taken buffer at end op placement version field key words l.rest
+    t : Taken buffer at end told l.rest
     t = taken l.rest (l.right, l.words)
 
     es : List Entry
@@ -131,11 +130,11 @@ left-next size n ws buffer buffer' buffer'' table table' keys keys' place at end
     is-weight = weighed.is (omega arith) ∙ rw (t.of-op, t.size)
 
     more : List Entry
-    more = placed (place + (at + (2 + words))) es
+    more = placed (place + (at + (2 + told.words))) es
 
     parts : whole ≡ l.joined ++ (e ∷ (more ++ back))
     parts =
-        let p : place + at + (2 + length t.entry.value) ≡ place + (at + (2 + words)) = omega (arith, t.size) in
+        let p : place + at + (2 + length t.entry.value) ≡ place + (at + (2 + told.words)) = omega (arith, t.size) in
         rw (t.all, p) at l.parts
 
     counts : CountsOn (l.joined ++ back) (t.entry ∷ es)
@@ -146,7 +145,7 @@ left-next size n ws buffer buffer' buffer'' table table' keys keys' place at end
 
     later : Later (l.joined ++ back) (e ∷ more)
     later =
-        let p : place + at + (2 + length t.entry.value) ≡ place + (at + (2 + words)) = omega (arith, t.size) in
+        let p : place + at + (2 + length t.entry.value) ≡ place + (at + (2 + told.words)) = omega (arith, t.size) in
         rw (t.all, p) at (later-placed (place + at) (l.joined ++ back) l.rest (counts-later (l.joined ++ back) l.rest l.counts))
 
     awaits : Awaited size n ws table l.joined more back e
@@ -166,30 +165,29 @@ going-then size ws buffer₀ table₀ keys₀ place at₀ end buffer table keys 
 }
 
 module _ (size : Size) (ws buffer₀ table₀ : List ℕ) (keys₀ place at₀ end : ℕ) (buffer table : List ℕ) (keys at : ℕ) (inv : Going size ws buffer₀ table₀ keys₀ place at₀ end buffer table keys at)
-    (r : StagedItem) (told : Staged buffer at end r) where
-  pub going_next : (op placement version field key words : ℕ) → r ≡ I.Entry op placement version field key words → end ≤ batch_room → (extent own : ℕ) → extent ≡ extent_of size placement field → own ≡ alone size extent (place + at) version
-      → (w : ℕ) → Weighed op words w → (buffer' table' : List ℕ) (keys' : ℕ) → OneJoined size ws buffer buffer' table table' keys key own w keys' → (buffer'' : List ℕ) → Claimed size buffer' buffer'' (block_at op placement field)
-      → Going size ws buffer₀ table₀ keys₀ place at₀ end buffer'' table' keys' (at + (2 + words))
-  going_next op placement version field key words e short extent own is-extent is-own w weighed buffer' table' keys' one buffer'' claimed = record {
-    kept = front-then buffer₀ buffer buffer'' inv.kept (front-then buffer buffer' buffer'' one.kept (front_kept buffer' buffer'' claimed.kept));
-    sized = one.sized ∙ inv.sized;
-    goes = λ n whole back l.
-        left-next size n ws buffer buffer' buffer'' table table' keys keys' place at end op placement version field key words extent own w whole back short
-        (told-entry buffer at end r told op placement version field key words e) (told-fits buffer at end r told op placement version field key words e) is-extent is-own weighed one claimed (inv.goes n whole back l);
-  }
+  where
+    pub going_next : (t : StagedEntry) → Staged buffer at end (Some t) → end ≤ batch_room → (extent own : ℕ) → extent ≡ extent_of size t.placement t.field → own ≡ alone size extent (place + at) t.version
+        → (w : ℕ) → Weighed t.op t.words w → (buffer' table' : List ℕ) (keys' : ℕ) → OneJoined size ws buffer buffer' table table' keys t.key own w keys' → (buffer'' : List ℕ) → Claimed size buffer' buffer'' (block_at t.op t.placement t.field)
+        → Going size ws buffer₀ table₀ keys₀ place at₀ end buffer'' table' keys' (at + (2 + t.words))
+    going_next t told short extent own is-extent is-own w weighed buffer' table' keys' one buffer'' claimed = record {
+      kept = front-then buffer₀ buffer buffer'' inv.kept (front-then buffer buffer' buffer'' one.kept (front_kept buffer' buffer'' claimed.kept));
+      sized = one.sized ∙ inv.sized;
+      goes = λ n whole back l.
+          left-next size n ws buffer buffer' buffer'' table table' keys keys' place at end t extent own w whole back short told.1 told.0 is-extent is-own weighed one claimed (inv.goes n whole back l);
+    }
 
-  -- the end
-  going_end : r ≡ I.Nothing → (n : ℕ) (whole back : List Entry) → Left size n ws buffer₀ table₀ keys₀ place at₀ end whole back → Shown size buffer table keys whole
-  going_end e n whole back l =
-      let m = inv.goes n whole back l in
-      let z = told_none buffer at end r told e m.rest (m.right, m.words) in
-      rw (m.parts, z) m.shown
+    -- the end
+    going_end : Staged buffer at end None → (n : ℕ) (whole back : List Entry) → Left size n ws buffer₀ table₀ keys₀ place at₀ end whole back → Shown size buffer table keys whole
+    going_end told n whole back l =
+        let m = inv.goes n whole back l in
+        let z = told m.rest (m.right, m.words) in
+        rw (m.parts, z) m.shown
 
 pub going-joins : (size : Size) → (words : ℕ) (ws buffer₀ table₀ : List ℕ) (keys₀ place at₀ end : ℕ) (buffer table : List ℕ) (keys at : ℕ) (inv : Going size ws buffer₀ table₀ keys₀ place at₀ end buffer table keys at)
-    (r : StagedItem) → Staged buffer at end r → r ≡ I.Nothing → at₀ ≡ 0 → end ≡ min words batch_room → Joining size place words keys₀ buffer₀ buffer ws table₀ table keys
-going-joins size words ws buffer₀ table₀ keys₀ place at₀ end buffer table keys at inv r told e q4 q5 = record {
+    → Staged buffer at end None → at₀ ≡ 0 → end ≡ min words batch_room → Joining size place words keys₀ buffer₀ buffer ws table₀ table keys
+going-joins size words ws buffer₀ table₀ keys₀ place at₀ end buffer table keys at inv told q4 q5 = record {
   kept = inv.kept;
   sized = inv.sized;
   joins = λ n front back items f.
-      going_end size ws buffer₀ table₀ keys₀ place at₀ end buffer table keys at inv r told e n (front ++ (placed place items ++ back)) back (rw (q4, q5) (left-start size n place words keys₀ buffer₀ ws table₀ front back items f));
+      going_end size ws buffer₀ table₀ keys₀ place at₀ end buffer table keys at inv told n (front ++ (placed place items ++ back)) back (rw (q4, q5) (left-start size n place words keys₀ buffer₀ ws table₀ front back items f));
 }

@@ -1,6 +1,6 @@
 -- The whole pass: what the code shows at a cleaning's last fence.
 -- Assumes nothing.
-use Rattle.std.proofs.Common.{◌≡◌, ℕ, Bool, true, List, ◌++◌, ◌∙◌, arith}
+use Rattle.std.proofs.Common.{◌≡◌, ℕ, Bool, List, ◌++◌, ◌∙◌, arith, refl}
 use Rattle.spec.specs.declared.Size.{Size}
 use Rattle.places.specs.Sizes.{power_of}
 use Rattle.spec.specs.Places.{word_chunk}
@@ -8,8 +8,8 @@ use Rattle.spec.specs.Log.{Entry}
 use Rattle.spec.specs.Basics.{is_in}
 use Rattle.spec.specs.Contents.{is_kept, live_blocks}
 use Rattle.spec.specs.declared.Refusal.{Refusal}
-use Rattle.opening.specs.declared.CheckedImage.{CheckedImage}
-use Rattle.opening.specs.declared.CheckedImage.TheVariants as J
+use Rattle.std.specs.Prelude.{Option, Some, Result, Ok, Err}
+use Rattle.std.specs.Result.{result_unwrap_or}
 use Rattle.opening.specs.Judged.{JudgingLog}
 use Rattle.session.specs.Cleaned.{before, after}
 use Rattle.apply.specs.Leaving.{Singles, Leaving}
@@ -24,15 +24,15 @@ use Rattle.apply.proofs.Steps.{leaving-single, leaving-end}
 
 -- ## Built anew
 
-module _ (size : Size) (n : ℕ) (ws table table' buffer buffer' : List ℕ) (r : CheckedImage) (j : JudgingLog size n ws table table' buffer buffer' r) where
-  pub built-not : (why : Refusal) → r ≡ J.Refused why → (keys : ℕ) → Rebuilt size n ws buffer buffer' table table' keys
+module _ (size : Size) (n : ℕ) (ws table table' buffer buffer' : List ℕ) (r : Result ℕ Refusal) (j : JudgingLog size n ws table table' buffer buffer' r) where
+  pub built-not : (why : Refusal) → r ≡ Err why → (keys : ℕ) → Rebuilt size n ws buffer buffer' table table' keys
   built-not why e keys = record {
     sized = j.sized;
     kept = j.kept;
     builds = λ most long es a. let w = (rw e at (j.judged most long)).0 in absurd (let z : ◌≡◌ {A = ℕ} 0 1 = cc in omega arith);
   }
 
-  pub built : (keys : ℕ) → r ≡ J.Accepted keys → Rebuilt size n ws buffer buffer' table table' keys
+  pub built : (keys : ℕ) → r ≡ Ok keys → Rebuilt size n ws buffer buffer' table table' keys
   built keys e = record {
     sized = j.sized;
     kept = j.kept;
@@ -43,11 +43,19 @@ module _ (size : Size) (n : ℕ) (ws table table' buffer buffer' : List ℕ) (r 
         rw (← q) (record { indexed = w.2; blocks = w.3; sums = w.4 });
   }
 
+  -- by the verdict, or as it is
+  pub built-or : (keys : ℕ) → Rebuilt size n ws buffer buffer' table table' (result_unwrap_or r keys)
+  built-or keys = go r refl
+    where
+      go : (q : Result ℕ Refusal) → r ≡ q → Rebuilt size n ws buffer buffer' table table' (result_unwrap_or q keys)
+      go (Ok found) e = built found e
+      go (Err why) e = built-not why e keys
+
 -- ## At the last fence
 
 module _ (size : Size) (n : ℕ) (ws buffer buffer' table table' : List ℕ) (keys at end from until words keys' : ℕ) where
   -- some key has several top entries: built anew, whatever the pass has left of the table
-  pub emptied-anew : (middle : List ℕ) (w : Removed) → AllLeft size ws table middle keys at end from until w → Rebuilt size n ws buffer buffer' middle table' keys' → Emptying size n ws buffer buffer' table table' keys at end from until words keys'
+  pub emptied-anew : (middle : List ℕ) (w : Option Removed) → AllLeft size ws table middle keys at end from until w → Rebuilt size n ws buffer buffer' middle table' keys' → Emptying size n ws buffer buffer' table table' keys at end from until words keys'
   emptied-anew middle w l b = record {
     sized = b.sized ∙ l.sized;
     kept = b.kept;
@@ -55,8 +63,8 @@ module _ (size : Size) (n : ℕ) (ws buffer buffer' table table' : List ℕ) (ke
   }
 
   -- none has
-  pub emptied : TurnedOver size buffer buffer' (word_chunk (power_of size) at) from words → (w : Removed) → AllLeft size ws table table' keys at end from until w → w.single ≡ true → keys' ≡ w.keys → Emptying size n ws buffer buffer' table table' keys at end from until words keys'
-  emptied turned w l single is = record {
+  pub emptied : TurnedOver size buffer buffer' (word_chunk (power_of size) at) from words → (w : Removed) → AllLeft size ws table table' keys at end from until (Some w) → keys' ≡ w.keys → Emptying size n ws buffer buffer' table table' keys at end from until words keys'
+  emptied turned w l is = record {
     sized = l.sized;
     kept = turned.kept.long;
     leaves = go;
@@ -67,7 +75,7 @@ module _ (size : Size) (n : ℕ) (ws buffer buffer' table table' : List ℕ) (ke
         where
           ready : (es out : List Entry) (test : Entry → Bool) → Leaving size ws until es mid out test table keys mid from → (Singles mid es → (u : ℕ) → is_in u (live_blocks (before xs mid ys)) ≡ is_in u (live_blocks out)) → (Singles mid es → Summed size buffer' out) → Holds size buffer' table' keys' out
           ready es out test begun live summed =
-              let over = l.leaves single es mid out test e.here begun in
+              let over = l.leaves es mid out test e.here begun in
               record {
                 indexed = rw is (leaving-end size ws until es mid out test table' w.keys w.to over);
                 blocks = λ u. alone-bits size buffer buffer' turned.kept u ∙ e.holds.blocks u ∙ live (leaving-single size ws until es mid out test table' w.keys w.to over) u;

@@ -1,6 +1,6 @@
 -- What the items of a batch do to the key table and to the bits, one by one and all together.
 -- Assumes nothing.
-use Rattle.std.specs.Prelude.{◌≡◌, ℕ, ◌+◌, ◌-◌, ◌<◌, ◌≤◌, min, Bool, true, false, List, ◌∷◌, ◌++◌, length, ◌≢◌}
+use Rattle.std.specs.Prelude.{◌≡◌, ℕ, ◌+◌, ◌-◌, ◌<◌, ◌≤◌, min, true, List, ◌∷◌, ◌++◌, length, ◌≢◌, Option, Some, None}
 use Rattle.std.proofs.Math.Option.{some}
 use Rattle.spec.specs.declared.Size.{Size}
 use Rattle.places.specs.Sizes.{power_of}
@@ -64,9 +64,9 @@ pub record OneJoined (size : Size) (ws buffer buffer' table table' : List ℕ) (
 
 -- the same of a put that is to join without the image: where it joined, it did so whatever the image shows; else
 -- nothing changed
-pub record PutJoined (size : Size) (buffer buffer' table table' : List ℕ) (keys key own w : ℕ) (joined : Bool) (keys' : ℕ) : Type 0 where
-  pub joins : joined ≡ true → (ws : List ℕ) → OneJoined size ws buffer buffer' table table' keys key own w keys'
-  pub left : joined ≡ false → (buffer' ≡ buffer) × (table' ≡ table)
+abbrev pub PutJoined : (size : Size) → (buffer buffer' table table' : List ℕ) (keys key own w : ℕ) → Option ℕ → Type 0
+PutJoined size buffer buffer' table table' keys key own w (Some keys') = (ws : List ℕ) → OneJoined size ws buffer buffer' table table' keys key own w keys'
+PutJoined size buffer buffer' table table' keys key own w None = (buffer' ≡ buffer) × (table' ≡ table)
 
 -- THE BATCH, so many words of the buffer: what holds at a commit's last fence. The image, of n chunks, shows it at
 -- `place`, between front and back; table, bits and sums know front and back alone.

@@ -1,7 +1,7 @@
 -- What the pass over the entries of a chunk does to the key table: one entry, a run of puts, and all of them, at a
 -- cleaning's last fence.
 -- Assumes nothing.
-use Rattle.std.specs.Prelude.{◌≡◌, ℕ, ◌+◌, ◌<◌, ◌≤◌, Bool, true, List, [], ◌∷◌, length}
+use Rattle.std.specs.Prelude.{◌≡◌, ℕ, ◌+◌, ◌<◌, ◌≤◌, Bool, List, [], ◌∷◌, length, Option, Some, None}
 use Rattle.spec.specs.declared.Size.{Size}
 use Rattle.places.specs.Sizes.{power_of}
 use Rattle.spec.specs.Basics.{is_in, filter}
@@ -24,22 +24,39 @@ pub record IsCopied (ws : List ℕ) (to until op key : ℕ) (r : Bool) : Type 0 
   pub marks : (test : Entry → Bool) (left : List Entry) (e : Entry) → e.op ≡ op → e.key ≡ key → Stand ws to until (placed to (filter test (e ∷ left))) → Marked test r left e
 
 -- the table, with so many keys, before and after the entry of a key at this place, of so many words, leaves
-pub record OneLeft (size : Size) (table table' : List ℕ) (keys key place to words : ℕ) (copied : Bool) (r : Removed) : Type 0 where
+abbrev pub EntryLeaves : (size : Size) → (table table' : List ℕ) (keys key place to words : ℕ) → Bool → Option Removed → Type 0
+EntryLeaves size table table' keys key place to words copied (Some r) =
+    (ws : List ℕ) (until : ℕ) (es mid out : List Entry) (test : Entry → Bool) (left : List Entry) (e : Entry) → e.key ≡ key → e.at ≡ place → words ≡ 2 + length e.value → words < 0x4000_0000_0000_0000
+    → Marked test copied left e → Leaving size ws until es mid out test table keys (e ∷ left) to → Leaving size ws until es mid out test table' r.keys left r.to
+EntryLeaves size table table' keys key place to words copied None = Unit {0}
+
+pub record OneLeft (size : Size) (table table' : List ℕ) (keys key place to words : ℕ) (copied : Bool) (r : Option Removed) : Type 0 where
   pub sized : length table' ≡ length table
-  pub leaves : r.single ≡ true → (ws : List ℕ) (until : ℕ) (es mid out : List Entry) (test : Entry → Bool) (left : List Entry) (e : Entry) → e.key ≡ key → e.at ≡ place → words ≡ 2 + length e.value → words < 0x4000_0000_0000_0000
-      → Marked test copied left e → Leaving size ws until es mid out test table keys (e ∷ left) to → Leaving size ws until es mid out test table' r.keys left r.to
+  pub leaves : EntryLeaves size table table' keys key place to words copied r
 
 -- before and after a run of puts, from word `from` on and before word `end`
-pub record PutsLeft (size : Size) (ws table table' : List ℕ) (keys from end to : ℕ) (r : Run) : Type 0 where
-  pub sized : length table' ≡ length table
+pub record Passing (size : Size) (ws table table' : List ℕ) (keys from end to : ℕ) (r : Run) : Type 0 where
   pub nearer : (n c : ℕ) → left n ws (cursor_at c r.at end) ≤ left n ws (cursor_at c from end)
-  pub passes : r.single ≡ true → (c until : ℕ) (es mid out : List Entry) (test : Entry → Bool) (todo : List Entry) → remaining (power_of size) 0 ws (cursor_at c from end) ≡ Entries todo → Leaving size ws until es mid out test table keys todo to
+  pub passes : (c until : ℕ) (es mid out : List Entry) (test : Entry → Bool) (todo : List Entry) → remaining (power_of size) 0 ws (cursor_at c from end) ≡ Entries todo → Leaving size ws until es mid out test table keys todo to
       → (todo' : List Entry) × (remaining (power_of size) 0 ws (cursor_at c r.at end) ≡ Entries todo') × Leaving size ws until es mid out test table' r.keys todo' r.to
 
--- and all of them
-pub record AllLeft (size : Size) (ws table table' : List ℕ) (keys at end from until : ℕ) (r : Removed) : Type 0 where
+abbrev pub PutsPass : (size : Size) → (ws table table' : List ℕ) (keys from end to : ℕ) → Option Run → Type 0
+PutsPass size ws table table' keys from end to (Some r) = Passing size ws table table' keys from end to r
+PutsPass size ws table table' keys from end to None = Unit {0}
+
+pub record PutsLeft (size : Size) (ws table table' : List ℕ) (keys from end to : ℕ) (r : Option Run) : Type 0 where
   pub sized : length table' ≡ length table
-  pub leaves : r.single ≡ true → (es mid out : List Entry) (test : Entry → Bool) → Stand ws at end mid → Leaving size ws until es mid out test table keys mid from → Leaving size ws until es mid out test table' r.keys [] r.to
+  pub passing : PutsPass size ws table table' keys from end to r
+
+-- and all of them
+abbrev pub EntriesLeave : (size : Size) → (ws table table' : List ℕ) (keys at end from until : ℕ) → Option Removed → Type 0
+EntriesLeave size ws table table' keys at end from until (Some r) =
+    (es mid out : List Entry) (test : Entry → Bool) → Stand ws at end mid → Leaving size ws until es mid out test table keys mid from → Leaving size ws until es mid out test table' r.keys [] r.to
+EntriesLeave size ws table table' keys at end from until None = Unit {0}
+
+pub record AllLeft (size : Size) (ws table table' : List ℕ) (keys at end from until : ℕ) (r : Option Removed) : Type 0 where
+  pub sized : length table' ≡ length table
+  pub leaves : EntriesLeave size ws table table' keys at end from until r
 
 -- table, bits and sums are those of the entries es
 pub record Holds (size : Size) (buffer table : List ℕ) (keys : ℕ) (es : List Entry) : Type 0 where

@@ -9,10 +9,8 @@ ghost use Rattle.volatile.specs.Blocks.{block_at, named_by, Freed, Claimed};
 ghost use Rattle.volatile.specs.Known.{alone};
 ghost use Rattle.apply.specs.Joining.{Superseded, OneJoined, PutJoined, PutsJoined, Joining};
 
-use batch::StagedItem;
 use buffer::{BATCH_WORDS, Buffer};
 use codec::Unit;
-use logs::Short;
 use packing::Info;
 use spec::{FirstWord, Size};
 
@@ -21,11 +19,8 @@ use spec::{FirstWord, Size};
 fn release(buffer: &mut Buffer, op: u64, placement: u64, field: u64, size: Size)
     ensures { Freed size buffer.old buffer.new (block_at op placement field) }
 {
-    buffer::buffer_length(buffer);
-    if op == 1 {
-        if placement == 1 {
-            buffer::unset_bit(buffer, Unit(field), size);
-        }
+    if op == 1 && placement == 1 {
+        buffer::unset_bit(buffer, Unit(field), size);
     }
 }
 
@@ -33,16 +28,14 @@ fn release(buffer: &mut Buffer, op: u64, placement: u64, field: u64, size: Size)
 fn release_at(buffer: &mut Buffer, image: &[u8], place: usize, size: Size)
     ensures { Freed size buffer.old buffer.new (named_by (first_of_word (slice_index (words_of image.now) place))) }
 {
-    buffer::buffer_length(buffer);
-    let first = codec::first_of(words::load(image, place));
-    match first {
+    match codec::first_of(words::load(image, place)) {
         FirstWord::Padding => {}
         FirstWord::Wrong => {}
         FirstWord::Entry {
             op,
             placement,
-            version: _,
             field,
+            ..
         } => {
             release(buffer, op, placement, field, size);
         }
@@ -54,7 +47,6 @@ fn release_at(buffer: &mut Buffer, image: &[u8], place: usize, size: Size)
 fn release_tops(buffer: &mut Buffer, image: &[u8], info: Info, size: Size)
     ensures { Superseded size (words_of image.now) buffer.old buffer.new info }
 {
-    buffer::buffer_length(buffer);
     if 0 < info.extent {
         return;
     }
@@ -66,11 +58,8 @@ fn release_tops(buffer: &mut Buffer, image: &[u8], info: Info, size: Size)
 fn claim(buffer: &mut Buffer, op: u64, placement: u64, field: u64, size: Size)
     ensures { Claimed size buffer.old buffer.new (block_at op placement field) }
 {
-    buffer::buffer_length(buffer);
-    if placement == 1 {
-        if op == 1 {
-            buffer::set_bit(buffer, Unit(field), size);
-        }
+    if placement == 1 && op == 1 {
+        buffer::set_bit(buffer, Unit(field), size);
     }
 }
 
@@ -89,7 +78,6 @@ fn join_one(
 ) -> usize
     ensures { OneJoined size (words_of image.now) buffer.old buffer.new table.old table.new keys key own weight result }
 {
-    buffer::buffer_length(buffer);
     let slot = index::slot_of(table, key);
     let old = index::word_at(table, slot);
     volatile::chunk_sums::renew(image, buffer, old, own, weight, size);
@@ -105,16 +93,10 @@ fn join_one(
     keys
 }
 
-// What became of a put that was to join without the image: whether it joined, and how many keys the table has then.
-#[derive(Clone, Copy)]
-struct Tried {
-    joined: bool,
-    keys: usize,
-}
-
 // A put with its value in the log joins the table of an image with small chunks, which has so many keys, without the
 // image: it has a new key, for which there is room, or the table says an extent of the key's chosen entry, which is
-// lower. That one has its value in the log too, so no block leaves the bits. Else nothing is done.
+// lower. That one has its value in the log too, so no block leaves the bits. How many keys the table has then; else
+// nothing is done.
 fn join_put(
     buffer: &mut Buffer,
     table: &mut [u64],
@@ -124,43 +106,31 @@ fn join_put(
     place: usize,
     version: u64,
     weight: u64,
-) -> Tried
-    ensures { PutJoined Small buffer.old buffer.new table.old table.new keys key (alone Small extent place version) weight result.joined result.keys }
+) -> Option<usize>
+    ensures { PutJoined Small buffer.old buffer.new table.old table.new keys key (alone Small extent place version) weight result }
 {
-    buffer::buffer_length(buffer);
     let own = volatile::single_entry(Size::Small, extent, place, version);
     let new = packing::unpack(Size::Small, own);
     let slot = index::slot_of(table, key);
     let old = index::word_at(table, slot);
     let was = packing::unpack(Size::Small, old);
     if 0 < was.extent {
-        if was.version < new.version {
-            let gone = volatile::chunk_sums::weigh_extent(was.extent);
-            volatile::chunk_sums::take_off(buffer, was.place as usize, gone, Size::Small);
-            volatile::chunk_sums::add(buffer, place, weight, Size::Small);
-            let info = volatile::with_entry(Size::Small, old, own);
-            index::set_slot(table, slot, key, info);
-            return Tried { joined: true, keys };
+        if new.version <= was.version {
+            return None;
         }
-        return Tried {
-            joined: false,
-            keys,
-        };
+        let gone = volatile::chunk_sums::weigh_extent(was.extent);
+        volatile::chunk_sums::take_off(buffer, was.place as usize, gone, Size::Small);
+        volatile::chunk_sums::add(buffer, place, weight, Size::Small);
+        let info = volatile::with_entry(Size::Small, old, own);
+        index::set_slot(table, slot, key, info);
+        return Some(keys);
     }
-    if old == 0 {
-        if keys < index::capacity(table.len()) {
-            volatile::chunk_sums::add(buffer, place, weight, Size::Small);
-            index::set_slot(table, slot, key, own);
-            return Tried {
-                joined: true,
-                keys: keys + 1,
-            };
-        }
+    if old != 0 || index::capacity(table.len()) <= keys {
+        return None;
     }
-    Tried {
-        joined: false,
-        keys,
-    }
+    volatile::chunk_sums::add(buffer, place, weight, Size::Small);
+    index::set_slot(table, slot, key, own);
+    Some(keys + 1)
 }
 
 // THE BATCH
@@ -184,42 +154,30 @@ fn join_puts(
     requires { (place < 2 ^ 32) × (end ≤ batch_room) }
     ensures { PutsJoined Small place end buffer.old table.old known from buffer.new table.new result.keys result.at }
 {
-    buffer::buffer_length(buffer);
     let mut at = from;
     let mut keys = known;
-    loop {
-        let s = batch::short_at(buffer, at, end);
-        match s {
-            Short::Other => {
-                return Reached { at, keys };
+    while let Some(put) = batch::short_at(buffer, at, end) {
+        let extent = volatile::extent_of(Size::Small, 0, put.field);
+        let weight = (2 + put.words) as u64;
+        let joined = join_put(
+            buffer,
+            table,
+            keys,
+            put.key,
+            extent,
+            place + at,
+            put.version,
+            weight,
+        );
+        match joined {
+            Some(count) => {
+                keys = count;
+                at += 2 + put.words;
             }
-            Short::Put {
-                version,
-                field,
-                key,
-                words,
-            } => {
-                let extent = volatile::extent_of(Size::Small, 0, field);
-                let weight = (2 + words) as u64;
-                let t = join_put(
-                    buffer,
-                    table,
-                    keys,
-                    key,
-                    extent,
-                    place + at,
-                    version,
-                    weight,
-                );
-                if t.joined {
-                    keys = t.keys;
-                    at += 2 + words;
-                } else {
-                    return Reached { at, keys };
-                }
-            }
+            None => return Reached { at, keys },
         }
     }
+    Reached { at, keys }
 }
 
 // The same by the size: with large chunks the table says no extent, so that all items are left to `join`.
@@ -235,7 +193,6 @@ fn join_common(
     requires { (place < 2 ^ 32) × (end ≤ batch_room) }
     ensures { PutsJoined size place end buffer.old table.old known from buffer.new table.new result.keys result.at }
 {
-    buffer::buffer_length(buffer);
     match size {
         Size::Small => join_puts(place, from, end, known, buffer, table),
         Size::Large => Reached {
@@ -259,33 +216,22 @@ pub fn join(
     requires { place < 2 ^ 32 }
     ensures { Joining size place words known buffer.old buffer.new (words_of image.now) table.old table.new result }
 {
-    buffer::buffer_length(buffer);
-    let end = words::lesser(words, BATCH_WORDS);
+    let end = words.min(BATCH_WORDS);
     let mut keys = known;
     let mut at: usize = 0;
     loop {
         let r = join_common(place, at, end, keys, buffer, table, size);
         at = r.at;
         keys = r.keys;
-        let item = batch::staged_entry(buffer, at, end);
-        match item {
-            StagedItem::Nothing => {
-                return keys;
-            }
-            StagedItem::Entry {
-                op,
-                placement,
-                version,
-                field,
-                key,
-                words,
-            } => {
-                let extent = volatile::extent_of(size, placement, field);
-                let own = volatile::single_entry(size, extent, place + at, version);
-                let weight = volatile::chunk_sums::weigh(op, words);
-                keys = join_one(image, buffer, table, keys, key, own, weight, size);
-                claim(buffer, op, placement, field, size);
-                at += 2 + words;
+        match batch::staged_entry(buffer, at, end) {
+            None => return keys,
+            Some(item) => {
+                let extent = volatile::extent_of(size, item.placement, item.field);
+                let own = volatile::single_entry(size, extent, place + at, item.version);
+                let weight = volatile::chunk_sums::weigh(item.op, item.words);
+                keys = join_one(image, buffer, table, keys, item.key, own, weight, size);
+                claim(buffer, item.op, item.placement, item.field, size);
+                at += 2 + item.words;
             }
         }
     }

@@ -1,23 +1,21 @@
 // The entries of a cleaned chunk leave the key table, and the copies of those that are kept take their places: one
 // pass, one probe an entry.
-ghost use Rattle.std.specs.Prelude.{◌≡◌, ◌-◌};
+ghost use Rattle.std.specs.Prelude.{◌≡◌};
 ghost use Rattle.spec.specs.Words.{words_of};
 ghost use Rattle.apply.specs.Leaving.{less_of, turned_of};
 ghost use Rattle.apply.specs.Passes.{IsCopied, OneLeft, PutsLeft, AllLeft, Rebuilt, Emptying};
 
 use buffer::Buffer;
-use logs::{Cursor, Next, Short};
-use opening::CheckedImage;
+use logs::Cursor;
 use packing::Info;
 use spec::Size;
 
-// What a pass has come to: how many keys the table has, and the word at which the next copy stands; false where a key
-// has several top entries, or the log is wrong: the table is then to be built anew.
+// What a pass has come to: how many keys the table has, and the word at which the next copy stands. A pass has none
+// where a key has several top entries, or the log is wrong: the table is then to be built anew.
 #[derive(Clone, Copy)]
 pub struct Removed {
     pub keys: usize,
     pub to: usize,
-    pub single: bool,
 }
 
 // The same behind a run of puts, and the word that it has come to.
@@ -25,17 +23,10 @@ pub struct Removed {
 pub struct Run {
     pub keys: usize,
     pub to: usize,
-    pub single: bool,
     pub at: usize,
 }
 
 // WORDS OF THE TABLE
-fn one_less(x: usize) -> usize
-    ensures { result ≡ x - 1 }
-{
-    if x == 0 { 0 } else { x - 1 }
-}
-
 // A word that speaks of a copy at this place from now on: the copy is one entry more, and its original one less.
 fn with_copy(size: Size, word: u64, place: usize) -> u64
     ensures { result ≡ turned_of size word place }
@@ -44,11 +35,8 @@ fn with_copy(size: Size, word: u64, place: usize) -> u64
     packing::pack(
         size,
         Info {
-            extent: info.extent,
             place: place as u64,
-            version: info.version,
-            entries: info.entries,
-            several: info.several,
+            ..info
         },
     )
 }
@@ -58,15 +46,11 @@ fn with_less(size: Size, word: u64) -> u64
     ensures { result ≡ less_of size word }
 {
     let info = packing::unpack(size, word);
-    let entries = one_less(info.entries as usize) as u64;
     packing::pack(
         size,
         Info {
-            extent: info.extent,
-            place: info.place,
-            version: info.version,
-            entries,
-            several: info.several,
+            entries: info.entries.saturating_sub(1),
+            ..info
         },
     )
 }
@@ -84,20 +68,10 @@ fn is_copied(image: &[u8], to: usize, until: usize, op: u64, key: u64, size: Siz
         at: to,
         end: until,
     };
-    let n = logs::next_in_log(image, 0, cursor, size);
-    match n {
-        Next::Done => false,
-        Next::Wrong => false,
-        Next::Entry {
-            op: _,
-            placement: _,
-            version: _,
-            field: _,
-            key: next,
-            words: _,
-            place: _,
-            cursor: _,
-        } => next == key,
+    match logs::next_in_log(image, 0, cursor, size) {
+        Ok(Some(e)) => e.key == key,
+        Ok(None) => false,
+        Err(_) => false,
     }
 }
 
@@ -113,48 +87,34 @@ fn remove_entry(
     words: usize,
     copied: bool,
     size: Size,
-) -> Removed
+) -> Option<Removed>
     ensures { OneLeft size table.old table.new keys key place to words copied result }
 {
     let slot = index::slot_of(table, key);
     let word = index::word_at(table, slot);
     let info = packing::unpack(size, word);
     if word == 0 {
-        return Removed {
-            keys,
-            to,
-            single: true,
-        };
+        return Some(Removed { keys, to });
     }
     if info.several != 0 {
-        return Removed {
+        return None;
+    }
+    if info.place != place as u64 {
+        index::set_slot(table, slot, key, with_less(size, word));
+        return Some(Removed { keys, to });
+    }
+    if copied {
+        index::set_slot(table, slot, key, with_copy(size, word, to));
+        return Some(Removed {
             keys,
-            to,
-            single: false,
-        };
+            to: to.wrapping_add(words),
+        });
     }
-    if info.place == place as u64 {
-        if copied {
-            index::set_slot(table, slot, key, with_copy(size, word, to));
-            return Removed {
-                keys,
-                to: std::num::wrapping_add_usize(to, words),
-                single: true,
-            };
-        }
-        let _ = index::remove(table, key);
-        return Removed {
-            keys: one_less(keys),
-            to,
-            single: true,
-        };
-    }
-    index::set_slot(table, slot, key, with_less(size, word));
-    Removed {
-        keys,
+    let _ = index::remove(table, key);
+    Some(Removed {
+        keys: keys.saturating_sub(1),
         to,
-        single: true,
-    }
+    })
 }
 
 // THE PASS, over the words from `at` to `end`
@@ -167,45 +127,32 @@ fn remove_puts(
     end: usize,
     to: usize,
     size: Size,
-) -> Run
+) -> Option<Run>
     ensures { PutsLeft size (words_of image.now) table.old table.new keys from end to result }
 {
     let mut count = keys;
     let mut copy = to;
     let mut place = from;
-    loop {
-        let s = logs::short_put(image, place, end);
-        match s {
-            Short::Other => {
-                return Run {
-                    keys: count,
-                    to: copy,
-                    single: true,
-                    at: place,
-                };
-            }
-            Short::Put {
-                version: _,
-                field: _,
-                key,
-                words,
-            } => {
-                let went = remove_entry(table, count, key, place, copy, 2 + words, true, size);
-                if went.single {
-                    count = went.keys;
-                    copy = went.to;
-                    place += 2 + words;
-                } else {
-                    return Run {
-                        keys: count,
-                        to: copy,
-                        single: false,
-                        at: place,
-                    };
-                }
-            }
-        }
+    while let Some(put) = logs::short_put(image, place, end) {
+        let went = remove_entry(
+            table,
+            count,
+            put.key,
+            place,
+            copy,
+            2 + put.words,
+            true,
+            size,
+        )?;
+        count = went.keys;
+        copy = went.to;
+        place += 2 + put.words;
     }
+    Some(Run {
+        keys: count,
+        to: copy,
+        at: place,
+    })
 }
 
 // All of them; the copies stand from `from` to `until`.
@@ -218,71 +165,36 @@ fn remove_entries(
     from: usize,
     until: usize,
     size: Size,
-) -> Removed
+) -> Option<Removed>
     ensures { AllLeft size (words_of image.now) table.old table.new keys at end from until result }
 {
     let mut count = keys;
     let mut copy = from;
     let mut cursor = Cursor { chunk: 0, at, end };
     loop {
-        let chunk = cursor.chunk;
-        let stop = cursor.end;
-        let run = remove_puts(image, table, count, cursor.at, stop, copy, size);
-        let so = run.keys;
-        let to = run.to;
-        if run.single {
-            let here = Cursor {
-                chunk,
-                at: run.at,
-                end: stop,
-            };
-            let n = logs::next_in_log(image, 0, here, size);
-            match n {
-                Next::Done => {
-                    return Removed {
-                        keys: so,
-                        to,
-                        single: true,
-                    };
-                }
-                Next::Wrong => {
-                    return Removed {
-                        keys: so,
-                        to,
-                        single: false,
-                    };
-                }
-                Next::Entry {
-                    op,
-                    placement: _,
-                    version: _,
-                    field: _,
-                    key,
-                    words,
-                    place,
-                    cursor: behind,
-                } => {
-                    let copied = is_copied(image, to, until, op, key, size);
-                    let went = remove_entry(table, so, key, place, to, 2 + words, copied, size);
-                    if went.single {
-                        count = went.keys;
-                        copy = went.to;
-                        cursor = behind;
-                    } else {
-                        return Removed {
-                            keys: so,
-                            to,
-                            single: false,
-                        };
-                    }
-                }
+        let run = remove_puts(image, table, count, cursor.at, cursor.end, copy, size)?;
+        let here = Cursor {
+            at: run.at,
+            ..cursor
+        };
+        match logs::next_in_log(image, 0, here, size) {
+            Err(_) => return None,
+            Ok(None) => {
+                return Some(Removed {
+                    keys: run.keys,
+                    to: run.to,
+                });
             }
-        } else {
-            return Removed {
-                keys: so,
-                to,
-                single: false,
-            };
+            Ok(Some(e)) => {
+                let words = 2 + e.words;
+                let copied = is_copied(image, run.to, until, e.op, e.key, size);
+                let went = remove_entry(
+                    table, run.keys, e.key, e.place, run.to, words, copied, size,
+                )?;
+                count = went.keys;
+                copy = went.to;
+                cursor = e.behind;
+            }
         }
     }
 }
@@ -299,11 +211,7 @@ fn rebuild(
 ) -> usize
     ensures { Rebuilt size count (words_of image.now) buffer.old buffer.new table.old table.new result }
 {
-    let verdict = opening::check_log(image, count, table, buffer, size);
-    match verdict {
-        CheckedImage::Refused(_) => keys,
-        CheckedImage::Accepted(found) => found,
-    }
+    opening::check_log(image, count, table, buffer, size).unwrap_or(keys)
 }
 
 // At the last fence of the cleaning of a chunk, whose entries still stand from `at` to `end`, and their copies from
@@ -323,10 +231,12 @@ pub fn remove_chunk(
 ) -> usize
     ensures { Emptying size count (words_of image.now) buffer.old buffer.new table.old table.new keys at end from until words result }
 {
-    let went = remove_entries(image, table, keys, at, end, from, until, size);
-    if went.single {
-        volatile::chunk_sums::turn_over(buffer, places::chunk_of_word(size, at), from, words, size);
-        return went.keys;
+    match remove_entries(image, table, keys, at, end, from, until, size) {
+        Some(went) => {
+            let chunk = places::chunk_of_word(size, at);
+            volatile::chunk_sums::turn_over(buffer, chunk, from, words, size);
+            went.keys
+        }
+        None => rebuild(image, count, buffer, table, keys, size),
     }
-    rebuild(image, count, buffer, table, keys, size)
 }

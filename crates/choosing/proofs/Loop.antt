@@ -3,11 +3,13 @@
 use mathlib.Core.Path.{◌≡◌, refl, sym, ◌∙◌, ap}
 use mathlib.Core.Logic.{◌⊎◌, inl, inr}
 use mathlib.Core.Bool.{Bool, true, false}
-use mathlib.Core.Option.{Option, none}
+use mathlib.Core.Option as maybe
+use mathlib.Core.Option.{none}
+use Rattle.std.specs.Prelude.{Option, Some, None}
+use Rattle.std.proofs.lemmas.Option.{none-some}
 use mathlib.Core.List.{List, [], ◌∷◌, ◌++◌}
 use Prim.Native.Nat.{ℕ, ◌+◌, ◌≤◌, ◌<◌}
 use native.Mathlib.Omega.{arith}
-use borrow.Author.Tests.{eq-eqb}
 use Rattle.spec.specs.declared.Size.{Size}
 use Rattle.places.specs.Sizes.{power_of}
 use Rattle.spec.specs.Basics.{pick}
@@ -18,16 +20,14 @@ use Rattle.volatile.specs.Known.{Indexed}
 use Rattle.volatile.specs.Sums.{Summed}
 use Rattle.directory.proofs.Search.{taken, taken_start, taken_more}
 use Rattle.choosing.specs.declared.Candidate.{Candidate}
-use Rattle.choosing.specs.declared.Choice.TheVariants as C
 use Rattle.choosing.specs.Choices.{best_so_far, Known, BetteredAt, Chooses}
-use Rattle.choosing.proofs.Laws.{some-best}
 
 -- THE BEST of the chunks from 1 on and below c
 module _ (size : Size) (ws : List ℕ) (es : List Entry) where
-  abbrev best_below : ℕ → Option ℕ
+  abbrev best_below : ℕ → maybe.Option ℕ
   best_below c = best (power_of size) ws es none (taken (worth_cleaning (power_of size) ws es) 1 c)
 
-  best-append : (d : Option ℕ) (xs ys : List ℕ) → best (power_of size) ws es d (xs ++ ys) ≡ best (power_of size) ws es (best (power_of size) ws es d xs) ys
+  best-append : (d : maybe.Option ℕ) (xs ys : List ℕ) → best (power_of size) ws es d (xs ++ ys) ≡ best (power_of size) ws es (best (power_of size) ws es d xs) ys
   best-append d [] ys = refl
   best-append d (x ∷ xs) ys = best-append (better (power_of size) ws es d x) xs ys
 
@@ -37,7 +37,7 @@ module _ (size : Size) (ws : List ℕ) (es : List Entry) where
       ∙ best-append none (taken (worth_cleaning (power_of size) ws es) 1 c) (pick (worth_cleaning (power_of size) ws es c) (c ∷ []) [])
       ∙ go (worth_cleaning (power_of size) ws es c) (best_below c)
     where
-      go : (b : Bool) (d : Option ℕ) → best (power_of size) ws es d (pick b (c ∷ []) []) ≡ pick b (better (power_of size) ws es d c) d
+      go : (b : Bool) (d : maybe.Option ℕ) → best (power_of size) ws es d (pick b (c ∷ []) []) ≡ pick b (better (power_of size) ws es d c) d
       go true d = refl
       go false d = refl
 
@@ -46,41 +46,41 @@ module _ (size : Size) (ws : List ℕ) (es : List Entry) where
   chosen-best n = refl
 
 -- THE LOOP: x is the best of the chunks below c
-pub record SoFar (size : Size) (ws : List ℕ) (es : List Entry) (n c : ℕ) (x : Candidate) : Type 0 where
+pub record SoFar (size : Size) (ws : List ℕ) (es : List Entry) (n c : ℕ) (x : Option Candidate) : Type 0 where
   pub high : c ≤ n
   pub known : Known size ws es x
   pub says : best_so_far x ≡ best (power_of size) ws es none (taken (worth_cleaning (power_of size) ws es) 1 c)
 
-pub record Looked (size : Size) (ws table buffer : List ℕ) (n c : ℕ) (x : Candidate) : Type 0 where
+pub record Looked (size : Size) (ws table buffer : List ℕ) (n c : ℕ) (x : Option Candidate) : Type 0 where
   pub past : 1 ≤ c
-  pub inside : (x.chunk ≡ 0) ⊎ (x.chunk < n)
+  pub inside : (y : Candidate) → x ≡ Some y → (1 ≤ y.chunk) × (y.chunk < n)
   pub exact : (keys : ℕ) (es : List Entry) → Ok (power_of size) n ws es → Indexed size table keys es → Summed size buffer es → SoFar size ws es n c x
 
-pub looked-start : (size : Size) → (ws table buffer : List ℕ) (n : ℕ) → Looked size ws table buffer n 1 (record { chunk = 0; lines = 0; words = 0 })
+pub looked-start : (size : Size) → (ws table buffer : List ℕ) (n : ℕ) → Looked size ws table buffer n 1 None
 looked-start size ws table buffer n = record {
   past = omega arith;
-  inside = inl refl;
+  inside = λ y e. absurd (none-some y e);
   exact = λ keys es ok indexed sums. record {
     high = let l = ok.least in omega arith;
-    known = inl refl;
+    known = tt;
     says = sym (ap (best (power_of size) ws es none) (taken_start (worth_cleaning (power_of size) ws es) 1));
   };
 }
 
-module _ (size : Size) (ws table buffer : List ℕ) (n c : ℕ) (x : Candidate) (so : Looked size ws table buffer n c x) where
-  pub looked-next : c < n → (z : Candidate) → BetteredAt size ws table buffer x c z → Looked size ws table buffer n (c + 1) z
+module _ (size : Size) (ws table buffer : List ℕ) (n c : ℕ) (x : Option Candidate) (so : Looked size ws table buffer n c x) where
+  pub looked-next : c < n → (z : Option Candidate) → BetteredAt size ws table buffer x c z → Looked size ws table buffer n (c + 1) z
   looked-next u z b = record {
     past = let l = so.past in omega arith;
-    inside = in_one b.either so.inside;
+    inside = in_one b.either;
     exact = λ keys es ok indexed sums.
         let s = so.exact keys es ok indexed sums in
         let r = b.says n keys es ok indexed sums so.past u s.known in
         record { high = omega arith; known = r.0; says = r.1 ∙ rw s.says (sym (best-more size ws es c so.past)) };
   }
     where
-      in_one : (z ≡ x) ⊎ (z.chunk ≡ c) → (x.chunk ≡ 0) ⊎ (x.chunk < n) → (z.chunk ≡ 0) ⊎ (z.chunk < n)
-      in_one (inl e) i = rw e i
-      in_one (inr e) i = inr (rw e u)
+      in_one : (z ≡ x) ⊎ ((y : Candidate) × (z ≡ Some y) × (y.chunk ≡ c)) → (y : Candidate) → z ≡ Some y → (1 ≤ y.chunk) × (y.chunk < n)
+      in_one (inl e) y is = so.inside y (sym e ∙ is)
+      in_one (inr (v, e, h)) y is = let s : v ≡ y = cc in rw (← s, h) (so.past, u)
 
   module _ (end : n ≤ c) where
     at-end : (keys : ℕ) (es : List Entry) → Ok (power_of size) n ws es → Indexed size table keys es → Summed size buffer es → best_so_far x ≡ chosen_chunk (power_of size) n ws es
@@ -89,12 +89,8 @@ module _ (size : Size) (ws table buffer : List ℕ) (n c : ℕ) (x : Candidate) 
         let e : c ≡ n = let h = s.high in omega arith in
         s.says ∙ ap (λ (m : ℕ). best (power_of size) ws es none (taken (worth_cleaning (power_of size) ws es) 1 m)) e ∙ sym (chosen-best size ws es n)
 
-    pub looked-nothing : x.chunk ≡ 0 → Chooses size ws table buffer n C.Nothing
-    looked-nothing z = record { inside = tt; exact = λ keys es ok indexed sums. rw (← at-end keys es ok indexed sums, eq-eqb x.chunk 0 z) }
+    pub looked-nothing : x ≡ None → Chooses size ws table buffer n None
+    looked-nothing is = record { inside = tt; exact = λ keys es ok indexed sums. rw (← at-end keys es ok indexed sums, is) }
 
-    pub looked-found : (x.chunk ≡ 0 → ⊥) → Chooses size ws table buffer n (C.At x.chunk)
-    looked-found z = record { inside = go so.inside; exact = λ keys es ok indexed sums. rw (← at-end keys es ok indexed sums, some-best x z) }
-      where
-        go : (x.chunk ≡ 0) ⊎ (x.chunk < n) → (1 ≤ x.chunk) × (x.chunk < n)
-        go (inl e) = absurd (z e)
-        go (inr l) = (omega (arith, z), l)
+    pub looked-found : (y : Candidate) → x ≡ Some y → Chooses size ws table buffer n (Some y.chunk)
+    looked-found y is = record { inside = so.inside y is; exact = λ keys es ok indexed sums. rw (← at-end keys es ok indexed sums, is) }

@@ -1,7 +1,8 @@
 -- What choosing answers, for any memory and on memory as the calls left it.
 -- Assumes nothing.
-use Rattle.std.specs.Prelude.{◌≡◌, ◌⊎◌, Bool, List, ℕ, ◌≤◌, ◌<◌, eqb, length}
-use Rattle.std.proofs.Math.Option.{Option, none, some}
+use Rattle.std.specs.Prelude.{◌≡◌, ◌⊎◌, Bool, List, ℕ, ◌≤◌, ◌<◌, length, Option, Some, None}
+use Rattle.std.proofs.Math.Option as maybe
+use Rattle.std.proofs.Math.Option.{none, some}
 use Rattle.spec.specs.declared.Size.{Size}
 use Rattle.places.specs.Sizes.{power_of}
 use Rattle.spec.specs.Basics.{pick}
@@ -20,8 +21,6 @@ use Rattle.volatile.specs.Known.{Indexed}
 use Rattle.volatile.specs.Sums.{Summed}
 use Rattle.lookup.specs.Look.{session_of}
 use Rattle.choosing.specs.declared.Candidate.{Candidate}
-use Rattle.choosing.specs.declared.Choice.{Choice}
-use Rattle.choosing.specs.declared.Choice.TheVariants as C
 use Rattle.session.specs.State.{power_in}
 use Rattle.session.specs.Promise.{Does, memory}
 
@@ -47,42 +46,44 @@ pub record Worth (x : Candidate) (r : Bool) : Type 0 where
 pub record Compared (x y : Candidate) (r : Bool) : Type 0 where
   pub says : (size : Size) (ws : List ℕ) (es : List Entry) → Describes size ws es x → Describes size ws es y → r ≡ is_better (power_of size) ws es x.chunk y.chunk
 
--- the best so far: chunk 0 says that there is none
-abbrev pub best_so_far : Candidate → Option ℕ
-best_so_far x = pick (eqb x.chunk 0) none (some x.chunk)
+-- the best so far, if there is one
+abbrev pub best_so_far : Option Candidate → maybe.Option ℕ
+best_so_far None = none
+best_so_far (Some x) = some x.chunk
 
-abbrev pub Known : (size : Size) → (ws : List ℕ) (es : List Entry) → Candidate → Type 0
-Known size ws es x = (x.chunk ≡ 0) ⊎ Describes size ws es x
+abbrev pub Known : (size : Size) → (ws : List ℕ) (es : List Entry) → Option Candidate → Type 0
+Known size ws es None = Unit {0}
+Known size ws es (Some x) = Describes size ws es x
 
-pub record Bettered (x y z : Candidate) : Type 0 where
-  pub either : (z ≡ x) ⊎ (z ≡ y)
-  pub says : (size : Size) (ws : List ℕ) (es : List Entry) → Known size ws es x → Describes size ws es y → 1 ≤ y.chunk
+pub record Bettered (x : Option Candidate) (y : Candidate) (z : Option Candidate) : Type 0 where
+  pub either : (z ≡ x) ⊎ (z ≡ Some y)
+  pub says : (size : Size) (ws : List ℕ) (es : List Entry) → Known size ws es x → Describes size ws es y
       → best_so_far z ≡ pick (worth_cleaning (power_of size) ws es y.chunk) (better (power_of size) ws es (best_so_far x) y.chunk) (best_so_far x)
 
 -- the best so far and chunk c, on memory as the calls left it
-pub record BetteredAt (size : Size) (ws table buffer : List ℕ) (x : Candidate) (c : ℕ) (z : Candidate) : Type 0 where
-  pub either : (z ≡ x) ⊎ (z.chunk ≡ c)
+pub record BetteredAt (size : Size) (ws table buffer : List ℕ) (x : Option Candidate) (c : ℕ) (z : Option Candidate) : Type 0 where
+  pub either : (z ≡ x) ⊎ ((y : Candidate) × (z ≡ Some y) × (y.chunk ≡ c))
   pub says : (n keys : ℕ) (es : List Entry) → Ok (power_of size) n ws es → Indexed size table keys es → Summed size buffer es → 1 ≤ c → c < n → Known size ws es x
       → Known size ws es z × (best_so_far z ≡ pick (worth_cleaning (power_of size) ws es c) (better (power_of size) ws es (best_so_far x) c) (best_so_far x))
 
 -- ALL CHUNKS, of an image of n: of any memory a chunk from 1 on and below n, or none
-abbrev pub choice_of : Option ℕ → Choice
-choice_of none = C.Nothing
-choice_of (some c) = C.At c
+abbrev pub choice_of : maybe.Option ℕ → Option ℕ
+choice_of none = None
+choice_of (some c) = Some c
 
-abbrev pub InCount : ℕ → Choice → Type 0
-InCount n (C.At c) = (1 ≤ c) × (c < n)
-InCount n C.Nothing = Unit {0}
+abbrev pub InCount : ℕ → Option ℕ → Type 0
+InCount n (Some c) = (1 ≤ c) × (c < n)
+InCount n None = Unit {0}
 
-pub record Chooses (size : Size) (ws table buffer : List ℕ) (n : ℕ) (r : Choice) : Type 0 where
+pub record Chooses (size : Size) (ws table buffer : List ℕ) (n : ℕ) (r : Option ℕ) : Type 0 where
   pub inside : InCount n r
   pub exact : (keys : ℕ) (es : List Entry) → Ok (power_of size) n ws es → Indexed size table keys es → Summed size buffer es → r ≡ choice_of (chosen_chunk (power_of size) n ws es)
 
 -- THE CALL: record, image and table stay. Of any memory it answers a refusal, or a chunk of
 -- the lent image.
-abbrev pub report_of : Choice → Report
-report_of (C.At c) = R.Chosen c
-report_of C.Nothing = R.Refused N.NotCleanable
+abbrev pub report_of : Option ℕ → Report
+report_of (Some c) = R.Chosen c
+report_of None = R.Refused N.NotCleanable
 
 abbrev pub ChosenIn : ℕ → Report → Type 0
 ChosenIn n (R.Refused x) = Unit {0}

@@ -10,15 +10,8 @@ ghost use Rattle.choosing.specs.Choices.{Weighed, Counted, Worth, Compared, Bett
 
 use buffer::Buffer;
 use directory::lines_of;
-use session::{Control, Gated, Setup};
+use session::{Control, Setup};
 use spec::{Refusal, Report, Size};
-
-// The chunk that was chosen, or none.
-#[derive(Clone, Copy)]
-pub enum Choice {
-    At(usize),
-    Nothing,
-}
 
 // What choosing knows of a chunk: its committed lines, 0 unless it is a log chunk, and the words that a cleaning
 // copies.
@@ -68,8 +61,7 @@ fn lines_for(words: usize) -> usize
 fn is_worth(c: Candidate) -> bool
     ensures { Worth c result }
 {
-    let lines = lines_for(c.words);
-    lines < c.lines
+    lines_for(c.words) < c.lines
 }
 
 // THE COMPARISON
@@ -77,73 +69,65 @@ fn is_worth(c: Candidate) -> bool
 fn is_better(c: Candidate, d: Candidate) -> bool
     ensures { Compared c d result }
 {
-    if c.words == d.words {
-        return d.lines <= c.lines;
-    }
-    c.words < d.words
+    c.words < d.words || c.words == d.words && d.lines <= c.lines
 }
 
-// The better of the best so far, of which chunk 0 says that there is none, and the next chunk.
-fn better_of(best: Candidate, next: Candidate) -> Candidate
+// The better of the best so far, if there is one, and the next chunk.
+fn better_of(best: Option<Candidate>, next: Candidate) -> Option<Candidate>
     ensures { Bettered best next result }
 {
-    if is_worth(next) {
-        if best.chunk == 0 {
-            return next;
-        }
-        if is_better(next, best) {
-            return next;
-        }
+    if !is_worth(next) {
+        return best;
     }
-    best
+    match best {
+        Some(b) if !is_better(next, b) => best,
+        _ => Some(next),
+    }
 }
 
 // The better of the best so far and the next chunk, by its sum: the words of its chosen puts, which a cleaning copies
 // at least. Where they are more than the best one's, the chunk is no better; where it has no chosen delete, a cleaning
 // copies no more; else its entries are read.
 fn better_at(
-    best: Candidate,
+    best: Option<Candidate>,
     image: &[u8],
     table: &[u64],
     buffer: &Buffer,
     chunk: usize,
     size: Size,
-) -> Candidate
+) -> Option<Candidate>
     ensures { BetteredAt size (words_of image.now) table.now buffer.now best chunk result }
 {
     let sum = volatile::chunk_sums::sum_at(buffer, chunk);
     let least = (sum % 0x1_0000_0000) as usize;
-    if 0 < best.chunk {
-        if best.words < least {
+    if let Some(b) = best {
+        if b.words < least {
             return best;
         }
     }
-    if sum < 0x1_0000_0000 {
-        let next = counted_at(image, chunk, least, size);
-        return better_of(best, next);
-    }
-    let next = candidate_at(image, table, chunk, size);
+    let next = if sum < 0x1_0000_0000 {
+        counted_at(image, chunk, least, size)
+    } else {
+        candidate_at(image, table, chunk, size)
+    };
     better_of(best, next)
 }
 
 // ALL CHUNKS, of an image of `count`
-pub fn choose(image: &[u8], table: &[u64], buffer: &Buffer, count: usize, size: Size) -> Choice
+pub fn choose(
+    image: &[u8],
+    table: &[u64],
+    buffer: &Buffer,
+    count: usize,
+    size: Size,
+) -> Option<usize>
     ensures { Chooses size (words_of image.now) table.now buffer.now count result }
 {
-    let mut best = Candidate {
-        chunk: 0,
-        lines: 0,
-        words: 0,
-    };
-    let mut c = 1;
-    while c < count {
+    let mut best = None;
+    for c in 1..count {
         best = better_at(best, image, table, buffer, c, size);
-        c += 1;
     }
-    if best.chunk == 0 {
-        return Choice::Nothing;
-    }
-    Choice::At(best.chunk)
+    Some(best?.chunk)
 }
 
 // THE CALL: 2, 1, 8, then 16 where none is found. The buffer is a copy, since the record is lent to be read alone.
@@ -156,17 +140,13 @@ pub fn choose_core(
 ) -> Report
     ensures { Choosing control setup buffer image.now table.now result }
 {
-    let gated = session::gate(control, setup, image.len(), table.len());
-    match gated {
-        Gated::Open => {
-            let size = places::size_by(setup.power);
-            let count = places::chunks_in(size, image.len());
-            let choice = choose(image, table, &buffer, count, size);
-            match choice {
-                Choice::At(c) => Report::Chosen(c),
-                Choice::Nothing => Report::Refused(Refusal::NotCleanable),
-            }
-        }
-        Gated::Refused(n) => Report::Refused(n),
+    if let Err(refusal) = session::gate(control, setup, image.len(), table.len()) {
+        return Report::Refused(refusal);
+    }
+    let size = places::size_by(setup.power);
+    let count = places::chunks_in(size, image.len());
+    match choose(image, table, &buffer, count, size) {
+        Some(c) => Report::Chosen(c),
+        None => Report::Refused(Refusal::NotCleanable),
     }
 }

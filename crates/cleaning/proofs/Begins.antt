@@ -26,8 +26,8 @@ use Rattle.theory_crash.specs.Accepted.{Ok}
 use Rattle.session.proofs.OpensRight.{opens-right}
 use Rattle.session.specs.State.{power_in, clean_olds, clean_actions, state_at, state_of}
 use Rattle.session.specs.Fits.{CleanFits, Fits}
-use Rattle.session.specs.declared.Gated.{Gated}
-use Rattle.session.specs.declared.Gated.TheVariants as G
+use Rattle.std.specs.Prelude.{Result}
+use Rattle.std.specs.declared.result.Result.TheVariants as G
 use Rattle.session.specs.Asks.{gate_of, Asking}
 use Rattle.session.proofs.Gates as Gates
 use Rattle.actions.specs.Record.{cleaning}
@@ -41,7 +41,7 @@ begun-state : (c : Control) (k : Setup) (b : List ℕ) → state_at (cleaning c)
 unfolding state_at
 begun-state c k b = refl
 
-module _ (c : Control) (k : Setup) (b bytes table : List ℕ) (s : ℕ) (g : Gated) (asks : Asking c k (length bytes) (length table) g) where
+module _ (c : Control) (k : Setup) (b bytes table : List ℕ) (s : ℕ) (g : Result (Unit {0}) Refusal) (asks : Asking c k (length bytes) (length table) g) where
   abbrev m : Session
   m = record { control = c; setup = k; buffer = b }
 
@@ -51,10 +51,10 @@ module _ (c : Control) (k : Setup) (b bytes table : List ℕ) (s : ℕ) (g : Gat
   abbrev n : ℕ
   n = chunks_in (power_in k) (length bytes)
 
-  pub gate-refuses : (x : Refusal) → g ≡ G.Refused x → Does (Clean s) (memory m bytes table) (memory m bytes table) (R.Refused x)
+  pub gate-refuses : (x : Refusal) → g ≡ G.Err x → Does (Clean s) (memory m bytes table) (memory m bytes table) (R.Refused x)
   gate-refuses x e = Gates.turned_down m bytes table x (asks.asked b ∙ ap gate_of e) (Clean s) tt
 
-  module _ (e : g ≡ G.Open) where
+  module _ (e : g ≡ G.Ok tt) where
     opened : gate (state_of m) (length bytes) (length table) ≡ none
     opened = asks.asked b ∙ ap gate_of e
 

@@ -3,7 +3,7 @@
 use mathlib.Core.Path.{◌≡◌, refl, sym, ◌∙◌, ap}
 use mathlib.Core.Logic.{inl, inr}
 use mathlib.Core.Bool.{Bool, true, false}
-use mathlib.Core.Option.{none, some}
+use mathlib.Core.Option.{some}
 use mathlib.Core.List.{List, [], ◌∷◌}
 use Prim.Native.Nat.{ℕ, zero, suc, ◌+◌, ◌%◌, ◌≤◌, ◌<◌}
 use native.Mathlib.Omega.{arith}
@@ -23,13 +23,11 @@ use Rattle.theory_base.proofs.Lists.{is_in-mem, mem-is_in, not-both}
 use Rattle.codec.specs.Units.{unit_at}
 use Rattle.codec.proofs.Units.{unit-at}
 use Rattle.buffer.specs.Bits.{has_bit}
-use Rattle.directory.specs.declared.Found.{Found}
-use Rattle.directory.specs.declared.Found.TheVariants as F
-use Rattle.placing.specs.declared.lines.Place.{Place}
+use Rattle.std.specs.Prelude.{max, Option, Some, None}
 use Rattle.directory.specs.Found.{found_of, Stops}
 use Rattle.directory.proofs.Search.{taken-before, taken-end, first-here}
 use Rattle.directory.proofs.Answer.{found_at, found_nothing}
-use Rattle.placing.specs.Found.{place_of}
+use Rattle.placing.specs.Found.{place_in, place_of, Sought}
 use Rattle.cleaning.specs.Plans.{any_bit}
 
 -- THE PLACE
@@ -46,15 +44,20 @@ module _ (size : Size) (ws : List ℕ) (count lines x next : ℕ) (s : Stops (ha
       let e = taken-before (has_space (power_of size) ws lines x) 1 next (λ d u l. s.before d l u) in
       rw (taken-end (has_space (power_of size) ws lines x) 1 next count s.behind h e)
 
-  -- what the code shows
-  pub shows-log : (r : Place) → next < count → r ≡ place_of (power_of size) ws (some next) → r ≡ place_of (power_of size) ws (log_place (power_of size) count ws lines x 1)
-  shows-log r h e = rw (place-log h) e
+-- what the code shows
+module _ (size : Size) (ws : List ℕ) (count lines x : ℕ) (next : Option ℕ) (s : Sought (has_space (power_of size) ws lines x) 1 count next) where
+  pub shows-log : (c : ℕ) → next ≡ Some c → Some (place_in (power_of size) ws c) ≡ place_of (power_of size) ws (log_place (power_of size) count ws lines x 1)
+  shows-log c e = rw (place-log size ws count lines x c (rw e at s.stops) (s.inside c e))
 
-  pub shows-free : (r : Place) (q : Found) (c : ℕ) → count ≤ next → q ≡ found_of (free_chunk (power_of size) count ws 1) → q ≡ F.At c → r ≡ place_of (power_of size) ws (some c) → r ≡ place_of (power_of size) ws (log_place (power_of size) count ws lines x 1)
-  shows-free r q c h e g k = rw (place-free h, found_at (free_chunk (power_of size) count ws 1) c (sym e ∙ g)) k
+  module _ (none' : next ≡ None) (q : Option ℕ) (told : q ≡ found_of (free_chunk (power_of size) count ws 1)) where
+    as_free : log_place (power_of size) count ws lines x 1 ≡ free_chunk (power_of size) count ws 1
+    as_free = place-free size ws count lines x (max 1 count) (rw none' at s.stops) (omega arith)
 
-  pub shows-nowhere : (q : Found) → count ≤ next → q ≡ found_of (free_chunk (power_of size) count ws 1) → q ≡ F.Nothing → place_of (power_of size) ws none ≡ place_of (power_of size) ws (log_place (power_of size) count ws lines x 1)
-  shows-nowhere q h e g = rw (place-free h, found_nothing (free_chunk (power_of size) count ws 1) (sym e ∙ g))
+    pub shows-free : (c : ℕ) → q ≡ Some c → Some (place_in (power_of size) ws c) ≡ place_of (power_of size) ws (log_place (power_of size) count ws lines x 1)
+    shows-free c g = rw (as_free, found_at (free_chunk (power_of size) count ws 1) c (sym told ∙ g))
+
+    pub shows-nowhere : q ≡ None → None ≡ place_of (power_of size) ws (log_place (power_of size) count ws lines x 1)
+    shows-nowhere g = rw (as_free, found_nothing (free_chunk (power_of size) count ws 1) (sym told ∙ g))
 
 -- LIVE BLOCKS
 pub bit-start : (size : Size) → (b : List ℕ) (u v n m : ℕ) → u ≡ v → n ≡ m → any_bit size b u n ≡ any_bit size b v m

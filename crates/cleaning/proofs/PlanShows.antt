@@ -44,7 +44,8 @@ use Rattle.session.specs.declared.Source.{Source}
 use Rattle.actions.specs.Record.{clean_count, source_of}
 use Rattle.actions.proofs.Acting.{count_none}
 use Rattle.cleaning.specs.declared.CleanPlan.{CleanPlan}
-use Rattle.cleaning.specs.declared.CleanPlan.TheVariants as P
+use Rattle.std.specs.declared.result.Result.TheVariants as P
+use Rattle.std.specs.Prelude.{Result, Some, None}
 use Rattle.cleaning.specs.Plans.{any_bit, Right, KeptAt, LogPlanned, DataPlanned, CleanPlanned}
 use Rattle.cleaning.proofs.Finding.{bits-live}
 
@@ -118,7 +119,7 @@ module _ (size : Size) (ws table : List ℕ) (n s hint : ℕ) (old lines at end 
     kept-some : (t.words ≡ 0 → ⊥) → kept_in (power_of size) s es ≡ [] → ⊥
     kept-some z e = z (measured.0 ∙ ap (λ (l : List Entry). length (encode_all l)) e)
 
-  pub log-bare : t.words ≡ 0 → LogPlanned size ws table words n s hint (P.At 0 0 0 hint f 3)
+  pub log-bare : t.words ≡ 0 → LogPlanned size ws table words n s hint (P.Ok (record { chunk = 0; old = 0; lines = 0; first = hint; source = f; actions = 3 }))
   log-bare z = record {
     sound = rw (count_none t.words z);
     keeps = inl z;
@@ -145,13 +146,14 @@ module _ (size : Size) (ws table : List ℕ) (n s hint : ℕ) (old lines at end 
     );
   }
 
-  module _ (z : t.words ≡ 0 → ⊥) (b : ℕ) (eb : b ≡ lines_for t.words) (place : Place) (ep : place ≡ place_of (power_of size) ws (log_place (power_of size) n ws b s 1)) where
+  module _ (z : t.words ≡ 0 → ⊥) (b : ℕ) (eb : b ≡ lines_for t.words) where
     lines_are : (keys : ℕ) (es : List Entry) → Ok (power_of size) n ws es → Indexed size table keys es → 1 ≤ s → s < n → b ≡ lines_for (length (encode_all (kept_in (power_of size) s es)))
     lines_are keys es ok indexed low high = eb ∙ ap lines_for (measured keys es ok indexed low high).0
 
-    pub log-copies : place.found ≡ true → (actions first : ℕ) → actions ≡ clean_count t.words → first ≡ min hint place.chunk → LogPlanned size ws table words n s hint (P.At place.chunk place.old place.committed first f actions)
-    log-copies h actions first ec ef =
-        let q = placed_at (power_of size) ws (log_place (power_of size) n ws b s 1) place ep h in
+    pub log-copies : (place : Place) → Some place ≡ place_of (power_of size) ws (log_place (power_of size) n ws b s 1) → (actions first : ℕ) → actions ≡ clean_count t.words → first ≡ min hint place.chunk
+        → LogPlanned size ws table words n s hint (P.Ok (record { chunk = place.chunk; old = place.old; lines = place.committed; first = first; source = f; actions = actions }))
+    log-copies place ep actions first ec ef =
+        let q = placed_at (power_of size) ws (log_place (power_of size) n ws b s 1) place ep in
         record {
           sound = ec;
           keeps = inr kept_at;
@@ -180,12 +182,12 @@ module _ (size : Size) (ws table : List ℕ) (n s hint : ℕ) (old lines at end 
           );
         }
 
-    pub log-full : place.found ≡ false → LogPlanned size ws table words n s hint (P.Refused N.NoSpace)
-    log-full h = record {
+    pub log-full : None ≡ place_of (power_of size) ws (log_place (power_of size) n ws b s 1) → LogPlanned size ws table words n s hint (P.Err N.NoSpace)
+    log-full ep = record {
       sound = inr (inr (inr (inr (inr (inl refl)))));
       keeps = tt;
       plans = λ keys es ok indexed low high used log.
-          plan-full size n ws es s low high used log (kept-some keys es ok indexed low high z) (rw (← lines_are keys es ok indexed low high) (placed-nowhere (power_of size) ws (log_place (power_of size) n ws b s 1) place ep h));
+          plan-full size n ws es s low high used log (kept-some keys es ok indexed low high z) (rw (← lines_are keys es ok indexed low high) (placed-nowhere (power_of size) ws (log_place (power_of size) n ws b s 1) ep));
     }
 
 -- ANOTHER CHUNK
@@ -195,11 +197,11 @@ module _ (size : Size) (ws buffer : List ℕ) (s hint : ℕ) (live : Bool) (ev :
       let e : s % 512 ≡ s = let m = ok.most in omega arith in
       ev ∙ ap (λ (x : ℕ). any_bit size buffer (first_unit (power_of size) x) (chunk_units (power_of size))) e ∙ bits-live size buffer es built.blocks s
 
-  pub data-live : live ≡ true → DataPlanned size ws buffer s hint (P.Refused N.NotCleanable)
+  pub data-live : live ≡ true → DataPlanned size ws buffer s hint (P.Err N.NotCleanable)
   data-live h = record { sound = inr (inr (inr (inr (inl refl)))); keeps = λ table kept. tt; plans = λ c table es n ok built low high used log. plan-live size n ws es s low high used log (sym (live-is c table es n ok built high) ∙ h) }
 
   pub data-dead : live ≡ false → (old lines : ℕ) → old ≡ get_or ws (directory_word s) 0 → lines ≡ lines_of (power_of size) ws s
-      → DataPlanned size ws buffer s hint (P.At 0 0 0 hint (record { chunk = s; old = old; lines = lines; words = 0; entries = 0 }) 3)
+      → DataPlanned size ws buffer s hint (P.Ok (record { chunk = 0; old = 0; lines = 0; first = hint; source = record { chunk = s; old = old; lines = lines; words = 0; entries = 0 }; actions = 3 }))
   data-dead h old lines eo el = record {
     sound = refl;
     keeps = λ table kept. inl refl;
@@ -232,7 +234,7 @@ module _ (c : Control) (k : Setup) (buffer image table words : List ℕ) (s : �
   ws = words_of image
 
   -- 15
-  pub staged : (c.items ≡ 0 → ⊥) → CleanPlanned c k buffer image table words s (P.Refused N.BatchStaged)
+  pub staged : (c.items ≡ 0 → ⊥) → CleanPlanned c k buffer image table words s (P.Err N.BatchStaged)
   staged h = record { sound = inr (inr (inr (inl refl))); keeps = tt; plans = λ e items q. go items q }
     where
       go : (items : List Entry) (q : RestFits (record { control = c; setup = k; buffer = buffer }) ws table items) → plan_clean (power_in k) (chunks_in (power_in k) k.image) ws q.entries items s ≡ Refuse N.BatchStaged
@@ -251,15 +253,15 @@ module _ (c : Control) (k : Setup) (buffer image table words : List ℕ) (s : �
     chunks-are n e q = ap (chunks_in (power_in k)) q ∙ sym e
 
     refused : (x : Refusal) → MemRefusal x (refusals (Clean 0)) → ((items : List Entry) (q : RestFits (record { control = c; setup = k; buffer = buffer }) ws table items) → k.image ≡ length image → plan_clean (power_in k) (chunks_in (power_in k) k.image) ws q.entries [] s ≡ Refuse x)
-        → CleanPlanned c k buffer image table words s (P.Refused x)
+        → CleanPlanned c k buffer image table words s (P.Err x)
     refused x listed h = record { sound = listed; keeps = tt; plans = λ e items q. rw (none-staged items q) (h items q e) }
 
-    right : (r : CleanPlan) (es items : List Entry) (n hint : ℕ) → items ≡ [] → Right (size_in k) ws es [] n s hint r → Right (size_in k) ws es items n s hint r
-    right (P.Refused x) es items n hint e h = rw e h
-    right (P.At a b d first f actions) es items n hint e h = (e, h.1)
+    right : (r : Result CleanPlan Refusal) (es items : List Entry) (n hint : ℕ) → items ≡ [] → Right (size_in k) ws es [] n s hint r → Right (size_in k) ws es items n s hint r
+    right (P.Err x) es items n hint e h = rw e h
+    right (P.Ok p) es items n hint e h = (e, h.1)
 
     -- 16
-    pub chunk-zero : s ≡ 0 → CleanPlanned c k buffer image table words s (P.Refused N.NotCleanable)
+    pub chunk-zero : s ≡ 0 → CleanPlanned c k buffer image table words s (P.Err N.NotCleanable)
     chunk-zero e = refused N.NotCleanable (inr (inr (inr (inr (inl refl))))) (λ items q same. plan-unused (size_in k) (chunks_in (power_in k) k.image) ws q.entries s (rw e))
 
     -- with the size that the code has
@@ -267,14 +269,14 @@ module _ (c : Control) (k : Setup) (buffer image table words : List ℕ) (s : �
       en : n ≡ chunks_in (power_in k) (length image)
       en = rw is at counted
 
-      pub past-count : n ≤ s → CleanPlanned c k buffer image table words s (P.Refused N.NotCleanable)
+      pub past-count : n ≤ s → CleanPlanned c k buffer image table words s (P.Err N.NotCleanable)
       past-count h = refused N.NotCleanable (inr (inr (inr (inr (inl refl))))) (λ items q same. plan-unused (size_in k) (chunks_in (power_in k) k.image) ws q.entries s (rw (chunks-are n en same, le-ltb s n h) (go (leb 1 s))))
         where
           go : (t : Bool) → both t false ≡ false
           go true = refl
           go false = refl
 
-      pub chunk-free : true ≡ is_free (role_at (power_of size) ws s) → CleanPlanned c k buffer image table words s (P.Refused N.NotCleanable)
+      pub chunk-free : true ≡ is_free (role_at (power_of size) ws s) → CleanPlanned c k buffer image table words s (P.Err N.NotCleanable)
       chunk-free h =
           let g : true ≡ is_free (role_at (power_in k) ws s) = rw is at h in
           refused N.NotCleanable (inr (inr (inr (inr (inl refl))))) (λ items q same. plan-unused (size_in k) (chunks_in (power_in k) k.image) ws q.entries s (rw (← g) (go (leb 1 s) (ltb s (chunks_in (power_in k) k.image)))))
@@ -291,7 +293,7 @@ module _ (c : Control) (k : Setup) (buffer image table words : List ℕ) (s : �
         ok : (items : List Entry) (q : RestFits (record { control = c; setup = k; buffer = buffer }) ws table items) → Ok (power_in k) (chunks_in (power_in k) k.image) ws q.entries
         ok items q = (opens-right (power_in k) k.image k.table ws q.entries q.long q.accepted).0
 
-        pub chunk-data : (lines : ℕ) → lines ≡ lines_of (power_of size) ws s → lines ≡ 0 → (r : CleanPlan) → DataPlanned size ws buffer s (k.first % sole_mark) r → CleanPlanned c k buffer image table words s r
+        pub chunk-data : (lines : ℕ) → lines ≡ lines_of (power_of size) ws s → lines ≡ 0 → (r : Result CleanPlan Refusal) → DataPlanned size ws buffer s (k.first % sole_mark) r → CleanPlanned c k buffer image table words s r
         chunk-data lines el' e r d' =
             let el : lines ≡ lines_of (power_in k) ws s = rw is at el' in
             let d : DataPlanned (size_in k) ws buffer s (k.first % sole_mark) r = rw is at d' in
@@ -303,7 +305,7 @@ module _ (c : Control) (k : Setup) (buffer image table words : List ℕ) (s : �
                   (d.plans c table q.entries (chunks_in (power_in k) k.image) (ok items q) q.built (omega (arith, low)) (rw (chunks-are n en same) high) (sym used) (rw (log-lines (power_in k) ws s, ← el, e)));
             }
 
-        pub chunk-log : (lines : ℕ) → lines ≡ lines_of (power_of size) ws s → (lines ≡ 0 → ⊥) → (r : CleanPlan) → LogPlanned size ws table words n s (k.first % sole_mark) r → CleanPlanned c k buffer image table words s r
+        pub chunk-log : (lines : ℕ) → lines ≡ lines_of (power_of size) ws s → (lines ≡ 0 → ⊥) → (r : Result CleanPlan Refusal) → LogPlanned size ws table words n s (k.first % sole_mark) r → CleanPlanned c k buffer image table words s r
         chunk-log lines el' ne r d' =
             let el : lines ≡ lines_of (power_in k) ws s = rw is at el' in
             let d : LogPlanned (size_in k) ws table words n s (k.first % sole_mark) r = rw is at d' in

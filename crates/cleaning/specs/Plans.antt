@@ -1,6 +1,7 @@
 -- What a cleaning finds before it is begun.
 -- Assumes nothing.
-use Rattle.std.specs.Prelude.{◌≡◌, ◌⊎◌, Bool, true, false, List, [], ℕ, zero, suc, ◌+◌, ◌*◌, ◌%◌, ◌≤◌, ◌<◌, length, get_or}
+use Rattle.std.specs.Prelude.{◌≡◌, ◌⊎◌, Bool, true, false, List, [], ℕ, zero, suc, ◌+◌, ◌*◌, ◌%◌, ◌≤◌, ◌<◌, length, get_or, Result}
+use Rattle.std.specs.declared.result.Result.TheVariants as R
 use Rattle.std.proofs.Math.Option.{some}
 use Rattle.spec.specs.declared.Size.{Size}
 use Rattle.places.specs.Sizes.{power_of}
@@ -16,6 +17,7 @@ use Rattle.spec.specs.Machine.{Clean, refusals}
 use Rattle.spec.specs.Contract.{MemRefusal}
 use Rattle.session.specs.declared.Control.{Control}
 use Rattle.session.specs.declared.Setup.{Setup}
+use Rattle.spec.specs.declared.Refusal.{Refusal}
 use Rattle.theory_crash.specs.Accepted.{Ok}
 use Rattle.buffer.specs.Bits.{has_bit}
 use Rattle.volatile.specs.Known.{Indexed}
@@ -26,7 +28,6 @@ use Rattle.gathering.specs.Reading.{Collected}
 use Rattle.session.specs.declared.Source.{Source}
 use Rattle.actions.specs.Record.{clean_count, source_of}
 use Rattle.cleaning.specs.declared.CleanPlan.{CleanPlan}
-use Rattle.cleaning.specs.declared.CleanPlan.TheVariants as P
 
 -- whether a bit stands among n from unit u on
 abbrev pub any_bit : (size : Size) → List ℕ → (u n : ℕ) → Bool
@@ -65,14 +66,14 @@ pub record Beginning (size : Size) (ws : List ℕ) (es : List Entry) (n s chunk 
   pub how : Copies size ws es n s chunk old lines hint first f ⊎ Bare size ws es s chunk old lines hint first f
 
 -- a plan is the definition's, with these items staged
-abbrev pub Right : (size : Size) → List ℕ → (es items : List Entry) → (n s hint : ℕ) → CleanPlan → Type 0
-Right size ws es items n s hint (P.Refused x) = plan_clean (power_of size) n ws es items s ≡ Refuse x
-Right size ws es items n s hint (P.At chunk old lines first f actions) = (items ≡ []) × Beginning size ws es n s chunk old lines hint first f actions
+abbrev pub Right : (size : Size) → List ℕ → (es items : List Entry) → (n s hint : ℕ) → Result CleanPlan Refusal → Type 0
+Right size ws es items n s hint (R.Err x) = plan_clean (power_of size) n ws es items s ≡ Refuse x
+Right size ws es items n s hint (R.Ok p) = (items ≡ []) × Beginning size ws es n s p.chunk p.old p.lines hint p.first p.source p.actions
 
 -- of any memory: a refusal of the call's list, or as many actions as the record will have
-abbrev pub Sound : CleanPlan → Type 0
-Sound (P.Refused x) = MemRefusal x (refusals (Clean 0))
-Sound (P.At chunk old lines first f actions) = actions ≡ clean_count f.words
+abbrev pub Sound : Result CleanPlan Refusal → Type 0
+Sound (R.Err x) = MemRefusal x (refusals (Clean 0))
+Sound (R.Ok p) = p.actions ≡ clean_count p.source.words
 
 -- what the plan keeps of the chunk is gathered in words of the call's own, where it keeps any
 pub record KeptAt (size : Size) (f : Source) (ws table kept : List ℕ) : Type 0 where
@@ -84,23 +85,23 @@ pub record KeptAt (size : Size) (f : Source) (ws table kept : List ℕ) : Type 0
   pub words : f.words ≡ tally.words
   pub collected : Collected size ws table kept at end tally
 
-abbrev pub Keeps : (size : Size) → CleanPlan → (ws table kept : List ℕ) → Type 0
-Keeps size (P.Refused x) ws table kept = Unit {0}
-Keeps size (P.At chunk old lines first f actions) ws table kept = (f.words ≡ 0) ⊎ KeptAt size f ws table kept
+abbrev pub Keeps : (size : Size) → Result CleanPlan Refusal → (ws table kept : List ℕ) → Type 0
+Keeps size (R.Err x) ws table kept = Unit {0}
+Keeps size (R.Ok p) ws table kept = (p.source.words ≡ 0) ⊎ KeptAt size p.source ws table kept
 
 -- of a log chunk in use, with nothing staged; of another in use
-pub record LogPlanned (size : Size) (ws table kept : List ℕ) (n s hint : ℕ) (r : CleanPlan) : Type 0 where
+pub record LogPlanned (size : Size) (ws table kept : List ℕ) (n s hint : ℕ) (r : Result CleanPlan Refusal) : Type 0 where
   pub sound : Sound r
   pub keeps : Keeps size r ws table kept
   pub plans : (keys : ℕ) (es : List Entry) → Ok (power_of size) n ws es → Indexed size table keys es → 1 ≤ s → s < n → is_free (role_at (power_of size) ws s) ≡ false → is_log (role_at (power_of size) ws s) ≡ true → Right size ws es [] n s hint r
 
-pub record DataPlanned (size : Size) (ws buffer : List ℕ) (s hint : ℕ) (r : CleanPlan) : Type 0 where
+pub record DataPlanned (size : Size) (ws buffer : List ℕ) (s hint : ℕ) (r : Result CleanPlan Refusal) : Type 0 where
   pub sound : Sound r
   pub keeps : (table kept : List ℕ) → Keeps size r ws table kept
   pub plans : (c : Control) (table : List ℕ) (es : List Entry) (n : ℕ) → Ok (power_of size) n ws es → Built c size buffer table es → 1 ≤ s → s < n → is_free (role_at (power_of size) ws s) ≡ false → is_log (role_at (power_of size) ws s) ≡ false → Right size ws es [] n s hint r
 
 -- of any memory at rest as the calls left it
-pub record CleanPlanned (c : Control) (k : Setup) (buffer image table kept : List ℕ) (s : ℕ) (r : CleanPlan) : Type 0 where
+pub record CleanPlanned (c : Control) (k : Setup) (buffer image table kept : List ℕ) (s : ℕ) (r : Result CleanPlan Refusal) : Type 0 where
   pub sound : Sound r
   pub keeps : Keeps (size_in k) r (words_of image) table kept
   pub plans : k.image ≡ length image → (items : List Entry) (q : RestFits (record { control = c; setup = k; buffer = buffer }) (words_of image) table items)

@@ -3,12 +3,11 @@
 #![tactic(auto)]
 
 ghost use Rattle.std.specs.Prelude.{◌≡◌, ◌%◌, ◌≤◌, length};
-ghost use Rattle.spec.specs.declared.Size.TheVariants as S;
 ghost use Rattle.spec.specs.Words.{words_of};
 ghost use Rattle.spec.specs.Places.{chunk_words, chunk_units, first_unit};
 ghost use Rattle.places.specs.Sizes.{power_of};
 ghost use Rattle.buffer.specs.Areas.{second_room};
-ghost use Rattle.session.specs.State.{size_in, power_in};
+ghost use Rattle.session.specs.State.{power_in};
 ghost use Rattle.spec.specs.Plans.{log_place};
 ghost use Rattle.placing.specs.Found.{place_of};
 ghost use Rattle.cleaning.specs.Plans.{any_bit, LogPlanned, DataPlanned, CleanPlanned};
@@ -18,45 +17,33 @@ ghost use Rattle.session.specs.Promise.{Does, memory_of};
 
 use buffer::Buffer;
 use codec::Unit;
-use directory::{Found, lines_of};
+use directory::{directory_word, lines_of};
 use placing::lines::Place;
-use session::{Control, Gated, Outcome, Setup, Source};
+use session::{Control, Outcome, Setup, Source};
 use spec::{Refusal, Report, Size};
 
-// A cleaning's begin: turned down, or where its copies go (chunk, its directory word, its committed lines), where the
-// next commit looks for space, what the record is to hold of the cleaned chunk, and the number of actions.
+// A cleaning's begin: where its copies go (chunk, its directory word, its committed lines), where the next commit looks
+// for space, what the record is to hold of the cleaned chunk, and the number of actions.
 #[derive(Clone, Copy)]
-pub enum CleanPlan {
-    Refused(Refusal),
-    At {
-        chunk: usize,
-        old: u64,
-        lines: usize,
-        first: usize,
-        source: Source,
-        actions: usize,
-    },
+pub struct CleanPlan {
+    pub chunk: usize,
+    pub old: u64,
+    pub lines: usize,
+    pub first: usize,
+    pub source: Source,
+    pub actions: usize,
 }
 
 // WHERE THE COPIES GO
 // The place for so many lines of copies: the first log chunk other than x with space, else the first free chunk.
-fn copy_place(image: &[u8], count: usize, lines: usize, x: usize, size: Size) -> Place
+fn copy_place(image: &[u8], count: usize, lines: usize, x: usize, size: Size) -> Option<Place>
     ensures { result ≡ place_of (power_of size) (words_of image.now) (log_place (power_of size) count (words_of image.now) lines x 1) }
 {
-    let next = placing::lines::next_chunk(image, 1, count, lines, x, size);
-    if next < count {
-        return placing::lines::place_at(image, next, size);
+    if let Some(c) = placing::lines::next_chunk(image, 1, count, lines, x, size) {
+        return Some(placing::lines::place_at(image, c, size));
     }
-    let free = directory::free_chunk(image, count, 1, size);
-    match free {
-        Found::At(c) => placing::lines::place_at(image, c, size),
-        Found::Nothing => Place {
-            found: false,
-            chunk: 0,
-            committed: 0,
-            old: 0,
-        },
-    }
+    let c = directory::free_chunk(image, count, 1, size)?;
+    Some(placing::lines::place_at(image, c, size))
 }
 
 // Whether a block of the chunk is in use.
@@ -64,12 +51,10 @@ fn has_live(buffer: &Buffer, chunk: usize, size: Size) -> bool
     ensures { result ≡ any_bit size buffer.now (first_unit (power_of size) (chunk % 512)) (chunk_units (power_of size)) }
 {
     let units = places::units(size);
-    let mut i = 0;
-    while i < units {
+    for i in 0..units {
         if buffer::has_bit(buffer, Unit::of(size, chunk % 512, i), size) {
             return true;
         }
-        i += 1;
     }
     false
 }
@@ -83,11 +68,11 @@ fn plan_log(
     chunk: usize,
     first: usize,
     size: Size,
-) -> CleanPlan
+) -> Result<CleanPlan, Refusal>
     requires { length kept.old ≡ chunk_words (power_of size) }
     ensures { LogPlanned size (words_of image.now) table.now kept.new count chunk first result }
 {
-    let old = directory::directory_word(image, chunk);
+    let old = directory_word(image, chunk);
     let lines = lines_of(image, chunk, size);
     let at = places::first_word(size, chunk % 512);
     let end = at + 8 * lines;
@@ -101,55 +86,56 @@ fn plan_log(
         entries: tally.entries,
     };
     if words == 0 {
-        return CleanPlan::At {
+        return Ok(CleanPlan {
             chunk: 0,
             old: 0,
             lines: 0,
             first,
             source,
             actions: 3,
-        };
+        });
     }
-    let place = copy_place(image, count, (words + 7) / 8, chunk, size);
-    if place.found {
-        let actions = actions::clean::clean_count(words);
-        let low = words::lesser(first, place.chunk);
-        return CleanPlan::At {
-            chunk: place.chunk,
-            old: place.old,
-            lines: place.committed,
-            first: low,
-            source,
-            actions,
-        };
-    }
-    CleanPlan::Refused(Refusal::NoSpace)
+    let Some(place) = copy_place(image, count, (words + 7) / 8, chunk, size) else {
+        return Err(Refusal::NoSpace);
+    };
+    Ok(CleanPlan {
+        chunk: place.chunk,
+        old: place.old,
+        lines: place.committed,
+        first: first.min(place.chunk),
+        source,
+        actions: actions::clean::clean_count(words),
+    })
 }
 
 // of a chunk that is no log chunk: it is only freed
-fn plan_data(buffer: &Buffer, image: &[u8], chunk: usize, first: usize, size: Size) -> CleanPlan
+fn plan_data(
+    buffer: &Buffer,
+    image: &[u8],
+    chunk: usize,
+    first: usize,
+    size: Size,
+) -> Result<CleanPlan, Refusal>
     ensures { DataPlanned size (words_of image.now) buffer.now chunk first result }
 {
     if has_live(buffer, chunk, size) {
-        return CleanPlan::Refused(Refusal::NotCleanable);
+        return Err(Refusal::NotCleanable);
     }
-    let old = directory::directory_word(image, chunk);
-    let lines = lines_of(image, chunk, size);
     let source = Source {
         chunk,
-        old,
-        lines,
+        old: directory_word(image, chunk),
+        lines: lines_of(image, chunk, size),
         words: 0,
         entries: 0,
     };
-    CleanPlan::At {
+    Ok(CleanPlan {
         chunk: 0,
         old: 0,
         lines: 0,
         first,
         source,
         actions: 3,
-    }
+    })
 }
 
 // 15, 16, 13, or what the cleaning begins with: the words that it keeps go to `kept`, and to no other memory.
@@ -161,28 +147,26 @@ pub fn plan_clean(
     table: &[u64],
     kept: &mut [u64],
     chunk: usize,
-) -> CleanPlan
+) -> Result<CleanPlan, Refusal>
     requires { length kept.old ≡ chunk_words (power_in setup) }
     ensures { CleanPlanned control setup buffer.now image.now table.now kept.new chunk result }
 {
-    if control.items == 0 {
-        let size = places::size_by(setup.power);
-        let count = places::chunks_in(size, image.len());
-        if chunk == 0 {
-            return CleanPlan::Refused(Refusal::NotCleanable);
-        }
-        if count <= chunk {
-            return CleanPlan::Refused(Refusal::NotCleanable);
-        }
-        if directory::is_free(image, chunk, size) {
-            return CleanPlan::Refused(Refusal::NotCleanable);
-        }
-        if lines_of(image, chunk, size) == 0 {
-            return plan_data(buffer, image, chunk, setup.first % 512, size);
-        }
-        return plan_log(image, table, kept, count, chunk, setup.first % 512, size);
+    if control.items != 0 {
+        return Err(Refusal::BatchStaged);
     }
-    CleanPlan::Refused(Refusal::BatchStaged)
+    let size = places::size_by(setup.power);
+    let count = places::chunks_in(size, image.len());
+    if chunk == 0 || count <= chunk {
+        return Err(Refusal::NotCleanable);
+    }
+    if directory::is_free(image, chunk, size) {
+        return Err(Refusal::NotCleanable);
+    }
+    let first = setup.first % 512;
+    if lines_of(image, chunk, size) == 0 {
+        return plan_data(buffer, image, chunk, first, size);
+    }
+    plan_log(image, table, kept, count, chunk, first, size)
 }
 
 // The kept words go to the buffer's second area, if there are any.
@@ -195,7 +179,7 @@ fn store_kept(source: Source, buffer: &mut Buffer, kept: &[u64])
     if words == 0 {
         return;
     }
-    let n = words::lesser(words, kept.len());
+    let n = words.min(kept.len());
     gathering::store_kept(buffer, kept, n);
 }
 
@@ -212,43 +196,36 @@ fn begin_with(
     requires { length kept.old ≡ chunk_words (power_in setup) }
     ensures { Outsets control result.control setup result.setup buffer.old buffer.new image.now table.now number result.report }
 {
-    let plan = plan_clean(control, setup, buffer, image, table, kept, number);
-    match plan {
-        CleanPlan::Refused(n) => Outcome {
-            control,
-            setup,
-            report: Report::Refused(n),
-        },
-        CleanPlan::At {
-            chunk,
-            old,
-            lines,
-            first,
-            source,
-            actions,
-        } => {
-            store_kept(source, buffer, kept);
-            let begun = session::in_phase(control, session::CLEANING, 0);
-            let target = session::append_setup(
+    let plan = match plan_clean(control, setup, buffer, image, table, kept, number) {
+        Ok(plan) => plan,
+        Err(refusal) => {
+            return Outcome {
+                control,
                 setup,
-                chunk,
-                old,
-                lines,
-                first,
-                setup.least,
-                source,
-            );
-            Outcome {
-                control: begun,
-                setup: target,
-                report: Report::Begun(actions),
-            }
+                report: Report::Refused(refusal),
+            };
         }
+    };
+    store_kept(plan.source, buffer, kept);
+    let begun = session::in_phase(control, session::CLEANING, 0);
+    let target = session::append_setup(
+        setup,
+        plan.chunk,
+        plan.old,
+        plan.lines,
+        plan.first,
+        setup.least,
+        plan.source,
+    );
+    Outcome {
+        control: begun,
+        setup: target,
+        report: Report::Begun(plan.actions),
     }
 }
 
 // The same with as many words as a chunk has.
-fn small_begin(
+fn begin_in<const WORDS: usize>(
     control: Control,
     setup: Setup,
     buffer: &mut Buffer,
@@ -256,25 +233,10 @@ fn small_begin(
     table: &[u64],
     number: usize,
 ) -> Outcome
-    requires { size_in setup ≡ S.Small }
+    requires { WORDS ≡ chunk_words (power_in setup) }
     ensures { Outsets control result.control setup result.setup buffer.old buffer.new image.now table.now number result.report }
 {
-    let mut kept: [u64; 512] = [0; 512];
-    begin_with(control, setup, buffer, image, table, &mut kept, number)
-}
-
-fn large_begin(
-    control: Control,
-    setup: Setup,
-    buffer: &mut Buffer,
-    image: &[u8],
-    table: &[u64],
-    number: usize,
-) -> Outcome
-    requires { size_in setup ≡ S.Large }
-    ensures { Outsets control result.control setup result.setup buffer.old buffer.new image.now table.now number result.report }
-{
-    let mut kept: [u64; 8192] = [0; 8192];
+    let mut kept = [0; WORDS];
     begin_with(control, setup, buffer, image, table, &mut kept, number)
 }
 
@@ -288,10 +250,9 @@ fn begin_clean(
 ) -> Outcome
     ensures { Outsets control result.control setup result.setup buffer.old buffer.new image.now table.now number result.report }
 {
-    let size = places::size_by(setup.power);
-    match size {
-        Size::Small => small_begin(control, setup, buffer, image, table, number),
-        Size::Large => large_begin(control, setup, buffer, image, table, number),
+    match places::size_by(setup.power) {
+        Size::Small => begin_in::<512>(control, setup, buffer, image, table, number),
+        Size::Large => begin_in::<8192>(control, setup, buffer, image, table, number),
     }
 }
 
@@ -306,13 +267,12 @@ pub fn clean_core(
 ) -> Outcome
     ensures { Does (Clean number) (memory_of control setup buffer.old image.now table.now) (memory_of result.control result.setup buffer.new image.now table.now) result.report }
 {
-    let gated = session::gate(control, setup, image.len(), table.len());
-    match gated {
-        Gated::Refused(n) => Outcome {
+    if let Err(refusal) = session::gate(control, setup, image.len(), table.len()) {
+        return Outcome {
             control,
             setup,
-            report: Report::Refused(n),
-        },
-        Gated::Open => begin_clean(control, setup, buffer, image, table, number),
+            report: Report::Refused(refusal),
+        };
     }
+    begin_clean(control, setup, buffer, image, table, number)
 }

@@ -19,10 +19,8 @@ use Rattle.theory_log.proofs.Keys.{mem-known, known-mem}
 use Rattle.theory_log.proofs.Walk.{slice-long}
 use Rattle.theory_plans.proofs.Cleaning.{parse-words}
 use Rattle.logs.specs.declared.Cursor.{Cursor}
-use Rattle.logs.specs.declared.Next.{Next}
-use Rattle.logs.specs.declared.Next.TheVariants as N
-use Rattle.logs.specs.Stands.{entry_in}
-use Rattle.logs.specs.Cursor.{cursor_at, Advanced}
+use Rattle.logs.specs.declared.Entry as F
+use Rattle.logs.specs.Cursor.{cursor_at, with_value, Handed}
 use Rattle.packing.specs.declared.Info.{Info}
 use Rattle.index.specs.Index.{get, insert, room, used, zeros, Probed}
 use Rattle.index.proofs.Laws.{has_room, insert-same, insert-length, insert-old, insert-new, insert-probed, insert-other, empty-get, empty-probed, empty-used}
@@ -31,8 +29,8 @@ use Rattle.volatile.specs.Known.{entry_count}
 use Rattle.volatile.proofs.Info.{said, info-says}
 use Rattle.session.specs.Cleaned.{before, Stand}
 use Rattle.forward.proofs.Sole.{count-append, count-own, count-other, count-known, count_no}
-use Rattle.forward.proofs.Walks.{Left, from-here, none_left, not-wrong, one_left}
-use Rattle.gathering.specs.Measuring.{Gatherable, Counting, Tells, Decided, CountedOnce, KeptTest}
+use Rattle.forward.proofs.Walks.{Left, from-here, Ended, one_left}
+use Rattle.gathering.specs.Measuring.{Gatherable, Counting, Tells, Decided, KeptTest}
 use Rattle.gathering.proofs.SizeWords.{few_words}
 
 -- ## A key has entries exactly if it is known
@@ -97,35 +95,32 @@ counts_start size ws at end counts n e = record {
   goes = λ l mid s u. (mid, from-here size ws at end ∙ s, rw e (record { probed = empty-probed n; few = let z = empty-used n in omega arith; each = λ k. let z = empty-get n k in omega arith }));
 }
 
-module _ (size : Size) (ws : List ℕ) (at end : ℕ) (counts₀ counts : List ℕ) (c : Cursor) (inv : CountsOn size ws at end counts₀ counts c) (r : Next) (told : Advanced (power_of size) 0 ws c r) where
+module _ (size : Size) (ws : List ℕ) (at end : ℕ) (counts₀ counts : List ℕ) (c : Cursor) (inv : CountsOn size ws at end counts₀ counts c) where
   module _ (entry : List ℕ) (cleared : counts₀ ≡ zeros (length entry)) where
     same_size : length counts ≡ length entry
     same_size = inv.sized ∙ ap length cleared ∙ length-replicate (length entry) 0
 
-    pub counts-done : r ≡ N.Done → Counting size ws at end entry counts
-    counts-done d = record {
+    pub counts-end : Ended size ws c → Counting size ws at end entry counts
+    counts-end d = record {
       sized = same_size;
       counted = λ l. record {
         says = λ mid s u k.
             let q = inv.goes (same_size ∙ l) mid s u in
-            let o : CountsLeft counts mid [] = rw (none_left size ws c r told q.0 q.1 d) at q.2 in
+            let o : CountsLeft counts mid [] = rw (d q.0 q.1) at q.2 in
             let h = o.each k in
             omega arith;
       };
     }
 
-    pub counts-wrong : r ≡ N.Wrong → Counting size ws at end entry counts
-    counts-wrong d = record { sized = same_size; counted = λ l. record { says = λ mid s u. let q = inv.goes (same_size ∙ l) mid s u in absurd (not-wrong size ws c r told q.0 q.1 d) } }
-
-  pub counts-next : (op pl v x k m a : ℕ) (behind : Cursor) → r ≡ N.Entry op pl v x k m a behind → (old more : ℕ) → old ≡ get counts k → more ≡ (old + 1) % 0x1_0000_0000_0000_0000
-      → (counts' : List ℕ) → counts' ≡ insert counts k more → CountsOn size ws at end counts₀ counts' behind
-  counts-next op pl v x k m a behind d old more io im counts' is = record {
-    sized = rw is (insert-length counts k more ∙ inv.sized);
+  pub counts-next : (e : F.Entry) → Handed (power_of size) 0 ws c e → (old more : ℕ) → old ≡ get counts e.key → more ≡ (old + 1) % 0x1_0000_0000_0000_0000
+      → (counts' : List ℕ) → counts' ≡ insert counts e.key more → CountsOn size ws at end counts₀ counts' e.behind
+  counts-next e d old more io im counts' is = record {
+    sized = rw is (insert-length counts e.key more ∙ inv.sized);
     goes = λ l mid s u.
-        let z : length counts ≡ 2 * chunk_words (power_of size) = sym (insert-length counts k more) ∙ sym (ap length is) ∙ l in
+        let z : length counts ≡ 2 * chunk_words (power_of size) = sym (insert-length counts e.key more) ∙ sym (ap length is) ∙ l in
         let q = inv.goes z mid s u in
-        let o = one_left size ws c r told q.0 q.1 op pl v x k m a behind d in
-        (o.0, o.1, subst (λ (t : List ℕ). CountsLeft t mid o.0) (sym is) (counts-more size counts mid o.0 (entry_in ws op pl v x k m a) (rw o.2 at q.2) z (most mid s u) k more refl (im ∙ rw io)));
+        let o = one_left size ws c q.0 q.1 e d in
+        (o.0, o.1, subst (λ (t : List ℕ). CountsLeft t mid o.0) (sym is) (counts-more size counts mid o.0 (with_value ws e) (rw o.2 at q.2) z (most mid s u) e.key more refl (im ∙ rw io)));
   }
     where
       most : (mid : List Entry) → Stand ws at end mid → end ≤ at + chunk_words (power_of size) → length mid ≤ chunk_words (power_of size)
@@ -134,20 +129,6 @@ module _ (size : Size) (ws : List ℕ) (at end : ℕ) (counts₀ counts : List �
 -- nothing is counted at first
 pub tells-start : (size : Size) → (ws counts : List ℕ) (at end : ℕ) → length counts ≡ 2 * chunk_words (power_of size) → Tells size ws counts at end false
 tells-start size ws counts at end long = (long, λ h. absurd (not-both false h refl))
-
--- asked for by an entry
-module _ (size : Size) (ws table : List ℕ) (at end : ℕ) (counts : List ℕ) (op key : ℕ) where
-  pub once-before : CountedOnce size ws table at end counts counts op key true true
-  once-before = record { tells = λ t. t; decides = λ t. inr (inr (t.1 refl)) }
-
-  pub once-put : op ≡ 1 → CountedOnce size ws table at end counts counts op key false false
-  once-put e = record { tells = λ t. t; decides = λ t. inl e }
-
-  pub once-sole : (word : ℕ) (info : Info) → word ≡ get table key → info ≡ unpack_of size word → info.entries ≡ 1 → CountedOnce size ws table at end counts counts op key false false
-  once-sole word info iw ii e = record { tells = λ t. t; decides = λ t. inr (inl (sym (ap (λ (i : Info). i.entries) (ii ∙ ap (unpack_of size) iw)) ∙ e)) }
-
-  pub once-now : (counts' : List ℕ) → Counting size ws at end counts counts' → CountedOnce size ws table at end counts counts' op key false true
-  once-now counts' c = record { tells = λ t. (c.sized ∙ t.0, λ h. c.counted t.0); decides = λ t. inr (inr (c.counted t.0)) }
 
 -- ## The test
 

@@ -11,12 +11,12 @@ use Rattle.spec.specs.declared.LogStep.TheVariants as S
 use Rattle.theory_log.proofs.Contents.{mem-l, mem-r}
 use Rattle.theory_log.proofs.Parse.{cons_inv}
 use Rattle.logs.specs.declared.Cursor.{Cursor}
-use Rattle.logs.specs.declared.Next.{Next}
-use Rattle.logs.specs.declared.Next.TheVariants as N
+use Rattle.logs.specs.declared.Entry as F
+use Rattle.logs.specs.declared.ShortPut.{ShortPut}
 use Rattle.logs.specs.Stands.{entry_in}
-use Rattle.logs.specs.Cursor.{cursor_at, remaining, Advanced}
-use Rattle.logs.proofs.Walk.{handed, next-found}
-use Rattle.forward.proofs.Walks.{Left, from-here, none_left, not-wrong, one_left}
+use Rattle.logs.specs.Cursor.{cursor_at, remaining, with_value, Handed}
+use Rattle.logs.proofs.Walk.{next-found}
+use Rattle.forward.proofs.Walks.{Left, from-here, Ended, one_left}
 use Rattle.gathering.specs.declared.measure.Tally.{Tally}
 use Rattle.gathering.specs.Measuring.{Gatherable, Decided, KeptTest, kept_test, Room, Weighing, OneWeighed, Hastened, Measured}
 use Rattle.gathering.proofs.Leaves.{place-most}
@@ -52,8 +52,8 @@ module _ (size : Size) (t : Tally) (place value : ℕ) where
   pub weigh-not : OneWeighed size t false place value t
   weigh-not = record { bound = λ l. l; adds = λ ws table at end keys xs mid ys left e g h ea ev o. weighing-skip size (kept_test xs mid ys) mid left t e o (sym h) }
 
-  pub weigh-full : (words entries : ℕ) → words ≡ t.words → entries ≡ t.entries → Room size words entries place value false → OneWeighed size t true place value t
-  weigh-full words entries iw ie r = record {
+  pub weigh-full : Room size t.words t.entries place value false → OneWeighed size t true place value t
+  weigh-full r = record {
     bound = λ l. l;
     adds = λ ws table at end keys xs mid ys left e g h ea ev o.
         let f = weighing-room size (kept_test xs mid ys) mid left t e o (sym h) (kept-words size ws table keys at end xs mid ys g) in
@@ -64,10 +64,10 @@ module _ (size : Size) (t : Tally) (place value : ℕ) where
         absurd (r.lacks refl (omega arith) (omega arith) (omega arith));
   }
 
-  pub weigh-kept : (words entries : ℕ) → words ≡ t.words → entries ≡ t.entries → Room size words entries place value true → OneWeighed size t true place value (record { words = words + (2 + value); entries = entries + 1 })
-  weigh-kept words entries iw ie r = record {
+  pub weigh-kept : Room size t.words t.entries place value true → OneWeighed size t true place value (record { words = t.words + (2 + value); entries = t.entries + 1 })
+  weigh-kept r = record {
     bound = λ l. (r.fits refl).0;
-    adds = λ ws table at end keys xs mid ys left e g h ea ev o. rw (iw, ie) (weighing-take size (kept_test xs mid ys) mid left t e o (sym h) (2 + value) (omega arith));
+    adds = λ ws table at end keys xs mid ys left e g h ea ev o. weighing-take size (kept_test xs mid ys) mid left t e o (sym h) (2 + value) (omega arith);
   }
 
 -- ## The pass
@@ -88,16 +88,16 @@ module _ (size : Size) (ws table : List ℕ) (until from : ℕ) (t : Tally) wher
   run-start = record { nearer = λ n c. omega arith; bound = λ l. l; passes = λ c at end keys xs mid ys es g is o. (es, is, o) }
 
   module _ (a : ℕ) (s : Tally) (so : Hastened size ws table until from t a s) where
-    pub run_more : (v x k m : ℕ) → step_of (slice a until ws) ≡ S.Entry 1 0 v x k m → (counts : List ℕ) (kept : Bool) → KeptTest size table counts 1 k a kept → (s' : Tally) → OneWeighed size s kept a m s'
-        → Hastened size ws table until from t (a + (2 + m)) s'
-    run_more v x k m q counts kept test s' one = record {
-      nearer = λ n c. let f = (next-found (power_of size) n ws c a until 1 0 v x k m q).falls in let g = so.nearer n c in omega arith;
+    pub run_more : (put : ShortPut) → step_of (slice a until ws) ≡ S.Entry 1 0 put.version put.field put.key put.words → (counts : List ℕ) (kept : Bool) → KeptTest size table counts 1 put.key a kept → (s' : Tally) → OneWeighed size s kept a put.words s'
+        → Hastened size ws table until from t (a + (2 + put.words)) s'
+    run_more put q counts kept test s' one = record {
+      nearer = λ n c. let f = (next-found (power_of size) n ws c a until 1 0 put.version put.field put.key put.words q).falls in let g = so.nearer n c in omega arith;
       bound = λ l. one.bound (so.bound l);
       passes = λ c at end keys xs mid ys es g is o.
           let p = so.passes c at end keys xs mid ys es g is o in
-          let h = next-found (power_of size) 0 ws c a until 1 0 v x k m q in
-          let e = entry_in ws 1 0 v x k m a in
-          let u = cons_inv e (remaining (power_of size) 0 ws (cursor_at c (a + (2 + m)) until)) p.0 (sym h.whole ∙ p.1) in
+          let h = next-found (power_of size) 0 ws c a until 1 0 put.version put.field put.key put.words q in
+          let e = entry_in ws 1 0 put.version put.field put.key put.words a in
+          let u = cons_inv e (remaining (power_of size) 0 ws (cursor_at c (a + (2 + put.words)) until)) p.0 (sym h.whole ∙ p.1) in
           let w : Weighing (kept_test xs mid ys) mid s (e ∷ u.0) = rw u.2 at p.2 in
           let is-kept = test.kept ws at end keys xs mid ys e g (inl refl) (w.inside e (inl refl)) refl refl refl in
           (u.0, u.1, one.adds ws table at end keys xs mid ys u.0 e g is-kept refl (h.stands.right.words ∙ sym h.size) w);
@@ -109,31 +109,24 @@ module _ (size : Size) (ws table : List ℕ) (until from : ℕ) (t : Tally) wher
       goes = λ keys xs mid ys g. let q = inv.goes keys xs mid ys g in so.passes c at end keys xs mid ys q.0 g q.1 q.2;
     }
 
-module _ (size : Size) (ws table : List ℕ) (at end : ℕ) (t : Tally) (c : Cursor) (inv : MeasuresOn size ws table at end t c) (r : Next) (told : Advanced (power_of size) 0 ws c r) where
-  pub measures-done : r ≡ N.Done → Measured size ws table at end t
-  measures-done d = record {
+module _ (size : Size) (ws table : List ℕ) (at end : ℕ) (t : Tally) (c : Cursor) (inv : MeasuresOn size ws table at end t c) where
+  pub measures-end : Ended size ws c → Measured size ws table at end t
+  measures-end d = record {
     bound = inv.bound;
     measures = λ keys xs mid ys g.
         let q = inv.goes keys xs mid ys g in
-        let o : Weighing (kept_test xs mid ys) mid t [] = rw (none_left size ws c r told q.0 q.1 d) at q.2 in
+        let o : Weighing (kept_test xs mid ys) mid t [] = rw (d q.0 q.1) at q.2 in
         (let w = o.words in omega arith, let n = o.count in omega arith);
   }
 
-  pub measures-wrong : r ≡ N.Wrong → Measured size ws table at end t
-  measures-wrong d = record {
-    bound = inv.bound;
-    measures = λ keys xs mid ys g. let q = inv.goes keys xs mid ys g in absurd (not-wrong size ws c r told q.0 q.1 d);
-  }
-
-  pub measures-next : (op pl v x k m a : ℕ) (behind : Cursor) → r ≡ N.Entry op pl v x k m a behind → (counts : List ℕ) → Decided size ws table counts at end op k → (kept : Bool) → KeptTest size table counts op k a kept
-      → (t' : Tally) → OneWeighed size t kept a m t' → MeasuresOn size ws table at end t' behind
-  measures-next op pl v x k m a behind d counts decided kept test t' one = record {
+  pub measures-next : (f : F.Entry) → Handed (power_of size) 0 ws c f → (counts : List ℕ) → Decided size ws table counts at end f.op f.key → (kept : Bool) → KeptTest size table counts f.op f.key f.place kept
+      → (t' : Tally) → OneWeighed size t kept f.place f.words t' → MeasuresOn size ws table at end t' f.behind
+  measures-next f h counts decided kept test t' one = record {
     bound = one.bound inv.bound;
     goes = λ keys xs mid ys g.
         let q = inv.goes keys xs mid ys g in
-        let o = one_left size ws c r told q.0 q.1 op pl v x k m a behind d in
-        let h = handed (power_of size) 0 ws c r told op pl v x k m a behind d in
-        let e = entry_in ws op pl v x k m a in
+        let o = one_left size ws c q.0 q.1 f h in
+        let e = with_value ws f in
         let w : Weighing (kept_test xs mid ys) mid t (e ∷ o.0) = rw o.2 at q.2 in
         let is = test.kept ws at end keys xs mid ys e g decided (w.inside e (inl refl)) refl refl refl in
         (o.0, o.1, one.adds ws table at end keys xs mid ys o.0 e g is refl (h.stands.right.words ∙ sym h.size) w);

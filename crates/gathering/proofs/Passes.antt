@@ -1,9 +1,8 @@
 -- The pass that gathers from the copy: the reading, what is left from a cursor on, at the beginning, after one more
 -- entry, and at the end.
 -- Assumes nothing.
-use Rattle.std.proofs.Common.{◌≡◌, ℕ, zero, suc, ◌+◌, ◌-◌, ◌*◌, ◌/◌, ◌<◌, ◌≤◌, min, Bool, true, false, eqb, List, [], ◌∷◌, length, get_or, take, drop, set, sym, refl, ap, ◌∙◌, inl, inr, append-nil, add-zero, zero-add, arith, length-set, get_or-set_other, get_or-set_same, ext_get_or}
-use mathlib.Core.Logic.{by_cases}
-use native.Mathlib.Decide.{ℕ_discrete}
+use Rattle.std.proofs.Common.{◌≡◌, ℕ, zero, suc, ◌+◌, ◌-◌, ◌*◌, ◌/◌, ◌<◌, ◌≤◌, min, Bool, true, false, eqb, List, [], ◌∷◌, ◌++◌, length, get_or, take, drop, sym, refl, ap, ◌∙◌, inl, inr, append-nil, add-zero, zero-add, arith, length-drop, ext_get_or}
+use Rattle.std.proofs.lemmas.List.{length-take, get_or-take, get_or-drop, get_or_append_left}
 use lib.Seq.{slice}
 use Rattle.spec.specs.declared.Size.{Size}
 use Rattle.places.specs.Sizes.{power_of, power-low, power-high}
@@ -18,15 +17,14 @@ use Rattle.theory_log.proofs.Parse.{cons_inv}
 use Rattle.theory_log.proofs.Walk.{slice-long, slice_at}
 use Rattle.words.specs.Image.{length-words_of, get_or-words_of}
 use Rattle.logs.specs.declared.Cursor.{Cursor}
-use Rattle.logs.specs.declared.Next.{Next}
-use Rattle.logs.specs.declared.Next.TheVariants as N
-use Rattle.logs.specs.Stands.{entry_in}
-use Rattle.logs.specs.Cursor.{cursor_at, remaining, Advanced, Handed}
-use Rattle.logs.proofs.Walk.{handed, next-found}
+use Rattle.logs.specs.declared.Entry as F
+use Rattle.logs.specs.declared.ShortPut.{ShortPut}
+use Rattle.logs.specs.Cursor.{cursor_at, remaining, with_value, Handed}
+use Rattle.logs.proofs.Walk.{next-found}
 use Rattle.volatile.specs.Known.{entry_count}
 use Rattle.session.specs.State.{buffer_part}
 use Rattle.session.specs.Cleaned.{Stand}
-use Rattle.forward.proofs.Walks.{from-here, none_left, not-wrong}
+use Rattle.forward.proofs.Walks.{from-here, Ended}
 use Rattle.gathering.specs.declared.measure.Tally.{Tally}
 use Rattle.gathering.specs.Measuring.{Decided, KeptTest, kept_test}
 use Rattle.gathering.proofs.SizeWords.{kept-words}
@@ -34,21 +32,11 @@ use Rattle.gathering.specs.Reading.{ChunkRead, lifted, Owing, OneTaken, Collecti
 
 -- ## The reading
 
--- the bytes before i are read
-pub record Reads (room : ℕ) (image copy : List ℕ) (from i : ℕ) : Type 0 where
-  pub long : length copy ≡ room
-  pub bytes : (j : ℕ) → j < i → get_or copy j 0 ≡ get_or image (from + j) 0
-
-pub reads-start : (image copy : List ℕ) (from : ℕ) → Reads (length copy) image copy from 0
-reads-start image copy from = record { long = refl; bytes = λ j l. absurd (omega arith) }
-
-pub reads-next : (room : ℕ) (image copy copy' : List ℕ) (from i : ℕ) → Reads room image copy from i → i < room → copy' ≡ set copy i (get_or image (from + i) 0) → Reads room image copy' from (i + 1)
-reads-next room image copy copy' from i r low is = record {
-  long = ap length is ∙ length-set copy i (get_or image (from + i) 0) ∙ r.long;
-  bytes = λ j l. ap (λ (b : List ℕ). get_or b j 0) is ∙ by_cases (ℕ_discrete j i)
-      (λ q. rw q (get_or-set_same copy i (get_or image (from + i) 0) 0 (let z = r.long in omega arith)))
-      (λ n. get_or-set_other copy i j (get_or image (from + i) 0) 0 n ∙ r.bytes j (omega arith));
-}
+-- bytes that were taken from the image stand at the front of the copy
+pub read-bytes : (image new rest : List ℕ) (from n k : ℕ) → k ≡ n → new ≡ take k (drop from image) → from + n ≤ length image → (j : ℕ) → j < n → get_or (new ++ rest) j 0 ≡ get_or image (from + j) 0
+read-bytes image new rest from n k ek is fits j l =
+    let long : length new ≡ n = ap length is ∙ length-take k (drop from image) ∙ (let d = length-drop from image in let z : min k (length (drop from image)) ≡ n = omega arith in z) in
+    get_or_append_left new rest 0 j (omega arith) ∙ ap (λ (b : List ℕ). get_or b j 0) is ∙ get_or-take k (drop from image) j 0 (omega arith) ∙ get_or-drop from image j 0
 
 word_read : (image copy : List ℕ) (at i n : ℕ) → ((j : ℕ) → j < 8 * n → get_or copy j 0 ≡ get_or image (8 * at + j) 0) → i < n → word_at copy i ≡ word_at image (at + i)
 unfolding word_at
@@ -68,15 +56,15 @@ read_none size image copy at end stop long is h = record {
     none : min end (length (words_of image)) - at ≡ min 0 (length (words_of copy)) - 0
     none = let l = length-words_of image in omega arith
 
-pub read_all : (size : Size) → (image copy : List ℕ) (at end stop n i : ℕ) → stop ≡ min end (length image / 8) → at < stop → n ≡ min (stop - at) (chunk_words (power_of size)) → (room : ℕ) → room ≡ chunk_bytes (power_of size) → Reads room image copy (8 * at) i → 8 * n ≤ i → ChunkRead size image copy at end n
-read_all size image copy at end stop n i is low is-n room is-room r all = record {
-  long = r.long ∙ is-room;
+pub read_all : (size : Size) → (image copy : List ℕ) (at end stop n : ℕ) → stop ≡ min end (length image / 8) → at < stop → n ≡ min (stop - at) (chunk_words (power_of size)) → length copy ≡ chunk_bytes (power_of size) → ((j : ℕ) → j < 8 * n → get_or copy j 0 ≡ get_or image (8 * at + j) 0) → ChunkRead size image copy at end n
+read_all size image copy at end stop n is low is-n long read = record {
+  long = long;
   few = omega arith;
   words = λ s. ext_get_or 0 (slice 0 n (words_of copy)) (slice at end (words_of image)) (long-copy ∙ sym (long-image s)) (λ j l. each j (rw long-copy at l) s);
 }
   where
     copy-words : length (words_of copy) ≡ chunk_words (power_of size)
-    copy-words = length-words_of copy ∙ (let z = r.long in let w = bytes-words (power_of size) (power-low size) (power-high size) in let q : length copy / 8 ≡ chunk_words (power_of size) = omega arith in q)
+    copy-words = length-words_of copy ∙ (let z = long in let w = bytes-words (power_of size) (power-low size) (power-high size) in let q : length copy / 8 ≡ chunk_words (power_of size) = omega arith in q)
 
     long-copy : length (slice 0 n (words_of copy)) ≡ n
     long-copy = slice-long 0 n (words_of copy) ∙ (let z = copy-words in let q : min n (length (words_of copy)) - 0 ≡ n = omega arith in q)
@@ -86,11 +74,11 @@ read_all size image copy at end stop n i is low is-n room is-room r all = record
 
     each : (j : ℕ) → j < n → end ≤ at + chunk_words (power_of size) → get_or (slice 0 n (words_of copy)) j 0 ≡ get_or (slice at end (words_of image)) j 0
     each j l s =
-        let z = r.long in
+        let z = long in
         let w = bytes-words (power_of size) (power-low size) (power-high size) in
         slice_at 0 n (words_of copy) j (omega arith)
         ∙ rw (zero-add j) (get_or-words_of copy j (omega arith))
-        ∙ word_read image copy at j n (λ k u. r.bytes k (omega arith)) l
+        ∙ word_read image copy at j n read l
         ∙ sym (slice_at at end (words_of image) j (omega arith) ∙ get_or-words_of image (at + j) (omega arith))
 
 -- ## Entries of the copy, at their places in the image
@@ -159,59 +147,47 @@ module _ (size : Size) (ws table : List ℕ) (at n : ℕ) where
   }
 
   -- one entry more, which stands in the copy at word a
-  collects-one : (kept : List ℕ) (t : Tally) (c behind : Cursor) → Collecting size ws table kept at n t c → (op pl v x k m a : ℕ) → Handed (power_of size) 0 ws c op pl v x k m a behind
-      → (counts : List ℕ) → Decided size ws table counts 0 n op k → (place : ℕ) → place ≡ at + a → (is : Bool) → KeptTest size table counts op k place is
-      → (kept' : List ℕ) (t' : Tally) → OneTaken size ws kept kept' t is a m t' → Collecting size ws table kept' at n t' behind
-  collects-one kept t c behind inv op pl v x k m a h counts decided place ep is test kept' t' one = record {
+  pub collects-next : (kept : List ℕ) (t : Tally) (c : Cursor) → Collecting size ws table kept at n t c → (f : F.Entry) → Handed (power_of size) 0 ws c f
+      → (counts : List ℕ) → Decided size ws table counts 0 n f.op f.key → (place : ℕ) → place ≡ at + f.place → (is : Bool) → KeptTest size table counts f.op f.key place is
+      → (kept' : List ℕ) (t' : Tally) → OneTaken size ws kept kept' t is f.place f.words t' → Collecting size ws table kept' at n t' f.behind
+  collects-next kept t c inv f h counts decided place ep is test kept' t' one = record {
     long = one.long;
     bound = one.bound inv.bound;
     goes = λ real end keys xs mid ys few full same g.
         let q = inv.goes real end keys xs mid ys few full same g in
-        let e = entry_in ws op pl v x k m a in
-        let o = cons_inv e (remaining (power_of size) 0 ws behind) q.0 (sym h.whole ∙ q.1) in
-        let w : Owing kept (kept_test xs mid ys) mid t (moved (at + a) e ∷ lifted at o.0) = rw o.2 at q.2 in
-        let kept-is : is ≡ kept_test xs mid ys (moved (at + a) e) = test.kept real at end keys xs mid ys (moved (at + a) e) g (decided-real size ws real table counts at end n op k few same decided) (w.inside (moved (at + a) e) (inl refl)) refl refl (sym ep) in
+        let e = with_value ws f in
+        let o = cons_inv e (remaining (power_of size) 0 ws f.behind) q.0 (sym h.whole ∙ q.1) in
+        let w : Owing kept (kept_test xs mid ys) mid t (moved (at + f.place) e ∷ lifted at o.0) = rw o.2 at q.2 in
+        let kept-is : is ≡ kept_test xs mid ys (moved (at + f.place) e) = test.kept real at end keys xs mid ys (moved (at + f.place) e) g (decided-real size ws real table counts at end n f.op f.key few same decided) (w.inside (moved (at + f.place) e) (inl refl)) refl refl (sym ep) in
         let s = h.size in
-        let f = h.stands.fits in
+        let b = h.stands.fits in
         let w' = words-most (power_of size) (power-low size) (power-high size) in
-        let words : take (2 + m) (drop a ws) ≡ encode (moved (at + a) e) = ap (λ (j : ℕ). take (2 + j) (drop a ws)) s ∙ h.stands.words in
-        (o.0, o.1, one.adds (kept_test xs mid ys) mid (lifted at o.0) (moved (at + a) e) (kept-words size real table keys at end xs mid ys g) (omega arith) kept-is (h.stands.right.words ∙ sym s) words (omega arith) w);
+        let words : take (2 + f.words) (drop f.place ws) ≡ encode (moved (at + f.place) e) = ap (λ (j : ℕ). take (2 + j) (drop f.place ws)) s ∙ h.stands.words in
+        (o.0, o.1, one.adds (kept_test xs mid ys) mid (lifted at o.0) (moved (at + f.place) e) (kept-words size real table keys at end xs mid ys g) (omega arith) kept-is (h.stands.right.words ∙ sym s) words (omega arith) w);
   }
 
-  -- an entry, or the end
-  module _ (kept : List ℕ) (t : Tally) (c : Cursor) (inv : Collecting size ws table kept at n t c) (r : Next) (told : Advanced (power_of size) 0 ws c r) where
-    pub collects-done : r ≡ N.Done → Walked size ws table kept at n t
-    collects-done d = record {
-      long = inv.long;
-      bound = inv.bound;
-      gathers = λ real end keys xs mid ys few full same g.
-          let q = inv.goes real end keys xs mid ys few full same g in
-          let o : Owing kept (kept_test xs mid ys) mid t [] = rw (none_left size ws c r told q.0 q.1 d) at q.2 in
-          (sym (o.words ∙ append-nil (buffer_part kept 0 t.words)), let n = o.count in omega arith);
-    }
-
-    pub collects-wrong : r ≡ N.Wrong → Walked size ws table kept at n t
-    collects-wrong d = record {
-      long = inv.long;
-      bound = inv.bound;
-      gathers = λ real end keys xs mid ys few full same g. let q = inv.goes real end keys xs mid ys few full same g in absurd (not-wrong size ws c r told q.0 q.1 d);
-    }
-
-    pub collects-next : (op pl v x k m a : ℕ) (behind : Cursor) → r ≡ N.Entry op pl v x k m a behind → (counts : List ℕ) → Decided size ws table counts 0 n op k → (place : ℕ) → place ≡ at + a → (is : Bool) → KeptTest size table counts op k place is
-        → (kept' : List ℕ) (t' : Tally) → OneTaken size ws kept kept' t is a m t' → Collecting size ws table kept' at n t' behind
-    collects-next op pl v x k m a behind d counts decided place ep is test kept' t' one = collects-one kept t c behind inv op pl v x k m a (handed (power_of size) 0 ws c r told op pl v x k m a behind d) counts decided place ep is test kept' t' one
+  -- the end
+  pub collects-end : (kept : List ℕ) (t : Tally) (c : Cursor) → Collecting size ws table kept at n t c → Ended size ws c → Walked size ws table kept at n t
+  collects-end kept t c inv d = record {
+    long = inv.long;
+    bound = inv.bound;
+    gathers = λ real end keys xs mid ys few full same g.
+        let q = inv.goes real end keys xs mid ys few full same g in
+        let o : Owing kept (kept_test xs mid ys) mid t [] = rw (d q.0 q.1) at q.2 in
+        (sym (o.words ∙ append-nil (buffer_part kept 0 t.words)), let n = o.count in omega arith);
+  }
 
 -- a run of puts: at its beginning, and after one more
 module _ (size : Size) (ws table : List ℕ) (at until : ℕ) where
   pub puts-start : (kept : List ℕ) (from : ℕ) (t : Tally) → PutsTaken size ws table kept kept at until from t from t
   puts-start kept from t = record { nearer = λ c. omega arith; long = λ l. l; keeps = λ n c i. i }
 
-  pub puts-more : (kept₀ kept : List ℕ) (from : ℕ) (t₀ : Tally) (a : ℕ) (t : Tally) → PutsTaken size ws table kept₀ kept at until from t₀ a t → (v x k m : ℕ) → step_of (slice a until ws) ≡ S.Entry 1 0 v x k m
-      → (counts : List ℕ) (place : ℕ) → place ≡ at + a → (is : Bool) → KeptTest size table counts 1 k place is → (kept' : List ℕ) (t' : Tally) → OneTaken size ws kept kept' t is a m t' → PutsTaken size ws table kept₀ kept' at until from t₀ (a + (2 + m)) t'
-  puts-more kept₀ kept from t₀ a t p v x k m q counts place ep is test kept' t' one = record {
-    nearer = λ c. let f = (next-found (power_of size) 0 ws c a until 1 0 v x k m q).falls in let g = p.nearer c in omega arith;
+  pub puts-more : (kept₀ kept : List ℕ) (from : ℕ) (t₀ : Tally) (a : ℕ) (t : Tally) → PutsTaken size ws table kept₀ kept at until from t₀ a t → (s : ShortPut) → step_of (slice a until ws) ≡ S.Entry 1 0 s.version s.field s.key s.words
+      → (counts : List ℕ) (place : ℕ) → place ≡ at + a → (is : Bool) → KeptTest size table counts 1 s.key place is → (kept' : List ℕ) (t' : Tally) → OneTaken size ws kept kept' t is a s.words t' → PutsTaken size ws table kept₀ kept' at until from t₀ (a + (2 + s.words)) t'
+  puts-more kept₀ kept from t₀ a t p s q counts place ep is test kept' t' one = record {
+    nearer = λ c. let f = (next-found (power_of size) 0 ws c a until 1 0 s.version s.field s.key s.words q).falls in let g = p.nearer c in omega arith;
     long = λ l. one.long;
-    keeps = λ n c i. collects-one size ws table at n kept t (cursor_at c a until) (cursor_at c (a + (2 + m)) until) (p.keeps n c i) 1 0 v x k m a (next-found (power_of size) 0 ws c a until 1 0 v x k m q) counts (inl refl) place ep is test kept' t' one;
+    keeps = λ n c i. let h = next-found (power_of size) 0 ws c a until 1 0 s.version s.field s.key s.words q in collects-next size ws table at n kept t (cursor_at c a until) (p.keeps n c i) _ h counts (inl refl) place ep is test kept' t' one;
   }
 
 -- what is left to `take_rest`: up to a cursor, from what it began with
@@ -222,16 +198,13 @@ pub record RestOn (size : Size) (ws table kept₀ : List ℕ) (at n : ℕ) (star
 pub rest-start : (size : Size) → (ws table kept : List ℕ) (at n : ℕ) (start : Cursor) (t : Tally) → RestOn size ws table kept at n start t kept t start
 rest-start size ws table kept at n start t = record { long = λ l. l; goes = λ c. c }
 
-module _ (size : Size) (ws table kept₀ : List ℕ) (at n : ℕ) (start : Cursor) (t₀ : Tally) (kept : List ℕ) (t : Tally) (c : Cursor) (inv : RestOn size ws table kept₀ at n start t₀ kept t c) (r : Next) (told : Advanced (power_of size) 0 ws c r) where
-  pub rest-done : r ≡ N.Done → RestTaken size ws table kept₀ kept at n start t₀ t
-  rest-done d = record { walks = λ i. collects-done size ws table at n kept t c (inv.goes i) r told d }
+module _ (size : Size) (ws table kept₀ : List ℕ) (at n : ℕ) (start : Cursor) (t₀ : Tally) (kept : List ℕ) (t : Tally) (c : Cursor) (inv : RestOn size ws table kept₀ at n start t₀ kept t c) where
+  pub rest-end : Ended size ws c → RestTaken size ws table kept₀ kept at n start t₀ t
+  rest-end d = record { walks = λ i. collects-end size ws table at n kept t c (inv.goes i) d }
 
-  pub rest-wrong : r ≡ N.Wrong → RestTaken size ws table kept₀ kept at n start t₀ t
-  rest-wrong d = record { walks = λ i. collects-wrong size ws table at n kept t c (inv.goes i) r told d }
-
-  pub rest-next : (op pl v x k m a : ℕ) (behind : Cursor) → r ≡ N.Entry op pl v x k m a behind → (counts : List ℕ) → Decided size ws table counts 0 n op k → (place : ℕ) → place ≡ at + a → (is : Bool) → KeptTest size table counts op k place is
-      → (kept' : List ℕ) (t' : Tally) → OneTaken size ws kept kept' t is a m t' → RestOn size ws table kept₀ at n start t₀ kept' t' behind
-  rest-next op pl v x k m a behind d counts decided place ep is test kept' t' one = record { long = λ l. one.long; goes = λ i. collects-next size ws table at n kept t c (inv.goes i) r told op pl v x k m a behind d counts decided place ep is test kept' t' one }
+  pub rest-next : (f : F.Entry) → Handed (power_of size) 0 ws c f → (counts : List ℕ) → Decided size ws table counts 0 n f.op f.key → (place : ℕ) → place ≡ at + f.place → (is : Bool) → KeptTest size table counts f.op f.key place is
+      → (kept' : List ℕ) (t' : Tally) → OneTaken size ws kept kept' t is f.place f.words t' → RestOn size ws table kept₀ at n start t₀ kept' t' f.behind
+  rest-next f h counts decided place ep is test kept' t' one = record { long = λ l. one.long; goes = λ i. collects-next size ws table at n kept t c (inv.goes i) f h counts decided place ep is test kept' t' one }
 
 -- all of it, with the words read from the image
 pub collected : (size : Size) → (image copy table kept : List ℕ) (at end n : ℕ) (t : Tally) → ChunkRead size image copy at end n → Walked size (words_of copy) table kept at n t → Collected size (words_of image) table kept at end t

@@ -1,7 +1,9 @@
 -- The words that are gathered: parts of the buffer, and what the code shows of one entry.
 -- Assumes nothing.
-use Rattle.std.proofs.Common.{◌≡◌, ℕ, zero, suc, ◌+◌, ◌<◌, ◌≤◌, Bool, true, false, ◌⊎◌, List, ◌∷◌, ◌++◌, length, get_or, take, drop, set, sym, refl, ap, ◌∙◌, inl, inr, append_assoc, add-zero, zero-add, arith, length-append, length-set, drop-cons, get_or-set_other, get_or-set_same}
+use Rattle.std.proofs.Common.{◌≡◌, ℕ, zero, suc, ◌+◌, ◌-◌, ◌<◌, ◌≤◌, min, Bool, true, false, ◌⊎◌, List, ◌∷◌, ◌++◌, length, get_or, take, drop, set, sym, refl, ap, ◌∙◌, inl, inr, append_assoc, add-zero, zero-add, arith, length-append, length-drop, length-set, drop-cons, get_or-set_other, get_or-set_same}
 use mathlib.Core.Logic.{by_cases}
+use borrow.Rule.Slice.PartMut.{put_mid, post_of, same_len_mid}
+use Rattle.std.proofs.lemmas.List.{length-take, get_or-take, get_or-drop, get_or_append_left, get_or-append_right}
 use native.Mathlib.Decide.{ℕ_discrete}
 use Rattle.spec.specs.declared.Size.{Size}
 use Rattle.places.specs.Sizes.{power_of, power-low, power-high}
@@ -40,8 +42,38 @@ copied_next n ws buffer now' next' from to i v sized low c is-v is = record {
     wider j (inl a) = inl a
     wider j (inr a) = inr (omega arith)
 
-pub copied-end : (ws buffer now' : List ℕ) (from to i n : ℕ) → i ≡ n → Copied ws buffer now' from to i → Copied ws buffer now' from to n
-copied-end ws buffer now' from to i n e c = rw e at c
+-- a part of the buffer is written over by as many words
+pub copied-part : (kept buffer part : List ℕ) (to n k : ℕ) → n ≤ length kept → to + n ≤ length buffer → k ≡ n → part ≡ take n kept → Copied kept buffer (put_mid to k buffer part) 0 to n
+copied-part kept buffer part to n k have room ek is = record {
+  long = same_len_mid to k buffer part (long-part ∙ sym long-mid);
+  words = λ i l.
+      get_or-append_right (take to buffer) (part ++ post_of to k buffer) to (to + i) 0 long-front (omega arith)
+      ∙ ap (λ (j : ℕ). get_or (part ++ post_of to k buffer) j 0) (let z : to + i - to ≡ i = omega arith in z)
+      ∙ get_or_append_left part (post_of to k buffer) 0 i (let p = long-part in omega arith)
+      ∙ ap (λ (b : List ℕ). get_or b i 0) is
+      ∙ get_or-take n kept i 0 l
+      ∙ ap (λ (j : ℕ). get_or kept j 0) (sym (zero-add i));
+  others = λ j o. outside j o;
+}
+  where
+    long-front : length (take to buffer) ≡ to
+    long-front = length-take to buffer ∙ (let z : min to (length buffer) ≡ to = omega arith in z)
+
+    long-part : length part ≡ n
+    long-part = ap length is ∙ length-take n kept ∙ (let z : min n (length kept) ≡ n = omega arith in z)
+
+    long-mid : length (take k (drop to buffer)) ≡ n
+    long-mid = length-take k (drop to buffer) ∙ (let d = length-drop to buffer in let z : min k (length (drop to buffer)) ≡ n = omega arith in z)
+
+    outside : (j : ℕ) → (j < to) ⊎ (to + n ≤ j) → get_or (put_mid to k buffer part) j 0 ≡ get_or buffer j 0
+    outside j (inl l) =
+        get_or_append_left (take to buffer) (part ++ post_of to k buffer) 0 j (let f = long-front in omega arith) ∙ get_or-take to buffer j 0 l
+    outside j (inr l) =
+        get_or-append_right (take to buffer) (part ++ post_of to k buffer) to j 0 long-front (omega arith)
+        ∙ get_or-append_right part (post_of to k buffer) n (j - to) 0 long-part (omega arith)
+        ∙ get_or-drop k (drop to buffer) (j - to - n) 0
+        ∙ get_or-drop to buffer (k + (j - to - n)) 0
+        ∙ ap (λ (i : ℕ). get_or buffer i 0) (let z : to + (k + (j - to - n)) ≡ j = omega arith in z)
 
 -- ## Parts of the buffer
 
@@ -111,8 +143,8 @@ module _ (size : Size) (ws kept : List ℕ) (t : Tally) (place value : ℕ) (lon
   pub take-not : OneTaken size ws kept kept t false place value t
   take-not = record { long = long; bound = λ l. l; adds = λ test mid todo e few low h ev es fits o. owing-skip size kept test mid todo t e o (sym h) }
 
-  pub take-full : (words entries : ℕ) → words ≡ t.words → entries ≡ t.entries → Room size words entries place value false → OneTaken size ws kept kept t true place value t
-  take-full words entries iw ie r = record {
+  pub take-full : Room size t.words t.entries place value false → OneTaken size ws kept kept t true place value t
+  take-full r = record {
     long = long;
     bound = λ l. l;
     adds = λ test mid todo e few low h ev es fits o.
@@ -122,15 +154,15 @@ module _ (size : Size) (ws kept : List ℕ) (t : Tally) (place value : ℕ) (lon
         absurd (r.lacks refl (omega arith) (omega arith) low);
   }
 
-  pub take-kept : (words entries : ℕ) → words ≡ t.words → entries ≡ t.entries → Room size words entries place value true → (kept' : List ℕ) → Copied ws kept kept' place words (2 + value)
-      → OneTaken size ws kept kept' t true place value (record { words = words + (2 + value); entries = entries + 1 })
-  take-kept words entries iw ie r kept' c = record {
+  pub take-kept : Room size t.words t.entries place value true → (kept' : List ℕ) → Copied ws kept kept' place t.words (2 + value)
+      → OneTaken size ws kept kept' t true place value (record { words = t.words + (2 + value); entries = t.entries + 1 })
+  take-kept r kept' c = record {
     long = c.long ∙ long;
     bound = λ l. (r.fits refl).0;
     adds = λ test mid todo e few low h ev es fits o.
         let same : buffer_part kept' 0 t.words ≡ buffer_part kept 0 t.words = part-agree kept' kept 0 t.words (λ j a b. c.others j (inl (omega arith))) in
-        let new : buffer_part kept' t.words (2 + value) ≡ encode e = rw (← iw) (part-words kept' ws words place (2 + value) c.words fits ∙ es) in
-        rw (iw, ie) (owing-take size kept test mid todo t e o (sym h) kept' (2 + value) (omega arith) same new);
+        let new : buffer_part kept' t.words (2 + value) ≡ encode e = part-words kept' ws t.words place (2 + value) c.words fits ∙ es in
+        owing-take size kept test mid todo t e o (sym h) kept' (2 + value) (omega arith) same new;
   }
 
 -- ## The words in the record's buffer

@@ -3,7 +3,6 @@
 #![tactic(auto)]
 
 ghost use Rattle.std.specs.Prelude.{◌≡◌, ◌+◌, ◌*◌, ◌^◌, ◌<◌, ◌≤◌, length};
-ghost use Rattle.spec.specs.declared.Size.TheVariants as S;
 ghost use Rattle.spec.specs.Words.{words_of};
 ghost use Rattle.spec.specs.Places.{chunk_bytes, chunk_words};
 ghost use Rattle.places.specs.Sizes.{power_of};
@@ -15,27 +14,22 @@ pub mod measure;
 
 use crate::measure::{Run, Tally, count_once, has_room, is_kept};
 use buffer::{Buffer, SECOND};
-use logs::{Cursor, Next, Short};
+use logs::Cursor;
 use spec::Size;
 
-// THE READING: the words from `at` to `end`, each once, from the first to the last. How many there are.
+// THE READING: the words from `at` to `end`, each once. How many there are.
 fn read_chunk(image: &[u8], copy: &mut [u8], at: usize, end: usize, size: Size) -> usize
     requires { length copy.old ≡ chunk_bytes (power_of size) }
     ensures { ChunkRead size image.now copy.new at end result }
 {
-    let most = places::words(size);
-    let stop = words::lesser(end, image.len() / 8);
+    let stop = end.min(image.len() / 8);
     if stop <= at {
         return 0;
     }
-    let words = words::lesser(stop - at, most);
+    let words = (stop - at).min(places::words(size));
     let from = 8 * at;
     let bytes = 8 * words;
-    let mut i = 0;
-    while i < bytes {
-        copy[i] = image[from + i];
-        i += 1;
-    }
+    copy[..bytes].copy_from_slice(&image[from..from + bytes]);
     words
 }
 
@@ -44,11 +38,8 @@ fn copy_words(copy: &[u8], kept: &mut [u64], from: usize, to: usize, n: usize)
     requires { (to + n ≤ length kept.old) × (from < 2 ^ 62) }
     ensures { Copied (words_of copy.now) kept.old kept.new from to n }
 {
-    let mut i = 0;
-    while i < n {
-        let v = words::load(copy, from + i);
-        kept[to + i] = v;
-        i += 1;
+    for i in 0..n {
+        kept[to + i] = words::load(copy, from + i);
     }
 }
 
@@ -65,18 +56,15 @@ fn take(
     requires { length kept.old ≡ chunk_words (power_of size) }
     ensures { OneTaken size (words_of copy.now) kept.old kept.new so is place value result }
 {
-    if is {
-        let words = so.words;
-        let entries = so.entries;
-        if has_room(words, entries, place, value, size) {
-            copy_words(copy, kept, place, words, 2 + value);
-            return Tally {
-                words: words + (2 + value),
-                entries: entries + 1,
-            };
+    if is && has_room(so, place, value, size) {
+        copy_words(copy, kept, place, so.words, 2 + value);
+        Tally {
+            words: so.words + (2 + value),
+            entries: so.entries + 1,
         }
+    } else {
+        so
     }
-    so
 }
 
 // Of a copy whose first word is word `at` of the image: the puts with values in the log that stand one behind the other
@@ -96,24 +84,12 @@ fn take_puts(
 {
     let mut tally = so;
     let mut place = from;
-    loop {
-        let s = logs::short_put(copy, place, until);
-        match s {
-            Short::Other => {
-                return Run { tally, at: place };
-            }
-            Short::Put {
-                version: _,
-                field: _,
-                key,
-                words,
-            } => {
-                let is = is_kept(table, table, 1, key, at + place, size);
-                tally = take(copy, kept, tally, is, place, words, size);
-                place += 2 + words;
-            }
-        }
+    while let Some(put) = logs::short_put(copy, place, until) {
+        let is = is_kept(table, table, 1, put.key, at + place, size);
+        tally = take(copy, kept, tally, is, place, put.words, size);
+        place += 2 + put.words;
     }
+    Run { tally, at: place }
 }
 
 // All entries of the copy's first n words from a cursor on, with deletes among them: the keys are counted in words
@@ -135,36 +111,17 @@ fn take_counted(
     let mut counted = false;
     let mut tally = so;
     let mut cursor = start;
-    loop {
-        let next = logs::next_in_log(copy, 0, cursor, size);
-        match next {
-            Next::Done => {
-                return tally;
-            }
-            Next::Wrong => {
-                return tally;
-            }
-            Next::Entry {
-                op,
-                placement: _,
-                version: _,
-                field: _,
-                key,
-                words,
-                place,
-                cursor: behind,
-            } => {
-                counted = count_once(copy, table, counts, 0, n, op, key, counted, size);
-                let is = is_kept(table, counts, op, key, at + place, size);
-                tally = take(copy, kept, tally, is, place, words, size);
-                cursor = behind;
-            }
-        }
+    while let Ok(Some(e)) = logs::next_in_log(copy, 0, cursor, size) {
+        counted = count_once(copy, table, counts, 0, n, e.op, e.key, counted, size);
+        let is = is_kept(table, counts, e.op, e.key, at + e.place, size);
+        tally = take(copy, kept, tally, is, e.place, e.words, size);
+        cursor = e.behind;
     }
+    tally
 }
 
 // The same with words for that, two for each word of the chunk.
-fn small_rest(
+fn rest_in<const N: usize>(
     copy: &[u8],
     table: &[u64],
     kept: &mut [u64],
@@ -172,48 +129,13 @@ fn small_rest(
     n: usize,
     start: Cursor,
     so: Tally,
+    size: Size,
 ) -> Tally
-    requires { (at < 2 ^ 62) × (length kept.old ≡ chunk_words (power_of S.Small)) }
-    ensures { RestTaken S.Small (words_of copy.now) table.now kept.old kept.new at n start so result }
+    requires { (at < 2 ^ 62) × (length kept.old ≡ chunk_words (power_of size)) × (N ≡ 2 * chunk_words (power_of size)) }
+    ensures { RestTaken size (words_of copy.now) table.now kept.old kept.new at n start so result }
 {
-    let mut counts: [u64; 1024] = [0; 1024];
-    take_counted(
-        copy,
-        table,
-        kept,
-        &mut counts,
-        at,
-        n,
-        start,
-        so,
-        Size::Small,
-    )
-}
-
-fn large_rest(
-    copy: &[u8],
-    table: &[u64],
-    kept: &mut [u64],
-    at: usize,
-    n: usize,
-    start: Cursor,
-    so: Tally,
-) -> Tally
-    requires { (at < 2 ^ 62) × (length kept.old ≡ chunk_words (power_of S.Large)) }
-    ensures { RestTaken S.Large (words_of copy.now) table.now kept.old kept.new at n start so result }
-{
-    let mut counts: [u64; 16384] = [0; 16384];
-    take_counted(
-        copy,
-        table,
-        kept,
-        &mut counts,
-        at,
-        n,
-        start,
-        so,
-        Size::Large,
-    )
+    let mut counts = [0; N];
+    take_counted(copy, table, kept, &mut counts, at, n, start, so, size)
 }
 
 fn take_rest(
@@ -230,8 +152,8 @@ fn take_rest(
     ensures { RestTaken size (words_of copy.now) table.now kept.old kept.new at n start so result }
 {
     match size {
-        Size::Small => small_rest(copy, table, kept, at, n, start, so),
-        Size::Large => large_rest(copy, table, kept, at, n, start, so),
+        Size::Small => rest_in::<1024>(copy, table, kept, at, n, start, so, size),
+        Size::Large => rest_in::<16384>(copy, table, kept, at, n, start, so, size),
     }
 }
 
@@ -250,63 +172,39 @@ fn take_all(copy: &[u8], table: &[u64], kept: &mut [u64], at: usize, n: usize, s
         end: n,
     };
     loop {
-        let chunk = cursor.chunk;
-        let until = cursor.end;
-        let run = take_puts(copy, table, kept, at, cursor.at, until, tally, size);
-        let so = run.tally;
+        let run = take_puts(copy, table, kept, at, cursor.at, cursor.end, tally, size);
         let here = Cursor {
-            chunk,
             at: run.at,
-            end: until,
+            ..cursor
         };
-        let next = logs::next_in_log(copy, 0, here, size);
-        match next {
-            Next::Done => {
-                return so;
-            }
-            Next::Wrong => {
-                return so;
-            }
-            Next::Entry {
-                op,
-                placement: _,
-                version: _,
-                field: _,
-                key,
-                words,
-                place,
-                cursor: behind,
-            } => {
-                if op == 1 {
-                    let is = is_kept(table, table, op, key, at + place, size);
-                    tally = take(copy, kept, so, is, place, words, size);
-                    cursor = behind;
-                } else {
-                    return take_rest(copy, table, kept, at, n, here, so, size);
-                }
-            }
+        let Ok(Some(e)) = logs::next_in_log(copy, 0, here, size) else {
+            return run.tally;
+        };
+        if e.op != 1 {
+            return take_rest(copy, table, kept, at, n, here, run.tally, size);
         }
+        let is = is_kept(table, table, e.op, e.key, at + e.place, size);
+        tally = take(copy, kept, run.tally, is, e.place, e.words, size);
+        cursor = e.behind;
     }
 }
 
 // What a cleaning keeps of the words from `at` to `end`: its words, and how many words and entries there are. The copy
 // has as many bytes as a chunk.
-fn small_gather(image: &[u8], table: &[u64], kept: &mut [u64], at: usize, end: usize) -> Tally
-    requires { (at < 2 ^ 62) × (length kept.old ≡ chunk_words (power_of S.Small)) }
-    ensures { Collected S.Small (words_of image.now) table.now kept.new at end result }
+fn gather_in<const BYTES: usize>(
+    image: &[u8],
+    table: &[u64],
+    kept: &mut [u64],
+    at: usize,
+    end: usize,
+    size: Size,
+) -> Tally
+    requires { (at < 2 ^ 62) × (length kept.old ≡ chunk_words (power_of size)) × (BYTES ≡ chunk_bytes (power_of size)) }
+    ensures { Collected size (words_of image.now) table.now kept.new at end result }
 {
-    let mut copy: [u8; 4096] = [0; 4096];
-    let n = read_chunk(image, &mut copy, at, end, Size::Small);
-    take_all(&copy, table, kept, at, n, Size::Small)
-}
-
-fn large_gather(image: &[u8], table: &[u64], kept: &mut [u64], at: usize, end: usize) -> Tally
-    requires { (at < 2 ^ 62) × (length kept.old ≡ chunk_words (power_of S.Large)) }
-    ensures { Collected S.Large (words_of image.now) table.now kept.new at end result }
-{
-    let mut copy: [u8; 65536] = [0; 65536];
-    let n = read_chunk(image, &mut copy, at, end, Size::Large);
-    take_all(&copy, table, kept, at, n, Size::Large)
+    let mut copy = [0; BYTES];
+    let n = read_chunk(image, &mut copy, at, end, size);
+    take_all(&copy, table, kept, at, n, size)
 }
 
 pub fn gather(
@@ -321,8 +219,8 @@ pub fn gather(
     ensures { Collected size (words_of image.now) table.now kept.new at end result }
 {
     match size {
-        Size::Small => small_gather(image, table, kept, at, end),
-        Size::Large => large_gather(image, table, kept, at, end),
+        Size::Small => gather_in::<4096>(image, table, kept, at, end, size),
+        Size::Large => gather_in::<65536>(image, table, kept, at, end, size),
     }
 }
 
@@ -332,9 +230,5 @@ pub fn store_kept(buffer: &mut Buffer, kept: &[u64], n: usize)
     ensures { Copied kept.now buffer.old buffer.new 0 second_start n }
 {
     buffer::buffer_length(buffer);
-    let mut i = 0;
-    while i < n {
-        buffer[SECOND + i] = kept[i];
-        i += 1;
-    }
+    buffer[SECOND..SECOND + n].copy_from_slice(&kept[..n]);
 }

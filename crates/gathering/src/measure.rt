@@ -1,13 +1,12 @@
 // What a cleaning keeps of a chunk, and how much that is: whether an entry is kept, and the words and entries of those
 // that are, counted. Where a delete asks for it, one pass before counts the entries of each key.
 ghost use Rattle.std.specs.Prelude.{◌≡◌, ◌*◌, length};
-ghost use Rattle.spec.specs.declared.Size.TheVariants as S;
 ghost use Rattle.spec.specs.Words.{words_of};
 ghost use Rattle.spec.specs.Places.{chunk_words};
 ghost use Rattle.places.specs.Sizes.{power_of};
 ghost use Rattle.gathering.specs.Measuring.{Counting, CountedOnce, KeptTest, Room, OneWeighed, Hastened, Measured};
 
-use logs::{Cursor, Next, Short};
+use logs::Cursor;
 use spec::Size;
 
 // How many words are gathered, and how many entries.
@@ -24,30 +23,10 @@ fn count_keys(image: &[u8], counts: &mut [u64], at: usize, end: usize, size: Siz
 {
     index::clear(counts);
     let mut cursor = Cursor { chunk: 0, at, end };
-    loop {
-        let n = logs::next_in_log(image, 0, cursor, size);
-        match n {
-            Next::Done => {
-                return;
-            }
-            Next::Wrong => {
-                return;
-            }
-            Next::Entry {
-                op: _,
-                placement: _,
-                version: _,
-                field: _,
-                key: k,
-                words: _,
-                place: _,
-                cursor: behind,
-            } => {
-                let more = std::num::wrapping_add_u64(index::get(counts, k), 1);
-                index::insert_or_update(counts, k, more);
-                cursor = behind;
-            }
-        }
+    while let Ok(Some(e)) = logs::next_in_log(image, 0, cursor, size) {
+        let more = index::get(counts, e.key).wrapping_add(1);
+        index::insert_or_update(counts, e.key, more);
+        cursor = e.behind;
     }
 }
 
@@ -69,11 +48,7 @@ pub fn count_once(
     if counted {
         return true;
     }
-    if op == 1 {
-        return false;
-    }
-    let info = packing::unpack(size, index::get(table, key));
-    if info.entries == 1 {
+    if op == 1 || packing::unpack(size, index::get(table, key)).entries == 1 {
         return false;
     }
     count_keys(image, counts, at, end, size);
@@ -86,34 +61,19 @@ pub fn is_kept(table: &[u64], counts: &[u64], op: u64, key: u64, place: usize, s
     ensures { KeptTest size table.now counts.now op key place result }
 {
     let info = packing::unpack(size, index::get(table, key));
-    if info.place == place as u64 {
-        if op == 1 {
-            return true;
-        }
-        if info.entries == 1 {
-            return false;
-        }
-        return index::get(counts, key) < info.entries;
-    }
-    false
+    info.place == place as u64
+        && (op == 1 || info.entries != 1 && index::get(counts, key) < info.entries)
 }
 
 // ROOM
-// Whether an entry at this place with so many words of value goes behind so many words.
-pub fn has_room(words: usize, entries: usize, place: usize, value: usize, size: Size) -> bool
-    ensures { Room size words entries place value result }
+// Whether an entry at this place with so many words of value goes behind what is gathered.
+pub fn has_room(so: Tally, place: usize, value: usize, size: Size) -> bool
+    ensures { Room size so.words so.entries place value result }
 {
     let room = places::words(size);
     // behind so many words the first word and the key of an entry still fit
     let last = room - 2;
-    if words <= last {
-        if value <= last - words {
-            if entries < room {
-                return place < 0x40_0000;
-            }
-        }
-    }
-    false
+    so.words <= last && value <= last - so.words && so.entries < room && place < 0x40_0000
 }
 
 // MEASURING
@@ -121,17 +81,14 @@ pub fn has_room(words: usize, entries: usize, place: usize, value: usize, size: 
 fn add_kept(so: Tally, kept: bool, place: usize, value: usize, size: Size) -> Tally
     ensures { OneWeighed size so kept place value result }
 {
-    if kept {
-        let words = so.words;
-        let entries = so.entries;
-        if has_room(words, entries, place, value, size) {
-            return Tally {
-                words: words + (2 + value),
-                entries: entries + 1,
-            };
+    if kept && has_room(so, place, value, size) {
+        Tally {
+            words: so.words + (2 + value),
+            entries: so.entries + 1,
         }
+    } else {
+        so
     }
-    so
 }
 
 // What is counted up to a word.
@@ -156,24 +113,12 @@ fn add_puts(
 {
     let mut tally = so;
     let mut place = from;
-    loop {
-        let s = logs::short_put(image, place, until);
-        match s {
-            Short::Other => {
-                return Run { tally, at: place };
-            }
-            Short::Put {
-                version: _,
-                field: _,
-                key,
-                words,
-            } => {
-                let kept = is_kept(table, counts, 1, key, place, size);
-                tally = add_kept(tally, kept, place, words, size);
-                place += 2 + words;
-            }
-        }
+    while let Some(put) = logs::short_put(image, place, until) {
+        let kept = is_kept(table, counts, 1, put.key, place, size);
+        tally = add_kept(tally, kept, place, put.words, size);
+        place += 2 + put.words;
     }
+    Run { tally, at: place }
 }
 
 // How many words and entries a cleaning keeps of the words from `at` to `end`; the keys are counted in words of the
@@ -196,55 +141,28 @@ fn size_counted(
     };
     let mut cursor = Cursor { chunk: 0, at, end };
     loop {
-        let chunk = cursor.chunk;
-        let until = cursor.end;
-        let run = add_puts(image, table, counts, cursor.at, until, tally, size);
-        let so = run.tally;
+        let run = add_puts(image, table, counts, cursor.at, cursor.end, tally, size);
         let here = Cursor {
-            chunk,
             at: run.at,
-            end: until,
+            ..cursor
         };
-        let n = logs::next_in_log(image, 0, here, size);
-        match n {
-            Next::Done => {
-                return so;
-            }
-            Next::Wrong => {
-                return so;
-            }
-            Next::Entry {
-                op,
-                placement: _,
-                version: _,
-                field: _,
-                key,
-                words,
-                place,
-                cursor: behind,
-            } => {
-                counted = count_once(image, table, counts, at, end, op, key, counted, size);
-                let kept = is_kept(table, counts, op, key, place, size);
-                tally = add_kept(so, kept, place, words, size);
-                cursor = behind;
-            }
-        }
+        let Ok(Some(e)) = logs::next_in_log(image, 0, here, size) else {
+            return run.tally;
+        };
+        counted = count_once(image, table, counts, at, end, e.op, e.key, counted, size);
+        let kept = is_kept(table, counts, e.op, e.key, e.place, size);
+        tally = add_kept(run.tally, kept, e.place, e.words, size);
+        cursor = e.behind;
     }
 }
 
 // The same with words for that, two for each word of the chunk.
-fn small_size(image: &[u8], table: &[u64], at: usize, end: usize) -> Tally
-    ensures { Measured S.Small (words_of image.now) table.now at end result }
+fn size_in<const N: usize>(image: &[u8], table: &[u64], at: usize, end: usize, size: Size) -> Tally
+    requires { N ≡ 2 * chunk_words (power_of size) }
+    ensures { Measured size (words_of image.now) table.now at end result }
 {
-    let mut counts: [u64; 1024] = [0; 1024];
-    size_counted(image, table, &mut counts, at, end, Size::Small)
-}
-
-fn large_size(image: &[u8], table: &[u64], at: usize, end: usize) -> Tally
-    ensures { Measured S.Large (words_of image.now) table.now at end result }
-{
-    let mut counts: [u64; 16384] = [0; 16384];
-    size_counted(image, table, &mut counts, at, end, Size::Large)
+    let mut counts = [0; N];
+    size_counted(image, table, &mut counts, at, end, size)
 }
 
 // How many words and entries a cleaning keeps of the words from `at` to `end`: for choosing.
@@ -252,7 +170,7 @@ pub fn kept_size(image: &[u8], table: &[u64], at: usize, end: usize, size: Size)
     ensures { Measured size (words_of image.now) table.now at end result }
 {
     match size {
-        Size::Small => small_size(image, table, at, end),
-        Size::Large => large_size(image, table, at, end),
+        Size::Small => size_in::<1024>(image, table, at, end, size),
+        Size::Large => size_in::<16384>(image, table, at, end, size),
     }
 }

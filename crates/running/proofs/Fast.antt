@@ -26,7 +26,7 @@ use Rattle.buffer.specs.Areas.{batch_room}
 use Rattle.session.specs.State.{size_in, power_in, buffer_part, batch_words, chunk_in, lines_in, commit_actions}
 use Rattle.actions.specs.Nth.{nth_report, commit_count}
 use Rattle.session.proofs.Part.{staged-length}
-use Rattle.actions.proofs.Appending.{word-inside, word-behind, shows-flush, shows-fence, shows-seal, shows-seal-flush}
+use Rattle.actions.proofs.Appending.{word-inside, word-behind, shows-flush, shows-fence, shows-seal}
 use Rattle.actions.proofs.Committing.{commit-flush, commit-fence, commit-seal, commit-seal-flush}
 use Rattle.actions.proofs.Performed.{changed-store, changed-length}
 use Rattle.stepping.proofs.Keeping.{acted}
@@ -143,15 +143,19 @@ module _ (c : Control) (k : Setup) (b bytes : List ℕ) (lines : ℕ) (es : line
   unfolding commit_actions
   run-seal bytes' w v then line e ew el ev saved eq =
       let two : c.next + 1 + 1 ≡ c.next + 2 = omega arith in
+      let first : c.next - (9 * lines + 1) ≡ 0 = omega arith in
+      let second : c.next + 1 - (9 * lines + 1) ≡ 1 = omega arith in
       subst (λ (n : ℕ). Running n bytes' (R.Flush line)) two
       (run-acts c k b bytes bytes' (c.next + 1)
-      (sealed c k b bytes bytes c.next (no_stores c k b bytes) bytes' (R.Store w v) (omega arith) (shows-seal k (batch_words c b) c.next lines sized w v then e ew el ev) (changed-store (R.Store w v) bytes bytes' w v refl saved))
-      (omega arith) (λ q. omega arith) bytes' table (R.Flush line) (shows-seal-flush k (batch_words c b) (c.next + 1) lines sized line (omega arith) eq) refl h)
+      (sealed c k b bytes bytes c.next (no_stores c k b bytes) bytes' (R.Store w v) (omega arith) (shows-seal k (batch_words c b) c.next lines sized (R.Store w v) v then (omega arith) el ev (rw (first, ew) refl)) (changed-store (R.Store w v) bytes bytes' w v refl saved))
+      (omega arith) (λ q. omega arith) bytes' table (R.Flush line) (shows-seal k (batch_words c b) (c.next + 1) lines sized (R.Flush line) v then (omega arith) el ev (rw (second, eq) refl)) refl h)
 
   -- its line
   pub run-seal-flush : (line : ℕ) → c.next ≡ 9 * lines + 2 → line ≡ (8 + chunk_in k) / 8 → Running (c.next + 1) bytes (R.Flush line)
   unfolding commit_actions
-  run-seal-flush line e eq = run-acts c k b bytes bytes c.next (no_stores c k b bytes) (omega arith) (λ q. omega arith) bytes table (R.Flush line) (shows-seal-flush k (batch_words c b) c.next lines sized line e eq) refl h
+  run-seal-flush line e eq =
+      let second : c.next - (9 * lines + 1) ≡ 1 = omega arith in
+      run-acts c k b bytes bytes c.next (no_stores c k b bytes) (omega arith) (λ q. omega arith) bytes table (R.Flush line) (shows-seal k (batch_words c b) c.next lines sized (R.Flush line) _ (lines_in k + lines) (omega arith) refl refl (rw (second, eq) refl)) refl h
 
   -- the batch's words, and the line that is flushed next
   pub run-batch : (size : Size) → size ≡ size_in k → (bytes' : List ℕ) (n line : ℕ) → Stores c k b bytes bytes' n → c.next < 9 * lines → line ≡ first_line (power_of size) (chunk_in k) + lines_in k + (n - 8 * lines) → Running (n + 1) bytes' (R.Flush line)

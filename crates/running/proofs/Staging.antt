@@ -5,7 +5,7 @@ use mathlib.Core.Path.{◌≡◌, refl, sym, ◌∙◌, ap, subst}
 use mathlib.Core.Logic.{by_cases}
 use mathlib.Core.Bool.{false}
 use mathlib.Core.List.{List}
-use Prim.Native.Nat.{ℕ, zero, suc, ◌+◌, ◌-◌, ◌%◌, ◌^◌, ◌≤◌, ◌<◌}
+use Prim.Native.Nat.{ℕ, zero, suc, ◌+◌, ◌-◌, ◌≤◌, ◌<◌}
 use native.Mathlib.Omega.{arith}
 use native.Mathlib.Decide.{dec_lt, ℕ_discrete}
 use lib.ListN.{length, get_or}
@@ -20,7 +20,7 @@ use Rattle.session.specs.declared.Setup.{Setup}
 use Rattle.spec.specs.declared.Report.{Report}
 use Rattle.spec.specs.declared.Report.TheVariants as R
 use Rattle.words.specs.Image.{Saved}
-use Rattle.session.specs.State.{held_count, held_words, chunk_in, unit_of, block_actions, behind_all}
+use Rattle.session.specs.State.{held_count, held_words, unit_of, block_actions, behind_all}
 use Rattle.actions.specs.Nth.{nth_report}
 use Rattle.actions.proofs.Performed.{changed-store, changed-length}
 use Rattle.actions.proofs.Filling as B
@@ -60,10 +60,10 @@ module _ (k : Setup) (b : List ℕ) where
 
   -- the chunk's directory word is a store, its line is none
   takes-store : (k.fields ≡ 0 → ⊥) → (w : ℕ) × ((v : ℕ) × (nth_report (block_actions k b) 0 ≡ R.Store w v))
-  takes-store z = (_, (_, sym (B.whole_take k b _ 0 z (omega arith) (B.take-store (chunk_in k) k.old (k.fields % 2 ^ 56) 0 _ _ refl refl refl))))
+  takes-store z = (_, (_, sym (B.whole_take k b _ 0 _ z (omega arith) refl refl)))
 
   takes-flush : (k.fields ≡ 0 → ⊥) → is_store (nth_report (block_actions k b) 1) ≡ false
-  takes-flush z = ap is_store (sym (B.whole_take k b _ 1 z (omega arith) (B.take-flush (chunk_in k) k.old (k.fields % 2 ^ 56) 1 _ refl refl)))
+  takes-flush z = ap is_store (sym (B.whole_take k b _ 1 _ z (omega arith) refl refl))
 
   taken : (n : ℕ) → n < take_count k → k.fields ≡ 0 → ⊥
   taken n l z = let t = take_none k z in omega arith

@@ -23,16 +23,10 @@ pub struct Advanced {
 pub fn is_fast_step(control: Control, setup: Setup, bytes: usize, words: usize) -> bool
     ensures { (result ≡ true → FastStep control setup bytes words) × (result ≡ false → FastStep control setup bytes words → ⊥) }
 {
-    if control.phase == 3 {
-        if setup.image == bytes {
-            if setup.table == words {
-                if control.next < actions::append::commit_count(control.words) - 1 {
-                    return true;
-                }
-            }
-        }
-    }
-    false
+    control.phase == session::COMMIT
+        && setup.image == bytes
+        && setup.table == words
+        && control.next < actions::append::commit_count(control.words) - 1
 }
 
 // A step inside a commit; elsewhere nothing is done.
@@ -66,7 +60,7 @@ pub fn fast_step(
 fn store_batch(control: Control, setup: Setup, buffer: &Buffer, image: &mut [u8]) -> usize
     ensures { Stores control setup buffer.now image.old image.new result }
 {
-    let words = words::lesser(control.words, BATCH_WORDS);
+    let words = control.words.min(BATCH_WORDS);
     let stores = actions::append::commit_stores(control.words);
     let start = actions::append::batch_start(setup);
     let mut at = control.next;
@@ -142,16 +136,10 @@ pub fn fast_run(
 pub fn is_finishing(control: Control, setup: Setup, bytes: usize, words: usize) -> bool
     ensures { (result ≡ true → Finishing control setup bytes words) × (result ≡ false → Finishing control setup bytes words → ⊥) }
 {
-    if control.phase == 3 {
-        if setup.image == bytes {
-            if setup.table == words {
-                if actions::append::commit_count(control.words) - 1 <= control.next {
-                    return true;
-                }
-            }
-        }
-    }
-    false
+    control.phase == session::COMMIT
+        && setup.image == bytes
+        && setup.table == words
+        && actions::append::commit_count(control.words) - 1 <= control.next
 }
 
 // The last action of a commit, a fence, with which the batch joins the key table; then the end. Elsewhere nothing is

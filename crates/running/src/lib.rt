@@ -18,23 +18,7 @@ use spec::Report;
 fn is_store(report: Report) -> bool
     ensures { result ≡ is_store report }
 {
-    match report {
-        Report::Refused(_) => false,
-        Report::Begun(_) => false,
-        Report::Store { word: _, value: _ } => true,
-        Report::Flush(_) => false,
-        Report::Fence => false,
-        Report::End(_) => false,
-        Report::Idle => false,
-        Report::Opened => false,
-        Report::Abandoned => false,
-        Report::Chosen(_) => false,
-        Report::Part {
-            start: _,
-            length: _,
-            version: _,
-        } => false,
-    }
+    matches!(report, Report::Store { .. })
 }
 
 // Whether the next action is one of a cleaning's but not its last. Then a step needs neither key table nor bits.
@@ -42,16 +26,10 @@ pub fn is_copying(control: Control, setup: Setup, bytes: usize, words: usize) ->
     ensures { (result ≡ true → Copying control setup bytes words) × (result ≡ false → Copying control setup bytes words → ⊥) }
 {
     let source = setup.source;
-    if control.phase == 6 {
-        if setup.image == bytes {
-            if setup.table == words {
-                if control.next < actions::clean::clean_count(source.words) - 1 {
-                    return true;
-                }
-            }
-        }
-    }
-    false
+    control.phase == session::CLEANING
+        && setup.image == bytes
+        && setup.table == words
+        && control.next < actions::clean::clean_count(source.words) - 1
 }
 
 // The stores that come next, and the action behind them, whose report is told. The action before the last is a flush,
@@ -66,7 +44,7 @@ fn run_cleaning(control: Control, setup: Setup, buffer: &Buffer, image: &mut [u8
         let action = actions::clean::clean_action(setup, source, buffer, at);
         actions::perform(image, action);
         at += 1;
-        if is_store(action) {} else {
+        if !is_store(action) {
             return Advanced {
                 next: at,
                 report: action,
@@ -84,7 +62,7 @@ fn store_kept(control: Control, setup: Setup, buffer: &Buffer, image: &mut [u8])
     ensures { KeptStores control setup buffer.now image.old image.new result }
 {
     let source = setup.source;
-    let kept = words::lesser(source.words, SECOND_WORDS);
+    let kept = source.words.min(SECOND_WORDS);
     let at = control.next;
     if kept <= at {
         return at;
@@ -118,7 +96,7 @@ fn run_steps(
         let step = stepping::step_core(so_far, setup, buffer, image, table);
         let report = step.report;
         so_far = step.control;
-        if is_store(report) {} else {
+        if !is_store(report) {
             return Stepped {
                 control: so_far,
                 report,

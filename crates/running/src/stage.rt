@@ -18,14 +18,7 @@ use spec::Report;
 pub fn is_staging(control: Control, setup: Setup, bytes: usize, words: usize) -> bool
     ensures { (result ≡ true → InStaging control setup bytes words) × (result ≡ false → InStaging control setup bytes words → ⊥) }
 {
-    if control.phase == 2 {
-        if setup.image == bytes {
-            if setup.table == words {
-                return true;
-            }
-        }
-    }
-    false
+    control.phase == session::STAGING && setup.image == bytes && setup.table == words
 }
 
 // WORDS OF THE SECOND AREA
@@ -132,7 +125,7 @@ pub fn staging_run(
 {
     if is_staging(control, setup, image.len(), table.len()) {
         let at = control.next;
-        if 16384 <= at {
+        if stepping::BEHIND_ALL <= at {
             return staged(control);
         }
         let held = actions::block::held_words(setup, buffer);

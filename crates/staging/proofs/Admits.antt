@@ -15,8 +15,8 @@ use Rattle.spec.specs.Plans.{is_named, fits_version, Plan, Refuse, need, next_ve
 use Rattle.spec.specs.Machine.{version_asked}
 use Rattle.spec.specs.Contract.{MemRefusal}
 use Rattle.session.specs.declared.Control.{Control}
-use Rattle.spec.specs.declared.Given.{Given}
-use Rattle.spec.specs.declared.Given.TheVariants as G
+use Rattle.spec.specs.Basics.{Given}
+use Rattle.std.specs.declared.option.Option.TheVariants as G
 use Rattle.spec.specs.declared.Refusal.{Refusal}
 use Rattle.spec.specs.declared.Refusal.TheVariants as N
 use Rattle.theory_base.proofs.Lists.{both_l, both_r}
@@ -26,14 +26,14 @@ use Rattle.buffer.specs.Areas.{batch_room}
 use Rattle.session.specs.Fits.{BatchFits}
 use Rattle.batch.proofs.Count.{is_old, fresh_with, fits-keys}
 use Rattle.batch.proofs.Fits.{fits-batch}
-use Rattle.staging.specs.declared.admit.Admission.{Admission}
-use Rattle.staging.specs.declared.admit.Admission.TheVariants as A
-use Rattle.staging.specs.Admitting.{admit_named, new_keys, admit_of}
+use Rattle.std.specs.Prelude.{Ok, Err}
+use Rattle.std.specs.Int.{from_bool}
+use Rattle.staging.specs.Admitting.{Admission, admit_named, new_keys, admit_of}
 
 -- an admission as a plan
 abbrev pub plan_by : Admission → Plan → Plan
-plan_by (A.Refused n) q = Refuse n
-plan_by (A.Admitted f) q = q
+plan_by (Ok f) q = q
+plan_by (Err n) q = Refuse n
 
 -- ## What an answer says
 
@@ -55,13 +55,13 @@ module _ (c : Control) (most version more room : ℕ) where
   tables = leb (c.keys + (c.fresh + new_keys version)) room
 
   abbrev admission : Bool → Bool → Bool → Admission
-  admission v b t = pick v (pick b (pick t (A.Admitted (c.fresh + new_keys version)) (A.Refused N.TableFull)) (A.Refused N.BatchFull)) (A.Refused N.VersionSpent)
+  admission v b t = pick v (pick b (pick t (Ok (c.fresh + new_keys version)) (Err N.TableFull)) (Err N.BatchFull)) (Err N.VersionSpent)
 
-  pub admitted : (fresh : ℕ) → admit_of c most version more room ≡ A.Admitted fresh → Admitting fresh
+  pub admitted : (fresh : ℕ) → admit_of c most version more room ≡ Ok fresh → Admitting fresh
   unfolding admit_of
   admitted fresh h = go versions refl batches refl tables refl h
     where
-      go : (v : Bool) → versions ≡ v → (b : Bool) → batches ≡ b → (t : Bool) → tables ≡ t → admission v b t ≡ A.Admitted fresh → Admitting fresh
+      go : (v : Bool) → versions ≡ v → (b : Bool) → batches ≡ b → (t : Bool) → tables ≡ t → admission v b t ≡ Ok fresh → Admitting fresh
       go true x true y true z e =
           let q : c.fresh + new_keys version ≡ fresh = cc in
           let k = leb-true (c.keys + (c.fresh + new_keys version)) room z in
@@ -77,11 +77,11 @@ module _ (c : Control) (most version more room : ℕ) where
       go false x b y t z e = absurd (let o : ◌≡◌ {A = ℕ} 0 1 = cc in omega arith)
 
   -- it is one of these three numbers
-  pub turned : {T : Type 0} (n : Refusal) → admit_of c most version more room ≡ A.Refused n → (n ≡ N.VersionSpent) ⊎ ((n ≡ N.BatchFull) ⊎ ((n ≡ N.TableFull) ⊎ T))
+  pub turned : {T : Type 0} (n : Refusal) → admit_of c most version more room ≡ Err n → (n ≡ N.VersionSpent) ⊎ ((n ≡ N.BatchFull) ⊎ ((n ≡ N.TableFull) ⊎ T))
   unfolding admit_of
   turned {T} n h = go versions batches tables h
     where
-      go : (v b t : Bool) → admission v b t ≡ A.Refused n → (n ≡ N.VersionSpent) ⊎ ((n ≡ N.BatchFull) ⊎ ((n ≡ N.TableFull) ⊎ T))
+      go : (v b t : Bool) → admission v b t ≡ Err n → (n ≡ N.VersionSpent) ⊎ ((n ≡ N.BatchFull) ⊎ ((n ≡ N.TableFull) ⊎ T))
       go true true true e = absurd (let o : ◌≡◌ {A = ℕ} 0 1 = cc in omega arith)
       go true true false e = inr (inr (inl cc))
       go true false t e = inr (inl cc)
@@ -93,7 +93,15 @@ module _ (c : Control) (most version more room : ℕ) where
 
   -- ## What the code shows
 
-  pub admit-spent : most ≤ version → A.Refused N.VersionSpent ≡ admit_of c most version more room
+  -- one more key, if the version is the key's first
+  pub new_is : (new : ℕ) → new ≡ from_bool (eqb version 0) → new ≡ new_keys version
+  new_is new h = h ∙ go (eqb version 0)
+    where
+      go : (t : Bool) → from_bool t ≡ pick t 1 0
+      go true = refl
+      go false = refl
+
+  pub admit-spent : most ≤ version → Err N.VersionSpent ≡ admit_of c most version more room
   unfolding admit_of
   admit-spent h = sym (rw (lt-leb (suc version) most (omega arith)))
 
@@ -101,12 +109,12 @@ module _ (c : Control) (most version more room : ℕ) where
     yes-version : versions ≡ true
     yes-version = le-leb (suc version) most (omega arith)
 
-    pub admit-many : 16 ≤ c.items → A.Refused N.BatchFull ≡ admit_of c most version more room
+    pub admit-many : 16 ≤ c.items → Err N.BatchFull ≡ admit_of c most version more room
     unfolding admit_of
     admit-many h = sym (rw (yes-version, le-ltb c.items max_items h))
 
     module _ (y : c.items < 16) where
-      pub admit-full : batch_room < c.words + more → A.Refused N.BatchFull ≡ admit_of c most version more room
+      pub admit-full : batch_room < c.words + more → Err N.BatchFull ≡ admit_of c most version more room
       unfolding admit_of
       admit-full h = sym (rw (yes-version, lt-ltb c.items max_items y, lt-leb (c.words + more) batch_room h))
 
@@ -114,11 +122,11 @@ module _ (c : Control) (most version more room : ℕ) where
         yes-batch : batches ≡ true
         yes-batch = rw (lt-ltb c.items max_items y, le-leb (c.words + more) batch_room z)
 
-        pub admit-keys : (new : ℕ) → new ≡ new_keys version → room < c.keys + (c.fresh + new) → A.Refused N.TableFull ≡ admit_of c most version more room
+        pub admit-keys : (new : ℕ) → new ≡ new_keys version → room < c.keys + (c.fresh + new) → Err N.TableFull ≡ admit_of c most version more room
         unfolding admit_of
         admit-keys new e h = sym (rw (yes-version, yes-batch, lt-leb (c.keys + (c.fresh + new_keys version)) room (rw e at h)))
 
-        pub admit-all : (new : ℕ) → new ≡ new_keys version → c.keys + (c.fresh + new) ≤ room → A.Admitted (c.fresh + new) ≡ admit_of c most version more room
+        pub admit-all : (new : ℕ) → new ≡ new_keys version → c.keys + (c.fresh + new) ≤ room → Ok (c.fresh + new) ≡ admit_of c most version more room
         unfolding admit_of
         admit-all new e h = sym (rw (yes-version, yes-batch, le-leb (c.keys + (c.fresh + new_keys version)) room (rw e at h), e))
 
@@ -157,32 +165,32 @@ module _ (c : Control) (b : List ℕ) (p n : ℕ) (ws : List ℕ) (es items : Li
 -- ## With a version named
 
 module _ (named : Given) (c : Control) (most version more room : ℕ) where
-  pub named-admitted : (fresh : ℕ) → admit_named named c most version more room ≡ A.Admitted fresh → Admitting c most version more room fresh
+  pub named-admitted : (fresh : ℕ) → admit_named named c most version more room ≡ Ok fresh → Admitting c most version more room fresh
   unfolding admit_named
   named-admitted fresh h = go (is_named named version) h
     where
-      go : (t : Bool) → pick t (admit_of c most version more room) (A.Refused N.OtherVersion) ≡ A.Admitted fresh → Admitting c most version more room fresh
+      go : (t : Bool) → pick t (admit_of c most version more room) (Err N.OtherVersion) ≡ Ok fresh → Admitting c most version more room fresh
       go true e = admitted c most version more room fresh e
       go false e = absurd (let o : ◌≡◌ {A = ℕ} 0 1 = cc in omega arith)
 
-  pub named-turned : (rest : List Refusal) (n : Refusal) → admit_named named c most version more room ≡ A.Refused n → MemRefusal n (version_asked named (N.VersionSpent ∷ N.BatchFull ∷ N.TableFull ∷ rest))
+  pub named-turned : (rest : List Refusal) (n : Refusal) → admit_named named c most version more room ≡ Err n → MemRefusal n (version_asked named (N.VersionSpent ∷ N.BatchFull ∷ N.TableFull ∷ rest))
   unfolding admit_named
   named-turned rest n h = by named h
     where
-      asked : (v : ℕ) (t : Bool) → pick t (admit_of c most version more room) (A.Refused N.OtherVersion) ≡ A.Refused n → MemRefusal n (version_asked (G.Number v) (N.VersionSpent ∷ N.BatchFull ∷ N.TableFull ∷ rest))
+      asked : (v : ℕ) (t : Bool) → pick t (admit_of c most version more room) (Err N.OtherVersion) ≡ Err n → MemRefusal n (version_asked (G.Some v) (N.VersionSpent ∷ N.BatchFull ∷ N.TableFull ∷ rest))
       asked v true e = inr (turned c most version more room n e)
       asked v false e = inl cc
 
-      by : (x : Given) → pick (is_named x version) (admit_of c most version more room) (A.Refused N.OtherVersion) ≡ A.Refused n → MemRefusal n (version_asked x (N.VersionSpent ∷ N.BatchFull ∷ N.TableFull ∷ rest))
-      by G.Absent e = turned c most version more room n e
-      by (G.Number v) e = asked v (eqb v version) e
+      by : (x : Given) → pick (is_named x version) (admit_of c most version more room) (Err N.OtherVersion) ≡ Err n → MemRefusal n (version_asked x (N.VersionSpent ∷ N.BatchFull ∷ N.TableFull ∷ rest))
+      by G.None e = turned c most version more room n e
+      by (G.Some v) e = asked v (eqb v version) e
 
   -- what the code shows
   pub named-yes : (a : Admission) → is_named named version ≡ true → a ≡ admit_of c most version more room → a ≡ admit_named named c most version more room
   unfolding admit_named
   named-yes a h e = e ∙ sym (rw h)
 
-  pub named-no : is_named named version ≡ false → A.Refused N.OtherVersion ≡ admit_named named c most version more room
+  pub named-no : is_named named version ≡ false → Err N.OtherVersion ≡ admit_named named c most version more room
   unfolding admit_named
   named-no h = sym (rw h)
 
@@ -201,11 +209,11 @@ module _ (named : Given) (c : Control) (b : List ℕ) (p n : ℕ) (ws : List ℕ
       ∙ go (is_named named version)
     where
       go : (t : Bool) → need t N.OtherVersion (need (leb (next_version key es items) most) N.VersionSpent (need (fits_batch items more) N.BatchFull (need (fits_keys table es items key) N.TableFull q)))
-          ≡ plan_by (pick t (admit_of c most version more (capacity table)) (A.Refused N.OtherVersion)) q
+          ≡ plan_by (pick t (admit_of c most version more (capacity table)) (Err N.OtherVersion)) q
       go true = plan-admits c b p n ws es items fits most key version more table highest-is old-is q
       go false = refl
 
 -- what is asked behind 17 may be answered, a version named or not
 pub asked-behind : (x : Given) (n : Refusal) (rs : List Refusal) → MemRefusal n rs → MemRefusal n (version_asked x rs)
-asked-behind G.Absent n rs h = h
-asked-behind (G.Number v) n rs h = inr h
+asked-behind G.None n rs h = h
+asked-behind (G.Some v) n rs h = inr h

@@ -39,7 +39,7 @@ use Rattle.session.specs.State.{size_in, power_in, most_bytes, chunk_in, held_co
 use Rattle.actions.specs.Staging.{Kept}
 use Rattle.actions.proofs.Bounds.{held-few}
 use Rattle.actions.proofs.Filling.{length-block}
-use Rattle.staging.specs.declared.large.LargePlan.TheVariants as P
+use Rattle.std.specs.Prelude.{Option, Some, None}
 use Rattle.staging.specs.Large.{actions_at, stores_for, count_for, plan_for, LargePlanned, placed_at, BlockBegun}
 
 -- THE VALUE HELD stays where the words from the second area up to the filter do
@@ -114,17 +114,17 @@ module _ (k : Setup) (after v : List ℕ) (u old size : ℕ) (held : held_words 
       rw (e, c, s, held)
 
 -- THE SLOT, as the definitions have it
-slot-data : (q : K.Slot) (u : UnitNumber) → S.Data u ≡ slot_by q → q ≡ InData u.0
+slot-data : (q : K.Slot) (u : UnitNumber) → Some (S.Data u) ≡ slot_by q → q ≡ InData u.0
 slot-data (InData v) u h = let e : u ≡ unit v = cc in ap InData (sym (ap (λ (x : UnitNumber). x.0) e))
 slot-data (InFree c) u h = absurd (let z : ◌≡◌ {A = ℕ} 0 1 = cc in omega arith)
 slot-data K.Nowhere u h = absurd (let z : ◌≡◌ {A = ℕ} 0 1 = cc in omega arith)
 
-slot-free : (q : K.Slot) (c : ℕ) → S.Free c ≡ slot_by q → q ≡ InFree c
+slot-free : (q : K.Slot) (c : ℕ) → Some (S.Free c) ≡ slot_by q → q ≡ InFree c
 slot-free (InData v) c h = absurd (let z : ◌≡◌ {A = ℕ} 0 1 = cc in omega arith)
 slot-free (InFree d) c h = cc
 slot-free K.Nowhere c h = absurd (let z : ◌≡◌ {A = ℕ} 0 1 = cc in omega arith)
 
-slot-nowhere : (q : K.Slot) → S.Nowhere ≡ slot_by q → q ≡ K.Nowhere
+slot-nowhere : (q : K.Slot) → None ≡ slot_by q → q ≡ K.Nowhere
 slot-nowhere (InData v) h = absurd (let z : ◌≡◌ {A = ℕ} 0 1 = cc in omega arith)
 slot-nowhere (InFree d) h = absurd (let z : ◌≡◌ {A = ℕ} 0 1 = cc in omega arith)
 slot-nowhere K.Nowhere h = refl
@@ -157,7 +157,7 @@ unit-small T.Small u h = let a : u / 16 < 504 = h in omega arith
 unit-small T.Large u h = let a : u / 256 < 504 = h in omega arith
 
 -- THE PLAN, by the size that the record says
-module _ (z : Size) (image before : List ℕ) (k : Setup) (words bytes size chunks : ℕ) (slot : Slot) (is : z ≡ size_in k) (count : chunks ≡ chunks_in (power_of z) k.image)
+module _ (z : Size) (image before : List ℕ) (k : Setup) (words bytes size chunks : ℕ) (slot : Option Slot) (is : z ≡ size_in k) (count : chunks ≡ chunks_in (power_of z) k.image)
     (size-told : size ≡ pick (both (leb 257 bytes) (leb bytes (block_limit (power_of z)))) (block_size (power_of z) bytes) 0) (slot-told : SlotFound z image chunks size before words slot) where
   abbrev n : ℕ
   n = chunks_in (power_in k) k.image
@@ -186,7 +186,7 @@ module _ (z : Size) (image before : List ℕ) (k : Setup) (words bytes size chun
   plan-at es items q e version key v h =
       ap (λ (x : ℕ). stage_large (power_in k) ws items version key v (slot_for (power_in k) n ws es items (block_size (power_in k) x))) h ∙ ap (stage_large (power_in k) ws items version key v) e
 
-  pub shows-data : (u : UnitNumber) (actions : ℕ) → slot ≡ S.Data u → actions ≡ count_for (power_of z) bytes 0 → LargePlanned image before k words bytes (P.At u 0 0 actions)
+  pub shows-data : (u : UnitNumber) (actions : ℕ) → slot ≡ Some (S.Data u) → actions ≡ count_for (power_of z) bytes 0 → LargePlanned image before k words bytes (Some (record { unit = u; old = 0; units = 0; actions = actions }))
   shows-data u actions e en = (
     rw is at en,
     λ h most l m es items g.
@@ -195,7 +195,7 @@ module _ (z : Size) (image before : List ℕ) (k : Setup) (words bytes size chun
         record { low = omega arith; few = omega arith; plan = plan-at es items (InData u.0) q },
   )
 
-  pub shows-free : (c old actions : ℕ) (u : UnitNumber) → slot ≡ S.Free c → u.0 ≡ unit_at (power_of z) c 0 → old ≡ get_or ws (directory_word c) 0 → actions ≡ count_for (power_of z) bytes size → LargePlanned image before k words bytes (P.At u old size actions)
+  pub shows-free : (c old actions : ℕ) (u : UnitNumber) → slot ≡ Some (S.Free c) → u.0 ≡ unit_at (power_of z) c 0 → old ≡ get_or ws (directory_word c) 0 → actions ≡ count_for (power_of z) bytes size → LargePlanned image before k words bytes (Some (record { unit = u; old = old; units = size; actions = actions }))
   shows-free c old actions u e eu eo en = (
     rw is at en,
     λ h most l m es items g.
@@ -225,5 +225,5 @@ module _ (z : Size) (image before : List ℕ) (k : Setup) (words bytes size chun
           ∙ ap (λ (w : ℕ). Begin (at u.0) Staging (take_of (unit_chunk (power_in k) u.0) old w ++ block_of u.0 value)) (sym es)
           ∙ ap (λ (t : Bool). Begin (at u.0) Staging (pick t [] (take_of (unit_chunk (power_in k) u.0) old size) ++ block_of u.0 value)) (sym some)
 
-  pub shows-nowhere : slot ≡ S.Nowhere → LargePlanned image before k words bytes P.Nowhere
+  pub shows-nowhere : slot ≡ None → LargePlanned image before k words bytes None
   shows-nowhere e = λ h most l m es items g. plan-at es items K.Nowhere (slot-nowhere (slot_for (power_in k) n ws es items s) (sym e ∙ slot_is h l m es items g))

@@ -17,17 +17,16 @@ use Rattle.spec.specs.Medium.{Action}
 use Rattle.spec.specs.Log.{Entry, encode_all}
 use Rattle.spec.specs.Blocks.{block_limit, block_size}
 use Rattle.spec.specs.Contents.{highest, capacity, entries_in}
-use Rattle.spec.specs.Plans.{Staging, Plan, Begin, Refuse, entry, max_items, max_put_version, slot_for, stage_large, plan_put}
+use Rattle.spec.specs.Plans.{Staging, Plan, Begin, Refuse, entry, max_put_version, slot_for, stage_large, plan_put}
 use Rattle.spec.specs.Machine.{Put, Busy, items_of, state_power, steps_left, next}
 use Rattle.spec.specs.Contract.{StagesIn}
 use Rattle.session.specs.declared.Control.{Control}
 use Rattle.session.specs.declared.Setup.{Setup}
 use Rattle.session.specs.declared.Session.{Session}
-use Rattle.spec.specs.declared.Given.{Given}
+use Rattle.spec.specs.Basics.{Given}
 use Rattle.spec.specs.declared.Refusal.{Refusal}
 use Rattle.spec.specs.declared.Refusal.TheVariants as N
 use Rattle.spec.specs.declared.Report.TheVariants as R
-use Rattle.codec.specs.declared.Unit.{Unit as UnitNumber}
 use Rattle.theory_log.specs.Batch.{Right, AllRight}
 use Rattle.buffer.specs.Areas.{batch_room, filter_place}
 use Rattle.session.specs.State.{buffer_part, batch_words, batch_items, size_in, power_in, most_bytes, block_actions, state_at, state_of}
@@ -45,35 +44,23 @@ use Rattle.forward.proofs.Plans.{plan-ahead}
 use Rattle.forward.proofs.Steps.{stage-begun}
 use Rattle.staging.specs.declared.large.Large.{Large}
 use Rattle.staging.specs.declared.large.LargePlan.{LargePlan}
-use Rattle.staging.specs.declared.large.LargePlan.TheVariants as P
 use Rattle.staging.specs.Large.{actions_at, count_for, FoundAt, FoundNowhere, Where, LargePlanned, BlockBegun}
 use Rattle.staging.proofs.Begun.{actions-counted, placed-count, placed-actions, placed_same, block-right, unit-small}
-use Rattle.session.specs.declared.Gated.{Gated}
-use Rattle.session.specs.declared.Gated.TheVariants as G
+use Rattle.std.specs.Prelude.{Some, None, Result, Ok, Err}
 use Rattle.session.specs.Asks.{Asking}
 use Rattle.session.proofs.Gates.{refused, gate-passed, AtRest}
-use Rattle.staging.specs.declared.admit.Admission.{Admission}
-use Rattle.staging.specs.declared.admit.Admission.TheVariants as A
-use Rattle.staging.specs.declared.admit.Newest.{Newest}
-use Rattle.staging.specs.Admitting.{NewestOf, VersionOf, admit_named}
-use Rattle.staging.specs.declared.BlockPlan.{BlockPlan}
-use Rattle.staging.specs.declared.BlockPlan.TheVariants as B
+use Rattle.staging.specs.Admitting.{VersionOf, Admission, admit_named}
 use Rattle.staging.specs.Planned.{Begins, BlockPlanned}
-use Rattle.staging.proofs.Known.{newest-sized}
 use Rattle.staging.proofs.Staging as S
 use Rattle.staging.proofs.Admits.{plan_by, Admitting, named-admitted, named-turned, asked-behind, fresh-then, plan-named}
 use Rattle.session.specs.Promise.{Does, memory, memory_of}
 use Rattle.session.specs.Numbers.{staged_more}
 
--- of what is known of a key, the version
-pub known-version : (z : Size) (k : Setup) (b : List ℕ) (words : ℕ) (table : List ℕ) (key : ℕ) (known : Newest) → z ≡ size_in k → NewestOf z b words table key known → VersionOf (size_in k) b words table key known.version
-known-version z k b words table key known e h items s = ap (λ (x : Newest). x.version) (newest-sized z k b words table key known e h items s)
-
 -- the largest value that the code asks for
 pub limit_is : (z : Size) (k : Setup) (most : ℕ) → z ≡ size_in k → most ≡ block_limit (power_of z) → most ≡ most_bytes k
 limit_is z k most e h = rw e at h
 
-module _ (c : Control) (k : Setup) (b bytes table : List ℕ) (g : Gated) (asks : Asking c k (length bytes) (length table) g) (passes : g ≡ G.Open)
+module _ (c : Control) (k : Setup) (b bytes table : List ℕ) (g : Result (Unit {0}) Refusal) (asks : Asking c k (length bytes) (length table) g) (passes : g ≡ Ok tt)
     (named : Given) (key last : ℕ) (is : VersionOf (size_in k) b c.words table key last) (v : List ℕ) (low : 256 < length v) (high : length v ≤ most_bytes k)
     (a : Admission) (told : a ≡ admit_named named c max_put_version last 2 (capacity (length table))) where
   abbrev s : Session
@@ -116,13 +103,13 @@ module _ (c : Control) (k : Setup) (b bytes table : List ℕ) (g : Gated) (asks 
       ∙ ap (λ (h : ℕ). plan_by (admit_named named c max_put_version last 2 room) (placing chunks (suc h) f)) (sym y.version))
 
   -- (power_in k), 10, 7
-  block_refused : (x : Refusal) → a ≡ A.Refused x → Does (Put named key v) (memory s bytes table) (memory s bytes table) (R.Refused x)
+  block_refused : (x : Refusal) → a ≡ Err x → Does (Put named key v) (memory s bytes table) (memory s bytes table) (R.Refused x)
   block_refused x e =
       refused s bytes table x (Put named key v) refl (λ f. f) (λ f. sym (rw (S.opened c k b bytes table g asks passes, S.power c k b bytes table g asks passes, block-plan f, sym told ∙ e)))
       (S.barred c k b bytes table g asks passes (R.Refused x)) (inr (inr (inr (inr (named-turned named c max_put_version last 2 room (N.NoSpace ∷ []) x (sym told ∙ e)))))) (refl, refl) (inl (x, refl))
 
   -- ADMITTED, and its block looked for
-  module _ (fresh : ℕ) (e : a ≡ A.Admitted fresh) where
+  module _ (fresh : ℕ) (e : a ≡ Ok fresh) where
     adm : Admitting c max_put_version last 2 room fresh
     adm = named-admitted named c max_put_version last 2 room fresh (sym told ∙ e)
 
@@ -298,39 +285,22 @@ module _ (c : Control) (k : Setup) (b bytes table : List ℕ) (g : Gated) (asks 
         }
 
 -- BY THE VALUE'S LENGTH
-module _ (c : Control) (k : Setup) (b bytes table : List ℕ) (g : Gated) (asks : Asking c k (length bytes) (length table) g) (passes : g ≡ G.Open) (named : Given) (key n : ℕ) where
-  pub long-refused : most_bytes k < n → BlockPlanned named key n (memory_of c k b bytes table) (B.Refused N.TooLong)
+module _ (c : Control) (k : Setup) (b bytes table : List ℕ) (g : Result (Unit {0}) Refusal) (asks : Asking c k (length bytes) (length table) g) (passes : g ≡ Ok tt) (named : Given) (key n : ℕ) where
+  pub long-refused : most_bytes k < n → BlockPlanned named key n (memory_of c k b bytes table) (Err N.TooLong)
   long-refused l v q = S.put-long c k b bytes table g asks passes named key v (rw q l)
 
   module _ (last : ℕ) (is : VersionOf (size_in k) b c.words table key last) (low : 256 < n) (high : n ≤ most_bytes k) (a : Admission) (told : a ≡ admit_named named c max_put_version last 2 (capacity (length table))) where
-    pub large-refused : (x : Refusal) → a ≡ A.Refused x → BlockPlanned named key n (memory_of c k b bytes table) (B.Refused x)
+    pub large-refused : (x : Refusal) → a ≡ Err x → BlockPlanned named key n (memory_of c k b bytes table) (Err x)
     large-refused x e v q = block_refused c k b bytes table g asks passes named key last is v (rw q low) (rw q high) a told x e
 
-    module _ (fresh : ℕ) (e : a ≡ A.Admitted fresh) (p : LargePlan) (slot : LargePlanned bytes b k c.words n p) where
-      pub large-nowhere : p ≡ P.Nowhere → BlockPlanned named key n (memory_of c k b bytes table) (B.Refused N.NoSpace)
-      large-nowhere z v q =
-          block-nowhere c k b bytes table g asks passes named key last is v (rw q low) (rw q high) a told fresh e
-          (subst (λ (m : ℕ). LargePlanned bytes b k c.words m P.Nowhere) (sym q) (subst (LargePlanned bytes b k c.words n) z slot))
+    module _ (fresh : ℕ) (e : a ≡ Ok fresh) where
+      pub large-nowhere : LargePlanned bytes b k c.words n None → BlockPlanned named key n (memory_of c k b bytes table) (Err N.NoSpace)
+      large-nowhere slot v q =
+          block-nowhere c k b bytes table g asks passes named key last is v (rw q low) (rw q high) a told fresh e (subst (λ (m : ℕ). LargePlanned bytes b k c.words m None) (sym q) slot)
 
-      pub large-item : (unit : UnitNumber) (old size actions : ℕ) → p ≡ P.At unit old size actions → BlockPlanned named key n (memory_of c k b bytes table) (B.Item (last + 1) fresh unit old size actions)
-      large-item unit old size actions z v q =
-          let at : LargePlanned bytes b k c.words (length v) (P.At unit old size actions) = subst (λ (m : ℕ). LargePlanned bytes b k c.words m (P.At unit old size actions)) (sym q) (subst (LargePlanned bytes b k c.words n) z slot) in (
-            block-begins c k b bytes table g asks passes named key last is v (rw q low) (rw q high) a told fresh e unit.0 old size actions at.0 at.1,
-            block-begun c k b bytes table g asks passes named key last is v (rw q low) (rw q high) a told fresh e unit.0 old size actions at.0 at.1,
+      pub large-item : (x : LargePlan) → LargePlanned bytes b k c.words n (Some x) → BlockPlanned named key n (memory_of c k b bytes table) (Ok (record { version = last + 1; fresh = fresh; place = x }))
+      large-item x slot v q =
+          let at : LargePlanned bytes b k c.words (length v) (Some x) = subst (λ (m : ℕ). LargePlanned bytes b k c.words m (Some x)) (sym q) slot in (
+            block-begins c k b bytes table g asks passes named key last is v (rw q low) (rw q high) a told fresh e x.unit.0 x.old x.units x.actions at.0 at.1,
+            block-begun c k b bytes table g asks passes named key last is v (rw q low) (rw q high) a told fresh e x.unit.0 x.old x.units x.actions at.0 at.1,
           )
-
--- WHAT FOLLOWS A PLAN
-module _ (c : Control) (k : Setup) (b bytes table : List ℕ) (named : Given) (key : ℕ) (v : List ℕ) (p : BlockPlan) (planned : BlockPlanned named key (length v) (memory_of c k b bytes table) p) where
-  pub block-left : (n : Refusal) → p ≡ B.Refused n → Does (Put named key v) (memory_of c k b bytes table) (memory_of c k b bytes table) (R.Refused n)
-  block-left n e = subst (BlockPlanned named key (length v) (memory_of c k b bytes table)) e planned v refl
-
-  module _ (version fresh : ℕ) (unit : UnitNumber) (old size actions : ℕ) (e : p ≡ B.Item version fresh unit old size actions) where
-    found-item : BlockPlanned named key (length v) (memory_of c k b bytes table) (B.Item version fresh unit old size actions)
-    found-item = subst (BlockPlanned named key (length v) (memory_of c k b bytes table)) e planned
-
-    pub block-few : c.items < max_items
-    block-few = (found-item v refl).0.few
-
-    pub block-done : AreBytes v → (after : List ℕ) (r : Large) → BlockBegun b after k c.words version key v unit.0 old size r
-        → Does (Put named key v) (memory_of c k b bytes table) (memory_of (staged_more 0 r.words fresh c) r.setup after bytes table) (R.Begun actions)
-    block-done = (found-item v refl).1

@@ -26,8 +26,7 @@ use Rattle.session.specs.State.{buffer_part, batch_words, batch_items, power_in,
 use Rattle.batch.specs.Items.{any_item}
 use Rattle.session.specs.Fits.{RestFits, Fits}
 use Rattle.session.proofs.Kept.{none-fit}
-use Rattle.session.specs.declared.Gated.{Gated}
-use Rattle.session.specs.declared.Gated.TheVariants as G
+use Rattle.std.specs.Prelude.{Result, Ok, Err}
 use Rattle.session.specs.Asks.{gate_of, Asking}
 use Rattle.session.proofs.Gates.{refused, Gating, turned_down, AtRest, at_rest, Passed, gate-passed}
 use Rattle.session.specs.Promise.{Does, memory}
@@ -39,11 +38,11 @@ module _ (c : Control) (k : Setup) (b bytes table : List ℕ) where
 
   -- ## The gate
 
-  module _ (g : Gated) (asks : Asking c k (length bytes) (length table) g) where
-    pub at-gate : (call : Call) → Gating call → (n : Refusal) → g ≡ G.Refused n → Does call (memory s bytes table) (memory s bytes table) (R.Refused n)
+  module _ (g : Result (Unit {0}) Refusal) (asks : Asking c k (length bytes) (length table) g) where
+    pub at-gate : (call : Call) → Gating call → (n : Refusal) → g ≡ Err n → Does call (memory s bytes table) (memory s bytes table) (R.Refused n)
     at-gate call t n e = turned_down s bytes table n (asks.asked b ∙ ap gate_of e) call t
 
-    module _ (passes : g ≡ G.Open) where
+    module _ (passes : g ≡ Ok tt) where
       pub opened : gate (state_of s) (length bytes) (length table) ≡ none
       opened = asks.asked b ∙ ap gate_of passes
 

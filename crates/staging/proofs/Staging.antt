@@ -1,6 +1,6 @@
 -- What the code of a staging shows at each return, of its plan and of the call, is what the contract says.
 -- Assumes nothing.
-use mathlib.Core.Path.{◌≡◌, refl, sym, ◌∙◌, ap, subst}
+use mathlib.Core.Path.{◌≡◌, refl, sym, ◌∙◌, ap}
 use mathlib.Core.Logic.{inl, inr}
 use mathlib.Core.Bool.{true, false}
 use mathlib.Core.Option.{none, some}
@@ -24,14 +24,14 @@ use Rattle.session.specs.declared.Session.{Session}
 use Rattle.spec.specs.declared.Size.{Size}
 use Rattle.spec.specs.declared.Size.TheVariants as Z
 use Rattle.places.specs.Sizes.{power_of}
-use Rattle.spec.specs.declared.Given.{Given}
+use Rattle.spec.specs.Basics.{Given}
 use Rattle.spec.specs.declared.Refusal.{Refusal}
 use Rattle.spec.specs.declared.Refusal.TheVariants as N
 use Rattle.spec.specs.declared.Report.{Report}
 use Rattle.spec.specs.declared.Report.TheVariants as R
 use Rattle.words.proofs.Values.{length-packed, packed-filled, filled-test}
 use Rattle.theory_log.specs.Batch.{put, delete, Right}
-use Rattle.theory_crash.specs.Accepted.{Ok}
+use Rattle.theory_crash.specs.Accepted.{Ok as Accepted}
 use Rattle.volatile.specs.Known.{Bounded}
 use Rattle.volatile.proofs.Image.{image_bounded}
 use Rattle.volatile.proofs.Sums.{summed_same}
@@ -45,18 +45,14 @@ use Rattle.batch.specs.Added.{Added}
 use Rattle.batch.proofs.Items.{AtZero, zero_more, items-zero, items-read}
 use Rattle.batch.proofs.Count.{is_old, fresh_with}
 use Rattle.batch.proofs.Fits.{fits-staged, batch-more}
-use Rattle.session.specs.declared.Gated.{Gated}
-use Rattle.session.specs.declared.Gated.TheVariants as G
+use Rattle.std.specs.Prelude.{Result, Ok, Err}
 use Rattle.session.specs.Asks.{Asking}
 use Rattle.session.proofs.Gates.{refused, gate-passed, AtRest}
 use Rattle.staging.specs.declared.admit.Newest.{Newest}
-use Rattle.staging.specs.declared.admit.Admission.{Admission}
-use Rattle.staging.specs.declared.admit.Admission.TheVariants as A
 use Rattle.session.specs.declared.Stepped.{Stepped}
-use Rattle.staging.specs.Admitting.{NewestOf, VersionOf, present_by, admit_named}
+use Rattle.staging.specs.Admitting.{NewestOf, VersionOf, version_in, present_by, Admission, admit_named}
 use Rattle.staging.specs.Staging.{refused_with, one_more}
-use Rattle.staging.specs.declared.ItemPlan.{ItemPlan}
-use Rattle.staging.specs.declared.ItemPlan.TheVariants as I
+use Rattle.staging.specs.declared.Item.{Item}
 use Rattle.staging.specs.Planned.{Begins, ItemRecords, LogPlanned, DeletePlanned}
 use Rattle.staging.proofs.Shows as Shows
 use Rattle.staging.proofs.Known.{Numbered, Says, newest-says, version-says}
@@ -107,37 +103,23 @@ module _ (c : Control) (k : Setup) (b bytes table : List ℕ) where
 
   -- ## What follows a plan
 
-  module _ (named : Given) (key : ℕ) (v : List ℕ) (p : ItemPlan) (planned : LogPlanned named key (length v) (memory s bytes table) p) where
-    pub put-left : (n : Refusal) → p ≡ I.Refused n → (r : Stepped) → r ≡ refused_with c n → Does (Put named key v) (memory s bytes table) (memory_of r.control k b bytes table) r.report
-    put-left n e r is-r = left (Put named key v) n r is-r (subst (LogPlanned named key (length v) (memory s bytes table)) e planned v refl)
+  module _ (named : Given) (key : ℕ) (v : List ℕ) where
+    pub put-left : (n : Refusal) → LogPlanned named key (length v) (memory s bytes table) (Err n) → (r : Stepped) → r ≡ refused_with c n → Does (Put named key v) (memory s bytes table) (memory_of r.control k b bytes table) r.report
+    put-left n planned r is = left (Put named key v) n r is (planned v refl)
 
-    module _ (version fresh : ℕ) (e : p ≡ I.Item version fresh) where
-      found : LogPlanned named key (length v) (memory s bytes table) (I.Item version fresh)
-      found = subst (LogPlanned named key (length v) (memory s bytes table)) e planned
+    pub put-done : (x : Item) → LogPlanned named key (length v) (memory s bytes table) (Ok x) → AreBytes v → (after : List ℕ) (words : ℕ) → Added b after c.words words (entry 1 0 x.version (length v) key (packed v))
+        → (r : Stepped) → r ≡ one_more c words x.fresh → Does (Put named key v) (memory s bytes table) (memory_of r.control k after bytes table) r.report
+    put-done x planned small = recorded (Put named key v) (entry 1 0 x.version (length v) key (packed v)) x.fresh ((planned v refl).1 small)
 
-      pub put-few : c.items < max_items
-      put-few = (found v refl).0.few
+  module _ (named : Given) (key : ℕ) where
+    pub delete-left : (n : Refusal) → DeletePlanned named key (memory s bytes table) (Err n) → (r : Stepped) → r ≡ refused_with c n → Does (Delete named key) (memory s bytes table) (memory_of r.control k b bytes table) r.report
+    delete-left n planned r is = left (Delete named key) n r is planned
 
-      pub put-done : AreBytes v → (after : List ℕ) (words : ℕ) → Added b after c.words words (entry 1 0 version (length v) key (packed v)) → (r : Stepped) → r ≡ one_more c words fresh
-          → Does (Put named key v) (memory s bytes table) (memory_of r.control k after bytes table) r.report
-      put-done small = recorded (Put named key v) (entry 1 0 version (length v) key (packed v)) fresh ((found v refl).1 small)
+    pub delete-done : (x : Item) → DeletePlanned named key (memory s bytes table) (Ok x) → (after : List ℕ) (words : ℕ) → Added b after c.words words (entry 2 0 x.version 0 key [])
+        → (r : Stepped) → r ≡ one_more c words x.fresh → Does (Delete named key) (memory s bytes table) (memory_of r.control k after bytes table) r.report
+    delete-done x planned = recorded (Delete named key) (entry 2 0 x.version 0 key []) x.fresh planned.1
 
-  module _ (named : Given) (key : ℕ) (p : ItemPlan) (planned : DeletePlanned named key (memory s bytes table) p) where
-    pub delete-left : (n : Refusal) → p ≡ I.Refused n → (r : Stepped) → r ≡ refused_with c n → Does (Delete named key) (memory s bytes table) (memory_of r.control k b bytes table) r.report
-    delete-left n e r is-r = left (Delete named key) n r is-r (subst (DeletePlanned named key (memory s bytes table)) e planned)
-
-    module _ (version fresh : ℕ) (e : p ≡ I.Item version fresh) where
-      removal : DeletePlanned named key (memory s bytes table) (I.Item version fresh)
-      removal = subst (DeletePlanned named key (memory s bytes table)) e planned
-
-      pub delete-few : c.items < max_items
-      delete-few = removal.0.few
-
-      pub delete-done : (after : List ℕ) (words : ℕ) → Added b after c.words words (entry 2 0 version 0 key []) → (r : Stepped) → r ≡ one_more c words fresh
-          → Does (Delete named key) (memory s bytes table) (memory_of r.control k after bytes table) r.report
-      delete-done = recorded (Delete named key) (entry 2 0 version 0 key []) fresh removal.1
-
-  module _ (g : Gated) (asks : Asking c k (length bytes) (length table) g) (passes : g ≡ G.Open) where
+  module _ (g : Result (Unit {0}) Refusal) (asks : Asking c k (length bytes) (length table) g) (passes : g ≡ Ok tt) where
     pub opened : gate (state_of s) (length bytes) (length table) ≡ none
     opened = Shows.opened c k b bytes table g asks passes
 
@@ -162,7 +144,7 @@ module _ (c : Control) (k : Setup) (b bytes table : List ℕ) where
       pub batch : BatchFits c b (power_in k) (chunks_in (power_in k) k.image) ws es items
       batch = rests.fits.batch
 
-      pub ok : Ok (power_in k) (chunks_in (power_in k) k.image) ws es
+      pub ok : Accepted (power_in k) (chunks_in (power_in k) k.image) ws es
       ok = let r = rests.fits in (opens-right (power_in k) k.image k.table ws es r.long r.accepted).0
 
       pub parsed : image_entries (power_in k) chunks ws ≡ Entries es
@@ -308,12 +290,12 @@ module _ (c : Control) (k : Setup) (b bytes table : List ℕ) where
             ∙ ap (λ (h : ℕ). plan_by (admit_named named c max_put_version last need-words room) (Begin (items f ++ (entry 1 0 (suc h) (length v) key (packed v) ∷ [])) Staging [])) (sym y.version))
 
         module _ (l : length v ≤ 256) (a : Admission) (told : a ≡ admit_named named c max_put_version last need-words room) where
-          put_refused : (x : Refusal) → a ≡ A.Refused x → Does (Put named key v) (memory s bytes table) (memory s bytes table) (R.Refused x)
+          put_refused : (x : Refusal) → a ≡ Err x → Does (Put named key v) (memory s bytes table) (memory s bytes table) (R.Refused x)
           put_refused x e =
               refused s bytes table x (Put named key v) refl (λ f. f) (λ f. sym (rw (opened, power, put-plan l f, sym told ∙ e)))
               (barred (R.Refused x)) (inr (inr (inr (inr (named-turned named c max_put_version last need-words room (N.NoSpace ∷ []) x (sym told ∙ e)))))) (refl, refl) (inl (x, refl))
 
-          module _ (fresh : ℕ) (e : a ≡ A.Admitted fresh) where
+          module _ (fresh : ℕ) (e : a ≡ Ok fresh) where
             next-is : last + 1 ≡ suc last
             next-is = omega arith
 
@@ -340,28 +322,28 @@ module _ (c : Control) (k : Setup) (b bytes table : List ℕ) where
 
       -- by the value's length
       module _ (n : ℕ) (l : n ≤ 256) (a : Admission) (told : a ≡ admit_named named c max_put_version last (2 + (n + 7) / 8) room) where
-        pub log-refused : (x : Refusal) → a ≡ A.Refused x → LogPlanned named key n (memory s bytes table) (I.Refused x)
+        pub log-refused : (x : Refusal) → a ≡ Err x → LogPlanned named key n (memory s bytes table) (Err x)
         log-refused x e v q = put_refused v (rw q l) a (rw q told) x e
 
-        pub log-item : (fresh : ℕ) → a ≡ A.Admitted fresh → LogPlanned named key n (memory s bytes table) (I.Item (last + 1) fresh)
+        pub log-item : (fresh : ℕ) → a ≡ Ok fresh → LogPlanned named key n (memory s bytes table) (Ok (record { version = last + 1; fresh = fresh }))
         log-item fresh e v q = (put-begins v (rw q l) a (rw q told) fresh e, put-records v (rw q l) a (rw q told) fresh e)
 
     -- ## Delete
 
     module _ (named : Given) (key : ℕ) (n : Newest) (is : NewestOf (size_in k) b c.words table key n) where
-      version-is : VersionOf (size_in k) b c.words table key n.version
-      version-is items st = ap (λ (m : Newest). m.version) (is items st)
+      version-is : VersionOf (size_in k) b c.words table key (version_in n)
+      version-is items st = ap (version_in) (is items st)
 
       delete-plan : present_by ws n ≡ true → (f : Fits s ws table)
           → plan_delete (length table) (entries_in (power_in k) chunks ws) (items_of (state_of s)) named key
-          ≡ plan_by (admit_named named c max_version n.version 2 room) (Begin (items f ++ (entry 2 0 (suc n.version) 0 key [] ∷ [])) Staging [])
+          ≡ plan_by (admit_named named c max_version (version_in n) 2 room) (Begin (items f ++ (entry 2 0 (suc (version_in n)) 0 key [] ∷ [])) Staging [])
       unfolding plan_delete
       delete-plan h f =
           let x = says f key n is in
           let y = x.numbered in
           rw (parsed f, (rests f).state, sym x.shown ∙ h)
-          (plan-named named c b (power_in k) (chunks_in (power_in k) k.image) ws (es f) (items f) (batch f) max_version key n.version 2 (length table) y.version y.old _
-          ∙ ap (λ (h' : ℕ). plan_by (admit_named named c max_version n.version 2 room) (Begin (items f ++ (entry 2 0 (suc h') 0 key [] ∷ [])) Staging [])) (sym y.version))
+          (plan-named named c b (power_in k) (chunks_in (power_in k) k.image) ws (es f) (items f) (batch f) max_version key (version_in n) 2 (length table) y.version y.old _
+          ∙ ap (λ (h' : ℕ). plan_by (admit_named named c max_version (version_in n) 2 room) (Begin (items f ++ (entry 2 0 (suc h') 0 key [] ∷ [])) Staging [])) (sym y.version))
 
       pub delete-absent : present_by ws n ≡ false → Does (Delete named key) (memory s bytes table) (memory s bytes table) (R.Refused N.KeyAbsent)
       unfolding plan_delete
@@ -369,21 +351,21 @@ module _ (c : Control) (k : Setup) (b bytes table : List ℕ) where
           refused s bytes table N.KeyAbsent (Delete named key) refl (λ f. f) (λ f. sym (rw (opened, power, parsed f, (rests f).state, sym (says f key n is).shown ∙ h)))
           (barred (R.Refused N.KeyAbsent)) (inr (inr (inr (inl refl)))) (refl, refl) (inl (N.KeyAbsent, refl))
 
-      module _ (h : present_by ws n ≡ true) (a : Admission) (told : a ≡ admit_named named c max_version n.version 2 room) where
-        pub delete-refused : (x : Refusal) → a ≡ A.Refused x → DeletePlanned named key (memory s bytes table) (I.Refused x)
+      module _ (h : present_by ws n ≡ true) (a : Admission) (told : a ≡ admit_named named c max_version (version_in n) 2 room) where
+        pub delete-refused : (x : Refusal) → a ≡ Err x → DeletePlanned named key (memory s bytes table) (Err x)
         delete-refused x e =
             refused s bytes table x (Delete named key) refl (λ f. f) (λ f. sym (rw (opened, power, delete-plan h f, sym told ∙ e)))
-            (barred (R.Refused x)) (inr (inr (inr (inr (named-turned named c max_version n.version 2 room [] x (sym told ∙ e)))))) (refl, refl) (inl (x, refl))
+            (barred (R.Refused x)) (inr (inr (inr (inr (named-turned named c max_version (version_in n) 2 room [] x (sym told ∙ e)))))) (refl, refl) (inl (x, refl))
 
-        module _ (fresh : ℕ) (e : a ≡ A.Admitted fresh) where
-          delete-next : n.version + 1 ≡ suc n.version
+        module _ (fresh : ℕ) (e : a ≡ Ok fresh) where
+          delete-next : version_in n + 1 ≡ suc (version_in n)
           delete-next = omega arith
 
           abbrev delete-entry : Entry
-          delete-entry = entry 2 0 (n.version + 1) 0 key []
+          delete-entry = entry 2 0 (version_in n + 1) 0 key []
 
-          delete-adm : Admitting c max_version n.version 2 room fresh
-          delete-adm = named-admitted named c max_version n.version 2 room fresh (sym told ∙ e)
+          delete-adm : Admitting c max_version (version_in n) 2 room fresh
+          delete-adm = named-admitted named c max_version (version_in n) 2 room fresh (sym told ∙ e)
 
           delete-begun : (f : Fits s ws table) → plan_delete (length table) (entries_in (power_in k) chunks ws) (items_of (state_of s)) named key ≡ Begin (items f ++ (delete-entry ∷ [])) Staging []
           delete-begun f = delete-plan h f ∙ rw (sym told ∙ e, delete-next)
@@ -391,11 +373,11 @@ module _ (c : Control) (k : Setup) (b bytes table : List ℕ) where
           delete-records : ItemRecords (Delete named key) (memory s bytes table) delete-entry fresh
           unfolding next
           delete-records after words added =
-              staged named key n.version version-is delete-entry max_version fresh delete-adm after words added (Delete named key) (λ f. f) (λ Fit f. f) (barred (R.Begun 0)) right refl refl delete-next refl
-              (λ f. (rw (opened, power, delete-begun f), rw (opened, power, delete-begun f, (rests f).state))) (inr ([], (stages named key n.version version-is delete-entry max_version fresh delete-adm after words added, refl)))
+              staged named key (version_in n) version-is delete-entry max_version fresh delete-adm after words added (Delete named key) (λ f. f) (λ Fit f. f) (barred (R.Begun 0)) right refl refl delete-next refl
+              (λ f. (rw (opened, power, delete-begun f), rw (opened, power, delete-begun f, (rests f).state))) (inr ([], (stages named key (version_in n) version-is delete-entry max_version fresh delete-adm after words added, refl)))
             where
               right : Right delete-entry
-              right = let u = delete-adm.unspent in delete-right (n.version + 1) key (omega arith) (omega arith)
+              right = let u = delete-adm.unspent in delete-right (version_in n + 1) key (omega arith) (omega arith)
 
-          pub delete-item : DeletePlanned named key (memory s bytes table) (I.Item (n.version + 1) fresh)
+          pub delete-item : DeletePlanned named key (memory s bytes table) (Ok (record { version = version_in n + 1; fresh = fresh }))
           delete-item = (begins (Delete named key) delete-entry [] 0 delete-adm.few refl (λ f. ap (λ (q : Plan). some q) (delete-begun f)), delete-records)

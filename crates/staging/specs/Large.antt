@@ -1,7 +1,7 @@
 -- What the plan of a large value says, and what its staging leaves in the record: the plan's item among the staged
 -- words, and the plan's actions as the record's own.
 -- Assumes nothing.
-use Rattle.std.specs.Prelude.{◌≡◌, List, [], ◌∷◌, ◌++◌, ℕ, ◌+◌, ◌/◌, ◌^◌, ◌≤◌, ◌<◌, min, eqb, length, get_or}
+use Rattle.std.specs.Prelude.{◌≡◌, List, [], ◌∷◌, ◌++◌, ℕ, ◌+◌, ◌/◌, ◌^◌, ◌≤◌, ◌<◌, min, eqb, length, get_or, Option, Some, None}
 use Rattle.spec.specs.Basics.{pick}
 use Rattle.spec.specs.Words.{words_of, packed}
 use Rattle.spec.specs.Places.{chunks_in, unit_chunk, unit_in}
@@ -20,7 +20,6 @@ use Rattle.session.specs.Filter.{AllMarked}
 use Rattle.placing.specs.Blocks.{Says}
 use Rattle.staging.specs.declared.large.Large.{Large}
 use Rattle.staging.specs.declared.large.LargePlan.{LargePlan}
-use Rattle.staging.specs.declared.large.LargePlan.TheVariants as P
 use Rattle.session.specs.Numbers.{block_setup}
 
 -- THE ACTIONS of a value in the block at unit u: its chunk, whose directory word is `old`, is taken first for blocks of
@@ -58,10 +57,10 @@ Where image before k words bytes Finds =
     → (es items : List Entry) → Says (size_in k) before words es items → Finds es items
 
 -- a plan: the actions are counted for any memory
-abbrev pub LargePlanned : (image before : List ℕ) (k : Setup) (words bytes : ℕ) → LargePlan → Type 0
-LargePlanned image before k words bytes (P.At unit old size actions) =
-    (actions ≡ count_for (power_in k) bytes size) × Where image before k words bytes (FoundAt image k bytes unit.0 old size)
-LargePlanned image before k words bytes P.Nowhere = Where image before k words bytes (FoundNowhere image k bytes)
+abbrev pub LargePlanned : (image before : List ℕ) (k : Setup) (words bytes : ℕ) → Option LargePlan → Type 0
+LargePlanned image before k words bytes (Some p) =
+    (p.actions ≡ count_for (power_in k) bytes p.units) × Where image before k words bytes (FoundAt image k bytes p.unit.0 p.old p.units)
+LargePlanned image before k words bytes None = Where image before k words bytes (FoundNowhere image k bytes)
 
 -- THE RECORD
 -- the setup of a staging to the block at unit u

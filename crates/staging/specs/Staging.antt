@@ -5,7 +5,7 @@ use Rattle.spec.specs.Log.{max_in_log}
 use Rattle.spec.specs.Machine.{Put}
 use Rattle.session.specs.declared.Control.{Control}
 use Rattle.spec.specs.declared.Report.{Report}
-use Rattle.spec.specs.declared.Given.{Given}
+use Rattle.spec.specs.Basics.{Given}
 use Rattle.spec.specs.declared.Refusal.{Refusal}
 use Rattle.spec.specs.declared.Report.TheVariants as R
 use Rattle.session.specs.State.{behind_all}

@@ -13,27 +13,23 @@ use places::size_by;
 use placing::blocks::{Slot, slot_for};
 use session::Setup;
 use spec::Size;
-use words::lesser;
 
 // THE PLAN
 // Where a large value goes: to the block at this unit; `units` is 0 if its chunk is a data chunk, else the chunk, whose
-// directory word is `old`, is taken for blocks of so many units; with so many actions. Or nowhere.
+// directory word is `old`, is taken for blocks of so many units; with so many actions.
 #[derive(Clone, Copy)]
-pub enum LargePlan {
-    At {
-        unit: Unit,
-        old: u64,
-        units: u64,
-        actions: usize,
-    },
-    Nowhere,
+pub struct LargePlan {
+    pub unit: Unit,
+    pub old: u64,
+    pub units: u64,
+    pub actions: usize,
 }
 
 // How many actions a value of so many bytes has: a longer one is counted as one of the most bytes.
 fn count_for(size: Size, bytes: usize, units: u64) -> usize
     ensures { result ≡ count_for (power_of size) bytes units }
 {
-    let most = lesser(bytes, places::largest_value(size));
+    let most = bytes.min(places::largest_value(size));
     let words = 1 + (most + 7) / 8;
     let flushes = (words + 7) / 8;
     if units == 0 {
@@ -49,35 +45,25 @@ pub fn plan_large(
     words: usize,
     image: &[u8],
     bytes: usize,
-) -> LargePlan
+) -> Option<LargePlan>
     ensures { LargePlanned image.now buffer.now setup words bytes result }
 {
     let size = size_by(setup.power);
     let units = block_size(size, bytes);
     let chunks = places::chunks_in(size, setup.image);
-    let slot = slot_for(image, chunks, units as usize, buffer, words, size);
-    match slot {
-        Slot::Data(unit) => {
-            let actions = count_for(size, bytes, 0);
-            LargePlan::At {
-                unit,
-                old: 0,
-                units: 0,
-                actions,
-            }
-        }
-        Slot::Free(c) => {
-            let old = directory_word(image, c);
-            let unit = Unit::of(size, c, 0);
-            let actions = count_for(size, bytes, units);
-            LargePlan::At {
-                unit,
-                old,
-                units,
-                actions,
-            }
-        }
-        Slot::Nowhere => LargePlan::Nowhere,
+    match slot_for(image, chunks, units as usize, buffer, words, size)? {
+        Slot::Data(unit) => Some(LargePlan {
+            unit,
+            old: 0,
+            units: 0,
+            actions: count_for(size, bytes, 0),
+        }),
+        Slot::Free(c) => Some(LargePlan {
+            unit: Unit::of(size, c, 0),
+            old: directory_word(image, c),
+            units,
+            actions: count_for(size, bytes, units),
+        }),
     }
 }
 
@@ -97,22 +83,21 @@ pub fn record_large(
     version: u64,
     key: u64,
     value: &[u8],
-    unit: Unit,
-    old: u64,
-    units: u64,
+    plan: LargePlan,
 ) -> Large
-    ensures { BlockBegun buffer.old buffer.new setup words version key value.now unit.0 old units result }
+    ensures { BlockBegun buffer.old buffer.new setup words version key value.now plan.unit.0 plan.old plan.units result }
 {
     let size = size_by(setup.power);
     hold_value(buffer, value, size);
+    let unit = plan.unit;
     let field = unit.0;
     let end = add_entry(buffer, words, 1, 1, version, field, key, &value[0..0]);
     let placed = session::block_setup(
         setup,
         unit.chunk(size) as usize,
-        old,
+        plan.old,
         unit.place(size) as usize,
-        units,
+        plan.units,
     );
     Large {
         setup: placed,

@@ -4,7 +4,7 @@
 
 ghost use Rattle.std.specs.Prelude.{◌≡◌, true, false, ◌≤◌, ◌<◌, length};
 ghost use Rattle.spec.specs.Machine.{Put, Delete, Abandon};
-ghost use Rattle.spec.specs.declared.Given.TheVariants.{Absent, Number};
+ghost use Rattle.std.specs.Prelude.{None, Some};
 ghost use Rattle.staging.specs.Staging.{refused_with, one_more, PutWhere, Short, Long};
 ghost use Rattle.staging.specs.Planned.{LogPlanned, BlockPlanned, DeletePlanned};
 ghost use Rattle.session.specs.Promise.{Does, memory_of};
@@ -12,13 +12,11 @@ ghost use Rattle.session.specs.Promise.{Does, memory_of};
 pub mod admit;
 pub mod large;
 
-use crate::admit::Admission;
 use crate::large::LargePlan;
 use buffer::Buffer;
-use codec::Unit;
 use places::size_by;
-use session::{Control, Gated, Outcome, Setup, Stepped};
-use spec::{Given, Refusal, Report};
+use session::{Control, Outcome, Setup, Stepped};
+use spec::{Refusal, Report};
 
 // ABANDON
 // Forgets the staged items: 14 if there are none. It goes by the items that the staged words say, as the state does, so
@@ -32,30 +30,25 @@ pub fn abandon_core(
 ) -> Outcome
     ensures { Does Abandon (memory_of control setup buffer.now image.now table.now) (memory_of result.control result.setup buffer.now image.now table.now) result.report }
 {
-    let g = session::gate(control, setup, image.len(), table.len());
-    match g {
-        Gated::Refused(n) => Outcome {
+    if let Err(n) = session::gate(control, setup, image.len(), table.len()) {
+        return Outcome {
             control,
             setup,
             report: Report::Refused(n),
-        },
-        Gated::Open => {
-            let held = control.words;
-            let staged = batch::any_item(buffer, held);
-            if staged {
-                let next = session::ended_empty(control);
-                return Outcome {
-                    control: next,
-                    setup,
-                    report: Report::Abandoned,
-                };
-            }
-            Outcome {
-                control,
-                setup,
-                report: Report::Refused(Refusal::NothingStaged),
-            }
-        }
+        };
+    }
+    let held = control.words;
+    if batch::any_item(buffer, held) {
+        return Outcome {
+            control: session::ended_empty(control),
+            setup,
+            report: Report::Abandoned,
+        };
+    }
+    Outcome {
+        control,
+        setup,
+        report: Report::Refused(Refusal::NothingStaged),
     }
 }
 
@@ -64,6 +57,9 @@ pub fn abandon_core(
 const LAST_DELETE: u64 = 1_048_575;
 
 const LAST_PUT: u64 = 1_048_574;
+
+// The longest value that goes into the log.
+const MOST_IN_LOG: usize = 256;
 
 fn refused(control: Control, n: Refusal) -> Stepped
     ensures { result ≡ refused_with control n }
@@ -82,20 +78,18 @@ fn one_more(control: Control, words: usize, fresh: usize) -> Stepped
     requires { control.items < 16 }
     ensures { result ≡ one_more control words fresh }
 {
-    let next = session::one_more(control, BEHIND_ALL, words, fresh);
     Stepped {
-        control: next,
+        control: session::one_more(control, BEHIND_ALL, words, fresh),
         report: Report::Begun(0),
     }
 }
 
 // PUT
-// What a staging with no action finds: a refusal, or the version of its item and how many staged keys are not known
-// then.
+// The item of a staging with no action: its version, and how many staged keys are not known then.
 #[derive(Clone, Copy)]
-pub enum ItemPlan {
-    Refused(Refusal),
-    Item { version: u64, fresh: usize },
+pub struct Item {
+    pub version: u64,
+    pub fresh: usize,
 }
 
 // A put of so many bytes that go into the log: 2, 1, 8, 17, 12, 10, 7, or its item. Nothing is changed.
@@ -107,32 +101,19 @@ pub fn plan_in_log(
     table: &[u64],
     key: u64,
     bytes: usize,
-    named: Given,
-) -> ItemPlan
+    named: Option<u64>,
+) -> Result<Item, Refusal>
     requires { Short bytes }
     ensures { LogPlanned named key bytes (memory_of control setup buffer.now image.now table.now) result }
 {
-    let g = session::gate(control, setup, image.len(), table.len());
-    match g {
-        Gated::Refused(n) => ItemPlan::Refused(n),
-        Gated::Open => {
-            let size = size_by(setup.power);
-            let version = admit::version_of(buffer, control.words, table, key, size);
-            let more = 2 + (bytes + 7) / 8;
-            let room = index::capacity(table.len());
-            let a = admit::admit(control, named, LAST_PUT, version, more, room);
-            match a {
-                Admission::Refused(n) => ItemPlan::Refused(n),
-                Admission::Admitted(fresh) => {
-                    let next = version + 1;
-                    ItemPlan::Item {
-                        version: next,
-                        fresh,
-                    }
-                }
-            }
-        }
-    }
+    session::gate(control, setup, image.len(), table.len())?;
+    let size = size_by(setup.power);
+    let last = admit::version_of(buffer, control.words, table, key, size);
+    let more = 2 + (bytes + 7) / 8;
+    let room = index::capacity(table.len());
+    let fresh = admit::admit(control, named, LAST_PUT, last, more, room)?;
+    let version = last + 1;
+    Ok(Item { version, fresh })
 }
 
 // A put whose value goes into the log, as its plan says.
@@ -144,36 +125,37 @@ fn put_in_log(
     table: &[u64],
     key: u64,
     value: &[u8],
-    named: Given,
+    named: Option<u64>,
 ) -> Stepped
     requires { length value.now ≤ 256 }
     ensures { Does (Put named key value.now) (memory_of control setup buffer.old image.now table.now) (memory_of result.control setup buffer.new image.now table.now) result.report }
 {
     let bytes = value.len();
-    let plan = plan_in_log(control, setup, buffer, image, table, key, bytes, named);
-    match plan {
-        ItemPlan::Refused(n) => refused(control, n),
-        ItemPlan::Item { version, fresh } => {
+    match plan_in_log(control, setup, buffer, image, table, key, bytes, named) {
+        Err(n) => refused(control, n),
+        Ok(item) => {
             let field = bytes as u64;
-            let end = batch::add_entry(buffer, control.words, 1, 0, version, field, key, value);
-            one_more(control, end, fresh)
+            let end = batch::add_entry(
+                buffer,
+                control.words,
+                1,
+                0,
+                item.version,
+                field,
+                key,
+                value,
+            );
+            one_more(control, end, item.fresh)
         }
     }
 }
 
-// What a staging in a block finds: a refusal, or the version of its item, how many staged keys are not known then, and
-// where the value goes (`staging::large::LargePlan`).
+// The item of a staging in a block: its version, how many staged keys are not known then, and where the value goes.
 #[derive(Clone, Copy)]
-pub enum BlockPlan {
-    Refused(Refusal),
-    Item {
-        version: u64,
-        fresh: usize,
-        unit: Unit,
-        old: u64,
-        units: u64,
-        actions: usize,
-    },
+pub struct BlockItem {
+    pub version: u64,
+    pub fresh: usize,
+    pub place: LargePlan,
 }
 
 // A put of so many bytes that go into a block: 2, 1, 8, 9, 17, 12, 10, 7, 13, or its item. Nothing is changed.
@@ -185,54 +167,27 @@ pub fn plan_in_block(
     table: &[u64],
     key: u64,
     bytes: usize,
-    named: Given,
-) -> BlockPlan
+    named: Option<u64>,
+) -> Result<BlockItem, Refusal>
     requires { Long bytes }
     ensures { BlockPlanned named key bytes (memory_of control setup buffer.now image.now table.now) result }
 {
-    let g = session::gate(control, setup, image.len(), table.len());
-    match g {
-        Gated::Refused(n) => BlockPlan::Refused(n),
-        Gated::Open => {
-            let size = size_by(setup.power);
-            if places::largest_value(size) < bytes {
-                return BlockPlan::Refused(Refusal::TooLong);
-            }
-            let words = control.words;
-            let known = admit::known_of(buffer, words, table, key, size);
-            let version = known.version;
-            let a = admit::admit(
-                control,
-                named,
-                LAST_PUT,
-                version,
-                2,
-                index::capacity(table.len()),
-            );
-            match a {
-                Admission::Refused(n) => BlockPlan::Refused(n),
-                Admission::Admitted(fresh) => {
-                    let next = version + 1;
-                    let slot = large::plan_large(setup, buffer, words, image, bytes);
-                    match slot {
-                        LargePlan::At {
-                            unit,
-                            old,
-                            units,
-                            actions,
-                        } => BlockPlan::Item {
-                            version: next,
-                            fresh,
-                            unit,
-                            old,
-                            units,
-                            actions,
-                        },
-                        LargePlan::Nowhere => BlockPlan::Refused(Refusal::NoSpace),
-                    }
-                }
-            }
-        }
+    session::gate(control, setup, image.len(), table.len())?;
+    let size = size_by(setup.power);
+    if places::largest_value(size) < bytes {
+        return Err(Refusal::TooLong);
+    }
+    let last = admit::version_of(buffer, control.words, table, key, size);
+    let room = index::capacity(table.len());
+    let fresh = admit::admit(control, named, LAST_PUT, last, 2, room)?;
+    let version = last + 1;
+    match large::plan_large(setup, buffer, control.words, image, bytes) {
+        Some(place) => Ok(BlockItem {
+            version,
+            fresh,
+            place,
+        }),
+        None => Err(Refusal::NoSpace),
     }
 }
 
@@ -245,37 +200,40 @@ fn put_in_block(
     table: &[u64],
     key: u64,
     value: &[u8],
-    named: Given,
+    named: Option<u64>,
 ) -> Outcome
     requires { 256 < length value.now }
     ensures { Does (Put named key value.now) (memory_of control setup buffer.old image.now table.now) (memory_of result.control result.setup buffer.new image.now table.now) result.report }
 {
-    let bytes = value.len();
-    let plan = plan_in_block(control, setup, buffer, image, table, key, bytes, named);
-    match plan {
-        BlockPlan::Refused(n) => Outcome {
+    match plan_in_block(
+        control,
+        setup,
+        buffer,
+        image,
+        table,
+        key,
+        value.len(),
+        named,
+    ) {
+        Err(n) => Outcome {
             control,
             setup,
             report: Report::Refused(n),
         },
-        BlockPlan::Item {
-            version,
-            fresh,
-            unit,
-            old,
-            units,
-            actions,
-        } => {
-            let words = control.words;
+        Ok(item) => {
             let large = large::record_large(
-                setup, buffer, words, version, key, value, unit, old, units,
+                setup,
+                buffer,
+                control.words,
+                item.version,
+                key,
+                value,
+                item.place,
             );
-            let begun = session::one_more(control, 0, large.words, fresh);
-            let bound = large.setup;
             Outcome {
-                control: begun,
-                setup: bound,
-                report: Report::Begun(actions),
+                control: session::one_more(control, 0, large.words, item.fresh),
+                setup: large.setup,
+                report: Report::Begun(item.place.actions),
             }
         }
     }
@@ -286,11 +244,11 @@ fn put_in_block(
 pub fn is_short(control: Control, bytes: usize) -> bool
     ensures { (result ≡ true → Short bytes) × (result ≡ false → Long bytes) }
 {
-    bytes <= 256
+    bytes <= MOST_IN_LOG
 }
 
 // Stages a put of a short value for whatever version stands, which leaves the record's setup; elsewhere nothing is
-// done.
+// done. (Beside `put_core`, with `put_long`, for speed: a call of a short value alone stores no setup.)
 pub fn put_short(
     control: Control,
     setup: Setup,
@@ -300,19 +258,10 @@ pub fn put_short(
     key: u64,
     value: &[u8],
 ) -> Stepped
-    ensures { PutWhere Short Absent key value.now (memory_of control setup buffer.old image.now table.now) (memory_of result.control setup buffer.new image.now table.now) result.report }
+    ensures { PutWhere Short None key value.now (memory_of control setup buffer.old image.now table.now) (memory_of result.control setup buffer.new image.now table.now) result.report }
 {
-    if value.len() <= 256 {
-        return put_in_log(
-            control,
-            setup,
-            buffer,
-            image,
-            table,
-            key,
-            value,
-            Given::Absent,
-        );
+    if value.len() <= MOST_IN_LOG {
+        return put_in_log(control, setup, buffer, image, table, key, value, None);
     }
     Stepped {
         control,
@@ -330,19 +279,10 @@ pub fn put_long(
     key: u64,
     value: &[u8],
 ) -> Outcome
-    ensures { PutWhere Long Absent key value.now (memory_of control setup buffer.old image.now table.now) (memory_of result.control result.setup buffer.new image.now table.now) result.report }
+    ensures { PutWhere Long None key value.now (memory_of control setup buffer.old image.now table.now) (memory_of result.control result.setup buffer.new image.now table.now) result.report }
 {
-    if 256 < value.len() {
-        return put_in_block(
-            control,
-            setup,
-            buffer,
-            image,
-            table,
-            key,
-            value,
-            Given::Absent,
-        );
+    if MOST_IN_LOG < value.len() {
+        return put_in_block(control, setup, buffer, image, table, key, value, None);
     }
     Outcome {
         control,
@@ -351,7 +291,7 @@ pub fn put_long(
     }
 }
 
-// Stages a put: 9, 17, 12, 10, 7, 13.
+// Stages a put, for the version named or whatever stands: 9, 17, 12, 10, 7, 13.
 pub fn put_core(
     control: Control,
     setup: Setup,
@@ -360,62 +300,19 @@ pub fn put_core(
     table: &[u64],
     key: u64,
     value: &[u8],
-    named: Given,
+    named: Option<u64>,
 ) -> Outcome
     ensures { Does (Put named key value.now) (memory_of control setup buffer.old image.now table.now) (memory_of result.control result.setup buffer.new image.now table.now) result.report }
 {
-    if value.len() <= 256 {
+    if value.len() <= MOST_IN_LOG {
         let staged = put_in_log(control, setup, buffer, image, table, key, value, named);
-        let next = staged.control;
-        let report = staged.report;
         return Outcome {
-            control: next,
+            control: staged.control,
             setup,
-            report,
+            report: staged.report,
         };
     }
     put_in_block(control, setup, buffer, image, table, key, value, named)
-}
-
-// Stages a put for whatever version stands.
-pub fn put_any(
-    control: Control,
-    setup: Setup,
-    buffer: &mut Buffer,
-    image: &[u8],
-    table: &[u64],
-    key: u64,
-    value: &[u8],
-) -> Outcome
-    ensures { Does (Put Absent key value.now) (memory_of control setup buffer.old image.now table.now) (memory_of result.control result.setup buffer.new image.now table.now) result.report }
-{
-    put_core(
-        control,
-        setup,
-        buffer,
-        image,
-        table,
-        key,
-        value,
-        Given::Absent,
-    )
-}
-
-// Stages a put for the version named.
-pub fn put_at(
-    control: Control,
-    setup: Setup,
-    buffer: &mut Buffer,
-    image: &[u8],
-    table: &[u64],
-    key: u64,
-    value: &[u8],
-    version: u64,
-) -> Outcome
-    ensures { Does (Put (Number version) key value.now) (memory_of control setup buffer.old image.now table.now) (memory_of result.control result.setup buffer.new image.now table.now) result.report }
-{
-    let named = Given::Number(version);
-    put_core(control, setup, buffer, image, table, key, value, named)
 }
 
 // DELETE
@@ -427,44 +324,24 @@ pub fn plan_delete(
     image: &[u8],
     table: &[u64],
     key: u64,
-    named: Given,
-) -> ItemPlan
+    named: Option<u64>,
+) -> Result<Item, Refusal>
     ensures { DeletePlanned named key (memory_of control setup buffer.now image.now table.now) result }
 {
-    let g = session::gate(control, setup, image.len(), table.len());
-    match g {
-        Gated::Refused(n) => ItemPlan::Refused(n),
-        Gated::Open => {
-            let size = size_by(setup.power);
-            let known = admit::known_of(buffer, control.words, table, key, size);
-            if admit::is_present(image, known) {
-                let version = known.version;
-                let a = admit::admit(
-                    control,
-                    named,
-                    LAST_DELETE,
-                    version,
-                    2,
-                    index::capacity(table.len()),
-                );
-                match a {
-                    Admission::Refused(n) => ItemPlan::Refused(n),
-                    Admission::Admitted(fresh) => {
-                        let next = version + 1;
-                        ItemPlan::Item {
-                            version: next,
-                            fresh,
-                        }
-                    }
-                }
-            } else {
-                ItemPlan::Refused(Refusal::KeyAbsent)
-            }
-        }
+    session::gate(control, setup, image.len(), table.len())?;
+    let size = size_by(setup.power);
+    let known = admit::known_of(buffer, control.words, table, key, size);
+    if !admit::is_present(image, known) {
+        return Err(Refusal::KeyAbsent);
     }
+    let last = known.version();
+    let room = index::capacity(table.len());
+    let fresh = admit::admit(control, named, LAST_DELETE, last, 2, room)?;
+    let version = last + 1;
+    Ok(Item { version, fresh })
 }
 
-// Stages a delete as its plan says.
+// Stages a delete as its plan says, for the version named or whatever stands.
 pub fn delete_core(
     control: Control,
     setup: Setup,
@@ -472,47 +349,16 @@ pub fn delete_core(
     image: &[u8],
     table: &[u64],
     key: u64,
-    named: Given,
+    named: Option<u64>,
 ) -> Stepped
     ensures { Does (Delete named key) (memory_of control setup buffer.old image.now table.now) (memory_of result.control setup buffer.new image.now table.now) result.report }
 {
-    let plan = plan_delete(control, setup, buffer, image, table, key, named);
-    match plan {
-        ItemPlan::Refused(n) => refused(control, n),
-        ItemPlan::Item { version, fresh } => {
+    match plan_delete(control, setup, buffer, image, table, key, named) {
+        Err(n) => refused(control, n),
+        Ok(item) => {
             let none = &image[0..0];
-            let end = batch::add_entry(buffer, control.words, 2, 0, version, 0, key, none);
-            one_more(control, end, fresh)
+            let end = batch::add_entry(buffer, control.words, 2, 0, item.version, 0, key, none);
+            one_more(control, end, item.fresh)
         }
     }
-}
-
-// Stages a delete for whatever version stands.
-pub fn delete_any(
-    control: Control,
-    setup: Setup,
-    buffer: &mut Buffer,
-    image: &[u8],
-    table: &[u64],
-    key: u64,
-) -> Stepped
-    ensures { Does (Delete Absent key) (memory_of control setup buffer.old image.now table.now) (memory_of result.control setup buffer.new image.now table.now) result.report }
-{
-    delete_core(control, setup, buffer, image, table, key, Given::Absent)
-}
-
-// Stages a delete for the version named.
-pub fn delete_at(
-    control: Control,
-    setup: Setup,
-    buffer: &mut Buffer,
-    image: &[u8],
-    table: &[u64],
-    key: u64,
-    version: u64,
-) -> Stepped
-    ensures { Does (Delete (Number version) key) (memory_of control setup buffer.old image.now table.now) (memory_of result.control setup buffer.new image.now table.now) result.report }
-{
-    let wanted = Given::Number(version);
-    delete_core(control, setup, buffer, image, table, key, wanted)
 }

@@ -56,14 +56,14 @@ fn commit_step(
     fenced(control, next, keys)
 }
 
+// A number behind all actions of a staging.
+pub const BEHIND_ALL: usize = 16_384;
+
 // Whether a staging has no action from number `at` on.
 pub fn is_stored(setup: Setup, buffer: &Buffer, at: usize) -> bool
     ensures { result ≡ leb (length (block_actions setup buffer.now)) at }
 {
-    if 16384 <= at {
-        return true;
-    }
-    actions::block::block_count(setup, buffer) <= at
+    BEHIND_ALL <= at || actions::block::block_count(setup, buffer) <= at
 }
 
 // A staging's next action; its end leaves what is staged.
@@ -206,14 +206,7 @@ fn clean_step(
     requires { (control.phase ≡ 6) × (setup.image ≡ length image.old) × (setup.table ≡ length table.old) }
     ensures { Does Step (memory_of control setup buffer.old image.old table.old) (memory_of result.control setup buffer.new image.new table.new) result.report }
 {
-    let source = setup.source;
-    let moved = clean_next(control, setup, source, buffer, image, table);
-    let next = moved.control;
-    let report = moved.report;
-    Stepped {
-        control: next,
-        report,
-    }
+    clean_next(control, setup, setup.source, buffer, image, table)
 }
 
 // The end of a commit: nothing is staged.
@@ -251,37 +244,25 @@ pub fn step_core(
     ensures { Does Step (memory_of control setup buffer.old image.old table.old) (memory_of result.control setup buffer.new image.new table.new) result.report }
 {
     let phase = control.phase;
-    if phase < 2 {
+    if phase < session::STAGING || session::CLEANING < phase {
         return Stepped {
             control,
             report: Report::Idle,
         };
     }
-    if 6 < phase {
-        return Stepped {
-            control,
-            report: Report::Idle,
-        };
-    }
-    if setup.image != image.len() {
+    if setup.image != image.len() || setup.table != table.len() {
         return Stepped {
             control,
             report: Report::Refused(Refusal::ImageLength),
         };
     }
-    if setup.table != table.len() {
-        return Stepped {
-            control,
-            report: Report::Refused(Refusal::ImageLength),
-        };
-    }
-    if phase == 2 {
+    if phase == session::STAGING {
         return stage_step(control, setup, buffer, image, table);
     }
-    if phase == 3 {
+    if phase == session::COMMIT {
         return commit_step(control, setup, buffer, image, table);
     }
-    if phase == 6 {
+    if phase == session::CLEANING {
         return clean_step(control, setup, buffer, image, table);
     }
     format_step(control, setup, buffer, image, table)

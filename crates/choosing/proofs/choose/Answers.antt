@@ -10,8 +10,8 @@ loop-c-init c = looked-start _ _ _ _ _
 pub loop-c-preserved : goal.loop-c-preserved
 loop-c-preserved c = looked-next _ _ _ _ _ _ _ c.loop-c.invariant (omega arith) _ c.better_at-best.ensures
 
-pub returns-then-best-eq0 : goal.returns-then-best-eq0
-returns-then-best-eq0 c = looked-nothing _ _ _ _ _ _ _ c.loop-c.invariant (omega arith) c.if-best-eq0.true
-
 pub returns : goal.returns
-returns c = looked-found _ _ _ _ _ _ _ c.loop-c.invariant (omega arith) c.if-best-eq0.false
+returns c = looked-found _ _ _ _ _ _ _ c.loop-c.invariant (omega arith) _ c.in_ok-best.was
+
+pub returns-in_err-best : goal.returns-in_err-best
+returns-in_err-best c = rw c.from_residual.ensures (looked-nothing _ _ _ _ _ _ _ c.loop-c.invariant (omega arith) c.in_err-best.was)

@@ -3,13 +3,13 @@
 use Rattle.choosing.proofs.Answers.{gate-refuses, answers}
 use Rattle.choosing.proofs.choose_core.Goals as goal
 
-pub returns-in-At : goal.returns-in-At
-returns-in-At c =
-    answers _ _ _ _ _ _ c.gate-gated.ensures c.in-Open.is _ c.size_by-size.ensures _ c.chunks_in-count.ensures.0 _ c.choose-choice.ensures _ c.in-At.is
+pub returns-in-Some : goal.returns-in-Some
+returns-in-Some c =
+    answers _ _ _ _ _ _ c.gate.ensures c.in_default.is _ c.size_by-size.ensures _ c.chunks_in-count.ensures.0 _ c.choose.ensures _ c.in-Some.is
 
-pub returns-in-Nothing : goal.returns-in-Nothing
-returns-in-Nothing c =
-    answers _ _ _ _ _ _ c.gate-gated.ensures c.in-Open.is _ c.size_by-size.ensures _ c.chunks_in-count.ensures.0 _ c.choose-choice.ensures _ c.in-Nothing.is
+pub returns-in-None : goal.returns-in-None
+returns-in-None c =
+    answers _ _ _ _ _ _ c.gate.ensures c.in_default.is _ c.size_by-size.ensures _ c.chunks_in-count.ensures.0 _ c.choose.ensures _ c.in-None.is
 
-pub returns-in-Refused : goal.returns-in-Refused
-returns-in-Refused c = gate-refuses _ _ _ _ _ _ c.gate-gated.ensures _ c.in-Refused.is
+pub returns-in-Err : goal.returns-in-Err
+returns-in-Err c = gate-refuses _ _ _ _ _ _ c.gate.ensures _ c.in-Err.is

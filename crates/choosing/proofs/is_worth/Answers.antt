@@ -4,4 +4,4 @@ use Rattle.choosing.proofs.Laws.{worth}
 use Rattle.choosing.proofs.is_worth.Goals as goal
 
 pub returns : goal.returns
-returns c = worth _ _ c.lines_for-lines.ensures
+returns c = worth _ _ c.lines_for.ensures

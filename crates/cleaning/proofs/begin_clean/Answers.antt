@@ -1,16 +1,13 @@
--- `cleaning::begin_clean` meets its contract.
+-- `cleaning::begin_clean` meets its contract: the sizes of a chunk's words are given as numbers.
 -- Assumes nothing.
-use mathlib.Core.Path.{sym, ◌∙◌}
+use mathlib.Core.Path.{refl, sym, ◌∙◌}
+use Rattle.spec.specs.Places.{chunk_words}
 use Rattle.cleaning.proofs.begin_clean.Goals as goal
 
-pub small_begin-requires : goal.small_begin-requires
-small_begin-requires c = sym c.size_by-size.ensures ∙ c.in-Small.is
+pub begin_in-requires : goal.begin_in-requires
+unfolding chunk_words
+begin_in-requires c = let e = sym c.size_by.ensures ∙ c.in-Small.is in rw e refl
 
-pub large_begin-requires : goal.large_begin-requires
-large_begin-requires c = sym c.size_by-size.ensures ∙ c.in-Large.is
-
-pub returns-in-Small : goal.returns-in-Small
-returns-in-Small c = c.small_begin.ensures
-
-pub returns-in-Large : goal.returns-in-Large
-returns-in-Large c = c.large_begin.ensures
+pub begin_in-requires-in-Large : goal.begin_in-requires-in-Large
+unfolding chunk_words
+begin_in-requires-in-Large c = let e = sym c.size_by.ensures ∙ c.in-Large.is in rw e refl

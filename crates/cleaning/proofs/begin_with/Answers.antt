@@ -7,8 +7,8 @@ use Rattle.places.specs.Sizes.{power_of, power-low, power-high}
 use Rattle.cleaning.proofs.BeginShows.{turned, set}
 use Rattle.cleaning.proofs.begin_with.Goals as goal
 
-pub plan_clean-plan-requires : goal.plan_clean-plan-requires
-plan_clean-plan-requires c =
+pub plan_clean-requires : goal.plan_clean-requires
+plan_clean-requires c =
     c.requires
 
 pub store_kept-requires : goal.store_kept-requires
@@ -18,16 +18,15 @@ store_kept-requires c =
     (power-high (size_in c.args.setup)) in
     omega arith
 
-pub returns-in-Refused : goal.returns-in-Refused
-returns-in-Refused c =
+pub returns-in-Err : goal.returns-in-Err
+returns-in-Err c =
     turned c.args.control c.args.setup c.args.buffer.now c.args.image.now
-    c.args.table.now _ c.args.number c.plan_clean-plan.result
-    c.plan_clean-plan.ensures _ c.in-Refused.is
+    c.args.table.now _ c.args.number c.plan_clean.result
+    c.plan_clean.ensures _ c.in-Err.is
 
-pub returns-in-At : goal.returns-in-At
-returns-in-At c =
+pub returns : goal.returns
+returns c =
     rw (c.in_phase-begun.ensures, c.append_setup-target.ensures)
     (set c.args.control c.args.setup c.args.buffer.now c.args.image.now
-    c.args.table.now _ c.args.number c.plan_clean-plan.result
-    c.plan_clean-plan.ensures _ _ _ _ _ _ c.in-At.is _
-    c.store_kept.ensures)
+    c.args.table.now _ c.args.number c.plan_clean.result
+    c.plan_clean.ensures _ c.in-Ok.is _ c.store_kept.ensures)

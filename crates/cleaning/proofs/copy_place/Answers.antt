@@ -1,21 +1,22 @@
 -- `cleaning::copy_place` meets its contract: a log chunk with space, else a free chunk, else nothing.
 -- Assumes nothing.
+use mathlib.Core.Path.{◌∙◌, ap}
+use Rattle.std.specs.Prelude.{Some}
 use Rattle.spec.specs.Words.{words_of}
 use Rattle.cleaning.proofs.Finding.{shows-log, shows-free, shows-nowhere}
 use Rattle.cleaning.proofs.copy_place.Goals as goal
 
-pub returns-then-next-count : goal.returns-then-next-count
-returns-then-next-count c = shows-log c.args.size (words_of c.args.image.now) c.args.count c.args.lines c.args.x c.next_chunk-next.result c.next_chunk-next.ensures _ c.if-next-count.true c.place_at.ensures
+pub returns-in-Some : goal.returns-in-Some
+returns-in-Some c =
+    let a = c.args in
+    ap Some c.place_at.ensures ∙ shows-log a.size (words_of a.image.now) a.count a.lines a.x c.next_chunk.result c.next_chunk.ensures _ c.in-Some.is
 
-pub returns-in-At : goal.returns-in-At
-returns-in-At c =
-    shows-free c.args.size (words_of c.args.image.now) c.args.count
-    c.args.lines c.args.x c.next_chunk-next.result c.next_chunk-next.ensures
-    _ _ _ c.if-next-count.false c.free_chunk-free.ensures c.in-At.is
-    c.place_at-in-At.ensures
+pub returns : goal.returns
+returns c =
+    let a = c.args in
+    ap Some c.place_at-2.ensures ∙ shows-free a.size (words_of a.image.now) a.count a.lines a.x c.next_chunk.result c.next_chunk.ensures c.in_default.is _ c.free_chunk.ensures _ c.in_ok-c.was
 
-pub returns-in-Nothing : goal.returns-in-Nothing
-returns-in-Nothing c =
-    shows-nowhere c.args.size (words_of c.args.image.now) c.args.count
-    c.args.lines c.args.x c.next_chunk-next.result c.next_chunk-next.ensures
-    _ c.if-next-count.false c.free_chunk-free.ensures c.in-Nothing.is
+pub returns-in_err-c : goal.returns-in_err-c
+returns-in_err-c c =
+    let a = c.args in
+    c.from_residual.ensures ∙ shows-nowhere a.size (words_of a.image.now) a.count a.lines a.x c.next_chunk.result c.next_chunk.ensures c.in_default.is _ c.free_chunk.ensures c.in_err-c.was

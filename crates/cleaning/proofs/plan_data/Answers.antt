@@ -8,4 +8,4 @@ pub returns-then-has_live : goal.returns-then-has_live
 returns-then-has_live c = data-live c.args.size (words_of c.args.image.now) c.args.buffer.now c.args.chunk c.args.first c.has_live.result c.has_live.ensures c.if-has_live.true
 
 pub returns : goal.returns
-returns c = data-dead c.args.size (words_of c.args.image.now) c.args.buffer.now c.args.chunk c.args.first c.has_live.result c.has_live.ensures c.if-has_live.false _ _ c.directory_word-old.ensures c.lines_of-lines.ensures.0
+returns c = data-dead c.args.size (words_of c.args.image.now) c.args.buffer.now c.args.chunk c.args.first c.has_live.result c.has_live.ensures c.if-has_live.false _ _ c.directory_word.ensures c.lines_of.ensures.0

@@ -1,6 +1,6 @@
 -- `cleaning::plan_log` meets its contract.
 -- Assumes nothing.
-use mathlib.Core.Path.{refl}
+use mathlib.Core.Path.{refl, sym, ◌∙◌}
 use Prim.Native.Nat.{◌%◌}
 use native.Mathlib.Omega.{arith}
 use Rattle.actions.proofs.Bounds.{base-few}
@@ -40,21 +40,20 @@ overflow_add-words c =
     (power-high c.args.size) in
     omega arith
 
-pub returns-then-place : goal.returns-then-place
-returns-then-place c =
+pub returns : goal.returns
+returns c =
     log-copies c.args.size (words_of c.args.image.now) c.args.table.now
     c.args.count c.args.chunk c.args.first c.directory_word-old.result
     c.lines_of-lines.result c.first_word-at.result _ c.gather-tally.result
     c.directory_word-old.ensures c.lines_of-lines.ensures.0
     c.first_word-at.ensures refl c.lines_of-lines.ensures.1 _ c.gather-tally.ensures
-    c.if-words-eq0.false _ refl _ c.copy_place-place.ensures c.if-place.true _ _
-    c.clean_count-actions.ensures c.lesser-low.ensures
+    c.if-words-eq0.false _ refl _ (sym c.in-Some.is ∙ c.copy_place.ensures) _ _ c.clean_count.ensures c.min.ensures
 
-pub returns : goal.returns
-returns c =
+pub returns-in_default : goal.returns-in_default
+returns-in_default c =
     log-full c.args.size (words_of c.args.image.now) c.args.table.now
     c.args.count c.args.chunk c.args.first c.directory_word-old.result
     c.lines_of-lines.result c.first_word-at.result _ c.gather-tally.result
     c.directory_word-old.ensures c.lines_of-lines.ensures.0
     c.first_word-at.ensures refl c.lines_of-lines.ensures.1 _ c.gather-tally.ensures
-    c.if-words-eq0.false _ refl _ c.copy_place-place.ensures c.if-place.false
+    c.if-words-eq0.false _ refl (sym c.in_default.is ∙ c.copy_place.ensures)

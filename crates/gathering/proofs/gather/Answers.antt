@@ -1,15 +1,13 @@
--- `gathering::gather` meets its contract.
+-- `gathering::gather` meets its contract: the sizes of a chunk's words are given as numbers.
 -- Assumes nothing.
+use Rattle.std.proofs.Common.{refl}
+use Rattle.spec.specs.Places.{chunk_bytes}
 use Rattle.gathering.proofs.gather.Goals as goal
 
-pub small_gather-requires : goal.small_gather-requires
-small_gather-requires c = (c.requires.0, rw c.in-Small.is at c.requires.1)
+pub gather_in-requires : goal.gather_in-requires
+unfolding chunk_bytes
+gather_in-requires c = (c.requires.0, c.requires.1, rw c.in-Small.is refl)
 
-pub large_gather-requires : goal.large_gather-requires
-large_gather-requires c = (c.requires.0, rw c.in-Large.is at c.requires.1)
-
-pub returns-in-Small : goal.returns-in-Small
-returns-in-Small c = rw c.in-Small.is c.small_gather.ensures
-
-pub returns-in-Large : goal.returns-in-Large
-returns-in-Large c = rw c.in-Large.is c.large_gather.ensures
+pub gather_in-requires-in-Large : goal.gather_in-requires-in-Large
+unfolding chunk_bytes
+gather_in-requires-in-Large c = (c.requires.0, c.requires.1, rw c.in-Large.is refl)

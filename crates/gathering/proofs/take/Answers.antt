@@ -1,10 +1,11 @@
 -- `gathering::take` meets its contract.
 -- Assumes nothing.
-use Rattle.std.proofs.Common.{refl, arith}
+use Rattle.std.proofs.Common.{arith}
 use Rattle.places.specs.Sizes.{power_of, power-low, power-high}
 use Rattle.theory_base.proofs.Places.{words-most}
 use Rattle.gathering.proofs.Words.{take-kept, take-full, take-not}
 use Rattle.gathering.proofs.take.Goals as goal
+use Rattle.gathering.proofs.take.Goals.{else-is-via-then-is+else-has_room, else-is-via-else-is}
 
 pub overflow_add-value : goal.overflow_add-value
 overflow_add-value c =
@@ -58,14 +59,11 @@ overflow_add-result-then-has_room-2 c =
 
 pub returns-then-has_room : goal.returns-then-has_room
 returns-then-has_room c =
-    rw c.if-is.true
-    (take-kept _ _ _ _ _ _ c.requires _ _ refl refl (rw c.if-has_room.true at c.has_room.ensures) _
-    c.copy_words.ensures)
-
-pub returns-else-has_room : goal.returns-else-has_room
-returns-else-has_room c =
-    rw c.if-is.true
-    (take-full _ _ _ _ _ _ c.requires _ _ refl refl (rw c.if-has_room.false at c.has_room.ensures))
+    rw c.if-is.true (take-kept _ _ _ _ _ _ c.requires (rw c.if-has_room.true at c.has_room.ensures) _ c.copy_words.ensures)
 
 pub returns-else-is : goal.returns-else-is
-returns-else-is c = rw c.if-is.false (take-not _ _ _ _ _ _ c.requires)
+returns-else-is c =
+    elim c.else-is.branch [
+      | else-is-via-then-is+else-has_room w ↦ rw w.if-is.true (take-full _ _ _ _ _ _ c.requires (rw w.if-has_room.false at w.has_room.ensures))
+      | else-is-via-else-is w ↦ rw w.if-is.false (take-not _ _ _ _ _ _ c.requires)
+    ]

@@ -5,8 +5,8 @@ use Rattle.gathering.specs.Measuring.{Tells}
 use Rattle.gathering.proofs.Passes.{RestOn}
 use Rattle.gathering.proofs.take_counted.Given as goal
 
-abbrev pub invariant-loop-tally : goal.invariant-loop-tally
-invariant-loop-tally l = RestOn l.size (words_of l.copy) l.table l.initial.kept l.at l.n l.initial.cursor l.initial.tally l.kept l.tally l.cursor × Tells l.size (words_of l.copy) l.counts 0 l.n l.counted
+abbrev pub invariant-loop-e : goal.invariant-loop-e
+invariant-loop-e l = RestOn l.size (words_of l.copy) l.table l.initial.kept l.at l.n l.initial.cursor l.initial.tally l.kept l.tally l.cursor × Tells l.size (words_of l.copy) l.counts 0 l.n l.counted
 
-abbrev pub decreases-loop-tally : goal.decreases-loop-tally
-decreases-loop-tally l = left 0 (words_of l.copy) l.cursor
+abbrev pub decreases-loop-e : goal.decreases-loop-e
+decreases-loop-e l = left 0 (words_of l.copy) l.cursor

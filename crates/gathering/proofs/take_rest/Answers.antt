@@ -1,15 +1,13 @@
--- `gathering::take_rest` meets its contract.
+-- `gathering::take_rest` meets its contract: the sizes of a chunk's words are given as numbers.
 -- Assumes nothing.
+use Rattle.std.proofs.Common.{refl}
+use Rattle.spec.specs.Places.{chunk_words}
 use Rattle.gathering.proofs.take_rest.Goals as goal
 
-pub small_rest-requires : goal.small_rest-requires
-small_rest-requires c = (c.requires.0, rw c.in-Small.is at c.requires.1)
+pub rest_in-requires : goal.rest_in-requires
+unfolding chunk_words
+rest_in-requires c = (c.requires.0, c.requires.1, rw c.in-Small.is refl)
 
-pub large_rest-requires : goal.large_rest-requires
-large_rest-requires c = (c.requires.0, rw c.in-Large.is at c.requires.1)
-
-pub returns-in-Small : goal.returns-in-Small
-returns-in-Small c = rw c.in-Small.is c.small_rest.ensures
-
-pub returns-in-Large : goal.returns-in-Large
-returns-in-Large c = rw c.in-Large.is c.large_rest.ensures
+pub rest_in-requires-in-Large : goal.rest_in-requires-in-Large
+unfolding chunk_words
+rest_in-requires-in-Large c = (c.requires.0, c.requires.1, rw c.in-Large.is refl)

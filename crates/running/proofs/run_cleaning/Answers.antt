@@ -12,19 +12,19 @@ pub loop-at-preserved : goal.loop-at-preserved
 loop-at-preserved c =
     λ x e.
     one-stored x _ _ _ _ _ (c.loop-at.invariant x e) (omega arith) _ _ c.clean_action-action.ensures
-    c.perform.ensures (sym c.is_store.ensures ∙ c.if-is_store.true)
+    c.perform.ensures (sym c.is_store.ensures ∙ c.if-not-is_store.false)
 
-pub shape_of-image-else-is_store : goal.shape_of-image-else-is_store
-shape_of-image-else-is_store c =
+pub shape_of-image-then-not-is_store : goal.shape_of-image-then-not-is_store
+shape_of-image-then-not-is_store c =
     (run_ends c.args.control _ _ _ _ _ (c.loop-at.invariant _ refl) (omega arith) _ _
     c.clean_action-action.ensures c.perform.ensures
-    (sym c.is_store.ensures ∙ c.if-is_store.false)).sized
+    (sym c.is_store.ensures ∙ c.if-not-is_store.true)).sized
 
-pub returns-else-is_store : goal.returns-else-is_store
-returns-else-is_store c =
+pub returns-then-not-is_store : goal.returns-then-not-is_store
+returns-then-not-is_store c =
     run_ends c.args.control _ _ _ _ _ (c.loop-at.invariant _ refl) (omega arith) _ _
     c.clean_action-action.ensures c.perform.ensures
-    (sym c.is_store.ensures ∙ c.if-is_store.false)
+    (sym c.is_store.ensures ∙ c.if-not-is_store.true)
 
 pub shape_of-image : goal.shape_of-image
 shape_of-image c =

@@ -11,5 +11,5 @@ pub returns : goal.returns
 returns c =
     let a = c.args in
     kept-stored a.control a.setup a.buffer.now a.image.now c.batch_start-start.result
-    c.lesser-kept.result c.batch_start-start.ensures.0 c.lesser-kept.ensures (omega arith) _
+    c.min-kept.result c.batch_start-start.ensures.0 c.min-kept.ensures (omega arith) _
     c.store_area.ensures

@@ -2,6 +2,7 @@
 -- Assumes nothing.
 use mathlib.Core.Path.{sym, ◌∙◌}
 use native.Mathlib.Omega.{arith}
+use Rattle.std.proofs.lemmas.Result.{err_from_is_err_and}
 use Rattle.spec.specs.Machine.{Delete}
 use Rattle.staging.proofs.Shows.{at-gate}
 use Rattle.staging.proofs.Admits.{named-admitted, named-room}
@@ -9,30 +10,34 @@ use Rattle.staging.proofs.Staging.{delete-absent, delete-refused, delete-item}
 use Rattle.staging.proofs.Known.{newest-sized}
 use Rattle.staging.proofs.plan_delete.Goals as goal
 
-pub overflow_add-next : goal.overflow_add-next
-overflow_add-next c = let q = named-admitted _ _ _ _ _ _ _ (sym c.admit-a.ensures ∙ c.in-Admitted.is) in omega arith
+pub overflow_add-version : goal.overflow_add-version
+overflow_add-version c = let q = named-admitted _ _ _ _ _ _ _ (sym c.admit.ensures ∙ c.in_ok-fresh.was) in omega arith
 
-pub returns-in-Refused : goal.returns-in-Refused
-returns-in-Refused c =
+pub returns-in_err-gate : goal.returns-in_err-gate
+returns-in_err-gate c =
     let a = c.args in
-    at-gate a.control a.setup a.buffer.now a.image.now a.table.now _ c.gate-g.ensures (Delete a.named a.key) tt _ c.in-Refused.is
+    let p = err_from_is_err_and c.from_residual.result c.from_residual.ensures.1 in
+    rw (p.1, p.2) (at-gate a.control a.setup a.buffer.now a.image.now a.table.now _ c.gate.ensures (Delete a.named a.key) tt _ c.in_err-gate.was)
 
-pub returns-in-Refused-a : goal.returns-in-Refused-a
-returns-in-Refused-a c =
+pub returns-in_err-fresh : goal.returns-in_err-fresh
+returns-in_err-fresh c =
     let by = c.size_by-size in
     let a = c.args in
-    delete-refused a.control a.setup a.buffer.now a.image.now a.table.now _ c.gate-g.ensures c.in-Open.is a.named a.key _ (newest-sized by.result a.setup a.buffer.now a.control.words a.table.now a.key _ by.ensures c.known_of-known.ensures) (sym c.is_present.ensures ∙ c.if-is_present.true) _
-    (named-room _ _ _ _ _ _ _ _ c.capacity.ensures c.admit-a.ensures) _ c.in-Refused-a.is
+    let p = err_from_is_err_and c.from_residual-in_err-fresh.result c.from_residual-in_err-fresh.ensures.1 in
+    rw (p.1, p.2)
+    (delete-refused a.control a.setup a.buffer.now a.image.now a.table.now _ c.gate.ensures c.in_ok-gate.was a.named a.key _ (newest-sized by.result a.setup a.buffer.now a.control.words a.table.now a.key _ by.ensures c.known_of-known.ensures) (sym c.is_present.ensures ∙ c.if-not-is_present.false) _
+    (rw c.version-last.ensures at (named-room _ _ _ _ _ _ _ _ c.capacity-room.ensures c.admit.ensures)) _ c.in_err-fresh.was)
 
-pub returns-in-Admitted : goal.returns-in-Admitted
-returns-in-Admitted c =
+pub returns : goal.returns
+returns c =
     let by = c.size_by-size in
     let a = c.args in
-    delete-item a.control a.setup a.buffer.now a.image.now a.table.now _ c.gate-g.ensures c.in-Open.is a.named a.key _ (newest-sized by.result a.setup a.buffer.now a.control.words a.table.now a.key _ by.ensures c.known_of-known.ensures) (sym c.is_present.ensures ∙ c.if-is_present.true) _
-    (named-room _ _ _ _ _ _ _ _ c.capacity.ensures c.admit-a.ensures) _ c.in-Admitted.is
+    rw c.version-last.ensures
+    (delete-item a.control a.setup a.buffer.now a.image.now a.table.now _ c.gate.ensures c.in_ok-gate.was a.named a.key _ (newest-sized by.result a.setup a.buffer.now a.control.words a.table.now a.key _ by.ensures c.known_of-known.ensures) (sym c.is_present.ensures ∙ c.if-not-is_present.false) _
+    (rw c.version-last.ensures at (named-room _ _ _ _ _ _ _ _ c.capacity-room.ensures c.admit.ensures)) _ c.in_ok-fresh.was)
 
-pub returns-else-is_present : goal.returns-else-is_present
-returns-else-is_present c =
+pub returns-then-not-is_present : goal.returns-then-not-is_present
+returns-then-not-is_present c =
     let by = c.size_by-size in
     let a = c.args in
-    delete-absent a.control a.setup a.buffer.now a.image.now a.table.now _ c.gate-g.ensures c.in-Open.is a.named a.key _ (newest-sized by.result a.setup a.buffer.now a.control.words a.table.now a.key _ by.ensures c.known_of-known.ensures) (sym c.is_present.ensures ∙ c.if-is_present.false)
+    delete-absent a.control a.setup a.buffer.now a.image.now a.table.now _ c.gate.ensures c.in_ok-gate.was a.named a.key _ (newest-sized by.result a.setup a.buffer.now a.control.words a.table.now a.key _ by.ensures c.known_of-known.ensures) (sym c.is_present.ensures ∙ c.if-not-is_present.true)

@@ -2,6 +2,7 @@
 -- Assumes nothing.
 use mathlib.Core.Path.{sym, ◌∙◌}
 use native.Mathlib.Omega.{arith}
+use Rattle.std.proofs.lemmas.Result.{err_from_is_err_and}
 use Rattle.spec.specs.Machine.{Put}
 use Rattle.staging.proofs.Shows.{at-gate}
 use Rattle.staging.proofs.Admits.{named-admitted, named-room}
@@ -9,24 +10,27 @@ use Rattle.staging.proofs.Staging.{log-refused, log-item}
 use Rattle.staging.proofs.Known.{version-sized}
 use Rattle.staging.proofs.plan_in_log.Goals as goal
 
-pub overflow_add-next : goal.overflow_add-next
-overflow_add-next c = let q = named-admitted _ _ _ _ _ _ _ (sym c.admit-a.ensures ∙ c.in-Admitted.is) in omega arith
+pub overflow_add-version : goal.overflow_add-version
+overflow_add-version c = let q = named-admitted _ _ _ _ _ _ _ (sym c.admit.ensures ∙ c.in_ok-fresh.was) in omega arith
 
-pub returns-in-Refused : goal.returns-in-Refused
-returns-in-Refused c =
+pub returns-in_err-gate : goal.returns-in_err-gate
+returns-in_err-gate c =
     let a = c.args in
-    λ v q. at-gate a.control a.setup a.buffer.now a.image.now a.table.now _ c.gate-g.ensures (Put a.named a.key v) tt _ c.in-Refused.is
+    let p = err_from_is_err_and c.from_residual.result c.from_residual.ensures.1 in
+    rw (p.1, p.2) (λ v q. at-gate a.control a.setup a.buffer.now a.image.now a.table.now _ c.gate.ensures (Put a.named a.key v) tt _ c.in_err-gate.was)
 
-pub returns-in-Refused-a : goal.returns-in-Refused-a
-returns-in-Refused-a c =
+pub returns-in_err-fresh : goal.returns-in_err-fresh
+returns-in_err-fresh c =
     let by = c.size_by-size in
     let a = c.args in
-    log-refused a.control a.setup a.buffer.now a.image.now a.table.now _ c.gate-g.ensures c.in-Open.is a.named a.key _ (version-sized by.result a.setup a.buffer.now a.control.words a.table.now a.key _ by.ensures c.version_of-version.ensures) a.bytes c.requires _
-    (named-room _ _ _ _ _ _ _ _ c.capacity-room.ensures c.admit-a.ensures) _ c.in-Refused-a.is
+    let p = err_from_is_err_and c.from_residual-in_err-fresh.result c.from_residual-in_err-fresh.ensures.1 in
+    rw (p.1, p.2)
+    (log-refused a.control a.setup a.buffer.now a.image.now a.table.now _ c.gate.ensures c.in_ok-gate.was a.named a.key _ (version-sized by.result a.setup a.buffer.now a.control.words a.table.now a.key _ by.ensures c.version_of-last.ensures) a.bytes c.requires _
+    (named-room _ _ _ _ _ _ _ _ c.capacity-room.ensures c.admit.ensures) _ c.in_err-fresh.was)
 
-pub returns-in-Admitted : goal.returns-in-Admitted
-returns-in-Admitted c =
+pub returns : goal.returns
+returns c =
     let by = c.size_by-size in
     let a = c.args in
-    log-item a.control a.setup a.buffer.now a.image.now a.table.now _ c.gate-g.ensures c.in-Open.is a.named a.key _ (version-sized by.result a.setup a.buffer.now a.control.words a.table.now a.key _ by.ensures c.version_of-version.ensures) a.bytes c.requires _
-    (named-room _ _ _ _ _ _ _ _ c.capacity-room.ensures c.admit-a.ensures) _ c.in-Admitted.is
+    log-item a.control a.setup a.buffer.now a.image.now a.table.now _ c.gate.ensures c.in_ok-gate.was a.named a.key _ (version-sized by.result a.setup a.buffer.now a.control.words a.table.now a.key _ by.ensures c.version_of-last.ensures) a.bytes c.requires _
+    (named-room _ _ _ _ _ _ _ _ c.capacity-room.ensures c.admit.ensures) _ c.in_ok-fresh.was

@@ -4,8 +4,8 @@ use mathlib.Core.Path.{refl}
 use native.Mathlib.Omega.{arith}
 use Rattle.staging.proofs.put_long.Goals as goal
 
-pub returns-then-value-gt256 : goal.returns-then-value-gt256
-returns-then-value-gt256 c = record { within = λ h. c.put_in_block.ensures; without = λ no. absurd (no (omega arith)) }
+pub returns-then-value-gt-MOST_IN_LOG : goal.returns-then-value-gt-MOST_IN_LOG
+returns-then-value-gt-MOST_IN_LOG c = record { within = λ h. c.put_in_block.ensures; without = λ no. absurd (no (omega arith)) }
 
 pub returns : goal.returns
 returns c = record { within = λ h. absurd (omega arith); without = λ no. (refl, refl) }

@@ -5,8 +5,8 @@ use Rattle.spec.specs.Words.{words_of}
 use Rattle.apply.specs.Joining.{Going}
 use Rattle.apply.proofs.join.join.Given as goal
 
-abbrev pub invariant-loop-op : goal.invariant-loop-op
-invariant-loop-op l = Going l.size (words_of l.image) l.initial.buffer l.initial.table l.initial.keys l.place l.initial.at l.end l.buffer l.table l.keys l.at
+abbrev pub invariant-loop-item : goal.invariant-loop-item
+invariant-loop-item l = Going l.size (words_of l.image) l.initial.buffer l.initial.table l.initial.keys l.place l.initial.at l.end l.buffer l.table l.keys l.at
 
-abbrev pub decreases-loop-op : goal.decreases-loop-op
-decreases-loop-op l = l.end - l.at
+abbrev pub decreases-loop-item : goal.decreases-loop-item
+decreases-loop-item l = l.end - l.at

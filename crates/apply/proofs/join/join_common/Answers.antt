@@ -13,4 +13,4 @@ returns-in-Small c =
 
 pub returns-in-Large : goal.returns-in-Large
 returns-in-Large c =
-    puts-start c.args.size _ _ _ _ _ _ c.buffer_length.ensures.1
+    puts-start c.args.size _ _ _ _ _ _ c.told-buffer

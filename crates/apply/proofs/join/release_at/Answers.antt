@@ -8,16 +8,16 @@ pub returns-in-Padding : goal.returns-in-Padding
 returns-in-Padding c =
     let a = c.args in
     at-padding a.size (words_of a.image.now) a.place _ _ c.load.ensures
-    c.first_of-first.ensures _ c.buffer_length.ensures.1 c.in-Padding.is
+    c.first_of.ensures _ c.told-buffer c.in-Padding.is
 
 pub returns-in-Wrong : goal.returns-in-Wrong
 returns-in-Wrong c =
     let a = c.args in
     at-wrong a.size (words_of a.image.now) a.place _ _ c.load.ensures
-    c.first_of-first.ensures _ c.buffer_length.ensures.1 c.in-Wrong.is
+    c.first_of.ensures _ c.told-buffer c.in-Wrong.is
 
 pub returns-in-Entry : goal.returns-in-Entry
 returns-in-Entry c =
     let a = c.args in
-    at_entry a.size (words_of a.image.now) a.place _ _ c.load.ensures c.first_of-first.ensures _ _ _ _
+    at_entry a.size (words_of a.image.now) a.place _ _ c.load.ensures c.first_of.ensures _ _ _ _
     _ _ c.in-Entry.is c.release.ensures

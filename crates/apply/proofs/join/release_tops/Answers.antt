@@ -5,7 +5,7 @@ use Rattle.apply.proofs.join.release_tops.Goals as goal
 
 pub returns-then-info-gt0 : goal.returns-then-info-gt0
 returns-then-info-gt0 c =
-    tops-in-log c.args.size _ _ _ c.buffer_length.ensures.1 c.if-info-gt0.true
+    tops-in-log c.args.size _ _ _ c.told-buffer c.if-info-gt0.true
 
 pub returns : goal.returns
 returns c =

@@ -4,13 +4,12 @@ use Rattle.std.proofs.Common.{refl}
 use Rattle.apply.proofs.Ends.{emptied, emptied-anew}
 use Rattle.apply.proofs.remove.remove_chunk.Goals as goal
 
-pub returns-then-went : goal.returns-then-went
-returns-then-went c =
+pub returns-in-Some : goal.returns-in-Some
+returns-in-Some c =
     emptied c.args.size _ _ _ _ _ _ _ _ _ _ _ _ _
-    (rw (← c.chunk_of_word.ensures) c.turn_over.ensures) _ c.remove_entries-went.ensures
-    c.if-went.true refl
+    (rw (← c.chunk_of_word-chunk.ensures) c.turn_over.ensures) _ c.in-Some.ensures refl
 
-pub returns : goal.returns
-returns c =
-    emptied-anew c.args.size _ _ _ _ _ _ _ _ _ _ _ _ _ _ _ c.remove_entries-went.ensures
+pub returns-in-None : goal.returns-in-None
+returns-in-None c =
+    emptied-anew c.args.size _ _ _ _ _ _ _ _ _ _ _ _ _ _ _ c.in-None.ensures
     c.rebuild.ensures

@@ -4,8 +4,8 @@ use Rattle.logs.specs.Cursor.{left}
 use Rattle.apply.proofs.Walks.{LeavesOn}
 use Rattle.apply.proofs.remove.remove_entries.Given as goal
 
-abbrev pub invariant-loop-here : goal.invariant-loop-here
-invariant-loop-here l = LeavesOn l.size (words_of l.image) l.initial.table l.keys l.at l.end l.from l.until l.table l.count l.copy l.cursor
+abbrev pub invariant-loop-run : goal.invariant-loop-run
+invariant-loop-run l = LeavesOn l.size (words_of l.image) l.initial.table l.keys l.at l.end l.from l.until l.table l.count l.copy l.cursor
 
-abbrev pub decreases-loop-here : goal.decreases-loop-here
-decreases-loop-here l = left 0 (words_of l.image) l.cursor
+abbrev pub decreases-loop-run : goal.decreases-loop-run
+decreases-loop-run l = left 0 (words_of l.image) l.cursor

@@ -1,5 +1,6 @@
 -- `apply::remove::remove_entry` meets its contract.
 -- Assumes nothing.
+use Rattle.std.proofs.Common.{refl}
 use Rattle.apply.proofs.Shows.{entry-twins, entry-none, entry-copied, entry_gone, entry-less}
 use Rattle.apply.proofs.remove.remove_entry.Goals as goal
 
@@ -13,23 +14,23 @@ returns-then-info-ne0 c =
     entry-twins c.args.size _ _ _ _ _ _ _ _ _ _ c.slot_of-slot.ensures c.word_at-word.ensures
     c.unpack-info.ensures
 
+pub returns-then-info-place : goal.returns-then-info-place
+returns-then-info-place c =
+    entry-less c.args.size _ _ _ _ _ _ _ _ _ _ c.slot_of-slot.ensures c.word_at-word.ensures
+    c.unpack-info.ensures
+    c.if-word-eq0.false c.if-info-ne0.false c.if-info-place.true _ _ c.with_less.ensures
+    c.set_slot.ensures
+
 pub returns-then-copied : goal.returns-then-copied
 returns-then-copied c =
     entry-copied c.args.size _ _ _ _ _ _ _ _ _ _ c.slot_of-slot.ensures
     c.word_at-word.ensures
-    c.unpack-info.ensures c.if-word-eq0.false c.if-info-ne0.false c.if-info-place.true c.if-copied.true _ _ _
-    c.with_copy.ensures c.set_slot.ensures c.wrapping_add_usize.ensures.value
-
-pub returns-then-info-place : goal.returns-then-info-place
-returns-then-info-place c =
-    entry_gone c.args.size _ _ _ _ _ _ _ _ _ _ c.slot_of-slot.ensures c.word_at-word.ensures
-    c.unpack-info.ensures
-    c.if-word-eq0.false c.if-info-ne0.false c.if-info-place.true c.if-copied.false _ _
-    c.remove.ensures _ c.one_less.ensures
+    c.unpack-info.ensures c.if-word-eq0.false c.if-info-ne0.false c.if-info-place.false c.if-copied.true _ _ _
+    c.with_copy.ensures c.set_slot-then-copied.ensures refl
 
 pub returns : goal.returns
 returns c =
-    entry-less c.args.size _ _ _ _ _ _ _ _ _ _ c.slot_of-slot.ensures c.word_at-word.ensures
+    entry_gone c.args.size _ _ _ _ _ _ _ _ _ _ c.slot_of-slot.ensures c.word_at-word.ensures
     c.unpack-info.ensures
-    c.if-word-eq0.false c.if-info-ne0.false c.if-info-place.false _ _ c.with_less.ensures
-    c.set_slot-2.ensures
+    c.if-word-eq0.false c.if-info-ne0.false c.if-info-place.false c.if-copied.false _ _
+    c.remove.ensures _ c.saturating_sub.ensures

@@ -1,47 +1,25 @@
 -- `gathering::measure::size_counted` meets its contract.
 -- Assumes nothing.
-use Rattle.std.proofs.Common.{sym, ◌∙◌, arith}
-use Rattle.logs.proofs.Walk.{handed}
+use Rattle.forward.proofs.Walks.{ended}
 use Rattle.gathering.proofs.Kept.{tells-start}
-use Rattle.gathering.proofs.Measures.{measures-start, run-measures, measures-done, measures-wrong, measures-next}
+use Rattle.gathering.proofs.Measures.{measures-start, run-measures, measures-end, measures-next}
 use Rattle.gathering.proofs.measure.size_counted.Goals as goal
+use Rattle.gathering.proofs.measure.size_counted.Goals.{in_default-via-in-Ok+in_default, in_default-via-in_default}
 
-pub loop-so-init : goal.loop-so-init
-loop-so-init c = (measures-start _ _ _ _ _, tells-start c.args.size _ _ _ _ c.requires)
+pub loop-e-init : goal.loop-e-init
+loop-e-init c = (measures-start _ _ _ _ _, tells-start c.args.size _ _ _ _ c.requires)
 
-pub shape_of-counts-in-Done : goal.shape_of-counts-in-Done
-shape_of-counts-in-Done c =
-    c.loop-so.invariant.1.0 ∙ sym c.requires
+pub returns-in_default : goal.returns-in_default
+returns-in_default c =
+    elim c.in_default.branch [
+      | in_default-via-in-Ok+in_default w ↦ measures-end _ _ _ _ _ _ _ (run-measures _ _ _ _ _ _ _ _ c.add_puts-run.ensures _ _ _ c.loop-e.invariant.0) (ended _ _ _ _ c.next_in_log.ensures (λ e q. cc))
+      | in_default-via-in_default w ↦ measures-end _ _ _ _ _ _ _ (run-measures _ _ _ _ _ _ _ _ c.add_puts-run.ensures _ _ _ c.loop-e.invariant.0) (ended _ _ _ _ c.next_in_log.ensures (λ e q. cc))
+    ]
 
-pub returns-in-Done : goal.returns-in-Done
-returns-in-Done c =
-    measures-done _ _ _ _ _ _ _
-    (run-measures _ _ _ _ _ _ _ _ c.add_puts-run.ensures _ _ _ c.loop-so.invariant.0) _
-    c.next_in_log-n.ensures c.in-Done.is
-
-pub shape_of-counts-in-Wrong : goal.shape_of-counts-in-Wrong
-shape_of-counts-in-Wrong c =
-    c.loop-so.invariant.1.0 ∙ sym c.requires
-
-pub returns-in-Wrong : goal.returns-in-Wrong
-returns-in-Wrong c =
-    measures-wrong _ _ _ _ _ _ _
-    (run-measures _ _ _ _ _ _ _ _ c.add_puts-run.ensures _ _ _ c.loop-so.invariant.0) _
-    c.next_in_log-n.ensures c.in-Wrong.is
-
-pub loop-so-smaller : goal.loop-so-smaller
-loop-so-smaller c =
-    let f = (handed _ _ _ _ _ c.next_in_log-n.ensures _ _ _ _ _ _ _ _ c.in-Entry.is).falls in
-    let g = c.add_puts-run.ensures.nearer 0 c.loop-so.cursor.chunk in
-    omega arith
-
-pub loop-so-preserved : goal.loop-so-preserved
-loop-so-preserved c =
+pub loop-e-preserved : goal.loop-e-preserved
+loop-e-preserved c =
     let o = c.count_once-counted.ensures in
-    let t = c.loop-so.invariant.1 in (
-      measures-next _ _ _ _ _ _ _
-          (run-measures _ _ _ _ _ _ _ _ c.add_puts-run.ensures _ _ _ c.loop-so.invariant.0) _
-          c.next_in_log-n.ensures _ _ _ _ _ _ _ _ c.in-Entry.is _ (o.decides t) _
-          c.is_kept-kept.ensures _ c.add_kept-tally.ensures,
+    let t = c.loop-e.invariant.1 in (
+      measures-next _ _ _ _ _ _ _ (run-measures _ _ _ _ _ _ _ _ c.add_puts-run.ensures _ _ _ c.loop-e.invariant.0) _ (rw c.in-Ok-Some.field-0-is at c.in-Ok-Some.ensures) _ (o.decides t) _ c.is_kept-kept.ensures _ c.add_kept-tally.ensures,
       o.tells t,
     )

@@ -5,8 +5,8 @@ use Rattle.gathering.specs.Measuring.{Tells}
 use Rattle.gathering.proofs.Measures.{MeasuresOn}
 use Rattle.gathering.proofs.measure.size_counted.Given as goal
 
-abbrev pub invariant-loop-so : goal.invariant-loop-so
-invariant-loop-so l = MeasuresOn l.size (words_of l.image) l.table l.at l.end l.tally l.cursor × Tells l.size (words_of l.image) l.counts l.at l.end l.counted
+abbrev pub invariant-loop-e : goal.invariant-loop-e
+invariant-loop-e l = MeasuresOn l.size (words_of l.image) l.table l.at l.end l.tally l.cursor × Tells l.size (words_of l.image) l.counts l.at l.end l.counted
 
-abbrev pub decreases-loop-so : goal.decreases-loop-so
-decreases-loop-so l = left 0 (words_of l.image) l.cursor
+abbrev pub decreases-loop-e : goal.decreases-loop-e
+decreases-loop-e l = left 0 (words_of l.image) l.cursor

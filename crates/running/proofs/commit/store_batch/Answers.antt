@@ -40,7 +40,7 @@ loop-at-2-preserved c =
 pub shape_of-image : goal.shape_of-image
 shape_of-image c =
     let a = c.args in
-    let w = c.lesser-words.ensures in
+    let w = c.min-words.ensures in
     let s = c.batch_start-start.ensures.0 in
     (c.loop-at-2.invariant.1.1 a.control a.setup _ w s
     (c.loop-at.invariant.1.1 a.control a.setup w s refl)).made.sized
@@ -48,7 +48,7 @@ shape_of-image c =
 pub returns : goal.returns
 returns c =
     let a = c.args in
-    let w = c.lesser-words.ensures in
+    let w = c.min-words.ensures in
     let s = c.batch_start-start.ensures.0 in
     let i = c.loop-at.invariant in
     let j = c.loop-at-2.invariant in

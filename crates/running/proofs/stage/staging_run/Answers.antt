@@ -5,8 +5,8 @@ use native.Mathlib.Omega.{arith}
 use Rattle.running.proofs.Staging.{past-ends, flush-acts, flush-ends}
 use Rattle.running.proofs.stage.staging_run.Goals as goal
 
-pub returns-then-at-ge16384 : goal.returns-then-at-ge16384
-returns-then-at-ge16384 c = record { within = λ h. past-ends _ _ _ _ _ h _ _ c.staged.ensures.0 c.staged.ensures.1 (omega arith); without = λ no. absurd (no (c.is_staging.ensures.0 c.if-is_staging.true)) }
+pub returns-then-at-ge-BEHIND_ALL : goal.returns-then-at-ge-BEHIND_ALL
+returns-then-at-ge-BEHIND_ALL c = record { within = λ h. past-ends _ _ _ _ _ h _ _ c.staged.ensures.0 c.staged.ensures.1 (omega arith); without = λ no. absurd (no (c.is_staging.ensures.0 c.if-is_staging.true)) }
 
 pub returns-then-at-behind : goal.returns-then-at-behind
 returns-then-at-behind c =

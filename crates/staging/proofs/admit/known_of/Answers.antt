@@ -1,13 +1,16 @@
 -- `staging::admit::known_of` meets its contract.
 -- Assumes nothing.
-use Rattle.staging.proofs.Known.{known-unknown, known-committed, known-staged}
+use Rattle.staging.proofs.Known.{known-staged, known-committed, unstaged, unstaged_none}
 use Rattle.staging.proofs.admit.known_of.Goals as goal
+use Rattle.staging.proofs.admit.known_of.Goals.{in_default-via-in-Some+else-last-ne0, in_default-via-in_default}
 
-pub returns-then-word-eq0 : goal.returns-then-word-eq0
-returns-then-word-eq0 c = known-unknown c.args.size _ _ _ _ _ c.last_staged-last.ensures _ c.get-word.ensures c.if-last-eq0.true c.if-word-eq0.true
+pub returns-in-Some : goal.returns-in-Some
+returns-in-Some c = known-staged c.args.size _ _ _ _ _ c.last_staged.ensures _ c.in-Some.is c.if-last-ne0.true
 
-pub returns-then-last-eq0 : goal.returns-then-last-eq0
-returns-then-last-eq0 c = known-committed c.args.size _ _ _ _ _ c.last_staged-last.ensures _ _ c.get-word.ensures c.unpack-info.ensures c.if-last-eq0.true c.if-word-eq0.false
-
-pub returns : goal.returns
-returns c = known-staged c.args.size _ _ _ _ _ c.last_staged-last.ensures c.if-last-eq0.false
+pub returns-in_default : goal.returns-in_default
+returns-in_default c =
+    known-committed c.args.size _ _ _ _ _ c.last_staged.ensures _ c.committed.ensures
+    (elim c.in_default.branch [
+      | in_default-via-in-Some+else-last-ne0 w ↦ unstaged c.args.size _ _ _ _ _ c.last_staged.ensures _ w.in-Some.is w.if-last-ne0.false
+      | in_default-via-in_default w ↦ unstaged_none c.args.size _ _ _ _ _ c.last_staged.ensures w.in_default.is
+    ])

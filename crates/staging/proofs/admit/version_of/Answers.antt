@@ -1,10 +1,16 @@
 -- `staging::admit::version_of` meets its contract.
 -- Assumes nothing.
-use Rattle.staging.proofs.Known.{version-committed, version-staged}
+use Rattle.staging.proofs.Known.{version-staged, version-committed, unstaged, unstaged_none}
 use Rattle.staging.proofs.admit.version_of.Goals as goal
+use Rattle.staging.proofs.admit.version_of.Goals.{in_default-via-in-Some+else-last-ne0, in_default-via-in_default}
 
-pub returns-then-latest-eq0 : goal.returns-then-latest-eq0
-returns-then-latest-eq0 c = version-committed c.args.size _ _ _ _ _ c.last_staged-latest.ensures _ _ c.get.ensures c.unpack-info.ensures c.if-latest-eq0.true
+pub returns-in-Some : goal.returns-in-Some
+returns-in-Some c = version-staged c.args.size _ _ _ _ _ c.last_staged-latest.ensures _ c.in-Some.is c.if-last-ne0.true
 
-pub returns : goal.returns
-returns c = version-staged c.args.size _ _ _ _ _ c.last_staged-latest.ensures c.if-latest-eq0.false
+pub returns-in_default : goal.returns-in_default
+returns-in_default c =
+    version-committed c.args.size _ _ _ _ _ c.last_staged-latest.ensures _ _ c.get.ensures c.unpack.ensures
+    (elim c.in_default.branch [
+      | in_default-via-in-Some+else-last-ne0 w ↦ unstaged c.args.size _ _ _ _ _ c.last_staged-latest.ensures _ w.in-Some.is w.if-last-ne0.false
+      | in_default-via-in_default w ↦ unstaged_none c.args.size _ _ _ _ _ c.last_staged-latest.ensures w.in_default.is
+    ])
