@@ -1,16 +1,13 @@
 -- The numbers in which the exported calls give a report, and what it means that they tell one.
 -- Assumes nothing.
-use Rattle.std.specs.Prelude.{◌≡◌, Bool, ℕ, eqb, get_or}
+use Rattle.std.specs.Prelude.{◌≡◌, Bool, ℕ, eqb, get_or, Result, Ok, Err}
 use Rattle.std.proofs.Math.Option.{Option, none, some}
 use Rattle.spec.specs.Basics.{pick, negate}
 use Rattle.spec.specs.Reports.{number, numbers_of, refusal_of, place_of}
 use Rattle.spec.specs.declared.Refusal.{Refusal}
 use Rattle.spec.specs.declared.Report.{Report}
 use Rattle.spec.specs.declared.Report.TheVariants as R
-use Rattle.lookup.specs.declared.Counted.{Counted}
-use Rattle.lookup.specs.declared.Counted.TheVariants as C
-use Rattle.lookup.specs.declared.Listed.{Listed}
-use Rattle.lookup.specs.declared.Listed.TheVariants as L
+use Rattle.lookup.specs.Listing.{Listed}
 use Rattle.answers.specs.declared.Answer.{Answer}
 
 abbrev pub answer : ℕ → ℕ → ℕ → Answer
@@ -92,12 +89,12 @@ abbrev pub ShownWith : (Report → Type 0) → ℕ → ℕ → ℕ → ℕ → T
 ShownWith P number start length version = (r : Report) × (P r × VersionShown r number start length version)
 
 -- A listing's numbers: 0 or the refusal's number, and how many keys are present, 0 on a refusal.
-abbrev pub CountedBy : Counted → ℕ → ℕ → Type 0
-CountedBy (C.Refused n) answer count = (answer ≡ number n) × (count ≡ 0)
-CountedBy (C.Keys k) answer count = (answer ≡ 0) × (count ≡ k)
+abbrev pub CountedBy : Result ℕ Refusal → ℕ → ℕ → Type 0
+CountedBy (Ok k) answer count = (answer ≡ 0) × (count ≡ k)
+CountedBy (Err n) answer count = (answer ≡ number n) × (count ≡ 0)
 
-abbrev pub CountTold : (Counted → Type 0) → ℕ → ℕ → Type 0
-CountTold P answer count = (r : Counted) × (P r × CountedBy r answer count)
+abbrev pub CountTold : (Result ℕ Refusal → Type 0) → ℕ → ℕ → Type 0
+CountTold P answer count = (r : Result ℕ Refusal) × (P r × CountedBy r answer count)
 
 -- What is listed of a key, in numbers: 0 or the refusal's number; version, length, and 1 for a value in a block, 0 for
 -- one in the log; 0 on a refusal.
@@ -105,8 +102,8 @@ abbrev pub bit : Bool → ℕ
 bit b = pick b 1 0
 
 abbrev pub ListedBy : Listed → ℕ → ℕ → ℕ → ℕ → Type 0
-ListedBy (L.Refused n) answer version length block = (answer ≡ number n) × ((version ≡ 0) × ((length ≡ 0) × (block ≡ 0)))
-ListedBy (L.Present v l b) answer version length block = (answer ≡ 0) × ((version ≡ v) × ((length ≡ l) × (block ≡ bit b)))
+ListedBy (Ok x) answer version length block = (answer ≡ 0) × ((version ≡ x.version) × ((length ≡ x.length) × (block ≡ bit x.block)))
+ListedBy (Err n) answer version length block = (answer ≡ number n) × ((version ≡ 0) × ((length ≡ 0) × (block ≡ 0)))
 
 abbrev pub ListTold : (Listed → Type 0) → ℕ → ℕ → ℕ → ℕ → Type 0
 ListTold P answer version length block = (r : Listed) × (P r × ListedBy r answer version length block)

@@ -5,7 +5,7 @@
 #![tactic(auto)]
 
 ghost use Rattle.spec.specs.Machine.{Put, Step, Format, Open, Delete, Commit, Abandon, Clean};
-ghost use Rattle.spec.specs.declared.Given.TheVariants.{Absent};
+ghost use Rattle.std.specs.Prelude.{None};
 ghost use Rattle.staging.specs.Staging.{PutWhere, Long};
 ghost use Rattle.answers.specs.Answers.{Encodes, is_given};
 ghost use Rattle.session.specs.Promise.{Does, memory};
@@ -23,13 +23,13 @@ use session::Session;
 // A put in numbers, as `store::stage_put` does: of a short value by `store::stage_short`, which alters less
 // of the record, else by `store::stage_long`.
 pub fn put(s: &mut Session, image: &[u8], table: &[u64], key: u64, value: &[u8]) -> Answer
-    ensures { Encodes (Does (Put Absent key value.now) (memory s.old image.now table.now) (memory s.new image.now table.now)) result }
+    ensures { Encodes (Does (Put None key value.now) (memory s.old image.now table.now) (memory s.new image.now table.now)) result }
 {
     let c = s.control;
     let short = staging::is_short(c, value.len());
     if short {
         let report = store::stage_short(s, image, table, key, value);
-        return answers::encode_report(report);
+        return Answer::from(report);
     } else {
         let answer = put_long(s, image, table, key, value);
         return answers::same(answer);
@@ -38,10 +38,10 @@ pub fn put(s: &mut Session, image: &[u8], table: &[u64], key: u64, value: &[u8])
 
 // A put of a longer value in numbers (`store::stage_long`); of a short one nothing is done.
 pub fn put_long(s: &mut Session, image: &[u8], table: &[u64], key: u64, value: &[u8]) -> Answer
-    ensures { Encodes (PutWhere Long Absent key value.now (memory s.old image.now table.now) (memory s.new image.now table.now)) result }
+    ensures { Encodes (PutWhere Long None key value.now (memory s.old image.now table.now) (memory s.new image.now table.now)) result }
 {
     let report = store::stage_long(s, image, table, key, value);
-    answers::encode_report(report)
+    Answer::from(report)
 }
 
 // The step in numbers: on the fast path inside a commit `store::step_fast`, else as below.
@@ -53,7 +53,7 @@ pub fn step(s: &mut Session, image: &mut [u8], table: &mut [u64]) -> Answer
     let fast = running::commit::is_fast_step(c, k, image.len(), table.len());
     if fast {
         let report = store::step_fast(s, image, table);
-        return answers::encode_report(report);
+        return Answer::from(report);
     } else {
         let answer = step_finishing(s, image, table);
         return answers::same(answer);
@@ -70,7 +70,7 @@ pub fn step_finishing(s: &mut Session, image: &mut [u8], table: &mut [u64]) -> A
     let finishing = running::commit::is_finishing(c, k, image.len(), table.len());
     if finishing {
         let report = store::step_finishing(s, image, table);
-        return answers::encode_report(report);
+        return Answer::from(report);
     } else {
         let answer = step_slow(s, image, table);
         return answers::same(answer);
@@ -82,7 +82,7 @@ pub fn step_slow(s: &mut Session, image: &mut [u8], table: &mut [u64]) -> Answer
     ensures { Encodes (Does Step (memory s.old image.old table.old) (memory s.new image.new table.new)) result }
 {
     let report = store::step(s, image, table);
-    answers::encode_report(report)
+    Answer::from(report)
 }
 
 // A run in numbers, whatever is begun: in a staging `store::run_staging`, else as below.
@@ -94,7 +94,7 @@ pub fn run(s: &mut Session, image: &mut [u8], table: &mut [u64]) -> Answer
     let staging = running::stage::is_staging(c, k, image.len(), table.len());
     if staging {
         let report = store::run_staging(s, image, table);
-        return answers::encode_report(report);
+        return Answer::from(report);
     } else {
         let answer = run_commit(s, image, table);
         return answers::same(answer);
@@ -110,7 +110,7 @@ pub fn run_commit(s: &mut Session, image: &mut [u8], table: &mut [u64]) -> Answe
     let fast = running::commit::is_fast_step(c, k, image.len(), table.len());
     if fast {
         let report = store::run_fast(s, image, table);
-        return answers::encode_report(report);
+        return Answer::from(report);
     } else {
         let answer = run_finishing(s, image, table);
         return answers::same(answer);
@@ -127,7 +127,7 @@ pub fn run_finishing(s: &mut Session, image: &mut [u8], table: &mut [u64]) -> An
     let finishing = running::commit::is_finishing(c, k, image.len(), table.len());
     if finishing {
         let report = store::step_finishing(s, image, table);
-        return answers::encode_report(report);
+        return Answer::from(report);
     } else {
         let answer = run_clean(s, image, table);
         return answers::same(answer);
@@ -165,7 +165,7 @@ pub fn run_rest(s: &mut Session, image: &mut [u8], table: &mut [u64]) -> Answer
     ensures { Encodes (RunsOn (memory s.old image.old table.old) (memory s.new image.new table.new)) result }
 {
     let report = store::run_rest(s, image, table);
-    answers::encode_report(report)
+    Answer::from(report)
 }
 
 // THE CALLS
@@ -186,7 +186,7 @@ pub extern "C" fn zkv_format(
     let a = answers::is_given(station_given);
     let b = answers::is_given(centre_given);
     let report = store::format(s, image, table, power, a, station, b, centre);
-    answers::encode_report(report)
+    Answer::from(report)
 }
 
 // Opens the register of the lent image (`store::open_register`).
@@ -195,7 +195,7 @@ pub extern "C" fn zkv_open(s: &mut Session, image: &[u8], table: &mut [u64]) -> 
     ensures { Encodes (Does Open (memory s.old image.now table.old) (memory s.new image.now table.new)) result }
 {
     let report = store::open_register(s, image, table);
-    answers::encode_report(report)
+    Answer::from(report)
 }
 
 // Begins staging a put (`put`).
@@ -207,7 +207,7 @@ pub extern "C" fn zkv_put(
     key: u64,
     value: &[u8],
 ) -> Answer
-    ensures { Encodes (Does (Put Absent key value.now) (memory s.old image.now table.now) (memory s.new image.now table.now)) result }
+    ensures { Encodes (Does (Put None key value.now) (memory s.old image.now table.now) (memory s.new image.now table.now)) result }
 {
     put(s, image, table, key, value)
 }
@@ -215,10 +215,10 @@ pub extern "C" fn zkv_put(
 // Begins staging a delete (`store::stage_delete`).
 #[unsafe(no_mangle)]
 pub extern "C" fn zkv_delete(s: &mut Session, image: &[u8], table: &[u64], key: u64) -> Answer
-    ensures { Encodes (Does (Delete Absent key) (memory s.old image.now table.now) (memory s.new image.now table.now)) result }
+    ensures { Encodes (Does (Delete None key) (memory s.old image.now table.now) (memory s.new image.now table.now)) result }
 {
     let report = store::stage_delete(s, image, table, key);
-    answers::encode_report(report)
+    Answer::from(report)
 }
 
 // Begins the commit of the staged items (`store::commit`).
@@ -227,7 +227,7 @@ pub extern "C" fn zkv_commit(s: &mut Session, image: &[u8], table: &[u64]) -> An
     ensures { Encodes (Does Commit (memory s.old image.now table.now) (memory s.new image.now table.now)) result }
 {
     let report = store::commit(s, image, table);
-    answers::encode_report(report)
+    Answer::from(report)
 }
 
 // Forgets the staged items (`store::abandon`).
@@ -236,7 +236,7 @@ pub extern "C" fn zkv_abandon(s: &mut Session, image: &[u8], table: &[u64]) -> A
     ensures { Encodes (Does Abandon (memory s.old image.now table.now) (memory s.new image.now table.now)) result }
 {
     let report = store::abandon(s, image, table);
-    answers::encode_report(report)
+    Answer::from(report)
 }
 
 // Begins the cleaning of a chunk (`store::clean`).
@@ -245,7 +245,7 @@ pub extern "C" fn zkv_clean(s: &mut Session, image: &[u8], table: &[u64], chunk:
     ensures { Encodes (Does (Clean chunk) (memory s.old image.now table.now) (memory s.new image.now table.now)) result }
 {
     let report = store::clean(s, image, table, chunk);
-    answers::encode_report(report)
+    Answer::from(report)
 }
 
 // One step of the call that is begun (`step`).

@@ -30,7 +30,7 @@ pub extern "C" fn zkv_choose(s: &Session, image: &[u8], table: &[u64]) -> Answer
     ensures { Encodes (Chosen s.now image.now table.now) result }
 {
     let report = store::choose(s, image, table);
-    answers::encode_report(report)
+    Answer::from(report)
 }
 
 // Where in the image the value of a key lies (`store::find`): the answer is 0, or the refusal's number with
@@ -164,5 +164,5 @@ pub extern "C" fn zkv_empty_chunk(s: &Session, image: &[u8], table: &[u64], from
     ensures { Encodes (Emptied s.now from image.now table.now) result }
 {
     let report = inspect::empty_chunk(s, image, table, from);
-    answers::encode_report(report)
+    Answer::from(report)
 }

@@ -5,7 +5,7 @@
 #![tactic(auto)]
 
 ghost use Rattle.spec.specs.Machine.{Put, Delete};
-ghost use Rattle.spec.specs.declared.Given.TheVariants.{Number};
+ghost use Rattle.std.specs.Prelude.{Some};
 ghost use Rattle.store.specs.Look.{Reported};
 ghost use Rattle.answers.specs.Answers.{Encodes, ShownWith};
 ghost use Rattle.session.specs.Promise.{Does, memory};
@@ -41,10 +41,10 @@ pub extern "C" fn zkv_put_at(
     value: &[u8],
     version: u64,
 ) -> Answer
-    ensures { Encodes (Does (Put (Number version) key value.now) (memory s.old image.now table.now) (memory s.new image.now table.now)) result }
+    ensures { Encodes (Does (Put (Some version) key value.now) (memory s.old image.now table.now) (memory s.new image.now table.now)) result }
 {
     let report = store::stage_put_at(s, image, table, key, value, version);
-    answers::encode_report(report)
+    Answer::from(report)
 }
 
 // Begins staging a delete for the version named (`store::stage_delete_at`).
@@ -56,8 +56,8 @@ pub extern "C" fn zkv_delete_at(
     key: u64,
     version: u64,
 ) -> Answer
-    ensures { Encodes (Does (Delete (Number version) key) (memory s.old image.now table.now) (memory s.new image.now table.now)) result }
+    ensures { Encodes (Does (Delete (Some version) key) (memory s.old image.now table.now) (memory s.new image.now table.now)) result }
 {
     let report = store::stage_delete_at(s, image, table, key, version);
-    answers::encode_report(report)
+    Answer::from(report)
 }

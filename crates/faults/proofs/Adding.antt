@@ -4,11 +4,12 @@ use mathlib.Core.Path.{◌≡◌, refl, sym, ◌∙◌, subst}
 use mathlib.Core.Logic.{◌⊎◌, inl, inr}
 use mathlib.Core.Bool.{Bool, true, false}
 use mathlib.Core.List.{List, [], ◌∷◌, ◌++◌, append-nil}
+use Rattle.std.specs.Prelude.{Option as Maybe, None}
 use Prim.Native.Nat.{ℕ, ◌≤◌, ◌<◌}
 use native.Mathlib.Decide.{ℕ_discrete}
 use native.Mathlib.Omega.{arith}
 use lib.ListN.{length, get_or}
-use Rattle.places.specs.Sizes.{power_of, power-low, power-high, unit_count}
+use Rattle.places.specs.Sizes.{power_of, unit_count}
 use Rattle.spec.specs.declared.Size.{Size}
 use Rattle.spec.specs.Basics.{pick, negate}
 use Rattle.spec.specs.Log.{Entry, Entries, image_entries}
@@ -18,11 +19,11 @@ use Rattle.spec.specs.Opening.{fine, agree_with}
 use Rattle.theory_base.proofs.Lists.{not-both, both_l, both_r, both-i}
 use Rattle.theory_log.specs.Contents.{Mem}
 use Rattle.logs.specs.declared.Best.{Best}
-use Rattle.logs.proofs.Stands.{image-low}
 use Rattle.volatile.proofs.Check.{block-bit}
 use Rattle.consistency.specs.Classes.{within, class_in}
-use Rattle.consistency.specs.declared.Head.{Head}
-use Rattle.consistency.specs.Heads.{entry_of, points}
+use Rattle.logs.specs.declared.Entry as H
+use Rattle.logs.specs.Cursor.{with_value}
+use Rattle.consistency.specs.Heads.{points}
 use Rattle.consistency.specs.Pass.{ListedIn, TopIs, Part}
 use Rattle.consistency.proofs.Visits.{is_below, is-highest, agreement}
 use Rattle.faults.specs.declared.top.Spots.{Spots}
@@ -33,12 +34,12 @@ use Rattle.faults.proofs.Units.{last_or, uses-in, uses-last, Falls, unit-falls, 
 -- ## None, and fewer
 
 module _ (size : Size) (n : ℕ) (ws : List ℕ) (es : List Entry) where
-  pub found_none : (units : List ℕ) → unit_count size ≤ length units → ((u : ℕ) → get_or units u 0 ≡ 0) → Found size n ws es [] units (record { block = 0; tops = 0 })
+  pub found_none : (units : List ℕ) → unit_count size ≤ length units → ((u : ℕ) → get_or units u 0 ≡ 0) → Found size n ws es [] units (record { block = None; tops = None })
   found_none units long zero = record {
     room = long;
-    block-stands = λ z. absurd (z refl);
+    block-stands = tt;
     block-least = λ e m. absurd m;
-    tops-stands = λ z. absurd (z refl);
+    tops-stands = tt;
     tops-least = λ e m. absurd m;
     units-are = λ u r. rw (zero u) (record { none = λ q e i. i.member; one = λ a b. absurd (a refl); several = λ q. absurd (omega arith); shared = λ q. absurd (omega arith) });
   }
@@ -66,7 +67,7 @@ module _ (size : Size) (n : ℕ) (ws : List ℕ) (es : List Entry) where
           go (inr q) = subst P (sym q) new
 
       -- a unit to which it does not point
-      unit_kept : (tops u user : ℕ) → (Uses es (xs ++ e ∷ []) u e → ⊥) → UnitIs es xs tops u user → UnitIs es (xs ++ e ∷ []) tops u user
+      unit_kept : (tops : Maybe ℕ) (u user : ℕ) → (Uses es (xs ++ e ∷ []) u e → ⊥) → UnitIs es xs tops u user → UnitIs es (xs ++ e ∷ []) tops u user
       unit_kept tops u user n i = unit-among es xs tops u user i (xs ++ e ∷ []) (λ g j. go g j (uses-last es u xs e g j))
         where
           go : (g : Entry) → Uses es (xs ++ e ∷ []) u g → Uses es xs u g ⊎ (g ≡ e) → Uses es xs u g
@@ -85,16 +86,13 @@ module _ (size : Size) (n : ℕ) (ws : List ℕ) (es : List Entry) where
       }
 
       module _ (h : image_entries (power_of size) n ws ≡ Entries es) (member : Mem e es) (top : is_top es e ≡ true) where
-        some-place : e.at ≡ 0 → ⊥
-        some-place z = let l = image-low (power_of size) (power-low size) (power-high size) n ws es h e member in omega arith
-
         -- one with a wrong block
         pub found-wrong : fine (power_of size) n ws e ≡ false → Found size n ws es (xs ++ e ∷ []) units (record { block = least s.block e.at; tops = s.tops })
         found-wrong f = record {
           room = inv.room;
           block-stands = least-stands es (block_fails size n ws es) s.block e member (both-i (is_top es e) (negate (fine (power_of size) n ws e)) top (rw f)) inv.block-stands;
           block-least = each (λ g. block_fails size n ws es g ≡ true → Reaches (least s.block e.at) g.at)
-              (λ g m t. least-keeps s.block e.at some-place g.at (inv.block-least g m t)) (λ t. least-own s.block e.at some-place);
+              (λ g m t. least-keeps s.block e.at g.at (inv.block-least g m t)) (λ t. least-own s.block e.at);
           tops-stands = inv.tops-stands;
           tops-least = each (OddReached size n ws es s.tops) inv.tops-least (λ t r. absurd (not-both (fine (power_of size) n ws e) r f));
           units-are = λ u r. unit_kept s.tops u (get_or units u 0) (wrong-unit u r) (inv.units-are u r);
@@ -105,7 +103,7 @@ module _ (size : Size) (n : ℕ) (ws : List ℕ) (es : List Entry) where
 
         -- one with a right block or none
         module _ (right : fine (power_of size) n ws e ≡ true) (same : Bool) (compares : same ≡ agree_with e (chosen e.key es)) where
-          abbrev odd : ℕ
+          abbrev odd : Maybe ℕ
           odd = pick same s.tops (least s.tops e.at)
 
           odd-falls : Falls s.tops odd
@@ -113,14 +111,14 @@ module _ (size : Size) (n : ℕ) (ws : List ℕ) (es : List Entry) where
             where
               go : (b : Bool) → Falls s.tops (pick b s.tops (least s.tops e.at))
               go true = λ x r. r
-              go false = least-keeps s.tops e.at some-place
+              go false = least-keeps s.tops e.at
 
           odd-own : agree_with e (chosen e.key es) ≡ false → Reaches odd e.at
           odd-own f = go same (compares ∙ f)
             where
               go : (b : Bool) → b ≡ false → Reaches (pick b s.tops (least s.tops e.at)) e.at
               go true q = absurd (not-both true refl q)
-              go false q = least-own s.tops e.at some-place
+              go false q = least-own s.tops e.at
 
           odd-stands : StandsAt es (top_fails es) odd
           odd-stands = go same refl
@@ -130,7 +128,7 @@ module _ (size : Size) (n : ℕ) (ws : List ℕ) (es : List Entry) where
               go false q = least-stands es (top_fails es) s.tops e member (rw (top, sym compares ∙ q)) inv.tops-stands
 
           -- the units and the place after it
-          module _ (after : List ℕ) (long : length after ≡ length units) (tops : ℕ) (falls : Falls odd tops) (stands : StandsAt es (top_fails es) tops)
+          module _ (after : List ℕ) (long : length after ≡ length units) (tops : Maybe ℕ) (falls : Falls odd tops) (stands : StandsAt es (top_fails es) tops)
               (are : (u : ℕ) → block_right (power_of size) n ws u ≡ true → UnitIs es (xs ++ e ∷ []) tops u (get_or after u 0)) where
             top-found : Found size n ws es (xs ++ e ∷ []) after (record { block = s.block; tops = tops })
             top-found = record {
@@ -149,40 +147,40 @@ module _ (size : Size) (n : ℕ) (ws : List ℕ) (es : List Entry) where
 
 -- ## What the code shows
 
-module _ (size : Size) (n : ℕ) (ws table : List ℕ) (fits : Bool) (low high : ℕ) (h : Head) where
+module _ (size : Size) (n : ℕ) (ws table : List ℕ) (fits : Bool) (low high : ℕ) (h : H.Entry) where
   -- of another class
   pub visited-out : within low high h.key ≡ false → (so : Spots) (before : List ℕ) → VisitedIs size n ws table fits low high so h before before so
-  visited-out o so before = record { sized = refl; finds = λ es xs words l m inv. rw (o, append-nil xs) inv }
+  visited-out o so before = record { sized = refl; finds = λ es xs l m inv. rw (o, append-nil xs) inv }
 
   module _ (own : within low high h.key ≡ true) (top : Best) (is-top-of : TopIs size n ws table fits h.key top) (so : Spots) (before : List ℕ) where
-    one_of : (words : ℕ) → class_in low high (entry_of ws h words ∷ []) ≡ entry_of ws h words ∷ []
-    one_of words = rw own
+    one_of : class_in low high (with_value ws h ∷ []) ≡ with_value ws h ∷ []
+    one_of = rw own
 
     pub visited-below : (h.version ≡ top.version → ⊥) → VisitedIs size n ws table fits low high so h before before so
     visited-below b = record {
       sized = refl;
-      finds = λ es xs words l m inv. rw (one_of words) (found_below size n ws es xs before so inv (entry_of ws h words) (is_below size n ws table fits low high h own top is-top-of es words l m b));
+      finds = λ es xs l m inv. rw (one_of) (found_below size n ws es xs before so inv (with_value ws h) (is_below size n ws table fits low high h own top is-top-of es l m b));
     }
 
     module _ (q : h.version ≡ top.version) where
-      pub visited-wrong : pick (points h.op h.placement) (block_right (power_of size) n ws h.field) true ≡ false → (block : ℕ) → block ≡ least so.block h.place
+      pub visited-wrong : pick (points h.op h.placement) (block_right (power_of size) n ws h.field) true ≡ false → (block : Maybe ℕ) → block ≡ least so.block h.place
           → VisitedIs size n ws table fits low high so h before before (record { block = block; tops = so.tops })
       visited-wrong f block is = record {
         sized = refl;
-        finds = λ es xs words l m inv.
-            rw (one_of words, is) (found-wrong size n ws es xs before so inv (entry_of ws h words) l.entries m (is-highest size n ws table fits low high h own top is-top-of es words l m q) f);
+        finds = λ es xs l m inv.
+            rw (one_of, is) (found-wrong size n ws es xs before so inv (with_value ws h) l.entries m (is-highest size n ws table fits low high h own top is-top-of es l m q) f);
       }
 
-      module _ (right : pick (points h.op h.placement) (block_right (power_of size) n ws h.field) true ≡ true) (compared tops : ℕ) (after : List ℕ) (compares : ComparedIs ws h top.place so.tops compared)
-          (shares : SharedIs ws h compared before after tops) (es xs : List Entry) (words : ℕ) (l : ListedIn size n ws table fits low high es) (member : Mem (entry_of ws h words) es) (inv : Found size n ws es xs before so) where
+      module _ (right : pick (points h.op h.placement) (block_right (power_of size) n ws h.field) true ≡ true) (compared tops : Maybe ℕ) (after : List ℕ) (compares : ComparedIs ws h top.place so.tops compared)
+          (shares : SharedIs ws h compared before after tops) (es xs : List Entry) (l : ListedIn size n ws table fits low high es) (member : Mem (with_value ws h) es) (inv : Found size n ws es xs before so) where
         abbrev e : Entry
-        e = entry_of ws h words
+        e = with_value ws h
 
         is-top : is_top es e ≡ true
-        is-top = is-highest size n ws table fits low high h own top is-top-of es words l member q
+        is-top = is-highest size n ws table fits low high h own top is-top-of es l member q
 
         agrees : compares.same ≡ agree_with e (chosen h.key es)
-        agrees = agreement size n ws table fits low high h own top is-top-of es words l member q true compares.same compares.agrees
+        agrees = agreement size n ws table fits low high h own top is-top-of es l member q true compares.same compares.agrees
 
         found : (falls : Falls compared tops) → StandsAt es (top_fails es) tops → ((u : ℕ) → block_right (power_of size) n ws u ≡ true → UnitIs es (xs ++ e ∷ []) tops u (get_or after u 0))
             → Found size n ws es (xs ++ e ∷ []) after (record { block = so.block; tops = tops })
@@ -230,9 +228,9 @@ module _ (size : Size) (n : ℕ) (ws table : List ℕ) (fits : Bool) (low high :
         found-top true t = found-shared t
         found-top false f = found-direct f
 
-      pub visited-top : pick (points h.op h.placement) (block_right (power_of size) n ws h.field) true ≡ true → (compared tops : ℕ) (after : List ℕ) → ComparedIs ws h top.place so.tops compared
+      pub visited-top : pick (points h.op h.placement) (block_right (power_of size) n ws h.field) true ≡ true → (compared tops : Maybe ℕ) (after : List ℕ) → ComparedIs ws h top.place so.tops compared
           → SharedIs ws h compared before after tops → VisitedIs size n ws table fits low high so h before after (record { block = so.block; tops = tops })
       visited-top right compared tops after compares shares = record {
         sized = shares.sized;
-        finds = λ es xs words l m inv. rw (one_of words) (found-top right compared tops after compares shares es xs words l m inv (points h.op h.placement) refl);
+        finds = λ es xs l m inv. rw (one_of) (found-top right compared tops after compares shares es xs l m inv (points h.op h.placement) refl);
       }

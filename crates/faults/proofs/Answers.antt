@@ -2,19 +2,17 @@
 -- Assumes nothing.
 use mathlib.Core.Path.{◌≡◌, refl, sym, ◌∙◌, ap}
 use mathlib.Core.Logic.{inl, inr}
-use mathlib.Core.Bool.{Bool, true, false}
+use mathlib.Core.Bool.{Bool, true, false, not, cond}
 use mathlib.Core.Option.{Option, none, some}
 use mathlib.Core.List.{List, [], ◌∷◌}
-use Prim.Native.Nat.{ℕ, ◌+◌, ◌≤◌, ◌<◌}
+use Prim.Native.Nat.{ℕ, zero, suc, ◌+◌, ◌≤◌, ◌<◌}
 use native.Mathlib.Omega.{arith}
-use lib.Dec.{ltb}
 use lib.ListN.{length, get_or}
-use borrow.Author.Tests.{ne_eqb, lt-ltb, le-ltb}
 use Rattle.places.specs.Sizes.{power_of, size_by, power-low, power-high}
 use Rattle.spec.specs.declared.Size.{Size}
-use Rattle.spec.specs.Basics.{pick, both, negate, filter, first, all}
+use Rattle.spec.specs.Basics.{pick, both, negate, filter, first, all, up_from}
 use Rattle.spec.specs.Words.{words_of}
-use Rattle.spec.specs.Places.{is_power, length_allowed, size_allowed, any_allowed, chunks_in, max_chunks, directory_word}
+use Rattle.spec.specs.Places.{is_power, length_allowed, size_allowed, any_allowed, chunks_in, max_chunks}
 use Rattle.spec.specs.Header.{header_right, header_power}
 use Rattle.spec.specs.Log.{Entry, Entries, image_entries}
 use Rattle.spec.specs.Contents.{is_top, chosen}
@@ -22,19 +20,18 @@ use Rattle.spec.specs.Opening.{Refused, Accepted, opening, open_log, open_chunks
 use Rattle.spec.specs.declared.Refusal.TheVariants as N
 use Rattle.theory_base.proofs.Places.{length-allowed, size-allowed}
 use Rattle.opening.proofs.Opens.{size-said}
-use Rattle.theory_log.specs.Contents.{Mem}
-use Rattle.theory_log.proofs.Contents.{mem-filter}
-use Rattle.logs.proofs.Stands.{image-low}
 use Rattle.faults.specs.declared.top.Spots.{Spots}
 use Rattle.faults.specs.Spots.{Spotted}
-use Rattle.faults.specs.Tops.{first_top, apart_from, at_one, place_or}
+use Rattle.faults.specs.Tops.{first_top, apart_from, at_one, place_of}
 use Rattle.faults.specs.declared.Fault.{Fault}
 use Rattle.faults.specs.declared.Fault.TheVariants as F
-use Rattle.faults.specs.declared.Stop.TheVariants as T
+use Rattle.faults.specs.declared.Stop.{Stop}
+use Rattle.std.specs.Prelude.{Option as Maybe, Some, None, find}
 use Rattle.faults.specs.Reading.{Reading, Whole, Upto, read_image, stop_by, parsed_of}
-use Rattle.directory.specs.Tests.{directory_fault}
+use Rattle.std.specs.Prelude.{is_none as none_found}
+use Rattle.directory.specs.Tests.{word_right, directory_fault}
 use Rattle.directory.proofs.Tests.{directory-tested}
-use Rattle.faults.specs.Faults.{power_word, header_fault, block_fault, log_fault, chunks_fault, fault_of, spot_fault, Answers, Located}
+use Rattle.faults.specs.Faults.{power_word, header_fault, block_fault, log_fault, directory_or, chunks_fault, fault_of, spot_fault, Answers, Located}
 use Rattle.faults.proofs.Left.{parsed-image}
 
 -- ## The tests of the top entries, and the first that fails
@@ -89,15 +86,15 @@ module _ (p n : ℕ) (ws : List ℕ) (es : List Entry) where
 
 -- 2 to 7
 chunks-answer : (p n table : ℕ) (ws : List ℕ) → Answers (chunks_fault p n ws) (open_chunks p n ws table)
-chunks-answer p n table ws = rw (directory-tested p n ws) (go (header_right n ws) (ltb (directory_fault p n ws) max_chunks) (read_image p n ws) (parsed-image p n ws))
+chunks-answer p n table ws = rw (directory-tested p n ws) (go (header_right n ws) (directory_fault p n ws) (read_image p n ws) (parsed-image p n ws))
   where
-    go : (a b : Bool) (r : Reading) → parsed_of r ≡ image_entries p n ws
-        → Answers (pick a (pick b (F.Directory (directory_fault p n ws) (directory_word (directory_fault p n ws))) (log_fault p n ws r)) (F.Header (header_fault n ws)))
-        (pick a (pick (negate b) (open_log p n ws table (image_entries p n ws)) (Refused N.DirectoryWrong)) (Refused N.NotOpen))
+    go : (a : Bool) (b : Maybe ℕ) (r : Reading) → parsed_of r ≡ image_entries p n ws
+        → Answers (pick a (directory_or b (log_fault p n ws r)) (Some (F.Header (header_fault n ws))))
+        (pick a (pick (none_found b) (open_log p n ws table (image_entries p n ws)) (Refused N.DirectoryWrong)) (Refused N.NotOpen))
     go false b r e = refl
-    go true true r e = refl
-    go true false (Whole es) e = rw (← e) (tops-answer p n ws es table)
-    go true false (Upto es w) e = rw (← e)
+    go true (Some c) r e = refl
+    go true None (Whole es) e = rw (← e) (tops-answer p n ws es table)
+    go true None (Upto es w) e = rw (← e)
 
 answers : (bytes table : ℕ) (ws : List ℕ) → Answers (fault_of bytes ws) (opening bytes ws table)
 unfolding fault_of opening
@@ -107,56 +104,50 @@ answers bytes table ws = go (any_allowed bytes) (size_allowed (header_power ws) 
     p = header_power ws
 
     go : (a b : Bool)
-        → Answers (pick a (pick b (chunks_fault p (chunks_in p bytes) ws) (F.Header (power_word (get_or ws 0 0)))) F.Length) (pick a (pick b (open_chunks p (chunks_in p bytes) ws table) (Refused N.NotOpen)) (Refused N.ImageLength))
+        → Answers (pick a (pick b (chunks_fault p (chunks_in p bytes) ws) (Some (F.Header (power_word (get_or ws 0 0))))) (Some F.Length)) (pick a (pick b (open_chunks p (chunks_in p bytes) ws table) (Refused N.NotOpen)) (Refused N.ImageLength))
     go true true = chunks-answer p (chunks_in p bytes) table ws
     go true false = refl
     go false b = refl
 
-located : (bytes : List ℕ) (r : Fault) → r ≡ fault_of (length bytes) (words_of bytes) → Located bytes r
+located : (bytes : List ℕ) (r : Maybe Fault) → r ≡ fault_of (length bytes) (words_of bytes) → Located bytes r
 located bytes r e = record { place = e; refuses = λ table. rw e (answers (length bytes) table (words_of bytes)) }
 
 -- ## What the code shows of the log
 
 module _ (size : Size) (n : ℕ) (ws : List ℕ) where
-  pub stops_at : (w k : ℕ) → stop_by 0 (read_image (power_of size) n ws) ≡ T.At w k → F.Entry w k ≡ log_fault (power_of size) n ws (read_image (power_of size) n ws)
-  stops_at w k h = go (read_image (power_of size) n ws) h
+  pub stops_at : (s : Stop) → Some s ≡ stop_by 0 (read_image (power_of size) n ws) → Some (F.Entry s.word s.before) ≡ log_fault (power_of size) n ws (read_image (power_of size) n ws)
+  stops_at s h = go (read_image (power_of size) n ws) h
     where
-      go : (r : Reading) → stop_by 0 r ≡ T.At w k → F.Entry w k ≡ log_fault (power_of size) n ws r
-      go (Whole es) q = absurd (let z : ◌≡◌ {A = ℕ} 0 1 = cc in omega arith)
-      go (Upto es v) q = let a : v ≡ w = cc in let b : 0 + length es ≡ k = cc in let d : length es ≡ k = omega arith in rw (a, d)
+      go : (r : Reading) → Some s ≡ stop_by 0 r → Some (F.Entry s.word s.before) ≡ log_fault (power_of size) n ws r
+      go (Whole es) q = cc
+      go (Upto es v) q =
+          let e : ◌≡◌ {A = Stop} s (record { word = v; before = 0 + length es }) = cc in
+          let z : 0 + length es ≡ length es = omega arith in
+          rw (e, z)
 
-  first-low : (es : List Entry) → image_entries (power_of size) n ws ≡ Entries es → (test : Entry → Bool) (e : Entry) → first (filter test es) ≡ some e → e.at ≡ 0 → ⊥
-  first-low es h test e q z =
-      let l = image-low (power_of size) (power-low size) (power-high size) n ws es h e (mem-filter test e es (head (filter test es) q)).0 in omega arith
-    where
-      head : (xs : List Entry) → first xs ≡ some e → Mem e xs
-      head [] q = absurd (let z : ◌≡◌ {A = ℕ} 0 1 = cc in omega arith)
-      head (x ∷ xs) q = inl (let r : ◌≡◌ {A = Option Entry} (some x) (some e) = q in cc)
-
-  pub stops_nowhere : n ≤ max_chunks → (s : Spots) (r : Fault) → stop_by 0 (read_image (power_of size) n ws) ≡ T.Nowhere → Spotted size n ws s → r ≡ spot_fault s.block s.tops → r ≡ log_fault (power_of size) n ws (read_image (power_of size) n ws)
+  pub stops_nowhere : n ≤ max_chunks → (s : Spots) (r : Maybe Fault) → None ≡ stop_by 0 (read_image (power_of size) n ws) → Spotted size n ws s → r ≡ spot_fault s.block s.tops → r ≡ log_fault (power_of size) n ws (read_image (power_of size) n ws)
   stops_nowhere few s r h is e = go (read_image (power_of size) n ws) (parsed-image (power_of size) n ws) h
     where
-      spots : (es : List Entry) → image_entries (power_of size) n ws ≡ Entries es → (q t : Option Entry) → first_top es (fine (power_of size) n ws) ≡ q → first_top es (at_one es) ≡ t → s.block ≡ place_or q → (s.block ≡ 0 → s.tops ≡ place_or t)
-          → spot_fault s.block s.tops ≡ block_fault q t
-      spots es p (some f) t x y b k = rw (b, ne_eqb f.at 0 (first-low es p (λ e. both (is_top es e) (negate (fine (power_of size) n ws e))) f x))
-      spots es p none (some f) x y b k = rw (b, k b, ne_eqb f.at 0 (first-low es p (λ e. both (is_top es e) (negate (at_one es e))) f y))
-      spots es p none none x y b k = rw (b, k b)
+      spots : (q t : Option Entry) → s.block ≡ place_of q → (s.block ≡ None → s.tops ≡ place_of t) → spot_fault s.block s.tops ≡ block_fault q t
+      spots (some f) t b k = rw b
+      spots none (some f) b k = rw (b, k b)
+      spots none none b k = rw (b, k b)
 
-      go : (q : Reading) → parsed_of q ≡ image_entries (power_of size) n ws → stop_by 0 q ≡ T.Nowhere → r ≡ log_fault (power_of size) n ws q
-      go (Whole es) p x = e ∙ spots es (sym p) (first_top es (fine (power_of size) n ws)) (first_top es (at_one es)) refl refl (is.block-first es few (sym p)) (is.tops_first es few (sym p))
-      go (Upto es v) p x = absurd (let z : ◌≡◌ {A = ℕ} 0 1 = cc in omega arith)
+      go : (q : Reading) → parsed_of q ≡ image_entries (power_of size) n ws → None ≡ stop_by 0 q → r ≡ log_fault (power_of size) n ws q
+      go (Whole es) p x = e ∙ spots (first_top es (fine (power_of size) n ws)) (first_top es (at_one es)) (is.block-first es few (sym p)) (is.tops_first es few (sym p))
+      go (Upto es v) p x = cc
 
 -- ## What it shows of the image
 
 module _ (bytes : List ℕ) (a : Bool) (is-a : a ≡ any_allowed (length bytes)) where
-  pub shows-length : a ≡ false → Located bytes F.Length
+  pub shows-length : a ≡ false → Located bytes (Some F.Length)
   unfolding fault_of
-  shows-length h = located bytes F.Length (sym (rw (← is-a, h)))
+  shows-length h = located bytes (Some F.Length) (sym (rw (← is-a, h)))
 
   module _ (yes-a : a ≡ true) (p : ℕ) (is-p : p ≡ header_power (words_of bytes)) (s : Bool) (is-s : s ≡ size_allowed p (length bytes)) where
-    pub shows-power : (map w : ℕ) → s ≡ false → map ≡ get_or (words_of bytes) 0 0 → w ≡ power_word map → Located bytes (F.Header w)
+    pub shows-power : (map w : ℕ) → s ≡ false → map ≡ get_or (words_of bytes) 0 0 → w ≡ power_word map → Located bytes (Some (F.Header w))
     unfolding fault_of
-    shows-power map w h m e = located bytes (F.Header w) (ap F.Header (e ∙ ap power_word m) ∙ sym (rw (← is-a, yes-a, ← is-p, ← is-s, h)))
+    shows-power map w h m e = located bytes (Some (F.Header w)) (ap (λ (x : ℕ). Some (F.Header x)) (e ∙ ap power_word m) ∙ sym (rw (← is-a, yes-a, ← is-p, ← is-s, h)))
 
     module _ (yes-s : s ≡ true) (size : Size) (is-size : size ≡ size_by p) (n : ℕ) (is-n : n ≡ chunks_in (power_of size) (length bytes)) where
       allowed : (is_power p ≡ true) × (length_allowed p (length bytes) ≡ true)
@@ -173,12 +164,25 @@ module _ (bytes : List ℕ) (a : Bool) (is-a : a ≡ any_allowed (length bytes))
       by-chunks = rw (← is-a, yes-a, ← is-p, ← is-s, yes-s, is-n, by-power)
 
       module _ (b : Bool) (is_b : b ≡ header_right n (words_of bytes)) where
-        pub shows-header : (w : ℕ) → b ≡ false → w ≡ header_fault n (words_of bytes) → Located bytes (F.Header w)
-        shows-header w h e = located bytes (F.Header w) (sym (by-chunks ∙ rw (← is_b, h, ← e)))
+        pub shows-header : (w : ℕ) → b ≡ false → w ≡ header_fault n (words_of bytes) → Located bytes (Some (F.Header w))
+        shows-header w h e = located bytes (Some (F.Header w)) (sym (by-chunks ∙ rw (← is_b, h, ← e)))
 
-        module _ (yes-b : b ≡ true) (c : ℕ) (is_c : c ≡ directory_fault (power_of size) n (words_of bytes)) where
-          pub shows-directory : c < 504 → Located bytes (F.Directory c (8 + c))
-          shows-directory h = located bytes (F.Directory c (8 + c)) (sym (by-chunks ∙ rw (← is_b, yes-b, ← is_c, lt-ltb c 504 h)))
+        module _ (yes-b : b ≡ true) where
+          pub shows-directory : (c : ℕ) → Some c ≡ directory_fault (power_of size) n (words_of bytes) → Located bytes (Some (F.Directory c (8 + c)))
+          shows-directory c is_c = located bytes (Some (F.Directory c (8 + c))) (sym (by-chunks ∙ rw (← is_b, yes-b, ← is_c)))
 
-          pub shows-log : (r : Fault) → 504 ≤ c → r ≡ log_fault (power_of size) n (words_of bytes) (read_image (power_of size) n (words_of bytes)) → Located bytes r
-          shows-log r h e = located bytes r (e ∙ sym (by-chunks ∙ rw (← is_b, yes-b, ← is_c, le-ltb c 504 h)))
+          pub shows-log : None ≡ directory_fault (power_of size) n (words_of bytes) → (r : Maybe Fault) → r ≡ log_fault (power_of size) n (words_of bytes) (read_image (power_of size) n (words_of bytes)) → Located bytes r
+          shows-log is_c r e = located bytes r (e ∙ sym (by-chunks ∙ rw (← is_b, yes-b, ← is_c)))
+
+-- a chunk with a wrong word is one of those that the directory has words for
+find-below : (test : ℕ → Bool) (a n c : ℕ) → Some c ≡ find test (up_from a n) → c < a + n
+find-below test a zero c q = cc
+find-below test a (suc n) c q = go (test a) q (find-below test (suc a) n c)
+  where
+    go : (b : Bool) → Some c ≡ cond b (Some a) (find test (up_from (suc a) n)) → (Some c ≡ find test (up_from (suc a) n) → c < suc a + n) → c < a + suc n
+    go true r rest = let e : c ≡ a = cc in omega arith
+    go false r rest = let l = rest r in omega arith
+
+pub directory-below : (p n : ℕ) (ws : List ℕ) (c : ℕ) → Some c ≡ directory_fault p n ws → c < 504
+unfolding directory_fault
+directory-below p n ws c q = find-below (λ x. not (word_right p n ws x)) 0 504 c q

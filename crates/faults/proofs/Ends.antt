@@ -1,8 +1,9 @@
 -- When all entries are met, the least places are those of the first entries that fail the tests.
 -- Assumes nothing.
-use mathlib.Core.Path.{◌≡◌, refl, sym, ◌∙◌}
+use mathlib.Core.Path.{◌≡◌, refl, sym, ◌∙◌, subst}
 use mathlib.Core.Bool.{Bool, true, false}
 use mathlib.Core.List.{List}
+use Rattle.std.specs.Prelude.{Option as Maybe, Some, None}
 use Prim.Native.Nat.{ℕ, ◌+◌, ◌-◌, ◌≤◌}
 use native.Mathlib.Decide.{ℕ_discrete, dec_le}
 use lib.Dec.{eqb}
@@ -22,7 +23,7 @@ use Rattle.theory_log.proofs.Places.{Rising, all_sound}
 use Rattle.theory_log.proofs.Tops.{top-is, is-top, each-top}
 use Rattle.consistency.proofs.Classes.{class-all}
 use Rattle.faults.specs.declared.top.Spots.{Spots}
-use Rattle.faults.specs.Tops.{first_top, apart_from, at_one, place_or}
+use Rattle.faults.specs.Tops.{first_top, apart_from, at_one, place_of}
 use Rattle.faults.specs.Spots.{Reaches, Uses, UnitIs, block_fails, top_fails, Found, Spotted}
 use Rattle.faults.proofs.Places.{first-least}
 use Rattle.faults.proofs.Sweeps.{Done}
@@ -31,24 +32,20 @@ not-false : (b : Bool) → (b ≡ false → ⊥) → b ≡ true
 not-false true h = refl
 not-false false h = absurd (h refl)
 
-reaches-or : (so at : ℕ) → Dec (Reaches so at)
-reaches-or so at = go (ℕ_discrete so 0) (dec_le so at)
-  where
-    go : Dec (so ≡ 0) → Dec (so ≤ at) → Dec (Reaches so at)
-    go (yes z) d = no (λ r. r.0 z)
-    go (no z) (yes l) = yes (z, l)
-    go (no z) (no l) = no (λ r. l r.1)
+reaches-or : (so : Maybe ℕ) (at : ℕ) → Dec (Reaches so at)
+reaches-or None at = no (λ r. r)
+reaches-or (Some so) at = dec_le so at
 
 module _ (size : Size) (n : ℕ) (ws : List ℕ) (es : List Entry) (h : image_entries (power_of size) n ws ≡ Entries es) (units : List ℕ) (s : Spots) (inv : Found size n ws es es units s) where
   rises : Rising (base (power_of size) 1) (base (power_of size) (1 + (n - 1))) es
   rises = (all_sound (power_of size) (power-low size) (power-high size) (n - 1) 1 ws es h).rising
 
-  pub block-end : s.block ≡ place_or (first_top es (fine (power_of size) n ws))
+  pub block-end : s.block ≡ place_of (first_top es (fine (power_of size) n ws))
   block-end = first-least (block_fails size n ws es) s.block (base (power_of size) 1) (base (power_of size) (1 + (n - 1))) es rises inv.block-stands inv.block-least
 
-  module _ (none : s.block ≡ 0) where
+  module _ (none : s.block ≡ None) where
     right : (e : Entry) → Top es e → fine (power_of size) n ws e ≡ true
-    right e t = not-false (fine (power_of size) n ws e) (λ f. (inv.block-least e t.0 (both-i (is_top es e) (negate (fine (power_of size) n ws e)) (top-is es e t) (rw f))).0 none)
+    right e t = not-false (fine (power_of size) n ws e) (λ f. subst (λ (so : Maybe ℕ). Reaches so e.at) none (inv.block-least e t.0 (both-i (is_top es e) (negate (fine (power_of size) n ws e)) (top-is es e t) (rw f))))
 
     -- two keys' entries that point to one unit: the place found is not behind either
     alone : (e f : Entry) → Top es e → Top es f → (Reaches s.tops e.at → ⊥) → sharing e f ≡ true → e.key ≡ f.key
@@ -99,7 +96,7 @@ module _ (size : Size) (n : ℕ) (ws : List ℕ) (es : List Entry) (h : image_en
         go (yes r) = r
         go (no r) = absurd (not-both (negate (at_one es e)) (both_r (is_top es e) _ t) (rw (agrees r, apart e is r)))
 
-    pub tops-end : s.tops ≡ place_or (first_top es (at_one es))
+    pub tops-end : s.tops ≡ place_of (first_top es (at_one es))
     tops-end = first-least (top_fails es) s.tops (base (power_of size) 1) (base (power_of size) (1 + (n - 1))) es rises inv.tops-stands least-top
 
 pub spotted : (size : Size) → (n : ℕ) (ws units : List ℕ) (s : Spots) (low : ℕ) → Done size n ws units s low → low ≡ 0x1_0000_0000 → Spotted size n ws s

@@ -1,7 +1,12 @@
 -- The laws of a reading: what each step does to what is left, and that an opening parses the same.
 -- Assumes nothing.
-use mathlib.Core.Path.{◌≡◌, refl, ◌∙◌, ap}
+use mathlib.Core.Path.{◌≡◌, refl, sym, ◌∙◌, ap}
+use mathlib.Core.Bool.{Bool, true, false, not, cond}
 use mathlib.Core.List.{List, [], ◌∷◌}
+use Rattle.std.specs.List.{position, position_or_len}
+use borrow.Author.Tests.{ltb-false}
+use Rattle.std.proofs.lemmas.List.Recursion.{is_position_or_len}
+use Rattle.faults.specs.Faults.{failing}
 use Prim.Native.Nat.{ℕ, zero, suc, ◌+◌, ◌-◌, ◌*◌, ◌≤◌, ◌<◌}
 use native.Mathlib.Nat.{add-zero, add-suc, suc-add, le_of_suc-le-suc}
 use native.Mathlib.Omega.{arith}
@@ -18,7 +23,7 @@ use Rattle.spec.specs.Log.{Entry, Parsed, cons, prepend, join, step_of, after, p
 use Rattle.theory_log.proofs.Parse.{found}
 use Rattle.theory_log.proofs.Walk.{slice-more, entry_at}
 use Rattle.faults.specs.declared.Stop.{Stop}
-use Rattle.faults.specs.declared.Stop.TheVariants as T
+use Rattle.std.specs.Prelude.{Option, Some, None, unwrap_or, nat_lt}
 use Rattle.faults.specs.Reading.{Reading, Whole, Upto, before, all_before, behind, read_words, read_chunk, and_then, read_from, read_image, stop_by, parsed_of}
 
 -- ## One step, at the head of some words
@@ -58,9 +63,12 @@ then-before : (e : Entry) (q r : Reading) → and_then (before e q) r ≡ before
 then-before e (Whole es) r = refl
 then-before e (Upto es w) r = refl
 
+abbrev pub stop_at : ℕ → ℕ → Stop
+stop_at w k = record { word = w; before = k }
+
 stop-before : (k : ℕ) (e : Entry) (r : Reading) → stop_by k (before e r) ≡ stop_by (k + 1) r
 stop-before k e (Whole es) = refl
-stop-before k e (Upto es w) = let q : k + suc (length es) ≡ k + 1 + length es = omega arith in ap (T.At w) q
+stop-before k e (Upto es w) = let q : k + suc (length es) ≡ k + 1 + length es = omega arith in ap (λ (x : ℕ). Some (stop_at w x)) q
 
 -- where a chunk begins at most
 pub base-most : (size : Size) (c : ℕ) → base (power_of size) c ≤ 8192 * c
@@ -74,13 +82,13 @@ abbrev pub left_from : ℕ → ℕ → List ℕ → (chunk at end : ℕ) → Rea
 left_from p n ws chunk at end = and_then (read_words (slice at end ws) 0 at) (read_from p (n - suc chunk) (suc chunk) ws)
 
 module _ (p n : ℕ) (ws : List ℕ) (k chunk at end : ℕ) where
-  abbrev now : Stop
+  abbrev now : Option Stop
   now = stop_by k (left_from p n ws chunk at end)
 
-  pub stops-not : step_of (slice at end ws) ≡ S.End → n ≤ chunk + 1 → now ≡ T.Nowhere
+  pub stops-not : step_of (slice at end ws) ≡ S.End → n ≤ chunk + 1 → now ≡ None
   stops-not q h = let z : n - suc chunk ≡ 0 = omega arith in rw (read-end (slice at end ws) at q, z)
 
-  pub stops-here : step_of (slice at end ws) ≡ S.Wrong → now ≡ T.At at k
+  pub stops-here : step_of (slice at end ws) ≡ S.Wrong → now ≡ Some (stop_at at k)
   stops-here q = let z : k + 0 ≡ k = omega arith in rw (read-wrong (slice at end ws) at q, z)
 
   pub goes-padding : step_of (slice at end ws) ≡ S.Padding → now ≡ stop_by k (left_from p n ws chunk (at + 1) end)
@@ -130,3 +138,29 @@ parsed-from p (suc i) c ws =
 
 pub parsed-image : (p n : ℕ) (ws : List ℕ) → parsed_of (read_image p n ws) ≡ image_entries p n ws
 parsed-image p n ws = parsed-from p (n - 1) 1 ws
+
+-- ## The first test that fails
+
+pub failing-first : (xs : List Bool) → failing xs ≡ position_or_len not xs
+failing-first xs = is_position_or_len failing not refl step xs
+  where
+    step : (b : Bool) (bs : List Bool) → failing (b ∷ bs) ≡ cond (not b) 0 (1 + failing bs)
+    step true bs = omega arith
+    step false bs = refl
+
+failing-most : (xs : List Bool) → failing xs ≤ length xs
+failing-most [] = omega arith
+failing-most (true ∷ xs) = let l = failing-most xs in omega arith
+failing-most (false ∷ xs) = omega arith
+
+-- a search for it, which finds none where none fails
+pub position-failing : (xs : List Bool) (r : Option ℕ) → r ≡ position not xs → unwrap_or r (length xs) ≡ failing xs
+position-failing xs r e = rw e (go (nat_lt (position_or_len not xs) (length xs)) refl)
+  where
+    go : (b : Bool) → nat_lt (position_or_len not xs) (length xs) ≡ b → unwrap_or (cond b (Some (position_or_len not xs)) None) (length xs) ≡ failing xs
+    go true q = sym (failing-first xs)
+    go false q =
+        let first = failing-first xs in
+        let most = failing-most xs in
+        let l : length xs ≤ position_or_len not xs = ltb-false (position_or_len not xs) (length xs) q in
+        omega arith

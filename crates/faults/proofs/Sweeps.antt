@@ -9,20 +9,19 @@ use lib.ListN.{length, get_or}
 use Rattle.places.specs.Sizes.{power_of, unit_count}
 use Rattle.spec.specs.declared.Size.{Size}
 use Rattle.spec.specs.Places.{max_chunks}
-use Rattle.spec.specs.Log.{Entry, Entries, image_entries}
+use Rattle.spec.specs.Log.{Entry, Wrong, Entries, image_entries}
 use Rattle.theory_log.proofs.Contents.{mem-r}
 use Rattle.logs.specs.declared.Cursor.{Cursor}
-use Rattle.logs.specs.declared.Next.{Next}
-use Rattle.logs.specs.declared.Next.TheVariants as N
-use Rattle.logs.specs.Stands.{entry_in}
-use Rattle.logs.specs.Cursor.{start, cursor_at, Advanced}
+use Rattle.std.specs.Prelude.{Option, None, unwrap_or}
+use Rattle.logs.specs.declared.Entry as H
+use Rattle.logs.specs.Cursor.{start, cursor_at, remaining, with_value, Handed}
 use Rattle.consistency.specs.Classes.{class_in}
 use Rattle.consistency.specs.Passing.{Passed, PassedOver, Collecting}
 use Rattle.consistency.proofs.Passed.{passed_start, passed-done, passed-wrong, passed-split, passed-next}
 use Rattle.consistency.proofs.Collects.{class-over}
 use Rattle.consistency.specs.Pass.{ListedIn}
 use Rattle.consistency.proofs.Sweeps.{class-grown}
-use Rattle.consistency.proofs.Tests.{class-none, class-either}
+use Rattle.consistency.proofs.Tests.{Known, class-none, class-either}
 use Rattle.faults.specs.declared.top.Spots.{Spots}
 use Rattle.faults.specs.Spots.{Found, VisitedIs, SweptAs}
 use Rattle.faults.proofs.Adding.{found_none, found-fewer}
@@ -51,24 +50,23 @@ module _ (size : Size) (n : ℕ) (ws table : List ℕ) (fits : Bool) (low high :
         );
   }
 
-  module _ (now : List ℕ) (s : Spots) (c : Cursor) (inv : Going size n ws table fits low high so before now s c) (r : Next) (told : Advanced (power_of size) n ws c r) where
-    pub going_done : r ≡ N.Done → SweptAs size n ws table fits low high so before now s
-    going_done q = record { sized = inv.sized; finds = λ es xs l first. let i = inv.finds es xs l first in rw (passed-done (power_of size) n ws c es i.0 r told i.1 q) at i.2 }
+  module _ (now : List ℕ) (s : Spots) (c : Cursor) (inv : Going size n ws table fits low high so before now s c) where
+    pub going_done : remaining (power_of size) n ws c ≡ Entries [] → SweptAs size n ws table fits low high so before now s
+    going_done q = record { sized = inv.sized; finds = λ es xs l first. let i = inv.finds es xs l first in rw (passed-done (power_of size) n ws c es i.0 i.1 q) at i.2 }
 
-    pub going-wrong : r ≡ N.Wrong → SweptAs size n ws table fits low high so before now s
-    going-wrong q = record { sized = inv.sized; finds = λ es xs l first. let i = inv.finds es xs l first in absurd (passed-wrong (power_of size) n ws c es i.0 r told i.1 q) }
+    pub going-wrong : remaining (power_of size) n ws c ≡ Wrong → SweptAs size n ws table fits low high so before now s
+    going-wrong q = record { sized = inv.sized; finds = λ es xs l first. let i = inv.finds es xs l first in absurd (passed-wrong (power_of size) n ws c es i.0 i.1 q) }
 
-    pub going_next : (op pl v x k m a : ℕ) (behind : Cursor) → r ≡ N.Entry op pl v x k m a behind → (after : List ℕ) (s' : Spots)
-        → VisitedIs size n ws table fits low high s (record { op = op; placement = pl; version = v; field = x; key = k; place = a }) now after s' → Going size n ws table fits low high so before after s' behind
-    going_next op pl v x k m a behind q after s' visited = record {
+    pub going_next : (h : H.Entry) → Handed (power_of size) n ws c h → (after : List ℕ) (s' : Spots) → VisitedIs size n ws table fits low high s h now after s' → Going size n ws table fits low high so before after s' h.behind
+    going_next h given after s' visited = record {
       sized = visited.sized ∙ inv.sized;
       finds = λ es xs l first.
           let i = inv.finds es xs l first in
-          let e = entry_in ws op pl v x k m a in
-          let p = passed-split (power_of size) n ws c es i.0 r told i.1 op pl v x k m a behind q in (
+          let e = with_value ws h in
+          let p = passed-split (power_of size) n ws c es i.0 i.1 h given in (
             i.0 ++ e ∷ [],
-            passed-next (power_of size) n ws c es i.0 r told i.1 op pl v x k m a behind q,
-            rw (class-grown low high xs i.0 (e ∷ [])) (visited.finds es (xs ++ class_in low high i.0) m l (rw p.1 (mem-r e i.0 (e ∷ p.0) (inl refl))) i.2),
+            passed-next (power_of size) n ws c es i.0 i.1 h given,
+            rw (class-grown low high xs i.0 (e ∷ [])) (visited.finds es (xs ++ class_in low high i.0) l (rw p.1 (mem-r e i.0 (e ∷ p.0) (inl refl))) i.2),
           );
     }
 
@@ -79,13 +77,13 @@ pub record Done (size : Size) (n : ℕ) (ws units : List ℕ) (s : Spots) (low :
   pub finds : (es : List Entry) → n ≤ max_chunks → image_entries (power_of size) n ws ≡ Entries es → Found size n ws es (class_in 0 low es) units s
 
 module _ (size : Size) (n : ℕ) (ws : List ℕ) where
-  pub done_none : (units : List ℕ) → unit_count size ≤ length units → ((u : ℕ) → get_or units u 0 ≡ 0) → Done size n ws units (record { block = 0; tops = 0 }) 0
+  pub done_none : (units : List ℕ) → unit_count size ≤ length units → ((u : ℕ) → get_or units u 0 ≡ 0) → Done size n ws units (record { block = None; tops = None }) 0
   done_none units long zero = record { finds = λ es few h. rw (class-none es) (found_none size n ws es units long zero) }
 
-  pub done_next : (units : List ℕ) (s : Spots) (low : ℕ) → Done size n ws units s low → (high : ℕ) → low ≤ high → (own table : List ℕ) (fits : Bool) (keys : ℕ) → Collecting size n ws own table low high fits keys
+  pub done_next : (units : List ℕ) (s : Spots) (low : ℕ) → Done size n ws units s low → (high : ℕ) → low ≤ high → (own held table : List ℕ) (fits : Bool) (keys : Option ℕ) → Collecting size n ws own held low high keys → Known keys held fits table
       → (after : List ℕ) (s' : Spots) → SweptAs size n ws table fits low high s units after s' → Done size n ws after s' high
-  done_next units s low inv high rises own table fits keys collected after s' swept = record {
+  done_next units s low inv high rises own held table fits keys collected known after s' swept = record {
     finds = λ es few h.
         found-fewer size n ws es (class_in 0 low es ++ class_in low high es) after s'
-        (swept.finds es (class_in 0 low es) (record { few = few; entries = h; keys = keys; indexed = collected.holds few es h }) (inv.finds es few h)) (class_in 0 high es) (class-either low high es rises);
+        (swept.finds es (class_in 0 low es) (record { few = few; entries = h; keys = unwrap_or keys 0; indexed = λ t. let k = known t in rw k.1 (collected.holds few es h (unwrap_or keys 0) k.0) }) (inv.finds es few h)) (class_in 0 high es) (class-either low high es rises);
   }

@@ -4,6 +4,7 @@ use mathlib.Core.Path.{◌≡◌, refl, sym, ◌∙◌, ap, subst}
 use mathlib.Core.Logic.{◌⊎◌, inl, inr}
 use mathlib.Core.Bool.{Bool, true, false}
 use mathlib.Core.List.{List, [], ◌∷◌, ◌++◌}
+use Rattle.std.specs.Prelude.{Option as Maybe}
 use Prim.Native.Nat.{ℕ, ◌≤◌, ◌<◌, min}
 use native.Mathlib.Decide.{ℕ_discrete, dec_le}
 use native.Mathlib.Omega.{arith}
@@ -22,12 +23,12 @@ use Rattle.theory_log.specs.Contents.{Mem}
 use Rattle.theory_log.proofs.Contents.{mem-cases}
 use Rattle.theory_log.proofs.Tops.{is-top, top-each}
 use Rattle.logs.proofs.Stands.{image-stands, image-low}
-use Rattle.consistency.specs.declared.Head.{Head}
+use Rattle.logs.specs.declared.Entry as H
 use Rattle.consistency.specs.Heads.{points}
 use Rattle.faults.specs.declared.top.Joined.{Joined}
 use Rattle.faults.specs.Tops.{apart_from}
 use Rattle.faults.specs.Spots.{least, Reaches, StandsAt, key_at, joined, Uses, OtherUses, OneKey, UnitIs, top_fails, SharedIs}
-use Rattle.faults.proofs.Places.{least-own, least-keeps, least-stands}
+use Rattle.faults.proofs.Places.{least-own, least-keeps, least-stands, reaches-behind}
 
 -- ## Entries that point to a unit
 
@@ -70,11 +71,11 @@ module _ (es : List Entry) (u : ℕ) where
 -- ## The user, with one more
 
 -- a place may fall
-abbrev pub Falls : (so so' : ℕ) → Type 0
+abbrev pub Falls : (so so' : Maybe ℕ) → Type 0
 Falls so so' = (x : ℕ) → Reaches so x → Reaches so' x
 
-module _ (es xs : List Entry) (tops u user : ℕ) (inv : UnitIs es xs tops u user) where
-  pub unit-falls : (tops' : ℕ) → Falls tops tops' → UnitIs es xs tops' u user
+module _ (es xs : List Entry) (tops : Maybe ℕ) (u user : ℕ) (inv : UnitIs es xs tops u user) where
+  pub unit-falls : (tops' : Maybe ℕ) → Falls tops tops' → UnitIs es xs tops' u user
   unit-falls tops' falls = record { none = inv.none; one = inv.one; several = inv.several; shared = λ q e i. falls e.at (inv.shared q e i) }
 
   -- of other entries, where those that point to the unit are among the old ones
@@ -86,7 +87,7 @@ module _ (es xs : List Entry) (tops u user : ℕ) (inv : UnitIs es xs tops u use
     shared = λ q e i. inv.shared q e (part e i);
   }
 
-pub record Joins (es xs : List Entry) (tops u : ℕ) (j : Joined) : Type 0 where
+pub record Joins (es xs : List Entry) (tops : Maybe ℕ) (u : ℕ) (j : Joined) : Type 0 where
   pub unit-is : UnitIs es xs j.tops u j.user
   pub falls : Falls tops j.tops
   pub stands : StandsAt es (top_fails es) j.tops
@@ -102,14 +103,11 @@ module _ (size : Size) (n : ℕ) (ws : List ℕ) (es : List Entry) (h : image_en
       let i : min e.at (length ws) ≡ e.at = omega arith in
       rw i s.key
 
-  module _ (xs : List Entry) (tops u user : ℕ) (inv : UnitIs es xs tops u user) (before : StandsAt es (top_fails es) tops) (e : Entry) (uses : Uses es es u e) where
+  module _ (xs : List Entry) (tops : Maybe ℕ) (u user : ℕ) (inv : UnitIs es xs tops u user) (before : StandsAt es (top_fails es) tops) (e : Entry) (uses : Uses es es u e) where
     place-low : 2 ≤ e.at
     place-low = low e uses.member
 
-    some-place : e.at ≡ 0 → ⊥
-    some-place z = let l = place-low in omega arith
-
-    abbrev After : ℕ → ℕ → Type 0
+    abbrev After : ℕ → Maybe ℕ → Type 0
     After user tops' = Joins es (xs ++ e ∷ []) tops u (record { user = user; tops = tops' })
 
     -- what holds of the old ones and of the new one
@@ -141,9 +139,9 @@ module _ (size : Size) (n : ℕ) (ws : List ℕ) (es : List Entry) (h : image_en
         none = λ q. absurd (omega arith);
         one = λ a b. absurd (b z);
         several = λ q. inv.several z;
-        shared = λ q. each (λ g. Reaches (least tops e.at) g.at) (λ g i. least-keeps tops e.at some-place g.at (inv.shared z g i)) (least-own tops e.at some-place);
+        shared = λ q. each (λ g. Reaches (least tops e.at) g.at) (λ g i. least-keeps tops e.at g.at (inv.shared z g i)) (least-own tops e.at);
       };
-      falls = least-keeps tops e.at some-place;
+      falls = least-keeps tops e.at;
       stands = let o = inv.several z e.key in least-stands es (top_fails es) tops e uses.member (shares-fails es u e o.other uses o.uses (λ q. o.differs (sym q))) before;
     }
 
@@ -172,11 +170,8 @@ module _ (size : Size) (n : ℕ) (ws : List ℕ) (es : List Entry) (h : image_en
         differ : e.key ≡ f.one.key → ⊥
         differ q = k (one_key ∙ sym q)
 
-        user-low : user ≡ 0 → ⊥
-        user-low z = let l = other-low in omega arith
-
         falls-twice : Falls tops (least (least tops user) e.at)
-        falls-twice x r = least-keeps (least tops user) e.at some-place x (least-keeps tops user user-low x r)
+        falls-twice x r = least-keeps (least tops user) e.at x (least-keeps tops user x r)
 
         other-of : (j : ℕ) → Dec (f.one.key ≡ j) → OtherUses es u j
         other-of j (yes q) = record { other = e; uses = uses; differs = λ z. differ (z ∙ sym q) }
@@ -190,8 +185,8 @@ module _ (size : Size) (n : ℕ) (ws : List ℕ) (es : List Entry) (h : image_en
             several = λ q j. other-of j (ℕ_discrete f.one.key j);
             shared = λ q.
                 each (λ g. Reaches (least (least tops user) e.at) g.at)
-                (λ g i. least-keeps (least tops user) e.at some-place g.at (let r = least-own tops user user-low in let b = f.behind g i in let c = r.1 in (r.0, omega arith)))
-                (least-own (least tops user) e.at some-place);
+                (λ g i. least-keeps (least tops user) e.at g.at (reaches-behind (least tops user) user g.at (least-own tops user) (f.behind g i)))
+                (least-own (least tops user) e.at);
           };
           falls = falls-twice;
           stands =
@@ -216,7 +211,7 @@ module _ (size : Size) (n : ℕ) (ws : List ℕ) (es : List Entry) (h : image_en
 
 -- ## What the code shows
 
-module _ (ws : List ℕ) (h : Head) (tops : ℕ) (units : List ℕ) where
+module _ (ws : List ℕ) (h : H.Entry) (tops : Maybe ℕ) (units : List ℕ) where
   pub shared-stored : h.field < length units → (j : Joined) → j ≡ joined ws (get_or units h.field 0) tops h.key h.place → points h.op h.placement ≡ true
       → SharedIs ws h tops units (set units h.field j.user) j.tops
   shared-stored l j is t = record {

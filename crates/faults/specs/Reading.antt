@@ -1,6 +1,6 @@
 -- The log read up to the first entry that is wrong, and the word at which that one stands.
 -- Assumes nothing.
-use Rattle.std.specs.Prelude.{List, [], ◌∷◌, ℕ, zero, suc, ◌+◌, ◌-◌, ◌*◌, length, take, drop}
+use Rattle.std.specs.Prelude.{Option, Some, None, List, [], ◌∷◌, ℕ, zero, suc, ◌+◌, ◌-◌, ◌*◌, length, take, drop}
 use Rattle.std.proofs.Math.Seq.{slice}
 use Rattle.spec.specs.Places.{base}
 use Rattle.spec.specs.Directory.{lines_of}
@@ -8,7 +8,6 @@ use Rattle.spec.specs.Log.{Entry, Parsed, Wrong, Entries, step_of}
 use Rattle.spec.specs.declared.LogStep.{LogStep}
 use Rattle.spec.specs.declared.LogStep.TheVariants as S
 use Rattle.faults.specs.declared.Stop.{Stop}
-use Rattle.faults.specs.declared.Stop.TheVariants as T
 
 -- all entries, or those before the first wrong one, with the word at which it stands
 pub data Reading : Type 0 where
@@ -51,10 +50,10 @@ read_from p (suc i) c ws = and_then (read_chunk p ws c) (read_from p i (suc c) w
 abbrev pub read_image : ℕ → ℕ → List ℕ → Reading
 read_image p n ws = read_from p (n - 1) 1 ws
 
--- where a reading stops, with so many entries before it
-abbrev pub stop_by : ℕ → Reading → Stop
-stop_by k (Whole es) = T.Nowhere
-stop_by k (Upto es w) = T.At w (k + length es)
+-- where a reading stops, if it does, with so many entries before it
+abbrev pub stop_by : ℕ → Reading → Option Stop
+stop_by k (Whole es) = None
+stop_by k (Upto es w) = Some (record { word = w; before = k + length es })
 
 -- what an opening parses of it
 abbrev pub parsed_of : Reading → Parsed

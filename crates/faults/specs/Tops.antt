@@ -1,6 +1,6 @@
 -- The first top entry of which a test of the opening does not hold.
 -- Assumes nothing.
-use Rattle.std.specs.Prelude.{Bool, true, List, ℕ, eqb}
+use Rattle.std.specs.Prelude.{Bool, true, List, ℕ, eqb, Option as Maybe, Some, None}
 use Rattle.std.proofs.Math.Option.{Option, none, some}
 use Rattle.spec.specs.Basics.{pick, both, negate, filter, first}
 use Rattle.spec.specs.Log.{Entry}
@@ -17,7 +17,7 @@ apart_from es e = each_top es (λ f. pick (sharing e f) (eqb e.key f.key) true)
 abbrev pub at_one : List Entry → Entry → Bool
 at_one es e = both (agree_with e (chosen e.key es)) (apart_from es e)
 
--- the first word of an entry, 0 where there is none
-abbrev pub place_or : Option Entry → ℕ
-place_or none = 0
-place_or (some e) = e.at
+-- the first word of an entry, if there is one
+abbrev pub place_of : Option Entry → Maybe ℕ
+place_of none = None
+place_of (some e) = Some e.at

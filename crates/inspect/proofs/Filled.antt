@@ -1,7 +1,10 @@
 -- The pass over the log leaves the key's entries in the lent words, as far as they fit, and counts them all.
 -- Assumes nothing.
-use Rattle.std.proofs.Common.{◌≡◌, ℕ, suc, ◌+◌, ◌-◌, ◌*◌, ◌/◌, ◌%◌, ◌<◌, ◌≤◌, Bool, true, false, eqb, List, [], ◌∷◌, ◌++◌, map, length, drop, set, sym, refl, ap, ◌∙◌, subst, inl, inr, append_assoc, arith, length-append, length-drop, drop-drop, take_at, ne_eqb, le-leb}
+use Rattle.std.proofs.Common.{◌≡◌, ℕ, suc, ◌+◌, ◌-◌, ◌*◌, ◌/◌, ◌%◌, ◌<◌, ◌≤◌, Bool, true, false, eqb, List, [], ◌∷◌, ◌++◌, map, length, drop, sym, refl, ap, ◌∙◌, subst, inl, inr, append_assoc, arith, length-append, length-drop, drop-drop, take_at, ne_eqb, le-leb}
 use mathlib.Core.Logic.{by_cases}
+use borrow.Rule.Slice.PartMut.{put_mid}
+use Rattle.std.proofs.lemmas.Slice.{put_mid-paste}
+use Rattle.std.proofs.Math.Seq.{take-length}
 use mathlib.Core.Option.{Option, none, some}
 use native.Mathlib.Decide.{dec_lt}
 use lib.ListN.{length-map}
@@ -19,7 +22,12 @@ use Rattle.theory_log.specs.Contents.{Mem}
 use Rattle.theory_log.specs.Fold.{fold_e, fold_p}
 use Rattle.theory_log.proofs.Contents.{none_of, chosen_is}
 use Rattle.theory_log.proofs.Places.{Rising, all_sound}
+use Rattle.std.specs.Prelude.{Option as Maybe, Some, None, Result, Ok, Err}
 use Rattle.logs.specs.declared.Best.{Best}
+use Rattle.logs.specs.declared.Cursor.{Cursor}
+use Rattle.logs.specs.declared.Entry as F
+use Rattle.logs.specs.declared.WrongEntry.{WrongEntry}
+use Rattle.logs.specs.Cursor.{remaining, Advanced}
 use Rattle.logs.specs.Best.{best_in, best_of}
 use Rattle.logs.proofs.Stands.{image-low}
 use Rattle.logs.proofs.Scan.{best-chosen, best-wrong}
@@ -32,14 +40,14 @@ use Rattle.inspect.specs.Filling.{put, Filling, filling, more, pass, Leaves}
 -- ## Entries written one behind the other
 
 -- as the code stores the words of one
-pub stored : (out : List ℕ) (at a b d e f g : ℕ) → set (set (set (set (set (set out at a) (at + 1) b) (at + 2) d) (at + 3) e) (at + 4) f) (at + 5) g ≡ sets out at (a ∷ b ∷ d ∷ e ∷ f ∷ g ∷ [])
-stored out at a b d e f g =
-    let one : at + 1 ≡ suc at = omega arith in
-    let two : at + 2 ≡ suc (suc at) = omega arith in
-    let three : at + 3 ≡ suc (suc (suc at)) = omega arith in
-    let four : at + 4 ≡ suc (suc (suc (suc at))) = omega arith in
-    let five : at + 5 ≡ suc (suc (suc (suc (suc at)))) = omega arith in
-    rw (one, two, three, four, five)
+pub stored : (out : List ℕ) (at k : ℕ) (part words : List ℕ) → part ≡ words → length words ≡ k → at + length words ≤ length out → put_mid at k out part ≡ sets out at words
+stored out at k part words e n l = put_mid-paste at k out part words (length words) e n refl ∙ rw (take-length words) (sym (sets-eq words out at l))
+
+-- where the log ends or an entry is wrong, the pass leaves what it has
+pub leaves-end : (p n : ℕ) (ws : List ℕ) (c : Cursor) (r : Result (Maybe F.Entry) WrongEntry) → Advanced p n ws c r → ((e : F.Entry) → r ≡ Ok (Some e) → ⊥) → (f : Filling → Entry → Filling) (s : Filling) → Leaves (fold_p f s (remaining p n ws c)) s.words s.count
+leaves-end p n ws c (Ok None) told out f s = rw told (refl, refl)
+leaves-end p n ws c (Ok (Some e)) told out f s = absurd (out e refl)
+leaves-end p n ws c (Err wrong) told out f s = rw told tt
 
 abbrev puts : Filling → List KeyEntry → Filling
 puts s [] = s

@@ -5,8 +5,8 @@ use Rattle.spec.specs.Places.{is_power, chunks_in}
 use Rattle.spec.specs.Header.{header_right, header_power, power_bit, power_field, header_map, header_tail}
 use Rattle.spec.specs.declared.Size.{Size}
 use Rattle.spec.specs.declared.Size.TheVariants as S
-use Rattle.spec.specs.declared.Given.{Given}
-use Rattle.spec.specs.declared.Given.TheVariants as G
+use Rattle.spec.specs.Basics.{Given}
+use Rattle.std.specs.declared.option.Option.TheVariants as G
 use Rattle.places.specs.Sizes.{power_of, size_by}
 use Rattle.theory_crash.proofs.Format.{header_made}
 use Rattle.inspect.specs.Numbers.{size_said, header_taken, station_by, centre_by, station_of, centre_of}
@@ -29,11 +29,11 @@ module _ (bytes : ℕ) (ws : List ℕ) (power : ℕ) (said : power ≡ header_po
 -- ## The numbers
 
 module _ (bytes : ℕ) (ws : List ℕ) (right : Bool) (is : right ≡ header_taken bytes ws) where
-  pub station-wrong : right ≡ false → G.Absent ≡ station_of bytes ws
+  pub station-wrong : right ≡ false → G.None ≡ station_of bytes ws
   unfolding station_of
   station-wrong h = sym (rw (← is, h))
 
-  pub centre-wrong : right ≡ false → G.Absent ≡ centre_of bytes ws
+  pub centre-wrong : right ≡ false → G.None ≡ centre_of bytes ws
   unfolding centre_of
   centre-wrong h = sym (rw (← is, h))
 
@@ -65,25 +65,25 @@ unfolding station_of header_tail power_bit power_field
 station-written size bytes station centre rest = rw (begun-taken size bytes station centre rest) (go size station centre)
   where
     go : (z : Size) (a b : Given) → station_by (get_or (begun z bytes a b rest) 0 0) (get_or (begun z bytes a b rest) 2 0) ≡ a
-    go S.Small (G.Number s) (G.Number c) = refl
-    go S.Small (G.Number s) G.Absent = refl
-    go S.Small G.Absent (G.Number c) = refl
-    go S.Small G.Absent G.Absent = refl
-    go S.Large (G.Number s) (G.Number c) = refl
-    go S.Large (G.Number s) G.Absent = refl
-    go S.Large G.Absent (G.Number c) = refl
-    go S.Large G.Absent G.Absent = refl
+    go S.Small (G.Some s) (G.Some c) = refl
+    go S.Small (G.Some s) G.None = refl
+    go S.Small G.None (G.Some c) = refl
+    go S.Small G.None G.None = refl
+    go S.Large (G.Some s) (G.Some c) = refl
+    go S.Large (G.Some s) G.None = refl
+    go S.Large G.None (G.Some c) = refl
+    go S.Large G.None G.None = refl
 
 pub centre-written : (size : Size) (bytes : ℕ) (station centre : Given) (rest : List ℕ) → centre_of bytes (begun size bytes station centre rest) ≡ centre
 unfolding centre_of header_tail power_bit power_field
 centre-written size bytes station centre rest = rw (begun-taken size bytes station centre rest) (go size station centre)
   where
     go : (z : Size) (a b : Given) → centre_by (get_or (begun z bytes a b rest) 0 0) (get_or (begun z bytes a b rest) 2 0) (get_or (begun z bytes a b rest) 3 0) ≡ b
-    go S.Small (G.Number s) (G.Number c) = refl
-    go S.Small (G.Number s) G.Absent = refl
-    go S.Small G.Absent (G.Number c) = refl
-    go S.Small G.Absent G.Absent = refl
-    go S.Large (G.Number s) (G.Number c) = refl
-    go S.Large (G.Number s) G.Absent = refl
-    go S.Large G.Absent (G.Number c) = refl
-    go S.Large G.Absent G.Absent = refl
+    go S.Small (G.Some s) (G.Some c) = refl
+    go S.Small (G.Some s) G.None = refl
+    go S.Small G.None (G.Some c) = refl
+    go S.Small G.None G.None = refl
+    go S.Large (G.Some s) (G.Some c) = refl
+    go S.Large (G.Some s) G.None = refl
+    go S.Large G.None (G.Some c) = refl
+    go S.Large G.None G.None = refl

@@ -18,6 +18,7 @@ use Rattle.spec.specs.Machine.{state_power, gate}
 use Rattle.spec.specs.declared.Role.{Role}
 use Rattle.spec.specs.declared.Role.TheVariants as D
 use Rattle.spec.specs.declared.Refusal.{Refusal}
+use Rattle.spec.specs.declared.Refusal.TheVariants as N
 use Rattle.spec.specs.declared.Report.{Report}
 use Rattle.spec.specs.declared.Report.TheVariants as R
 use Rattle.theory_crash.specs.Accepted.{Ok}
@@ -27,8 +28,8 @@ use Rattle.session.specs.declared.Control.{Control}
 use Rattle.session.specs.declared.Setup.{Setup}
 use Rattle.session.specs.State.{size_in, power_in, state_at}
 use Rattle.session.specs.Fits.{Fits}
-use Rattle.session.specs.declared.Gated.{Gated}
-use Rattle.session.specs.declared.Gated.TheVariants as G
+use Rattle.std.specs.Prelude.{Result, Ok as Passes, Err}
+use Rattle.std.specs.Prelude.{Option as Found, unwrap_or, max}
 use Rattle.session.specs.Asks.{gate_of, Asking}
 use Rattle.directory.specs.Found.{Stops}
 use Rattle.directory.proofs.Search.{taken, first-here, taken-before, taken-end}
@@ -40,7 +41,7 @@ use Rattle.inspect.specs.declared.ChunkRow.{ChunkRow}
 use Rattle.inspect.specs.Rows.{used_in, plain_row, log_row, data_row, row_for, row_of, is_empty_data, empty_chunk}
 use Rattle.inspect.specs.ChunkCounts.{blocks_by}
 use Rattle.inspect.specs.ByTable.{row_by, row_at, empty_by, found_by}
-use Rattle.inspect.specs.Contract.{count_in, row_in, report_of, empty_in, DescribedBy, StoppedAt, EmptiedBy}
+use Rattle.inspect.specs.Contract.{count_in, row_in, report_of, empty_in, DescribedBy, StoppedAt, EmptyFound, EmptiedBy}
 use Rattle.inspect.proofs.Tallies.{tally-exact, blocks-exact, live-counted}
 
 -- ## A row
@@ -130,39 +131,39 @@ module _ (size : Size) (bytes table : List ℕ) (o : Open size bytes table) wher
 
 -- ## The calls
 
-module _ (c : Control) (k : Setup) (bytes table : List ℕ) (g : Gated) (asks : Asking c k (length bytes) (length table) g) where
-  is-refused : (n : Refusal) → g ≡ G.Refused n → (b : List ℕ) → gate (state_at c k b) (length bytes) (length table) ≡ some n
+module _ (c : Control) (k : Setup) (bytes table : List ℕ) (g : Result (Unit {0}) Refusal) (asks : Asking c k (length bytes) (length table) g) where
+  is-refused : (n : Refusal) → g ≡ Err n → (b : List ℕ) → gate (state_at c k b) (length bytes) (length table) ≡ some n
   is-refused n e b = asks.asked b ∙ ap gate_of e
 
-  is_open : g ≡ G.Open → (b : List ℕ) → gate (state_at c k b) (length bytes) (length table) ≡ none
+  is_open : g ≡ Passes tt → (b : List ℕ) → gate (state_at c k b) (length bytes) (length table) ≡ none
   is_open e b = asks.asked b ∙ ap gate_of e
 
-  pub row-refused : (chunk : ℕ) (n : Refusal) (m : ℕ) (r : ChunkRow) → g ≡ G.Refused n → m ≡ number n → r ≡ plain_row m 0 → DescribedBy c k chunk bytes table r
+  pub row-refused : (chunk : ℕ) (n : Refusal) (m : ℕ) (r : ChunkRow) → g ≡ Err n → m ≡ number n → r ≡ plain_row m 0 → DescribedBy c k chunk bytes table r
   row-refused chunk n m r e em er b = record {
     gated = λ x h. let q = is-refused n e b in let y : n ≡ x = cc in er ∙ ap (λ (k : ℕ). plain_row k 0) (em ∙ ap number y);
     behind = λ h. absurd (let q = is-refused n e b in let z : ◌≡◌ {A = ℕ} 0 1 = cc in omega arith);
     exact = λ h f. absurd (let q = is-refused n e b in let z : ◌≡◌ {A = ℕ} 0 1 = cc in omega arith);
   }
 
-  pub row_open : (chunk : ℕ) (r : ChunkRow) → g ≡ G.Open → r ≡ row_at (size_in k) (words_of bytes) table (count_in (power_in k) bytes) chunk → DescribedBy c k chunk bytes table r
+  pub row_open : (chunk : ℕ) (r : ChunkRow) → g ≡ Passes tt → r ≡ row_at (size_in k) (words_of bytes) table (count_in (power_in k) bytes) chunk → DescribedBy c k chunk bytes table r
   row_open chunk r e er b = record {
     gated = λ x h. absurd (let q = is_open e b in let z : ◌≡◌ {A = ℕ} 0 1 = cc in omega arith);
     behind = λ h. er;
     exact = λ h f. er ∙ row-exact (size_in k) bytes table (opened c k b bytes table h f) chunk ∙ ap (λ (p : ℕ). row_in p bytes chunk) (sym (rest-power c k b (length bytes) (length table) h));
   }
 
-  pub empty-refused : (from : ℕ) (n : Refusal) → g ≡ G.Refused n → EmptiedBy c k from bytes table (R.Refused n)
+  pub empty-refused : (from : ℕ) (n : Refusal) → g ≡ Err n → EmptiedBy c k from bytes table (R.Refused n)
   empty-refused from n e b = record {
     gated = λ x h. let q = is-refused n e b in let y : n ≡ x = cc in ap R.Refused y;
     behind = λ h. absurd (let q = is-refused n e b in let z : ◌≡◌ {A = ℕ} 0 1 = cc in omega arith);
     exact = λ h f. absurd (let q = is-refused n e b in let z : ◌≡◌ {A = ℕ} 0 1 = cc in omega arith);
   }
 
-  pub empty-open : (from chunk : ℕ) (r : Report) (size : Size) (n : ℕ) → g ≡ G.Open → size ≡ size_in k → n ≡ count_in (power_of size) bytes → Stops (empty_by size (words_of bytes) table n from) 1 n chunk → r ≡ found_by chunk n
+  pub empty-open : (from : ℕ) (q : Found ℕ) (r : Report) (size : Size) (n : ℕ) → g ≡ Passes tt → size ≡ size_in k → n ≡ count_in (power_of size) bytes → EmptyFound size (words_of bytes) table n from q → r ≡ found_by (unwrap_or q (max 1 n)) n
       → EmptiedBy c k from bytes table r
-  empty-open from chunk r size n e es en s t b =
+  empty-open from q r size n e es en found t b =
       let m : n ≡ count_in (power_in k) bytes = en ∙ ap (λ (z : Size). count_in (power_of z) bytes) es in
-      let own : StoppedAt size (words_of bytes) table n from r = record { chunk = chunk; stops = s; told = t } in
+      let own : StoppedAt size (words_of bytes) table n from r = record { chunk = unwrap_or q (max 1 n); stops = found.stops; told = t } in
       let sized : StoppedAt (size_in k) (words_of bytes) table n from r = subst (λ (z : Size). StoppedAt z (words_of bytes) table n from r) es own in
       let stopped : StoppedAt (size_in k) (words_of bytes) table (count_in (power_in k) bytes) from r = subst (λ (z : ℕ). StoppedAt (size_in k) (words_of bytes) table z from r) m sized in
       record {
@@ -170,3 +171,10 @@ module _ (c : Control) (k : Setup) (bytes table : List ℕ) (g : Gated) (asks : 
         behind = λ h. stopped;
         exact = λ h f. empty-exact (size_in k) bytes table (opened c k b bytes table h f) from r stopped ∙ ap (λ (p : ℕ). empty_in p bytes from) (sym (rest-power c k b (length bytes) (length table) h));
       }
+
+-- what a search reports, where it finds a chunk and where it finds none
+pub chosen-found : (n c : ℕ) → c < n → R.Chosen c ≡ found_by c n
+chosen-found n c l = rw (lt-ltb c n l)
+
+pub none-found : (n : ℕ) → R.Refused N.NotCleanable ≡ found_by (max 1 n) n
+none-found n = rw (le-ltb (max 1 n) n (omega arith))

@@ -1,7 +1,7 @@
 -- What the calls on chunks answer (`describe_chunk`, `empty_chunk`), for any memory and on memory as our calls left it.
 -- Record, image and table stay.
 -- Assumes nothing.
-use Rattle.std.specs.Prelude.{◌≡◌, ℕ, List, length}
+use Rattle.std.specs.Prelude.{◌≡◌, ℕ, ◌<◌, max, List, length, Option as Found, Some, unwrap_or}
 use Rattle.std.proofs.Math.Option.{Option, none, some}
 use Rattle.spec.specs.Words.{words_of}
 use Rattle.spec.specs.Places.{chunks_in}
@@ -54,6 +54,11 @@ pub record StoppedAt (size : Size) (ws table : List ℕ) (n from : ℕ) (r : Rep
   pub chunk : ℕ
   pub stops : Stops (empty_by size ws table n from) 1 n chunk
   pub told : r ≡ found_by chunk n
+
+-- what the search finds: the chunk at which it stops, which is past the last one where none is found
+pub record EmptyFound (size : Size) (ws table : List ℕ) (n from : ℕ) (r : Found ℕ) : Type 0 where
+  pub stops : Stops (empty_by size ws table n from) 1 n (unwrap_or r (max 1 n))
+  pub inside : (c : ℕ) → r ≡ Some c → c < n
 
 pub record Emptied (s : Session) (from : ℕ) (bytes table : List ℕ) (r : Report) : Type 0 where
   pub gated : (n : Refusal) → gate (state_of s) (length bytes) (length table) ≡ some n → r ≡ R.Refused n

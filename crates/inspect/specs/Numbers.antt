@@ -5,8 +5,8 @@ use Rattle.spec.specs.Basics.{pick, both, either}
 use Rattle.spec.specs.Places.{is_power, chunks_in}
 use Rattle.spec.specs.Header.{header_right, header_power}
 use Rattle.spec.specs.declared.Size.{Size}
-use Rattle.spec.specs.declared.Given.{Given}
-use Rattle.spec.specs.declared.Given.TheVariants as G
+use Rattle.spec.specs.Basics.{Given}
+use Rattle.std.specs.declared.option.Option.TheVariants as G
 use Rattle.places.specs.Sizes.{power_of, size_by}
 
 -- the size that an image's words are read by, whether an opening accepts them or not: a header that says another power
@@ -28,21 +28,21 @@ header_taken bytes ws = both (is_power (header_power ws)) (header_right (chunks_
 -- by the bit map and the words behind the count, in bit order: bit 1 is the station's, bit 2 the centre's, bit 3 the
 -- power's
 abbrev pub station_by : (map first : ℕ) → Given
-station_by map first = pick (either (either (map == 3) (map == 7)) (either (map == 11) (map == 15))) (G.Number first) G.Absent
+station_by map first = pick (either (either (map == 3) (map == 7)) (either (map == 11) (map == 15))) (G.Some first) G.None
 
 abbrev pub centre_by : (map first second : ℕ) → Given
 centre_by map first second =
-    pick (either (map == 5) (map == 13)) (G.Number first) (pick (either (map == 7) (map == 15)) (G.Number second) G.Absent)
+    pick (either (map == 5) (map == 13)) (G.Some first) (pick (either (map == 7) (map == 15)) (G.Some second) G.None)
 
 -- of an image of so many bytes: absent too where the header is not right. Of a header that a formatting wrote these are
 -- the numbers that it was told (proofs/Numbers.antt)
 unfoldable pub station_of : (bytes : ℕ) → List ℕ → Given
-station_of bytes ws = pick (header_taken bytes ws) (station_by (slice_index ws 0) (slice_index ws 2)) G.Absent
+station_of bytes ws = pick (header_taken bytes ws) (station_by (slice_index ws 0) (slice_index ws 2)) G.None
 
 unfoldable pub centre_of : (bytes : ℕ) → List ℕ → Given
-centre_of bytes ws = pick (header_taken bytes ws) (centre_by (slice_index ws 0) (slice_index ws 2) (slice_index ws 3)) G.Absent
+centre_of bytes ws = pick (header_taken bytes ws) (centre_by (slice_index ws 0) (slice_index ws 2) (slice_index ws 3)) G.None
 
 -- in numbers: 1 and the number, or 0 and 0
 abbrev pub ToldAs : Given → (answer number : ℕ) → Type 0
-ToldAs (G.Number x) answer number = (answer ≡ 1) × (number ≡ x)
-ToldAs G.Absent answer number = (answer ≡ 0) × (number ≡ 0)
+ToldAs (G.Some x) answer number = (answer ≡ 1) × (number ≡ x)
+ToldAs G.None answer number = (answer ≡ 0) × (number ≡ 0)

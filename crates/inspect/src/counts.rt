@@ -1,33 +1,14 @@
 // How many of a chunk's entries, or of its blocks, the register still goes by: counted in one pass over the log, by the
 // words of the key table, whatever these hold. Nothing is changed.
-ghost use Rattle.std.specs.Prelude.{◌≡◌, ◌==◌};
-ghost use Rattle.spec.specs.Basics.{both, negate};
+ghost use Rattle.std.specs.Prelude.{◌≡◌};
 ghost use Rattle.spec.specs.Words.{words_of};
-ghost use Rattle.inspect.specs.ChunkCounts.{chosen_by, more, points_into, count_entry, tally_by, count_block, blocks_by};
+ghost use Rattle.inspect.specs.ChunkCounts.{chosen_by, points_into, count_entry, tally_by, count_block, blocks_by};
 
 use codec::Unit;
-use logs::Next;
+use logs::Entry;
 use spec::Size;
 
 // ONE ENTRY
-fn both(a: bool, b: bool) -> bool
-    ensures { result ≡ both a b }
-{
-    if a {
-        return b;
-    }
-    false
-}
-
-fn negate(a: bool) -> bool
-    ensures { result ≡ negate a }
-{
-    if a {
-        return false;
-    }
-    true
-}
-
 // Whether the entry at this place is the chosen one of its key.
 fn is_chosen(table: &[u64], key: u64, place: usize, size: Size) -> bool
     ensures { result ≡ chosen_by size table.now key place }
@@ -36,32 +17,11 @@ fn is_chosen(table: &[u64], key: u64, place: usize, size: Size) -> bool
     info.place == place as u64
 }
 
-fn is_put(op: u64) -> bool
-    ensures { result ≡ (op == 1) }
+// Whether an entry points to a block of the chunk.
+fn points_into(size: Size, e: Entry, chunk: usize) -> bool
+    ensures { result ≡ points_into size e.op e.placement e.field chunk }
 {
-    op == 1
-}
-
-// Whether an entry with these parts points to a block of the chunk.
-fn points_into(size: Size, op: u64, placement: u64, field: u64, chunk: usize) -> bool
-    ensures { result ≡ points_into size op placement field chunk }
-{
-    if op == 1 {
-        if placement == 1 {
-            return Unit(field).chunk(size) == chunk as u64;
-        }
-    }
-    false
-}
-
-// One more, if it is so.
-fn count_if(n: u64, so: bool) -> u64
-    ensures { result ≡ more n so }
-{
-    if so {
-        return std::num::wrapping_add_u64(n, 1);
-    }
-    n
+    consistency::points(e.op, e.placement) && Unit(e.field).chunk(size) == chunk as u64
 }
 
 // A LOG CHUNK: how many of its entries are chosen puts, chosen deletes, and neither
@@ -73,18 +33,24 @@ pub struct Tally {
 }
 
 // With one more entry.
-fn count_entry(table: &[u64], t: Tally, op: u64, key: u64, place: usize, size: Size) -> Tally
-    ensures { result ≡ count_entry size table.now t op key place }
+fn count_entry(table: &[u64], t: Tally, e: Entry, size: Size) -> Tally
+    ensures { result ≡ count_entry size table.now t e.op e.key e.place }
 {
-    let chosen = is_chosen(table, key, place, size);
-    let put = is_put(op);
-    let live = count_if(t.live, both(chosen, put));
-    let deletes = count_if(t.deletes, both(chosen, negate(put)));
-    let superseded = count_if(t.superseded, negate(chosen));
-    Tally {
-        live,
-        deletes,
-        superseded,
+    if !is_chosen(table, e.key, e.place, size) {
+        Tally {
+            superseded: t.superseded.wrapping_add(1),
+            ..t
+        }
+    } else if e.op == 1 {
+        Tally {
+            live: t.live.wrapping_add(1),
+            ..t
+        }
+    } else {
+        Tally {
+            deletes: t.deletes.wrapping_add(1),
+            ..t
+        }
     }
 }
 
@@ -92,60 +58,35 @@ fn count_entry(table: &[u64], t: Tally, op: u64, key: u64, place: usize, size: S
 pub fn count_entries(image: &[u8], table: &[u64], chunk: usize, size: Size) -> Tally
     ensures { result ≡ tally_by size (words_of image.now) table.now chunk }
 {
-    let mut t = Tally {
+    let none = Tally {
         live: 0,
         deletes: 0,
         superseded: 0,
     };
+    let mut t = none;
     let mut cursor = logs::chunk_cursor(image, chunk, size);
     loop {
-        let n = logs::next_in_log(image, 0, cursor, size);
-        match n {
-            Next::Done => {
-                return t;
+        match logs::next_in_log(image, 0, cursor, size) {
+            Ok(Some(e)) => {
+                t = count_entry(table, t, e, size);
+                cursor = e.behind;
             }
-            Next::Wrong => {
-                return Tally {
-                    live: 0,
-                    deletes: 0,
-                    superseded: 0,
-                };
-            }
-            Next::Entry {
-                op,
-                placement: _,
-                version: _,
-                field: _,
-                key,
-                words: _,
-                place,
-                cursor: after,
-            } => {
-                t = count_entry(table, t, op, key, place, size);
-                cursor = after;
-            }
+            Ok(None) => return t,
+            Err(_) => return none,
         }
     }
 }
 
 // A DATA CHUNK: how many of its blocks are live
 // With one more entry of the log.
-fn count_block(
-    table: &[u64],
-    chunk: usize,
-    used: u64,
-    op: u64,
-    placement: u64,
-    field: u64,
-    key: u64,
-    place: usize,
-    size: Size,
-) -> u64
-    ensures { result ≡ count_block size table.now chunk used op placement field key place }
+fn count_block(table: &[u64], chunk: usize, used: u64, e: Entry, size: Size) -> u64
+    ensures { result ≡ count_block size table.now chunk used e.op e.placement e.field e.key e.place }
 {
-    let chosen = is_chosen(table, key, place, size);
-    let into = points_into(size, op, placement, field, chunk);
-    count_if(used, both(chosen, into))
+    if is_chosen(table, e.key, e.place, size) && points_into(size, e, chunk) {
+        used.wrapping_add(1)
+    } else {
+        used
+    }
 }
 
 // Over all entries of the log of an image of `count` chunks; 0 where one is wrong.
@@ -155,27 +96,13 @@ pub fn count_blocks(image: &[u8], table: &[u64], count: usize, chunk: usize, siz
     let mut used = 0;
     let mut cursor = logs::first_cursor();
     loop {
-        let n = logs::next_in_log(image, count, cursor, size);
-        match n {
-            Next::Done => {
-                return used;
+        match logs::next_in_log(image, count, cursor, size) {
+            Ok(Some(e)) => {
+                used = count_block(table, chunk, used, e, size);
+                cursor = e.behind;
             }
-            Next::Wrong => {
-                return 0;
-            }
-            Next::Entry {
-                op,
-                placement,
-                version: _,
-                field,
-                key,
-                words: _,
-                place,
-                cursor: after,
-            } => {
-                used = count_block(table, chunk, used, op, placement, field, key, place, size);
-                cursor = after;
-            }
+            Ok(None) => return used,
+            Err(_) => return 0,
         }
     }
 }

@@ -10,7 +10,7 @@ ghost use Rattle.inspect.specs.Numbers.{power_read, chunks_read};
 ghost use Rattle.inspect.specs.KeyEntries.{entries_from, EntriesListed};
 ghost use Rattle.inspect.specs.Filling.{filling, in_numbers, put, note_of, pass, Leaves};
 
-use logs::Next;
+use logs::Entry;
 use spec::Size;
 
 // The words of an entry: place, op, version, block, field and chosen, as in `crate::history::KeyEntry`.
@@ -20,61 +20,37 @@ pub const ENTRY_WORDS: usize = 6;
 fn mark(best: usize, place: usize) -> u64
     ensures { result ≡ pick (best == place) 1 0 }
 {
-    if best == place {
-        return 1;
-    }
-    0
+    u64::from(best == place)
 }
 
 // An entry's words, behind those of `index` entries, if there is room for all of them.
-fn write_entry(
-    out: &mut [u64],
-    index: usize,
-    place: u64,
-    op: u64,
-    version: u64,
-    block: u64,
-    field: u64,
-    chosen: u64,
-)
-    ensures { out.new ≡ put out.old index (in_numbers place op version block field chosen) }
+fn write_entry(out: &mut [u64], index: usize, e: Entry, chosen: u64)
+    ensures { out.new ≡ put out.old index (in_numbers e.place e.op e.version e.placement e.field chosen) }
 {
     if out.len() / ENTRY_WORDS <= index {
         return;
     }
     let at = ENTRY_WORDS * index;
-    out[at] = place;
-    out[at + 1] = op;
-    out[at + 2] = version;
-    out[at + 3] = block;
-    out[at + 4] = field;
-    out[at + 5] = chosen;
+    let words = [
+        e.place as u64,
+        e.op,
+        e.version,
+        e.placement,
+        e.field,
+        chosen,
+    ];
+    out[at..at + ENTRY_WORDS].copy_from_slice(&words);
 }
 
 // The next entry of the log is written if it is of the key and at or behind a word; how many there are with it.
-fn take_entry(
-    out: &mut [u64],
-    count: usize,
-    key: u64,
-    from: usize,
-    best: usize,
-    k: u64,
-    place: usize,
-    op: u64,
-    version: u64,
-    block: u64,
-    field: u64,
-) -> usize
-    ensures { filling out.new result ≡ note_of key from best (filling out.old count) k place op version block field }
+fn take_entry(out: &mut [u64], count: usize, key: u64, from: usize, best: usize, e: Entry) -> usize
+    ensures { filling out.new result ≡ note_of key from best (filling out.old count) e.key e.place e.op e.version e.placement e.field }
 {
-    if k == key {
-        if from <= place {
-            let chosen = mark(best, place);
-            write_entry(out, count, place as u64, op, version, block, field, chosen);
-            return std::num::wrapping_add_usize(count, 1);
-        }
+    if e.key != key || e.place < from {
+        return count;
     }
-    count
+    write_entry(out, count, e, mark(best, e.place));
+    count.wrapping_add(1)
 }
 
 // All of them, by a pass over the log of an image of `chunks` chunks, where no entry is wrong; `best` is the place of
@@ -90,34 +66,13 @@ fn fill(
 ) -> usize
     ensures { Leaves (fold_p (pass key from best) (filling out.old 0) (image_entries (power_of size) chunks (words_of image.now))) out.new result }
 {
-    let mut count: usize = 0;
+    let mut count = 0;
     let mut cursor = logs::first_cursor();
-    loop {
-        let n = logs::next_in_log(image, chunks, cursor, size);
-        match n {
-            Next::Done => {
-                return count;
-            }
-            Next::Wrong => {
-                return count;
-            }
-            Next::Entry {
-                op,
-                placement,
-                version,
-                field,
-                key: k,
-                words: _,
-                place,
-                cursor: after,
-            } => {
-                count = take_entry(
-                    out, count, key, from, best, k, place, op, version, placement, field,
-                );
-                cursor = after;
-            }
-        }
+    while let Ok(Some(e)) = logs::next_in_log(image, chunks, cursor, size) {
+        count = take_entry(out, count, key, from, best, e);
+        cursor = e.behind;
     }
+    count
 }
 
 // The entries of a key that stand at or behind a word of the image, as far as `out` has room for whole ones; how many

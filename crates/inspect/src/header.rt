@@ -5,7 +5,7 @@ ghost use Rattle.spec.specs.Words.{words_of};
 ghost use Rattle.spec.specs.Places.{is_power};
 ghost use Rattle.inspect.specs.Numbers.{size_said, header_taken, station_by, centre_by, station_of, centre_of, ToldAs};
 
-use spec::{Given, Size};
+use spec::Size;
 
 // THE SIZE
 // By the power that the header says: any but 16 is read as that of small chunks.
@@ -19,10 +19,7 @@ pub fn size_said(image: &[u8]) -> Size
 fn is_power(power: u64) -> bool
     ensures { result ≡ is_power power }
 {
-    if power == 12 {
-        return true;
-    }
-    power == 16
+    power == 12 || power == 16
 }
 
 // The header is right, for an image of the lent length, and there are chunks of the power that it says.
@@ -30,88 +27,68 @@ fn is_taken(image: &[u8]) -> bool
     ensures { result ≡ header_taken (length image.now) (words_of image.now) }
 {
     let power = opening::power_said(image);
-    if is_power(power) {
-        let size = places::size_by(power);
-        let count = places::chunks_in(size, image.len());
-        return opening::header_fits(image, count);
+    if !is_power(power) {
+        return false;
     }
-    false
+    let size = places::size_by(power);
+    let count = places::chunks_in(size, image.len());
+    opening::header_fits(image, count)
 }
 
 // THE HEADER'S NUMBERS
 // By the bit map and the word behind the count.
-fn station_by(map: u64, first: u64) -> Given
+fn station_by(map: u64, first: u64) -> Option<u64>
     ensures { result ≡ station_by map first }
 {
-    if map == 3 {
-        return Given::Number(first);
+    match map {
+        3 | 7 | 11 | 15 => Some(first),
+        _ => None,
     }
-    if map == 7 {
-        return Given::Number(first);
-    }
-    if map == 11 {
-        return Given::Number(first);
-    }
-    if map == 15 {
-        return Given::Number(first);
-    }
-    Given::Absent
 }
 
 // By the bit map and the two words behind the count.
-fn centre_by(map: u64, first: u64, second: u64) -> Given
+fn centre_by(map: u64, first: u64, second: u64) -> Option<u64>
     ensures { result ≡ centre_by map first second }
 {
-    if map == 5 {
-        return Given::Number(first);
+    match map {
+        5 | 13 => Some(first),
+        7 | 15 => Some(second),
+        _ => None,
     }
-    if map == 13 {
-        return Given::Number(first);
-    }
-    if map == 7 {
-        return Given::Number(second);
-    }
-    if map == 15 {
-        return Given::Number(second);
-    }
-    Given::Absent
 }
 
 // The station number that the header names; absent where it names none, or is not right.
-pub fn station(image: &[u8]) -> Given
+pub fn station(image: &[u8]) -> Option<u64>
     ensures { result ≡ station_of (length image.now) (words_of image.now) }
 {
-    if is_taken(image) {
-        let map = words::load(image, 0);
-        let first = words::load(image, 2);
-        return station_by(map, first);
+    if !is_taken(image) {
+        return None;
     }
-    Given::Absent
+    station_by(words::load(image, 0), words::load(image, 2))
 }
 
 // The centre number that the header names; absent where it names none, or is not right.
-pub fn centre(image: &[u8]) -> Given
+pub fn centre(image: &[u8]) -> Option<u64>
     ensures { result ≡ centre_of (length image.now) (words_of image.now) }
 {
-    if is_taken(image) {
-        let map = words::load(image, 0);
-        let first = words::load(image, 2);
-        let second = words::load(image, 3);
-        return centre_by(map, first, second);
+    if !is_taken(image) {
+        return None;
     }
-    Given::Absent
+    let first = words::load(image, 2);
+    let second = words::load(image, 3);
+    centre_by(words::load(image, 0), first, second)
 }
 
 // 1 and the number, or 0 and 0 where it is absent.
-fn tell(given: Given, number: &mut u64) -> u64
+fn tell(given: Option<u64>, number: &mut u64) -> u64
     ensures { ToldAs given result number.new }
 {
     match given {
-        Given::Number(n) => {
+        Some(n) => {
             *number = n;
             1
         }
-        Given::Absent => {
+        None => {
             *number = 0;
             0
         }
@@ -121,13 +98,11 @@ fn tell(given: Given, number: &mut u64) -> u64
 pub fn tell_station(image: &[u8], number: &mut u64) -> u64
     ensures { ToldAs (station_of (length image.now) (words_of image.now)) result number.new }
 {
-    let given = station(image);
-    tell(given, number)
+    tell(station(image), number)
 }
 
 pub fn tell_centre(image: &[u8], number: &mut u64) -> u64
     ensures { ToldAs (centre_of (length image.now) (words_of image.now)) result number.new }
 {
-    let given = centre(image);
-    tell(given, number)
+    tell(centre(image), number)
 }

@@ -4,15 +4,16 @@ ghost use Rattle.std.specs.Prelude.{◌≡◌, length};
 ghost use Rattle.spec.specs.Words.{words_of};
 ghost use Rattle.places.specs.Sizes.{power_of};
 ghost use Rattle.inspect.specs.Numbers.{power_read, chunks_read};
-ghost use Rattle.inspect.specs.History.{note_of, first_in, mark_of, entry_from};
+ghost use Rattle.inspect.specs.History.{no_entry, note_of, first_in, mark_of, entry_from};
 
-use logs::{Best, Next};
+use logs::{Best, Entry};
 use spec::Size;
 
 // THE ENTRIES OF A KEY
 // An entry in numbers: `found` is 1, or 0 with all others 0 where there is none; `place` is its first word, `block` 1
 // where its value is in a block, `field` the value's length or the block's unit, `chosen` 1 where the register goes by
 // it.
+// (a) The C interface has these numbers.
 #[repr(C)]
 #[derive(Clone, Copy)]
 pub struct KeyEntry {
@@ -25,44 +26,11 @@ pub struct KeyEntry {
     pub chosen: u64,
 }
 
-// The entry found so far, or the next one if it is the first of the key at or behind a word.
-fn note(
-    so: KeyEntry,
-    key: u64,
-    from: usize,
-    k: u64,
-    place: usize,
-    op: u64,
-    version: u64,
-    block: u64,
-    field: u64,
-) -> KeyEntry
-    ensures { result ≡ note_of key from so k place op version block field }
+// None of them.
+fn none() -> KeyEntry
+    ensures { result ≡ no_entry }
 {
-    if so.found == 0 {
-        if k == key {
-            if from <= place {
-                return KeyEntry {
-                    found: 1,
-                    place: place as u64,
-                    op,
-                    version,
-                    block,
-                    field,
-                    chosen: 0,
-                };
-            }
-        }
-    }
-    so
-}
-
-// The first entry of a key at or behind a word, by a pass over the log of an image of `count` chunks; none where an
-// entry of the log is wrong.
-fn first_in(image: &[u8], count: usize, key: u64, from: usize, size: Size) -> KeyEntry
-    ensures { result ≡ first_in (power_of size) count (words_of image.now) key from }
-{
-    let mut so = KeyEntry {
+    KeyEntry {
         found: 0,
         place: 0,
         op: 0,
@@ -70,38 +38,43 @@ fn first_in(image: &[u8], count: usize, key: u64, from: usize, size: Size) -> Ke
         block: 0,
         field: 0,
         chosen: 0,
-    };
+    }
+}
+
+// The entry found so far, or the next one if it is the first of the key at or behind a word.
+fn note(so: KeyEntry, key: u64, from: usize, e: Entry) -> KeyEntry
+    ensures { result ≡ note_of key from so e.key e.place e.op e.version e.placement e.field }
+{
+    if so.found == 0 && e.key == key && from <= e.place {
+        KeyEntry {
+            found: 1,
+            place: e.place as u64,
+            op: e.op,
+            version: e.version,
+            block: e.placement,
+            field: e.field,
+            chosen: 0,
+        }
+    } else {
+        so
+    }
+}
+
+// The first entry of a key at or behind a word, by a pass over the log of an image of `count` chunks; none where an
+// entry of the log is wrong.
+fn first_in(image: &[u8], count: usize, key: u64, from: usize, size: Size) -> KeyEntry
+    ensures { result ≡ first_in (power_of size) count (words_of image.now) key from }
+{
+    let mut so = none();
     let mut cursor = logs::first_cursor();
     loop {
-        let n = logs::next_in_log(image, count, cursor, size);
-        match n {
-            Next::Done => {
-                return so;
+        match logs::next_in_log(image, count, cursor, size) {
+            Ok(Some(e)) => {
+                so = note(so, key, from, e);
+                cursor = e.behind;
             }
-            Next::Wrong => {
-                return KeyEntry {
-                    found: 0,
-                    place: 0,
-                    op: 0,
-                    version: 0,
-                    block: 0,
-                    field: 0,
-                    chosen: 0,
-                };
-            }
-            Next::Entry {
-                op,
-                placement,
-                version,
-                field,
-                key: k,
-                words: _,
-                place,
-                cursor: after,
-            } => {
-                so = note(so, key, from, k, place, op, version, placement, field);
-                cursor = after;
-            }
+            Ok(None) => return so,
+            Err(_) => return none(),
         }
     }
 }
@@ -110,21 +83,11 @@ fn first_in(image: &[u8], count: usize, key: u64, from: usize, size: Size) -> Ke
 fn mark(e: KeyEntry, best: Best) -> KeyEntry
     ensures { result ≡ mark_of e best }
 {
-    if e.found == 0 {
-        return e;
+    if e.found != 0 && best.place as u64 == e.place {
+        KeyEntry { chosen: 1, ..e }
+    } else {
+        e
     }
-    if best.place as u64 == e.place {
-        return KeyEntry {
-            found: e.found,
-            place: e.place,
-            op: e.op,
-            version: e.version,
-            block: e.block,
-            field: e.field,
-            chosen: 1,
-        };
-    }
-    e
 }
 
 // The first entry of a key that stands at or behind a word of the image; none where an entry of the log is wrong.

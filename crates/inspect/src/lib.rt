@@ -10,33 +10,23 @@ ghost use Rattle.inspect.specs.KnownKeys.{Known, KnownBy};
 ghost use Rattle.spec.specs.Words.{words_of};
 ghost use Rattle.spec.specs.Places.{chunks_in};
 ghost use Rattle.places.specs.Sizes.{power_of};
-ghost use Rattle.directory.specs.Found.{Stops};
 ghost use Rattle.inspect.specs.Rows.{blocks_for, plain_row};
-ghost use Rattle.inspect.specs.ByTable.{row_by, row_at, empty_by, found_by};
-ghost use Rattle.inspect.specs.Contract.{Described, DescribedBy, Emptied, EmptiedBy};
+ghost use Rattle.inspect.specs.ByTable.{row_by, row_at, empty_by};
+ghost use Rattle.inspect.specs.Contract.{Described, DescribedBy, EmptyFound, Emptied, EmptiedBy};
 
 pub mod counts;
 pub mod entries;
 pub mod header;
 pub mod history;
 
-use session::{Control, Gated, Session, Setup};
+use session::{CLEANING, COMMIT, Control, REST, STAGING, Session, Setup};
 use spec::{Refusal, Report, Role, Size};
 
 // A register open and at rest, in a staging, in a commit, or in a cleaning.
 fn is_counted(phase: u64) -> bool
     ensures { result ≡ either (phase == 1) (either (phase == 2) (either (phase == 3) (phase == 6))) }
 {
-    if phase == 1 {
-        return true;
-    }
-    if phase == 2 {
-        return true;
-    }
-    if phase == 3 {
-        return true;
-    }
-    phase == 6
+    matches!(phase, REST | STAGING | COMMIT | CLEANING)
 }
 
 // The known keys, by the record's control.
@@ -51,8 +41,7 @@ pub fn known_keys(control: Control) -> u64
 pub fn keys(s: &Session) -> u64
     ensures { Known s.now result }
 {
-    let c = s.control;
-    known_keys(c)
+    known_keys(s.control)
 }
 
 // THE ROW OF A CHUNK
@@ -61,12 +50,14 @@ fn blocks_of(size: Size, units: u64) -> u64
     ensures { result ≡ blocks_for (power_of size) units }
 {
     if units == 0 {
-        return 0;
+        0
+    } else {
+        places::units(size) as u64 / units
     }
-    places::units(size) as u64 / units
 }
 
 // A row in numbers: `refused` is 0, or the refusal's number with all others 0.
+// (a) The C interface has these numbers.
 #[repr(C)]
 #[derive(Clone, Copy)]
 pub struct ChunkRow {
@@ -112,30 +103,19 @@ fn row_for(
         Role::Log(lines) => {
             let t = counts::count_entries(image, table, chunk, size);
             ChunkRow {
-                refused: 0,
-                role: 1,
                 size: lines,
                 live: t.live,
                 deletes: t.deletes,
                 superseded: t.superseded,
-                blocks: 0,
-                used: 0,
+                ..plain_row(0, 1)
             }
         }
-        Role::Data(units) => {
-            let blocks = blocks_of(size, units);
-            let used = counts::count_blocks(image, table, count, chunk, size);
-            ChunkRow {
-                refused: 0,
-                role: 2,
-                size: units,
-                live: 0,
-                deletes: 0,
-                superseded: 0,
-                blocks,
-                used,
-            }
-        }
+        Role::Data(units) => ChunkRow {
+            size: units,
+            blocks: blocks_of(size, units),
+            used: counts::count_blocks(image, table, count, chunk, size),
+            ..plain_row(0, 2)
+        },
         Role::Wrong => plain_row(0, 3),
     }
 }
@@ -145,11 +125,9 @@ fn row_at(image: &[u8], table: &[u64], chunk: usize, size: Size) -> ChunkRow
     ensures { result ≡ row_at size (words_of image.now) table.now (chunks_in (power_of size) (length image.now)) chunk }
 {
     let count = places::chunks_in(size, image.len());
-    if 1 <= chunk {
-        if chunk < count {
-            let role = directory::role_at(image, chunk, size);
-            return row_for(image, table, count, chunk, role, size);
-        }
+    if 1 <= chunk && chunk < count {
+        let role = directory::role_at(image, chunk, size);
+        return row_for(image, table, count, chunk, role, size);
     }
     plain_row(16, 0)
 }
@@ -164,10 +142,9 @@ pub fn describe(
 ) -> ChunkRow
     ensures { DescribedBy control setup chunk image.now table.now result }
 {
-    let g = session::gate(control, setup, image.len(), table.len());
-    match g {
-        Gated::Refused(n) => plain_row(session::number(n), 0),
-        Gated::Open => row_at(image, table, chunk, places::size_by(setup.power)),
+    match session::gate(control, setup, image.len(), table.len()) {
+        Ok(()) => row_at(image, table, chunk, places::size_by(setup.power)),
+        Err(refusal) => plain_row(session::number(refusal), 0),
     }
 }
 
@@ -175,9 +152,7 @@ pub fn describe(
 pub fn describe_chunk(s: &Session, image: &[u8], table: &[u64], chunk: usize) -> ChunkRow
     ensures { Described s.now chunk image.now table.now result }
 {
-    let c = s.control;
-    let k = s.setup;
-    describe(c, k, image, table, chunk)
+    describe(s.control, s.setup, image, table, chunk)
 }
 
 // A DATA CHUNK TO CLEAN
@@ -192,37 +167,21 @@ fn is_empty(
 ) -> bool
     ensures { result ≡ empty_by size (words_of image.now) table.now count from chunk }
 {
-    if from <= chunk {
-        if directory::is_data(directory::role_at(image, chunk, size)) {
-            let used = counts::count_blocks(image, table, count, chunk, size);
-            return used == 0;
-        }
-    }
-    false
+    from <= chunk
+        && directory::is_data(directory::role_at(image, chunk, size))
+        && counts::count_blocks(image, table, count, chunk, size) == 0
 }
 
-// The first such chunk of an image of `count` chunks; where there is none, a number not below the count.
-fn next_empty(image: &[u8], table: &[u64], count: usize, from: usize, size: Size) -> usize
-    ensures { Stops (empty_by size (words_of image.now) table.now count from) 1 count result }
+// The first such chunk of an image of `count` chunks.
+fn next_empty(image: &[u8], table: &[u64], count: usize, from: usize, size: Size) -> Option<usize>
+    ensures { EmptyFound size (words_of image.now) table.now count from result }
 {
-    let mut c = 1;
-    while c < count {
+    for c in 1..count {
         if is_empty(image, table, count, from, c, size) {
-            return c;
+            return Some(c);
         }
-        c += 1;
     }
-    c
-}
-
-// The chunk found, or 16.
-fn report_of(chunk: usize, count: usize) -> Report
-    ensures { result ≡ found_by chunk count }
-{
-    if chunk < count {
-        return Report::Chosen(chunk);
-    }
-    Report::Refused(Refusal::NotCleanable)
+    None
 }
 
 // 2, 1, 8, or the first data chunk of the open register from chunk `from` on with no live block, or 16; by the record's
@@ -236,15 +195,16 @@ pub fn find_empty(
 ) -> Report
     ensures { EmptiedBy control setup from image.now table.now result }
 {
-    let g = session::gate(control, setup, image.len(), table.len());
-    match g {
-        Gated::Refused(n) => Report::Refused(n),
-        Gated::Open => {
+    match session::gate(control, setup, image.len(), table.len()) {
+        Ok(()) => {
             let size = places::size_by(setup.power);
             let count = places::chunks_in(size, image.len());
-            let chunk = next_empty(image, table, count, from, size);
-            report_of(chunk, count)
+            match next_empty(image, table, count, from, size) {
+                Some(chunk) => Report::Chosen(chunk),
+                None => Report::Refused(Refusal::NotCleanable),
+            }
         }
+        Err(refusal) => Report::Refused(refusal),
     }
 }
 
@@ -252,7 +212,5 @@ pub fn find_empty(
 pub fn empty_chunk(s: &Session, image: &[u8], table: &[u64], from: usize) -> Report
     ensures { Emptied s.now from image.now table.now result }
 {
-    let c = s.control;
-    let k = s.setup;
-    find_empty(c, k, image, table, from)
+    find_empty(s.control, s.setup, image, table, from)
 }

@@ -19,11 +19,8 @@ use Rattle.spec.specs.declared.Refusal.{Refusal}
 use Rattle.session.specs.declared.Session.{Session}
 use Rattle.session.specs.State.{state_of}
 use Rattle.session.specs.Fits.{Proper, Fits}
-use Rattle.lookup.specs.declared.Counted.{Counted}
-use Rattle.lookup.specs.declared.Counted.TheVariants as C
-use Rattle.lookup.specs.declared.Listed.{Listed}
-use Rattle.lookup.specs.declared.Listed.TheVariants as L
-use Rattle.lookup.specs.Listing.{present_keys, listed_of}
+use Rattle.std.specs.Prelude.{Result, Ok, Err}
+use Rattle.lookup.specs.Listing.{Listed, present_keys, listed_of}
 use Rattle.lookup.specs.Contract.{Lists, KeysBehind}
 use Rattle.lookup.proofs.Alike.{gates, gated-alike}
 use Rattle.store.specs.List.{KeysListed, KeyListed}
@@ -64,19 +61,19 @@ module _ (s t : Session) (image table beside : List ℕ) (w : Same Proper state_
   -- one key
   pub key-alike : (key : ℕ) (r q : Listed) → KeyListed s key image table r → KeyListed t key image beside q → r ≡ q
   key-alike key r q x y =
-      gated-alike read_gate s t image image table beside w L.Refused (listed_of (read (state_of s)) (entries (state_of s)) key) r q (x.listed.gated s.buffer)
+      gated-alike read_gate s t image image table beside w (λ n. Err n) (listed_of (read (state_of s)) (entries (state_of s)) key) r q (x.listed.gated s.buffer)
       (λ e. x.listed.listed s.buffer e w.fits) (y.listed.gated t.buffer)
       (λ e. y.listed.listed t.buffer e w.also ∙ ap (λ (σ : State). listed_of (read σ) (entries σ) key) (sym w.state))
 
   -- all keys, into areas that held the same
-  pub keys-alike : (out one other : List ℕ) (r q : Counted) → KeysListed s image table out one r → KeysListed t image beside out other q → (r ≡ q) × (one ≡ other)
+  pub keys-alike : (out one other : List ℕ) (r q : Result ℕ Refusal) → KeysListed s image table out one r → KeysListed t image beside out other q → (r ≡ q) × (one ≡ other)
   keys-alike out one other r q x y = go r q x.listed.answered y.listed.answered
     where
-      go : (r q : Counted) → KeysBehind s.control s.setup image table out one r → KeysBehind t.control t.setup image beside out other q → (r ≡ q) × (one ≡ other)
-      go (C.Refused n) (C.Refused m) a b = (ap C.Refused (refused-once n m (a.0 s.buffer) (b.0 t.buffer)), a.1 ∙ sym b.1)
-      go (C.Refused n) (C.Keys d) a b = absurd (never_both n (a.0 s.buffer) (sym same-gates ∙ b.0 t.buffer))
-      go (C.Keys c) (C.Refused m) a b = absurd (never_both m (sym same-gates ∙ b.0 t.buffer) (a.0 s.buffer))
-      go (C.Keys c) (C.Keys d) a b =
+      go : (r q : Result ℕ Refusal) → KeysBehind s.control s.setup image table out one r → KeysBehind t.control t.setup image beside out other q → (r ≡ q) × (one ≡ other)
+      go (Err n) (Err m) a b = (ap (λ (x : Refusal). Err x) (refused-once n m (a.0 s.buffer) (b.0 t.buffer)), a.1 ∙ sym b.1)
+      go (Err n) (Ok d) a b = absurd (never_both n (a.0 s.buffer) (sym same-gates ∙ b.0 t.buffer))
+      go (Ok c) (Err m) a b = absurd (never_both m (sym same-gates ∙ b.0 t.buffer) (a.0 s.buffer))
+      go (Ok c) (Ok d) a b =
           let there : Lists (present_keys (read (state_of s)) (entries (state_of s))) out other d = rw w.state (b.3 t.buffer w.also) in
           let k = same_keys (present_keys (read (state_of s)) (entries (state_of s))) out one other c d x.listed.sized y.listed.sized (a.3 s.buffer w.fits) there a.2 b.2 in
-          (ap C.Keys k.0, k.1)
+          (ap (λ (x : ℕ). Ok x) k.0, k.1)

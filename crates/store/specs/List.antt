@@ -1,13 +1,13 @@
 -- What the listing of the present keys, and of one of them, answers through the station record. Record, image and table
 -- are as they were.
 -- Assumes nothing.
-use Rattle.std.specs.Prelude.{List, ℕ}
+use Rattle.std.specs.Prelude.{List, ℕ, Result}
 use Rattle.session.specs.declared.Session.{Session}
-use Rattle.lookup.specs.declared.Counted.{Counted}
-use Rattle.lookup.specs.declared.Listed.{Listed}
+use Rattle.spec.specs.declared.Refusal.{Refusal}
+use Rattle.lookup.specs.Listing.{Listed}
 use Rattle.lookup.specs.Contract.{ListingKeys, ListingKey}
 
-pub record KeysListed (s : Session) (bytes table keys keys' : List ℕ) (r : Counted) : Type 0 where
+pub record KeysListed (s : Session) (bytes table keys keys' : List ℕ) (r : Result ℕ Refusal) : Type 0 where
   pub listed : ListingKeys s.control s.setup bytes table keys keys' r
 
 pub record KeyListed (s : Session) (key : ℕ) (bytes table : List ℕ) (r : Listed) : Type 0 where

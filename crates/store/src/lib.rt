@@ -1,13 +1,14 @@
 // THE PUBLIC CALLS: thin functions over the station record, which is lent as one `&mut` and altered in place. Each
 // copies the record's small parts, lends its buffer where it lies to the core that does the work, and stores the small
 // parts back. Every call is lent record, image and key table. None has a `requires`: what each answers and leaves is
-// said by `Called`.
+// said by `Called`. Their shape, each the same few lines, is there for speed: the record is copied in parts and stored
+// back in parts, as the call alters them.
 #![tactic(auto)]
 
 ghost use Rattle.spec.specs.Machine.{Open, Commit, Clean, Format, Put, Delete, Abandon, Step};
 ghost use Rattle.formatting.specs.Begun.{given};
 ghost use Rattle.session.specs.Promise.{Does, memory};
-ghost use Rattle.spec.specs.declared.Given.TheVariants.{Absent, Number};
+ghost use Rattle.std.specs.Prelude.{None, Some};
 ghost use Rattle.staging.specs.Staging.{PutWhere, Short, Long};
 ghost use Rattle.running.specs.Run.{StepsOn, RunsOn};
 ghost use Rattle.running.specs.Fast.{FastStep, Finishing, OnFastPath, InStaging};
@@ -15,9 +16,9 @@ ghost use Rattle.store.specs.Look.{Reported, Shown};
 ghost use Rattle.store.specs.Choice.{Chosen};
 ghost use Rattle.store.specs.List.{KeysListed, KeyListed};
 
-use lookup::{Counted, Listed};
+use lookup::{Listing, Value};
 use session::Session;
-use spec::Report;
+use spec::{Refusal, Report};
 
 // OPENING AND FORMATTING
 // Begins a formatting, told the chunk power; the register's numbers are told each with a mark whether it is given.
@@ -67,11 +68,11 @@ pub fn open_register(s: &mut Session, image: &[u8], table: &mut [u64]) -> Report
 // STAGING
 // Begins staging a put of up to 4,088 bytes (65,528 in large chunks), for whatever version stands.
 pub fn stage_put(s: &mut Session, image: &[u8], table: &[u64], key: u64, value: &[u8]) -> Report
-    ensures { Does (Put Absent key value.now) (memory s.old image.now table.now) (memory s.new image.now table.now) result }
+    ensures { Does (Put None key value.now) (memory s.old image.now table.now) (memory s.new image.now table.now) result }
 {
     let c = s.control;
     let k = s.setup;
-    let m = staging::put_any(c, k, &mut s.buffer, image, table, key, value);
+    let m = staging::put_core(c, k, &mut s.buffer, image, table, key, value, None);
     s.control = m.control;
     s.setup = m.setup;
     m.report
@@ -87,11 +88,12 @@ pub fn stage_put_at(
     value: &[u8],
     version: u64,
 ) -> Report
-    ensures { Does (Put (Number version) key value.now) (memory s.old image.now table.now) (memory s.new image.now table.now) result }
+    ensures { Does (Put (Some version) key value.now) (memory s.old image.now table.now) (memory s.new image.now table.now) result }
 {
     let c = s.control;
     let k = s.setup;
-    let m = staging::put_at(c, k, &mut s.buffer, image, table, key, value, version);
+    let named = Some(version);
+    let m = staging::put_core(c, k, &mut s.buffer, image, table, key, value, named);
     s.control = m.control;
     s.setup = m.setup;
     m.report
@@ -100,7 +102,7 @@ pub fn stage_put_at(
 // A put for whatever version stands, of a value that goes into the log (`staging::is_short`); elsewhere nothing is
 // done. Of the record's small parts it alters the control alone.
 pub fn stage_short(s: &mut Session, image: &[u8], table: &[u64], key: u64, value: &[u8]) -> Report
-    ensures { PutWhere Short Absent key value.now (memory s.old image.now table.now) (memory s.new image.now table.now) result }
+    ensures { PutWhere Short None key value.now (memory s.old image.now table.now) (memory s.new image.now table.now) result }
 {
     let c = s.control;
     let k = s.setup;
@@ -111,7 +113,7 @@ pub fn stage_short(s: &mut Session, image: &[u8], table: &[u64], key: u64, value
 
 // The same for a longer value; elsewhere nothing is done.
 pub fn stage_long(s: &mut Session, image: &[u8], table: &[u64], key: u64, value: &[u8]) -> Report
-    ensures { PutWhere Long Absent key value.now (memory s.old image.now table.now) (memory s.new image.now table.now) result }
+    ensures { PutWhere Long None key value.now (memory s.old image.now table.now) (memory s.new image.now table.now) result }
 {
     let c = s.control;
     let k = s.setup;
@@ -123,11 +125,11 @@ pub fn stage_long(s: &mut Session, image: &[u8], table: &[u64], key: u64, value:
 
 // Begins staging a delete, for whatever version stands.
 pub fn stage_delete(s: &mut Session, image: &[u8], table: &[u64], key: u64) -> Report
-    ensures { Does (Delete Absent key) (memory s.old image.now table.now) (memory s.new image.now table.now) result }
+    ensures { Does (Delete None key) (memory s.old image.now table.now) (memory s.new image.now table.now) result }
 {
     let c = s.control;
     let k = s.setup;
-    let m = staging::delete_any(c, k, &mut s.buffer, image, table, key);
+    let m = staging::delete_core(c, k, &mut s.buffer, image, table, key, None);
     s.control = m.control;
     m.report
 }
@@ -140,11 +142,12 @@ pub fn stage_delete_at(
     key: u64,
     version: u64,
 ) -> Report
-    ensures { Does (Delete (Number version) key) (memory s.old image.now table.now) (memory s.new image.now table.now) result }
+    ensures { Does (Delete (Some version) key) (memory s.old image.now table.now) (memory s.new image.now table.now) result }
 {
     let c = s.control;
     let k = s.setup;
-    let m = staging::delete_at(c, k, &mut s.buffer, image, table, key, version);
+    let named = Some(version);
+    let m = staging::delete_core(c, k, &mut s.buffer, image, table, key, named);
     s.control = m.control;
     m.report
 }
@@ -276,25 +279,27 @@ pub fn find(s: &Session, image: &[u8], table: &[u64], key: u64) -> Report
     lookup::find(c, k, image, table, key)
 }
 
-// Look-up: the part of the image that holds the value, the empty part on a refusal; `answer` gets 0 or the refusal's
-// number, `version` the value's, 0 on a refusal.
+// Look-up: the value where it lies in the image, with its version, or the refusal. The record is only read.
 pub fn look_up<'a>(
     s: &Session,
     image: &'a [u8],
     table: &[u64],
     key: u64,
-    answer: &mut u64,
-    version: &mut u64,
-) -> &'a [u8]
-    ensures { Shown s.now key image.now table.now result.now answer.new version.new }
+) -> Result<Value<'a>, Refusal>
+    ensures { Shown s.now key image.now table.now result }
 {
     let c = s.control;
     let k = s.setup;
-    lookup::look_up_core(c, k, image, table, key, answer, version)
+    lookup::look_up_core(c, k, image, table, key)
 }
 
 // The present keys, rising, into the lent words as far as these reach, and how many there are. The record is only read.
-pub fn list_keys(s: &Session, image: &[u8], table: &[u64], keys: &mut [u64]) -> Counted
+pub fn list_keys(
+    s: &Session,
+    image: &[u8],
+    table: &[u64],
+    keys: &mut [u64],
+) -> Result<usize, Refusal>
     ensures { KeysListed s.now image.now table.now keys.old keys.new result }
 {
     let c = s.control;
@@ -303,7 +308,7 @@ pub fn list_keys(s: &Session, image: &[u8], table: &[u64], keys: &mut [u64]) -> 
 }
 
 // Of a present key its version, its value's length, and whether a block has it. The record is only read.
-pub fn list_key(s: &Session, image: &[u8], table: &[u64], key: u64) -> Listed
+pub fn list_key(s: &Session, image: &[u8], table: &[u64], key: u64) -> Result<Listing, Refusal>
     ensures { KeyListed s.now key image.now table.now result }
 {
     let c = s.control;

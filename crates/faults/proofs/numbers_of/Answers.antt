@@ -2,11 +2,8 @@
 -- Assumes nothing.
 use Rattle.faults.proofs.numbers_of.Goals as goal
 
-pub returns-in-Nothing : goal.returns-in-Nothing
-returns-in-Nothing c = rw (c.place_at.ensures, c.in-Nothing.is)
-
 pub returns-in-Length : goal.returns-in-Length
-returns-in-Length c = rw (c.place_at-in-Length.ensures, c.in-Length.is)
+returns-in-Length c = rw (c.place_at.ensures, c.in-Length.is)
 
 pub returns-in-Header : goal.returns-in-Header
 returns-in-Header c = rw (c.place_at-in-Header.ensures, c.in-Header.is)

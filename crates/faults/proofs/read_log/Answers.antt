@@ -19,7 +19,7 @@ returns-then-count-chunk c =
     sym
     (c.loop-chunk.invariant.0 ∙ stops-not (power_of c.args.size) c.args.count (words_of c.args.image.now)
     c.loop-chunk.before c.loop-chunk.chunk c.loop-chunk.at c.loop-chunk.end
-    (sym c.next_entry-s.ensures ∙ c.in-End.is) (omega arith))
+    (sym c.in-End.ensures) (omega arith))
 
 pub first_word-at-requires : goal.first_word-at-requires
 first_word-at-requires c =
@@ -38,7 +38,7 @@ loop-chunk-preserved-in-End c =
     let w = c.loop-chunk in (
       w.invariant.0
           ∙ goes-chunk (power_of a.size) a.count (words_of a.image.now) w.before w.chunk w.at w.end _
-          (sym c.next_entry-s.ensures ∙ c.in-End.is) (omega arith)
+          (sym c.in-End.ensures) (omega arith)
           c.lines_of-lines.ensures.0
           ∙ ap (λ (b : ℕ). stop_by w.before (left_from (power_of a.size) a.count (words_of a.image.now) (w.chunk + 1) b (b + 8 * c.lines_of-lines.result))) (sym c.first_word-at.ensures),
       omega arith,
@@ -50,27 +50,27 @@ returns-in-Wrong c =
     sym
     (c.loop-chunk.invariant.0 ∙ stops-here (power_of c.args.size) c.args.count (words_of c.args.image.now)
     c.loop-chunk.before c.loop-chunk.chunk c.loop-chunk.at c.loop-chunk.end
-    (sym c.next_entry-s.ensures ∙ c.in-Wrong.is))
+    (sym c.in-Wrong.ensures))
 
 pub overflow_add-at : goal.overflow_add-at
 overflow_add-at c =
     let r = room-padding (words_of c.args.image.now) c.loop-chunk.at
-    c.loop-chunk.end (sym c.next_entry-s.ensures ∙ c.in-Padding.is) in
+    c.loop-chunk.end (sym c.in-Padding.ensures) in
     let n = length-words_of c.args.image.now in omega arith
 
 pub loop-chunk-smaller-in-Padding : goal.loop-chunk-smaller-in-Padding
 loop-chunk-smaller-in-Padding c =
     let r = room-padding (words_of c.args.image.now) c.loop-chunk.at
-    c.loop-chunk.end (sym c.next_entry-s.ensures ∙ c.in-Padding.is) in
+    c.loop-chunk.end (sym c.in-Padding.ensures) in
     omega arith
 
 pub loop-chunk-preserved-in-Padding : goal.loop-chunk-preserved-in-Padding
 loop-chunk-preserved-in-Padding c =
     let r = room-padding (words_of c.args.image.now) c.loop-chunk.at c.loop-chunk.end
-    (sym c.next_entry-s.ensures ∙ c.in-Padding.is) in (
+    (sym c.in-Padding.ensures) in (
       c.loop-chunk.invariant.0 ∙ goes-padding (power_of c.args.size) c.args.count (words_of c.args.image.now)
           c.loop-chunk.before c.loop-chunk.chunk c.loop-chunk.at c.loop-chunk.end
-          (sym c.next_entry-s.ensures ∙ c.in-Padding.is),
+          (sym c.in-Padding.ensures),
       omega arith,
       omega arith,
     )
@@ -79,32 +79,32 @@ pub overflow_add-at-in-Entry : goal.overflow_add-at-in-Entry
 overflow_add-at-in-Entry c =
     let r = room-entry (words_of c.args.image.now) c.loop-chunk.at c.loop-chunk.end _ _ _ _ _
     c.in-Entry.words
-    (sym c.next_entry-s.ensures ∙ c.in-Entry.is) in
+    (sym c.in-Entry.ensures) in
     let n = length-words_of c.args.image.now in omega arith
 
 pub overflow_add-at-in-Entry-2 : goal.overflow_add-at-in-Entry-2
 overflow_add-at-in-Entry-2 c =
     let r = room-entry (words_of c.args.image.now) c.loop-chunk.at c.loop-chunk.end _ _ _ _ _
     c.in-Entry.words
-    (sym c.next_entry-s.ensures ∙ c.in-Entry.is) in
+    (sym c.in-Entry.ensures) in
     let n = length-words_of c.args.image.now in omega arith
 
 pub loop-chunk-smaller : goal.loop-chunk-smaller
 loop-chunk-smaller c =
     let r = room-entry (words_of c.args.image.now) c.loop-chunk.at c.loop-chunk.end _ _ _ _ _
     c.in-Entry.words
-    (sym c.next_entry-s.ensures ∙ c.in-Entry.is) in
+    (sym c.in-Entry.ensures) in
     omega arith
 
 pub loop-chunk-preserved : goal.loop-chunk-preserved
 loop-chunk-preserved c =
     let r = room-entry (words_of c.args.image.now) c.loop-chunk.at c.loop-chunk.end _ _ _ _ _
     c.in-Entry.words
-    (sym c.next_entry-s.ensures ∙ c.in-Entry.is) in (
+    (sym c.in-Entry.ensures) in (
       c.loop-chunk.invariant.0 ∙ goes-entry (power_of c.args.size) c.args.count (words_of c.args.image.now)
           c.loop-chunk.before c.loop-chunk.chunk c.loop-chunk.at c.loop-chunk.end _ _ _ _ _
           c.in-Entry.words
-          (sym c.next_entry-s.ensures ∙ c.in-Entry.is),
+          (sym c.in-Entry.ensures),
       omega arith,
       omega arith,
     )

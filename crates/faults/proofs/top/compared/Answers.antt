@@ -5,5 +5,5 @@ use Rattle.faults.proofs.top.compared.Goals as goal
 pub returns-then-agreed : goal.returns-then-agreed
 returns-then-agreed c = record { same = c.agreed.result; agrees = c.agreed.ensures; least-is = rw c.if-agreed.true }
 
-pub returns : goal.returns
-returns c = record { same = c.agreed.result; agrees = c.agreed.ensures; least-is = rw c.if-agreed.false c.least.ensures }
+pub returns-else-agreed : goal.returns-else-agreed
+returns-else-agreed c = record { same = c.agreed.result; agrees = c.agreed.ensures; least-is = rw c.if-agreed.false c.least.ensures }

@@ -13,8 +13,8 @@ returns-then-one-eq-SEVERAL c =
 
 pub returns-then-load-key : goal.returns-then-load-key
 returns-then-load-key c =
-    rw (ne_eqb _ 0 c.if-one-eq0.false, ne_eqb _ 1 c.if-one-eq-SEVERAL.false, length-words_of c.args.image.now, ← c.lesser.ensures, ← c.load.ensures, eq-eqb _ _ c.if-load-key.true, c.lesser-then-load-key.ensures)
+    rw (ne_eqb _ 0 c.if-one-eq0.false, ne_eqb _ 1 c.if-one-eq-SEVERAL.false, length-words_of c.args.image.now, ← c.min.ensures, ← c.load.ensures, eq-eqb _ _ c.if-load-key.true, c.min-then-load-key.ensures)
 
 pub returns : goal.returns
 returns c =
-    rw (ne_eqb _ 0 c.if-one-eq0.false, ne_eqb _ 1 c.if-one-eq-SEVERAL.false, length-words_of c.args.image.now, ← c.lesser.ensures, ← c.load.ensures, ne_eqb _ _ c.if-load-key.false, c.least-3.ensures, c.least-2.ensures)
+    rw (ne_eqb _ 0 c.if-one-eq0.false, ne_eqb _ 1 c.if-one-eq-SEVERAL.false, length-words_of c.args.image.now, ← c.min.ensures, ← c.load.ensures, ne_eqb _ _ c.if-load-key.false, c.least-3.ensures, c.least-2.ensures)

@@ -5,7 +5,7 @@ use Prim.Native.Nat.{ℕ}
 use native.Mathlib.Omega.{arith}
 use lib.ListN.{length-replicate}
 use Rattle.spec.specs.Words.{words_of}
-use Rattle.consistency.proofs.Tests.{wide_enough}
+use Rattle.consistency.proofs.Tests.{known_of}
 use Rattle.faults.proofs.Sweeps.{done_none, done_next}
 use Rattle.faults.proofs.Ends.{spotted}
 use Rattle.faults.proofs.top.spots_with.Goals as goal
@@ -22,48 +22,34 @@ loop-low-init c =
     )
 
 pub slice_bounds-collect-end : goal.slice_bounds-collect-end
-slice_bounds-collect-end c =
-    sym c.loop-low.invariant.0
+slice_bounds-collect-end c = sym c.loop-low.invariant.0
 
-pub slice_bounds-sweep-end : goal.slice_bounds-sweep-end
-slice_bounds-sweep-end c =
-    sym (c.collect-c.ensures.sized ∙ c.loop-low.invariant.0)
-
-pub loop-low-smaller-then-is_enough : goal.loop-low-smaller-then-is_enough
-loop-low-smaller-then-is_enough c =
-    let i = c.loop-low.invariant in
-    let h = c.range_end-high.ensures in
-    let w = c.next_width-width.ensures in
-    omega arith
-
-pub loop-low-preserved-then-is_enough : goal.loop-low-preserved-then-is_enough
-loop-low-preserved-then-is_enough c =
+pub loop-low-preserved-in-Some : goal.loop-low-preserved-in-Some
+loop-low-preserved-in-Some c =
     let i = c.loop-low.invariant in
     let h = c.range_end-high.ensures in
     let w = c.next_width-width.ensures in
     let s = c.sweep-s.ensures in (
-      c.collect-c.ensures.sized ∙ i.0,
+      c.collect-keys.ensures.sized ∙ i.0,
       s.sized ∙ i.1,
       h.1,
       w.0,
       w.1,
-      done_next _ _ _ _ _ _ i.5 _ (omega arith) _ _ _ _ c.collect-c.ensures _ c.sweep-s.result s,
+      done_next _ _ _ _ _ _ i.5 _ (omega arith) _ _ _ _ _ c.collect-keys.ensures (known_of _ _ _ c.and-known.ensures) _ c.sweep-s.result s,
     )
-
-pub loop-low-smaller : goal.loop-low-smaller
-loop-low-smaller c =
-    let i = c.loop-low.invariant in
-    let w = wide_enough c.collect-c.result.fits c.loop-low.width (sym c.is_enough.ensures ∙ c.if-is_enough.false) in
-    omega arith
 
 pub loop-low-preserved : goal.loop-low-preserved
 loop-low-preserved c =
     let i = c.loop-low.invariant in
-    let w = wide_enough c.collect-c.result.fits c.loop-low.width (sym c.is_enough.ensures ∙ c.if-is_enough.false) in
-    (c.collect-c.ensures.sized ∙ i.0, i.1, i.2, omega arith, omega arith, i.5)
-
-pub shape_of-units : goal.shape_of-units
-shape_of-units c = c.loop-low.invariant.1
+    let h = c.range_end-high.ensures in
+    let s = c.sweep-s.ensures in (
+      c.collect-keys.ensures.sized ∙ i.0,
+      s.sized ∙ i.1,
+      h.1,
+      i.3,
+      i.4,
+      done_next _ _ _ _ _ _ i.5 _ (omega arith) _ _ _ _ _ c.collect-keys.ensures (known_of _ _ _ c.and-known.ensures) _ c.sweep-s.result s,
+    )
 
 pub returns : goal.returns
 returns c =

@@ -1,11 +1,12 @@
--- The loops of `faults::top::sweep`. The loop's invariant: what is found is found of the entries that are passed.
+-- The loop of `faults::top::sweep`. Its invariant: what is found is found of the entries that are passed.
 use Rattle.spec.specs.Words.{words_of}
 use Rattle.logs.specs.Cursor.{left}
+use Rattle.consistency.specs.Classes.{table_in, holds_keys}
 use Rattle.faults.proofs.Sweeps.{Going}
 use Rattle.faults.proofs.top.sweep.Given as goal
 
-abbrev pub invariant-loop-s : goal.invariant-loop-s
-invariant-loop-s l = Going l.size l.count (words_of l.image) l.table l.fits l.low l.high l.initial.s l.initial.units l.units l.s l.cursor
+abbrev pub invariant-loop-e : goal.invariant-loop-e
+invariant-loop-e l = Going l.size l.count (words_of l.image) (table_in l.known) (holds_keys l.known) l.classes.low l.classes.high l.initial.s l.initial.units l.units l.s l.cursor
 
-abbrev pub decreases-loop-s : goal.decreases-loop-s
-decreases-loop-s l = left l.count (words_of l.image) l.cursor
+abbrev pub decreases-loop-e : goal.decreases-loop-e
+decreases-loop-e l = left l.count (words_of l.image) l.cursor

@@ -2,27 +2,24 @@
 -- Assumes nothing.
 use Rattle.std.proofs.Common.{sym, ap, ◌∙◌}
 use Rattle.spec.specs.Words.{words_of}
-use Rattle.logs.proofs.Walk.{remaining-start, handed, fold_done, fold-wrong, fold-entry}
+use Rattle.logs.proofs.Walk.{remaining-start, fold_done, fold-wrong, fold-entry}
 use Rattle.inspect.specs.ChunkCounts.{block_next, or_zero, blocks_by}
 use Rattle.places.specs.Sizes.{power_of}
 use Rattle.inspect.proofs.counts.count_blocks.Goals as goal
 
-pub loop-op-init : goal.loop-op-init
-loop-op-init c = rw (c.first_cursor-cursor.ensures, remaining-start (power_of c.args.size) c.args.count (words_of c.args.image.now))
+pub loop-e-init : goal.loop-e-init
+loop-e-init c = rw (c.first_cursor-cursor.ensures, remaining-start (power_of c.args.size) c.args.count (words_of c.args.image.now))
 
-pub returns-in-Done : goal.returns-in-Done
+pub returns-in-Ok-None : goal.returns-in-Ok-None
 unfolding blocks_by
-returns-in-Done c =
-    sym (ap or_zero (c.loop-op.invariant ∙ fold_done _ _ _ _ _ c.next_in_log-n.ensures (block_next c.args.size _ _) _ c.in-Done.is))
+returns-in-Ok-None c = sym (ap or_zero (c.loop-e.invariant ∙ fold_done _ _ _ _ (block_next c.args.size _ _) _ (rw c.in-Ok-None.field-0-is at c.in-Ok-None.ensures)))
 
-pub returns-in-Wrong : goal.returns-in-Wrong
+pub returns-in-Err : goal.returns-in-Err
 unfolding blocks_by
-returns-in-Wrong c =
-    sym (ap or_zero (c.loop-op.invariant ∙ fold-wrong _ _ _ _ _ c.next_in_log-n.ensures (block_next c.args.size _ _) _ c.in-Wrong.is))
+returns-in-Err c = sym (ap or_zero (c.loop-e.invariant ∙ fold-wrong _ _ _ _ (block_next c.args.size _ _) _ c.in-Err.ensures))
 
-pub loop-op-smaller : goal.loop-op-smaller
-loop-op-smaller c = (handed _ _ _ _ _ c.next_in_log-n.ensures _ _ _ _ _ _ _ _ c.in-Entry.is).falls
+pub loop-e-smaller : goal.loop-e-smaller
+loop-e-smaller c = (rw c.in-Ok-Some.field-0-is at c.in-Ok-Some.ensures).falls
 
-pub loop-op-preserved : goal.loop-op-preserved
-loop-op-preserved c =
-    rw c.count_block-used.ensures (c.loop-op.invariant ∙ fold-entry _ _ _ _ _ c.next_in_log-n.ensures (block_next c.args.size _ _) _ _ _ _ _ _ _ _ _ c.in-Entry.is)
+pub loop-e-preserved : goal.loop-e-preserved
+loop-e-preserved c = rw c.count_block-used.ensures (c.loop-e.invariant ∙ fold-entry _ _ _ _ (block_next c.args.size _ _) _ _ (rw c.in-Ok-Some.field-0-is at c.in-Ok-Some.ensures))

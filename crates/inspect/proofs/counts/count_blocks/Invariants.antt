@@ -9,8 +9,8 @@ use Rattle.inspect.specs.ChunkCounts.{block_next}
 use Rattle.places.specs.Sizes.{power_of}
 use Rattle.inspect.proofs.counts.count_blocks.Given as goal
 
-abbrev pub invariant-loop-op : goal.invariant-loop-op
-invariant-loop-op l = fold_p (block_next l.size l.table l.chunk) 0 (image_entries (power_of l.size) l.count (words_of l.image)) ≡ fold_p (block_next l.size l.table l.chunk) l.used (remaining (power_of l.size) l.count (words_of l.image) l.cursor)
+abbrev pub invariant-loop-e : goal.invariant-loop-e
+invariant-loop-e l = fold_p (block_next l.size l.table l.chunk) 0 (image_entries (power_of l.size) l.count (words_of l.image)) ≡ fold_p (block_next l.size l.table l.chunk) l.used (remaining (power_of l.size) l.count (words_of l.image) l.cursor)
 
-abbrev pub decreases-loop-op : goal.decreases-loop-op
-decreases-loop-op l = left l.count (words_of l.image) l.cursor
+abbrev pub decreases-loop-e : goal.decreases-loop-e
+decreases-loop-e l = left l.count (words_of l.image) l.cursor

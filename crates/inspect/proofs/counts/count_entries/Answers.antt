@@ -2,27 +2,24 @@
 -- Assumes nothing.
 use Rattle.std.proofs.Common.{sym, ap, ◌∙◌, arith}
 use Rattle.spec.specs.Words.{words_of}
-use Rattle.logs.proofs.Walk.{remaining-chunk, handed, fold_done, fold-wrong, fold-entry}
+use Rattle.logs.proofs.Walk.{remaining-chunk, fold_done, fold-wrong, fold-entry}
 use Rattle.inspect.specs.ChunkCounts.{count_next, or_nothing, tally_by}
 use Rattle.places.specs.Sizes.{power_of}
 use Rattle.inspect.proofs.counts.count_entries.Goals as goal
 
-pub loop-t-init : goal.loop-t-init
-loop-t-init c = rw (remaining-chunk (power_of c.args.size) (words_of c.args.image.now) c.args.chunk 0 c.chunk_cursor-cursor.result (omega arith) c.chunk_cursor-cursor.ensures)
+pub loop-e-init : goal.loop-e-init
+loop-e-init c = rw (remaining-chunk (power_of c.args.size) (words_of c.args.image.now) c.args.chunk 0 c.chunk_cursor-cursor.result (omega arith) c.chunk_cursor-cursor.ensures)
 
-pub returns-in-Done : goal.returns-in-Done
+pub returns-in-Ok-None : goal.returns-in-Ok-None
 unfolding tally_by
-returns-in-Done c =
-    sym (ap or_nothing (c.loop-t.invariant ∙ fold_done _ _ _ _ _ c.next_in_log-n.ensures (count_next c.args.size _) _ c.in-Done.is))
+returns-in-Ok-None c = sym (ap or_nothing (c.loop-e.invariant ∙ fold_done _ _ _ _ (count_next c.args.size _) _ (rw c.in-Ok-None.field-0-is at c.in-Ok-None.ensures)))
 
-pub returns-in-Wrong : goal.returns-in-Wrong
+pub returns-in-Err : goal.returns-in-Err
 unfolding tally_by
-returns-in-Wrong c =
-    sym (ap or_nothing (c.loop-t.invariant ∙ fold-wrong _ _ _ _ _ c.next_in_log-n.ensures (count_next c.args.size _) _ c.in-Wrong.is))
+returns-in-Err c = sym (ap or_nothing (c.loop-e.invariant ∙ fold-wrong _ _ _ _ (count_next c.args.size _) _ c.in-Err.ensures))
 
-pub loop-t-smaller : goal.loop-t-smaller
-loop-t-smaller c = (handed _ _ _ _ _ c.next_in_log-n.ensures _ _ _ _ _ _ _ _ c.in-Entry.is).falls
+pub loop-e-smaller : goal.loop-e-smaller
+loop-e-smaller c = (rw c.in-Ok-Some.field-0-is at c.in-Ok-Some.ensures).falls
 
-pub loop-t-preserved : goal.loop-t-preserved
-loop-t-preserved c =
-    rw c.count_entry-t.ensures (c.loop-t.invariant ∙ fold-entry _ _ _ _ _ c.next_in_log-n.ensures (count_next c.args.size _) _ _ _ _ _ _ _ _ _ c.in-Entry.is)
+pub loop-e-preserved : goal.loop-e-preserved
+loop-e-preserved c = rw c.count_entry-t.ensures (c.loop-e.invariant ∙ fold-entry _ _ _ _ (count_next c.args.size _) _ _ (rw c.in-Ok-Some.field-0-is at c.in-Ok-Some.ensures))

@@ -9,8 +9,8 @@ use Rattle.inspect.specs.ChunkCounts.{nothing, count_next}
 use Rattle.places.specs.Sizes.{power_of}
 use Rattle.inspect.proofs.counts.count_entries.Given as goal
 
-abbrev pub invariant-loop-t : goal.invariant-loop-t
-invariant-loop-t l = fold_p (count_next l.size l.table) nothing (chunk_entries (power_of l.size) (words_of l.image) l.chunk) ≡ fold_p (count_next l.size l.table) l.t (remaining (power_of l.size) 0 (words_of l.image) l.cursor)
+abbrev pub invariant-loop-e : goal.invariant-loop-e
+invariant-loop-e l = fold_p (count_next l.size l.table) nothing (chunk_entries (power_of l.size) (words_of l.image) l.chunk) ≡ fold_p (count_next l.size l.table) l.t (remaining (power_of l.size) 0 (words_of l.image) l.cursor)
 
-abbrev pub decreases-loop-t : goal.decreases-loop-t
-decreases-loop-t l = left 0 (words_of l.image) l.cursor
+abbrev pub decreases-loop-e : goal.decreases-loop-e
+decreases-loop-e l = left 0 (words_of l.image) l.cursor

@@ -2,32 +2,21 @@
 -- Assumes nothing.
 use Rattle.std.proofs.Common.{refl, ◌∙◌, rules}
 use Rattle.spec.specs.Words.{words_of}
-use Rattle.logs.proofs.Walk.{remaining-start, handed, fold_done, fold-wrong, fold-entry}
+use Rattle.logs.proofs.Walk.{remaining-start, fold-entry}
 use Rattle.inspect.specs.Filling.{pass}
 use Rattle.places.specs.Sizes.{power_of}
+use Rattle.inspect.proofs.Filled.{leaves-end}
 use Rattle.inspect.proofs.entries.fill.Goals as goal
 
-pub loop-op-init : goal.loop-op-init
-loop-op-init c = let a = c.args in (refl, rw (c.first_cursor-cursor.ensures, remaining-start (power_of a.size) a.chunks (words_of a.image.now)))
+pub loop-e-init : goal.loop-e-init
+loop-e-init c = let a = c.args in (refl, rw (c.first_cursor-cursor.ensures, remaining-start (power_of a.size) a.chunks (words_of a.image.now)))
 
-pub shape_of-out-in-Done : goal.shape_of-out-in-Done
-shape_of-out-in-Done c = c.loop-op.invariant.0
+pub loop-e-smaller : goal.loop-e-smaller
+loop-e-smaller c = (rw c.in-Ok-Some.field-0-is at c.in-Ok-Some.ensures).falls
 
-pub returns-in-Done : goal.returns-in-Done
-returns-in-Done c =
-    rw (c.loop-op.invariant.1 ∙ fold_done _ _ _ _ _ c.next_in_log-n.ensures (pass _ _ _) _ c.in-Done.is) (refl, refl)
+pub loop-e-preserved : goal.loop-e-preserved
+loop-e-preserved c =
+    (search rules, rw c.take_entry-count.ensures (c.loop-e.invariant.1 ∙ fold-entry _ _ _ _ (pass _ _ _) _ _ (rw c.in-Ok-Some.field-0-is at c.in-Ok-Some.ensures)))
 
-pub shape_of-out-in-Wrong : goal.shape_of-out-in-Wrong
-shape_of-out-in-Wrong c = c.loop-op.invariant.0
-
-pub returns-in-Wrong : goal.returns-in-Wrong
-returns-in-Wrong c =
-    rw (c.loop-op.invariant.1 ∙ fold-wrong _ _ _ _ _ c.next_in_log-n.ensures (pass _ _ _) _ c.in-Wrong.is) tt
-
-pub loop-op-smaller : goal.loop-op-smaller
-loop-op-smaller c =
-    (handed _ _ _ _ _ c.next_in_log-n.ensures _ _ _ _ _ _ _ _ c.in-Entry.is).falls
-
-pub loop-op-preserved : goal.loop-op-preserved
-loop-op-preserved c =
-    (search rules, rw c.take_entry-count.ensures (c.loop-op.invariant.1 ∙ fold-entry _ _ _ _ _ c.next_in_log-n.ensures (pass _ _ _) _ _ _ _ _ _ _ _ _ c.in-Entry.is))
+pub returns-in_default : goal.returns-in_default
+returns-in_default c = rw c.loop-e.invariant.1 (leaves-end _ _ _ _ _ c.next_in_log.ensures (λ e q. let d = c.in_default in cc) (pass _ _ _) _)

@@ -9,10 +9,10 @@ use Rattle.inspect.specs.Filling.{filling, pass}
 use Rattle.places.specs.Sizes.{power_of}
 use Rattle.inspect.proofs.entries.fill.Given as goal
 
-abbrev pub invariant-loop-op : goal.invariant-loop-op
-invariant-loop-op l =
+abbrev pub invariant-loop-e : goal.invariant-loop-e
+invariant-loop-e l =
     (length l.out ≡ length l.initial.out)
     × (fold_p (pass l.key l.from l.best) (filling l.initial.out 0) (image_entries (power_of l.size) l.chunks (words_of l.image)) ≡ fold_p (pass l.key l.from l.best) (filling l.out l.count) (remaining (power_of l.size) l.chunks (words_of l.image) l.cursor))
 
-abbrev pub decreases-loop-op : goal.decreases-loop-op
-decreases-loop-op l = left l.chunks (words_of l.image) l.cursor
+abbrev pub decreases-loop-e : goal.decreases-loop-e
+decreases-loop-e l = left l.chunks (words_of l.image) l.cursor

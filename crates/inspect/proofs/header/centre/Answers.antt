@@ -3,8 +3,8 @@
 use Rattle.inspect.proofs.Numbers.{centre-right, centre-wrong}
 use Rattle.inspect.proofs.header.centre.Goals as goal
 
-pub returns-then-is_taken : goal.returns-then-is_taken
-returns-then-is_taken c = centre-right _ _ _ c.is_taken.ensures c.if-is_taken.true _ _ _ c.load-map.ensures c.load-first.ensures c.load-second.ensures _ c.centre_by.ensures
+pub returns-then-not-is_taken : goal.returns-then-not-is_taken
+returns-then-not-is_taken c = centre-wrong _ _ _ c.is_taken.ensures c.if-not-is_taken.true
 
 pub returns : goal.returns
-returns c = centre-wrong _ _ _ c.is_taken.ensures c.if-is_taken.false
+returns c = centre-right _ _ _ c.is_taken.ensures c.if-not-is_taken.false _ _ _ c.load.ensures c.load-first.ensures c.load-second.ensures _ c.centre_by.ensures

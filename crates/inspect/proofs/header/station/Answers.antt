@@ -3,8 +3,8 @@
 use Rattle.inspect.proofs.Numbers.{station-right, station-wrong}
 use Rattle.inspect.proofs.header.station.Goals as goal
 
-pub returns-then-is_taken : goal.returns-then-is_taken
-returns-then-is_taken c = station-right _ _ _ c.is_taken.ensures c.if-is_taken.true _ _ c.load-map.ensures c.load-first.ensures _ c.station_by.ensures
+pub returns-then-not-is_taken : goal.returns-then-not-is_taken
+returns-then-not-is_taken c = station-wrong _ _ _ c.is_taken.ensures c.if-not-is_taken.true
 
 pub returns : goal.returns
-returns c = station-wrong _ _ _ c.is_taken.ensures c.if-is_taken.false
+returns c = station-right _ _ _ c.is_taken.ensures c.if-not-is_taken.false _ _ c.load.ensures c.load-2.ensures _ c.station_by.ensures

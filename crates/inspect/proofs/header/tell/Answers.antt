@@ -3,8 +3,8 @@
 use Rattle.std.proofs.Common.{refl}
 use Rattle.inspect.proofs.header.tell.Goals as goal
 
-pub returns-in-Number : goal.returns-in-Number
-returns-in-Number c = rw c.in-Number.is (refl, refl)
+pub returns-in-Some : goal.returns-in-Some
+returns-in-Some c = rw c.in-Some.is (refl, refl)
 
-pub returns-in-Absent : goal.returns-in-Absent
-returns-in-Absent c = rw c.in-Absent.is (refl, refl)
+pub returns-in-None : goal.returns-in-None
+returns-in-None c = rw c.in-None.is (refl, refl)

@@ -3,4 +3,4 @@
 use Rattle.inspect.proofs.header.tell_centre.Goals as goal
 
 pub returns : goal.returns
-returns c = rw (← c.centre-given.ensures) c.tell.ensures
+returns c = rw (← c.centre.ensures) c.tell.ensures

@@ -3,4 +3,4 @@
 use Rattle.inspect.proofs.header.tell_station.Goals as goal
 
 pub returns : goal.returns
-returns c = rw (← c.station-given.ensures) c.tell.ensures
+returns c = rw (← c.station.ensures) c.tell.ensures

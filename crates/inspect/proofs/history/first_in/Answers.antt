@@ -2,24 +2,24 @@
 -- Assumes nothing.
 use Rattle.std.proofs.Common.{sym, ap, ◌∙◌}
 use Rattle.spec.specs.Words.{words_of}
-use Rattle.logs.proofs.Walk.{remaining-start, handed, fold_done, fold-wrong, fold-entry}
+use Rattle.logs.proofs.Walk.{remaining-start, fold_done, fold-wrong, fold-entry}
 use Rattle.inspect.specs.History.{pass, or_none, first_in}
 use Rattle.places.specs.Sizes.{power_of}
 use Rattle.inspect.proofs.history.first_in.Goals as goal
 
-pub loop-so-init : goal.loop-so-init
-loop-so-init c = let a = c.args in rw (c.first_cursor-cursor.ensures, remaining-start (power_of a.size) a.count (words_of a.image.now))
+pub loop-e-init : goal.loop-e-init
+loop-e-init c = let a = c.args in rw (c.none-so.ensures, c.first_cursor-cursor.ensures, remaining-start (power_of a.size) a.count (words_of a.image.now))
 
-pub returns-in-Done : goal.returns-in-Done
+pub returns-in-Ok-None : goal.returns-in-Ok-None
 unfolding first_in
-returns-in-Done c = sym (ap or_none (c.loop-so.invariant ∙ fold_done _ _ _ _ _ c.next_in_log-n.ensures (pass _ _) _ c.in-Done.is))
+returns-in-Ok-None c = sym (ap or_none (c.loop-e.invariant ∙ fold_done _ _ _ _ (pass _ _) _ (rw c.in-Ok-None.field-0-is at c.in-Ok-None.ensures)))
 
-pub returns-in-Wrong : goal.returns-in-Wrong
+pub returns-in-Err : goal.returns-in-Err
 unfolding first_in
-returns-in-Wrong c = sym (ap or_none (c.loop-so.invariant ∙ fold-wrong _ _ _ _ _ c.next_in_log-n.ensures (pass _ _) _ c.in-Wrong.is))
+returns-in-Err c = c.none.ensures ∙ sym (ap or_none (c.loop-e.invariant ∙ fold-wrong _ _ _ _ (pass _ _) _ c.in-Err.ensures))
 
-pub loop-so-smaller : goal.loop-so-smaller
-loop-so-smaller c = (handed _ _ _ _ _ c.next_in_log-n.ensures _ _ _ _ _ _ _ _ c.in-Entry.is).falls
+pub loop-e-smaller : goal.loop-e-smaller
+loop-e-smaller c = (rw c.in-Ok-Some.field-0-is at c.in-Ok-Some.ensures).falls
 
-pub loop-so-preserved : goal.loop-so-preserved
-loop-so-preserved c = rw c.note-so.ensures (c.loop-so.invariant ∙ fold-entry _ _ _ _ _ c.next_in_log-n.ensures (pass _ _) _ _ _ _ _ _ _ _ _ c.in-Entry.is)
+pub loop-e-preserved : goal.loop-e-preserved
+loop-e-preserved c = rw c.note-so.ensures (c.loop-e.invariant ∙ fold-entry _ _ _ _ (pass _ _) _ _ (rw c.in-Ok-Some.field-0-is at c.in-Ok-Some.ensures))

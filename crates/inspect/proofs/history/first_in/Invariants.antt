@@ -9,8 +9,8 @@ use Rattle.inspect.specs.History.{no_entry, pass}
 use Rattle.places.specs.Sizes.{power_of}
 use Rattle.inspect.proofs.history.first_in.Given as goal
 
-abbrev pub invariant-loop-so : goal.invariant-loop-so
-invariant-loop-so l = fold_p (pass l.key l.from) no_entry (image_entries (power_of l.size) l.count (words_of l.image)) ≡ fold_p (pass l.key l.from) l.so (remaining (power_of l.size) l.count (words_of l.image) l.cursor)
+abbrev pub invariant-loop-e : goal.invariant-loop-e
+invariant-loop-e l = fold_p (pass l.key l.from) no_entry (image_entries (power_of l.size) l.count (words_of l.image)) ≡ fold_p (pass l.key l.from) l.so (remaining (power_of l.size) l.count (words_of l.image) l.cursor)
 
-abbrev pub decreases-loop-so : goal.decreases-loop-so
-decreases-loop-so l = left l.count (words_of l.image) l.cursor
+abbrev pub decreases-loop-e : goal.decreases-loop-e
+decreases-loop-e l = left l.count (words_of l.image) l.cursor
