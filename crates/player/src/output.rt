@@ -1,155 +1,64 @@
 // What a call answers, as a line of text; and sums over words, bytes and reports, modulo 2^64.
 use spec::Report;
-use std::io;
+use std::fmt;
 
-pub fn text(rt: &impl Print, line: &[u8]) -> io::Result<()> {
-    rt.write_all(line)
+// A report as it is shown: the end of a cleaning with the entries copied.
+#[derive(Clone, Copy)]
+pub struct Answer {
+    pub report: Report,
+    pub cleaning: bool,
 }
 
-fn line_feed(rt: &impl Print) -> io::Result<()> {
-    println!(rt)
-}
-
-// A word and a number behind it.
-pub fn one(rt: &impl Print, word: &str, number: u64) -> io::Result<()> {
-    println!(rt; "{word} {number}")
-}
-
-pub fn two(rt: &impl Print, word: &str, first: u64, second: u64) -> io::Result<()> {
-    println!(rt; "{word} {first} {second}")
-}
-
-pub fn three(rt: &impl Print, word: &str, first: u64, second: u64, third: u64) -> io::Result<()> {
-    print!(rt; "{word} {first} ")?;
-    two_numbers(rt, second, third)
-}
-
-pub fn four(
-    rt: &impl Print,
-    word: &str,
-    first: u64,
-    second: u64,
-    third: u64,
-    fourth: u64,
-) -> io::Result<()> {
-    print!(rt; "{word} {first} {second} ")?;
-    two_numbers(rt, third, fourth)
-}
-
-fn two_numbers(rt: &impl Print, first: u64, second: u64) -> io::Result<()> {
-    println!(rt; "{first} {second}")
-}
-
-fn wide(b: u8) -> u64 {
-    b as u64
-}
-
-// The first bytes of a value, sixteen at most, in hexadecimal digits.
-fn first_bytes(rt: &impl Print, value: &[u8]) -> io::Result<()> {
-    let mut i = 0;
-    while i < 16 {
-        if value.len() <= i {
-            break;
+impl fmt::Display for Answer {
+    fn fmt<W: fmt::Write>(&self, f: &mut fmt::Formatter<W>) -> fmt::Result {
+        match self.report {
+            Report::Refused(refusal) => write!(f, "refused {}", session::number(refusal)),
+            Report::Begun(actions) => write!(f, "begun {actions}"),
+            Report::Store { word, value } => write!(f, "store {word} {value}"),
+            Report::Flush(line) => write!(f, "flush {line}"),
+            Report::Fence => write!(f, "fence"),
+            Report::End(count) if self.cleaning => write!(f, "end {count}"),
+            Report::End(_) => write!(f, "end"),
+            Report::Idle => write!(f, "idle"),
+            Report::Opened => write!(f, "opened"),
+            Report::Abandoned => write!(f, "abandoned"),
+            Report::Chosen(chunk) => write!(f, "chunk {chunk}"),
+            Report::Part {
+                start,
+                length,
+                version,
+            } => write!(f, "part {start} {length} {version}"),
         }
-        print!(rt; "{:02x}", value[i])?;
-        i += 1;
-    }
-    line_feed(rt)
-}
-
-// A key's value: its length, its sum and its first bytes.
-pub fn value(rt: &impl Print, key: u64, bytes: &[u8], sum: u64) -> io::Result<()> {
-    print!(rt; "value {key} {} {sum}", bytes.len())?;
-    if bytes.len() > 0 {
-        print!(rt; " ")?;
-    }
-    first_bytes(rt, bytes)
-}
-
-// The end of a cleaning shows the entries copied.
-fn end(rt: &impl Print, count: u64, cleaning: bool) -> io::Result<()> {
-    if cleaning {
-        return one(rt, "end", count);
-    }
-    text(rt, b"end\n")
-}
-
-pub fn report(rt: &impl Print, report: Report, cleaning: bool) -> io::Result<()> {
-    match report {
-        Report::Refused(n) => one(rt, "refused", session::number(n)),
-        Report::Begun(actions) => one(rt, "begun", actions as u64),
-        Report::Store { word, value } => two(rt, "store", word as u64, value),
-        Report::Flush(line) => one(rt, "flush", line as u64),
-        Report::Fence => text(rt, b"fence\n"),
-        Report::End(count) => end(rt, count as u64, cleaning),
-        Report::Idle => text(rt, b"idle\n"),
-        Report::Opened => text(rt, b"opened\n"),
-        Report::Abandoned => text(rt, b"abandoned\n"),
-        Report::Chosen(chunk) => one(rt, "chunk", chunk as u64),
-        Report::Part {
-            start,
-            length,
-            version,
-        } => three(rt, "part", start as u64, length as u64, version),
     }
 }
 
 // SUMS, modulo 2^64
-fn plus(a: u64, b: u64) -> u64 {
-    std::num::wrapping_add_u64(a, b)
-}
-
-fn twice(x: u64) -> u64 {
-    plus(x, x)
-}
-
-fn thrice(x: u64) -> u64 {
-    plus(twice(x), x)
-}
-
-fn five_times(x: u64) -> u64 {
-    plus(twice(twice(x)), x)
-}
-
-fn seven_times(x: u64) -> u64 {
-    plus(five_times(x), twice(x))
-}
-
 // Over the image's words: the sum so far three times, and the word.
 pub fn image_sum(image: &[u8]) -> u64 {
-    let words = image.len() / 8;
-    let mut sum: u64 = 0;
-    let mut w = 0;
-    while w < words {
-        sum = plus(thrice(sum), words::load(image, w));
-        w += 1;
-    }
-    sum
+    (0..image.len() / 8).fold(0u64, |sum, w| {
+        sum.wrapping_mul(3).wrapping_add(words::load(image, w))
+    })
 }
 
 // Over a value's bytes: byte i is counted i + 1 times.
 pub fn value_sum(value: &[u8]) -> u64 {
-    let mut sum: u64 = 0;
-    let mut tail: u64 = 0;
-    let mut i = value.len();
-    while i > 0 {
-        i -= 1;
-        tail = plus(tail, wide(value[i]));
-        sum = plus(sum, tail);
-    }
-    sum
+    value.iter().enumerate().fold(0u64, |sum, (i, b)| {
+        let times = (i as u64).wrapping_add(1);
+        sum.wrapping_add(times.wrapping_mul(u64::from(*b)))
+    })
 }
 
 // Over reports: the sum so far three times, and what the report says; idle and refusals do not count.
 pub fn report_sum(sum: u64, report: Report) -> u64 {
-    let more = thrice(sum);
-    match report {
-        Report::Store { word, value } => {
-            plus(plus(more, five_times(word as u64)), plus(value, 1))
-        }
-        Report::Flush(line) => plus(plus(more, seven_times(line as u64)), 2),
-        Report::Fence => plus(more, 3),
-        Report::End(count) => plus(plus(more, 4), count as u64),
-        _ => sum,
-    }
+    let said = match report {
+        Report::Store { word, value } => (word as u64)
+            .wrapping_mul(5)
+            .wrapping_add(value)
+            .wrapping_add(1),
+        Report::Flush(line) => (line as u64).wrapping_mul(7).wrapping_add(2),
+        Report::Fence => 3,
+        Report::End(count) => (count as u64).wrapping_add(4),
+        _ => return sum,
+    };
+    sum.wrapping_mul(3).wrapping_add(said)
 }

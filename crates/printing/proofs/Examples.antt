@@ -4,19 +4,20 @@ use mathlib.Core.Path.{◌≡◌, refl}
 use mathlib.Core.Bool.{true, false}
 use mathlib.Core.List.{[], ◌∷◌}
 use Rattle.text.specs.Text.{decimal, right_in}
+use Rattle.printing.specs.declared.Layout.TheVariants as Y
 use Rattle.printing.specs.Lines.{line_text, heading_text, page_text}
 
 -- 7 1 5 L, as `list` has it and as a row
-line-seven : line_text false 7 1 5 false ≡ 55 ∷ 32 ∷ 49 ∷ 32 ∷ 53 ∷ 32 ∷ 76 ∷ 10 ∷ []
+line-seven : line_text Y.Lines 7 (record { version = 1; length = 5; block = false }) ≡ 55 ∷ 32 ∷ 49 ∷ 32 ∷ 53 ∷ 32 ∷ 76 ∷ 10 ∷ []
 unfolding decimal
 line-seven = refl
 
-row-seven : line_text true 7 1 5 false ≡ 32 ∷ 32 ∷ 32 ∷ 32 ∷ 32 ∷ 32 ∷ 32 ∷ 32 ∷ 32 ∷ 32 ∷ 32 ∷ 32 ∷ 32 ∷ 32 ∷ 32 ∷ 32 ∷ 32 ∷ 32 ∷ 32 ∷ 55 ∷ 32 ∷ 32 ∷ 32 ∷ 32 ∷ 32 ∷ 32 ∷ 32 ∷ 49 ∷ 32 ∷ 32 ∷ 32 ∷ 32 ∷ 32 ∷ 53 ∷ 32 ∷ 76 ∷ 10 ∷ []
+row-seven : line_text Y.Pages 7 (record { version = 1; length = 5; block = false }) ≡ 32 ∷ 32 ∷ 32 ∷ 32 ∷ 32 ∷ 32 ∷ 32 ∷ 32 ∷ 32 ∷ 32 ∷ 32 ∷ 32 ∷ 32 ∷ 32 ∷ 32 ∷ 32 ∷ 32 ∷ 32 ∷ 32 ∷ 55 ∷ 32 ∷ 32 ∷ 32 ∷ 32 ∷ 32 ∷ 32 ∷ 32 ∷ 49 ∷ 32 ∷ 32 ∷ 32 ∷ 32 ∷ 32 ∷ 53 ∷ 32 ∷ 76 ∷ 10 ∷ []
 unfolding decimal right_in
 row-seven = refl
 
 -- the highest key and version, and the largest block
-row-highest : line_text true 18446744073709551615 1048575 4088 true ≡ 49 ∷ 56 ∷ 52 ∷ 52 ∷ 54 ∷ 55 ∷ 52 ∷ 52 ∷ 48 ∷ 55 ∷ 51 ∷ 55 ∷ 48 ∷ 57 ∷ 53 ∷ 53 ∷ 49 ∷ 54 ∷ 49 ∷ 53 ∷ 32 ∷ 49 ∷ 48 ∷ 52 ∷ 56 ∷ 53 ∷ 55 ∷ 53 ∷ 32 ∷ 32 ∷ 52 ∷ 48 ∷ 56 ∷ 56 ∷ 32 ∷ 66 ∷ 10 ∷ []
+row-highest : line_text Y.Pages 18446744073709551615 (record { version = 1048575; length = 4088; block = true }) ≡ 49 ∷ 56 ∷ 52 ∷ 52 ∷ 54 ∷ 55 ∷ 52 ∷ 52 ∷ 48 ∷ 55 ∷ 51 ∷ 55 ∷ 48 ∷ 57 ∷ 53 ∷ 53 ∷ 49 ∷ 54 ∷ 49 ∷ 53 ∷ 32 ∷ 49 ∷ 48 ∷ 52 ∷ 56 ∷ 53 ∷ 55 ∷ 53 ∷ 32 ∷ 32 ∷ 52 ∷ 48 ∷ 56 ∷ 56 ∷ 32 ∷ 66 ∷ 10 ∷ []
 unfolding decimal right_in
 row-highest = refl
 

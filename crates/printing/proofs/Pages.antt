@@ -3,6 +3,7 @@
 use mathlib.Core.Path.{◌≡◌, refl, sym, ◌∙◌, ap, ap₂}
 use mathlib.Core.Logic.{by_cases, inl, inr}
 use mathlib.Core.Bool.{Bool, true, false}
+use Rattle.std.specs.Prelude.{Ok, Err}
 use mathlib.Core.Option.{Option, none, some}
 use mathlib.Core.List.{List, [], ◌∷◌, ◌++◌, append_assoc}
 use Prim.Native.Nat.{ℕ, zero, suc, ◌+◌, ◌%◌, ◌<◌, ◌≤◌}
@@ -29,16 +30,15 @@ use Rattle.theory_base.proofs.Places.{units-most}
 use Rattle.theory_log.specs.Batch.{Kind, put, block, delete, Right}
 use Rattle.theory_log.specs.Contents.{Top}
 use Rattle.theory_log.proofs.Contents.{Chosen, chosen_is}
-use Rattle.theory_crash.specs.Accepted.{Ok}
+use Rattle.theory_crash.specs.Accepted.{Ok as Accepts}
 use Rattle.theory_crash.proofs.Blocks.{block-fits}
 use Rattle.theory_crash.proofs.Opening.{opens-ok}
 use Rattle.logs.proofs.Stands.{image-right}
 use Rattle.text.proofs.Decimals.{decimal-length, decimal-short}
-use Rattle.lookup.specs.declared.Listed.{Listed}
-use Rattle.lookup.specs.declared.Listed.TheVariants as L
-use Rattle.lookup.specs.Listing.{present_keys, listed_or, listed_of, is_present}
+use Rattle.lookup.specs.Listing.{Listed, present_key, present_keys, listed_or, listed_of, is_present}
 use Rattle.lookup.proofs.Entries.{listed-present}
 use Rattle.lookup.proofs.Slots.{keys-present}
+use Rattle.printing.specs.declared.Layout.TheVariants as Y
 use Rattle.printing.specs.Lines.{row_columns, page_rows, line_text, heading_text, page_text}
 use Rattle.printing.proofs.Pieces.{row-length}
 use Rattle.printing.specs.Print.{listed_text, lines_text, image_text}
@@ -54,36 +54,36 @@ none_within row l = go (ℕ_discrete row 0)
     go (yes e) = rw e
     go (no e) = let m : row % page_rows ≡ row = omega arith in rw (ne_eqb row 0 e, m, ne_eqb row 0 e)
 
-row_within : (row key : ℕ) (l : Listed) → row < page_rows → listed_text true row key l ≡ row_of key l
-row_within row key (L.Refused n) h = refl
-row_within row key (L.Present v n b) h = ap (λ (x : List ℕ). x ++ line_text true key v n b) (none_within row h)
+row_within : (row key : ℕ) (l : Listed) → row < page_rows → listed_text Y.Pages row key l ≡ row_of key l
+row_within row key (Err n) h = refl
+row_within row key (Ok l) h = ap (λ (x : List ℕ). x ++ line_text Y.Pages key l) (none_within row h)
 
 same-break : (row : ℕ) → 1 ≤ row → page_text (page_rows + row) ≡ page_text row
 same-break row h = let m : (page_rows + row) % page_rows ≡ row % page_rows = omega arith in rw (ne_eqb (page_rows + row) 0 (λ e. omega arith), ne_eqb row 0 (λ e. omega arith), m)
 
-same_row : (row key : ℕ) (l : Listed) → 1 ≤ row → listed_text true (page_rows + row) key l ≡ listed_text true row key l
-same_row row key (L.Refused n) h = refl
-same_row row key (L.Present v n b) h = ap (λ (x : List ℕ). x ++ line_text true key v n b) (same-break row h)
+same_row : (row key : ℕ) (l : Listed) → 1 ≤ row → listed_text Y.Pages (page_rows + row) key l ≡ listed_text Y.Pages row key l
+same_row row key (Err n) h = refl
+same_row row key (Ok l) h = ap (λ (x : List ℕ). x ++ line_text Y.Pages key l) (same-break row h)
 
 module _ (ws : List ℕ) (es : List Entry) where
-  lines-within : (row : ℕ) (ks : List ℕ) → row + length ks ≤ page_rows → lines_text true ws es row ks ≡ rows_text ws es ks
+  lines-within : (row : ℕ) (ks : List ℕ) → row + length ks ≤ page_rows → lines_text Y.Pages ws es row ks ≡ rows_text ws es ks
   lines-within row [] h = refl
   lines-within row (k ∷ ks) h = ap₂ (λ (x y : List ℕ). x ++ y) (row_within row k (listed_of ws es k) (omega arith)) (lines-within (suc row) ks (omega arith))
 
-  same_lines : (row : ℕ) (ks : List ℕ) → 1 ≤ row → lines_text true ws es (page_rows + row) ks ≡ lines_text true ws es row ks
+  same_lines : (row : ℕ) (ks : List ℕ) → 1 ≤ row → lines_text Y.Pages ws es (page_rows + row) ks ≡ lines_text Y.Pages ws es row ks
   same_lines row [] h = refl
   same_lines row (k ∷ ks) h =
       let e : suc (page_rows + row) ≡ page_rows + suc row = omega arith in
-      ap₂ (λ (x y : List ℕ). x ++ y) (same_row row k (listed_of ws es k) h) (ap (λ (j : ℕ). lines_text true ws es j ks) e ∙ same_lines (suc row) ks (omega arith))
+      ap₂ (λ (x y : List ℕ). x ++ y) (same_row row k (listed_of ws es k) h) (ap (λ (j : ℕ). lines_text Y.Pages ws es j ks) e ∙ same_lines (suc row) ks (omega arith))
 
   -- behind a full page, a key that is present begins the next, which is as the first page of the rest would be
-  next-page : (k : ℕ) (ks : List ℕ) → is_present (listed_of ws es k) ≡ true → lines_text true ws es page_rows (k ∷ ks) ≡ 12 ∷ (heading_text ++ lines_text true ws es 0 (k ∷ ks))
+  next-page : (k : ℕ) (ks : List ℕ) → is_present (listed_of ws es k) ≡ true → lines_text Y.Pages ws es page_rows (k ∷ ks) ≡ 12 ∷ (heading_text ++ lines_text Y.Pages ws es 0 (k ∷ ks))
   next-page k ks h = go (listed_of ws es k) h
     where
-      go : (l : Listed) → is_present l ≡ true → listed_text true page_rows k l ++ lines_text true ws es (suc page_rows) ks ≡ 12 ∷ (heading_text ++ (listed_text true 0 k l ++ lines_text true ws es 1 ks))
-      go (L.Refused n) q = absurd (let z : ◌≡◌ {A = ℕ} 0 1 = cc in omega arith)
-      go (L.Present v n b) q =
-          ap (λ (x : List ℕ). (12 ∷ (heading_text ++ line_text true k v n b)) ++ x) (same_lines 1 ks (omega arith)) ∙ ap (λ (x : List ℕ). 12 ∷ x) (append_assoc heading_text (line_text true k v n b) (lines_text true ws es 1 ks))
+      go : (l : Listed) → is_present l ≡ true → listed_text Y.Pages page_rows k l ++ lines_text Y.Pages ws es (suc page_rows) ks ≡ 12 ∷ (heading_text ++ (listed_text Y.Pages 0 k l ++ lines_text Y.Pages ws es 1 ks))
+      go (Err n) q = absurd (let z : ◌≡◌ {A = ℕ} 0 1 = cc in omega arith)
+      go (Ok l) q =
+          ap (λ (x : List ℕ). (12 ∷ (heading_text ++ line_text Y.Pages k l)) ++ x) (same_lines 1 ks (omega arith)) ∙ ap (λ (x : List ℕ). 12 ∷ x) (append_assoc heading_text (line_text Y.Pages k l) (lines_text Y.Pages ws es 1 ks))
 
   -- ## The pages
 
@@ -100,11 +100,11 @@ module _ (ws : List ℕ) (es : List Entry) where
   all-members [] h = tt
   all-members (k ∷ ks) h = (h k (inl refl), all-members ks (λ j m. h j (inr m)))
 
-  one : (ks : List ℕ) → length ks ≤ page_rows → Pages ws es ks (heading_text ++ lines_text true ws es 0 ks)
+  one : (ks : List ℕ) → length ks ≤ page_rows → Pages ws es ks (heading_text ++ lines_text Y.Pages ws es 0 ks)
   one ks l = One ws es ks _ l (ap (λ (x : List ℕ). heading_text ++ x) (lines-within 0 ks (omega arith)))
 
   more : (ks : List ℕ) → page_rows < length ks → (k : ℕ) (rest : List ℕ) → drop page_rows ks ≡ k ∷ rest → is_present (listed_of ws es k) ≡ true
-      → Pages ws es (k ∷ rest) (heading_text ++ lines_text true ws es 0 (k ∷ rest)) → Pages ws es ks (heading_text ++ lines_text true ws es 0 ks)
+      → Pages ws es (k ∷ rest) (heading_text ++ lines_text Y.Pages ws es 0 (k ∷ rest)) → Pages ws es ks (heading_text ++ lines_text Y.Pages ws es 0 ks)
   more ks m k rest e q behind = More ws es ks _ (take page_rows ks) k rest _ full cut behind text
     where
       full : length (take page_rows ks) ≡ page_rows
@@ -113,20 +113,20 @@ module _ (ws : List ℕ) (es : List Entry) where
       cut : ks ≡ take page_rows ks ++ k ∷ rest
       cut = sym (take-append-drop page_rows ks) ∙ ap (λ (x : List ℕ). take page_rows ks ++ x) e
 
-      lines : lines_text true ws es 0 ks ≡ rows_text ws es (take page_rows ks) ++ (12 ∷ (heading_text ++ lines_text true ws es 0 (k ∷ rest)))
+      lines : lines_text Y.Pages ws es 0 ks ≡ rows_text ws es (take page_rows ks) ++ (12 ∷ (heading_text ++ lines_text Y.Pages ws es 0 (k ∷ rest)))
       lines =
-          ap (lines_text true ws es 0) cut ∙ lines-append true ws es 0 (take page_rows ks) (k ∷ rest)
-          ∙ ap₂ (λ (x y : List ℕ). x ++ y) (lines-within 0 (take page_rows ks) (omega (arith, full))) (ap (λ (i : ℕ). lines_text true ws es i (k ∷ rest)) (let z : 0 + length (take page_rows ks) ≡ page_rows = omega (arith, full) in z) ∙ next-page k rest q)
+          ap (lines_text Y.Pages ws es 0) cut ∙ lines-append Y.Pages ws es 0 (take page_rows ks) (k ∷ rest)
+          ∙ ap₂ (λ (x y : List ℕ). x ++ y) (lines-within 0 (take page_rows ks) (omega (arith, full))) (ap (λ (i : ℕ). lines_text Y.Pages ws es i (k ∷ rest)) (let z : 0 + length (take page_rows ks) ≡ page_rows = omega (arith, full) in z) ∙ next-page k rest q)
 
-      text : heading_text ++ lines_text true ws es 0 ks ≡ page_of ws es (take page_rows ks) ++ (12 ∷ (heading_text ++ lines_text true ws es 0 (k ∷ rest)))
-      text = ap (λ (x : List ℕ). heading_text ++ x) lines ∙ sym (append_assoc heading_text (rows_text ws es (take page_rows ks)) (12 ∷ (heading_text ++ lines_text true ws es 0 (k ∷ rest))))
+      text : heading_text ++ lines_text Y.Pages ws es 0 ks ≡ page_of ws es (take page_rows ks) ++ (12 ∷ (heading_text ++ lines_text Y.Pages ws es 0 (k ∷ rest)))
+      text = ap (λ (x : List ℕ). heading_text ++ x) lines ∙ sym (append_assoc heading_text (rows_text ws es (take page_rows ks)) (12 ∷ (heading_text ++ lines_text Y.Pages ws es 0 (k ∷ rest))))
 
-  pages : (n : ℕ) (ks : List ℕ) → length ks ≤ n → AllPresent ks → Pages ws es ks (heading_text ++ lines_text true ws es 0 ks)
+  pages : (n : ℕ) (ks : List ℕ) → length ks ≤ n → AllPresent ks → Pages ws es ks (heading_text ++ lines_text Y.Pages ws es 0 ks)
   pages zero ks l h = one ks (omega arith)
   pages (suc n) ks l h = by_cases (dec_lt page_rows (length ks)) (λ m. go m (drop page_rows ks) refl (all_drop page_rows ks h) (pages n)) (λ m. one ks (omega arith))
     where
       go : page_rows < length ks → (rest : List ℕ) → drop page_rows ks ≡ rest → AllPresent rest
-          → ((xs : List ℕ) → length xs ≤ n → AllPresent xs → Pages ws es xs (heading_text ++ lines_text true ws es 0 xs)) → Pages ws es ks (heading_text ++ lines_text true ws es 0 ks)
+          → ((xs : List ℕ) → length xs ≤ n → AllPresent xs → Pages ws es xs (heading_text ++ lines_text Y.Pages ws es 0 xs)) → Pages ws es ks (heading_text ++ lines_text Y.Pages ws es 0 ks)
       go m [] e q again = absurd (let d = length-drop page_rows ks in let z : length (drop page_rows ks) ≡ 0 = ap length e in omega arith)
       go m (k ∷ rest) e q again = more ks m k rest e q.0 (again (k ∷ rest) (let d = length-drop page_rows ks in let z : length (drop page_rows ks) ≡ length (k ∷ rest) = ap length e in omega arith) q)
 
@@ -138,7 +138,15 @@ field-small op placement x (put l) h = l
 field-small op placement x block h = absurd (let z : ◌≡◌ {A = ℕ} 0 1 = cc in omega arith)
 field-small op placement x delete h = omega arith
 
-module _ (p : ℕ) (lo : 12 ≤ p) (hi : p ≤ 16) (n : ℕ) (ws : List ℕ) (es : List Entry) (ok : Ok p n ws es) where
+abbrev version_in : Listed → ℕ
+version_in (Ok l) = l.version
+version_in (Err n) = 0
+
+abbrev length_in : Listed → ℕ
+length_in (Ok l) = l.length
+length_in (Err n) = 0
+
+module _ (p : ℕ) (lo : 12 ≤ p) (hi : p ≤ 16) (n : ℕ) (ws : List ℕ) (es : List Entry) (ok : Accepts p n ws es) where
   block-small : (e : Entry) → fine p n ws e ≡ true → pointed e ≡ true → get_or ws (unit_word e.field) 0 < 100000
   block-small e f h =
       let r : block_right p n ws e.field ≡ true = rw h at f in
@@ -149,11 +157,11 @@ module _ (p : ℕ) (lo : 12 ≤ p) (hi : p ≤ 16) (n : ℕ) (ws : List ℕ) (es
       omega arith
 
   -- what is listed of a key of an accepted image fits its columns
-  listed_small : (k v m : ℕ) (b : Bool) → listed_of ws es k ≡ L.Present v m b → (v < 10000000) × (m < 100000)
+  listed_small : (k v m : ℕ) (b : Bool) → listed_of ws es k ≡ present_key v m b → (v < 10000000) × (m < 100000)
   unfolding listed_of
   listed_small k v m b h = by (chosen k es) refl h
     where
-      by : (o : Option Entry) → chosen k es ≡ o → listed_or ws o ≡ L.Present v m b → (v < 10000000) × (m < 100000)
+      by : (o : Option Entry) → chosen k es ≡ o → listed_or ws o ≡ present_key v m b → (v < 10000000) × (m < 100000)
       by none c q = absurd (let z : ◌≡◌ {A = ℕ} 0 1 = cc in omega arith)
       by (some e) c q = go (eqb e.op 1) (pointed e) refl q
         where
@@ -166,17 +174,17 @@ module _ (p : ℕ) (lo : 12 ≤ p) (hi : p ≤ 16) (n : ℕ) (ws : List ℕ) (es
           top : Top es e
           top = (is.in_list, λ f m s. is.above f m (s ∙ is.of-key))
 
-          go : (b1 b2 : Bool) → pointed e ≡ b2 → pick b1 (L.Present e.version (pick b2 (get_or ws (unit_word e.field) 0) e.field) b2) (L.Refused N.KeyAbsent) ≡ L.Present v m b
+          go : (b1 b2 : Bool) → pointed e ≡ b2 → pick b1 (present_key e.version (pick b2 (get_or ws (unit_word e.field) 0) e.field) b2) (Err N.KeyAbsent) ≡ present_key v m b
               → (v < 10000000) × (m < 100000)
           go true true u r =
-              let x : e.version ≡ v = cc in
-              let y : get_or ws (unit_word e.field) 0 ≡ m = cc in
+              let x : e.version ≡ v = ap version_in r in
+              let y : get_or ws (unit_word e.field) 0 ≡ m = ap length_in r in
               let w = right.high in
               let z = block-small e (ok.blocks e top) u in
               (omega arith, omega arith)
           go true false u r =
-              let x : e.version ≡ v = cc in
-              let y : e.field ≡ m = cc in
+              let x : e.version ≡ v = ap version_in r in
+              let y : e.field ≡ m = ap length_in r in
               let w = right.high in
               let z = field-small e.op e.placement e.field right.kind u in
               (omega arith, omega arith)
@@ -186,11 +194,11 @@ module _ (p : ℕ) (lo : 12 ≤ p) (hi : p ≤ 16) (n : ℕ) (ws : List ℕ) (es
   row-columns : (k : ℕ) → is_present (listed_of ws es k) ≡ true → length (row_of k (listed_of ws es k)) ≡ suc row_columns
   row-columns k h = go (listed_of ws es k) h (listed_small k)
     where
-      go : (l : Listed) → is_present l ≡ true → ((v m : ℕ) (b : Bool) → l ≡ L.Present v m b → (v < 10000000) × (m < 100000)) → length (row_of k l) ≡ suc row_columns
-      go (L.Refused r) q small = absurd (let z : ◌≡◌ {A = ℕ} 0 1 = cc in omega arith)
-      go (L.Present v m b) q small =
-          let s = small v m b refl in
-          row-length k v m b (decimal-length k) (decimal-short 6 v s.0) (decimal-short 4 m s.1)
+      go : (l : Listed) → is_present l ≡ true → ((v m : ℕ) (b : Bool) → l ≡ present_key v m b → (v < 10000000) × (m < 100000)) → length (row_of k l) ≡ suc row_columns
+      go (Err r) q small = absurd (let z : ◌≡◌ {A = ℕ} 0 1 = cc in omega arith)
+      go (Ok l) q small =
+          let s = small l.version l.length l.block refl in
+          row-length k l (decimal-length k) (decimal-short 6 l.version s.0) (decimal-short 4 l.length s.1)
 
 -- ## The sheet
 
@@ -202,7 +210,7 @@ module _ (bytes : List ℕ) (words : ℕ) (es : List Entry) (accepted : opening 
   listed k m = listed-present ws es k ∙ keys-present ws es k m
 
   -- THE SHEET IN PAGES
-  pub sheet-pages : Pages ws es (present_keys ws es) (image_text true bytes words)
+  pub sheet-pages : Pages ws es (present_keys ws es) (image_text Y.Pages bytes words)
   unfolding image_text
   sheet-pages = rw accepted (pages ws es (length (present_keys ws es)) (present_keys ws es) (omega arith) (all-members ws es (present_keys ws es) listed))
 

@@ -1,7 +1,6 @@
 -- What the code shows of the text: piece by piece, line by line, and the whole of an image's.
 -- Assumes nothing.
 use mathlib.Core.Path.{◌≡◌, refl, sym, ◌∙◌, ap, subst}
-use mathlib.Core.Bool.{Bool, true, false}
 use mathlib.Core.Option.{none}
 use mathlib.Core.List.{List, [], ◌∷◌, ◌++◌, append_assoc, append-nil}
 use Prim.Native.Nat.{ℕ, suc, ◌+◌, ◌*◌, ◌<◌, ◌≤◌}
@@ -9,9 +8,9 @@ use native.Mathlib.Nat.{mul-suc, mul-le-mul_left}
 use native.Mathlib.Numerals.{add-one}
 use native.Mathlib.Omega.{arith}
 use lib.ListN.{length, take, get_or, length-append, length-take}
-use lib.Seq.{length-take-le, take_all, take-suc}
+use lib.Seq.{take_all, take-suc}
 use borrow.Author.Tests.{eq-eqb}
-use Rattle.std.specs.Counts.{IsPrefixLen}
+use Rattle.std.proofs.Common.{Ok, Err, zero-add}
 use Rattle.spec.specs.Words.{words_of}
 use Rattle.spec.specs.Places.{chunk_bytes, chunks_in, length_allowed, any_allowed}
 use Rattle.spec.specs.Header.{header_power}
@@ -34,13 +33,13 @@ use Rattle.session.specs.Fits.{Fits}
 use Rattle.lookup.specs.Look.{session_of}
 use Rattle.text.specs.Text.{Writes}
 use Rattle.text.proofs.Texts.{writes-none, writes-on}
-use Rattle.lookup.specs.declared.Listed.{Listed}
-use Rattle.lookup.specs.declared.Listed.TheVariants as L
-use Rattle.lookup.specs.declared.Counted.TheVariants as C
-use Rattle.lookup.specs.Listing.{present_keys, listed_of}
+use Rattle.lookup.specs.declared.Listing.{Listing}
+use Rattle.lookup.specs.Listing.{Listed, present_keys, listed_of}
 use Rattle.lookup.specs.Contract.{Lists, entries_of, words_read, ListingKeys, ListingKey}
 use Rattle.lookup.proofs.Answers.{Register as Register', register, present-fit}
 use Rattle.session.proofs.Gates.{gate-passed, rest-reads}
+use Rattle.printing.specs.declared.Layout.{Layout}
+use Rattle.printing.specs.declared.Layout.TheVariants as Y
 use Rattle.printing.specs.Lines.{refused_text, head_text, entry_text, entry_most}
 use Rattle.printing.proofs.Pieces.{entry_length, head-length, number-length}
 use Rattle.printing.specs.Print.{listed_text, lines_text, register_text, opened_text, image_text, most_text, read_most, table_words, text_bytes, Opened, Key, Keys, Register, Image}
@@ -52,7 +51,7 @@ open-power c k bytes table o = ap state_power (gate-passed (session_of c k o.0) 
 
 -- ## A key
 
-module _ (c : Control) (k : Setup) (key : ℕ) (paged : Bool) (row : ℕ) (bytes table out : List ℕ) (at : ℕ) (found : Listed) (h : ListingKey c k key bytes table found) where
+module _ (n : ℕ) (c : Control) (k : Setup) (key : ℕ) (layout : Layout) (row : ℕ) (bytes table out : List ℕ) (found : Listed) (h : ListingKey c k key bytes table found) where
   same : Opened c k bytes table → found ≡ listed_of (words_of bytes) (entries_of (power_in k) bytes) key
   same o =
       let r = rest-reads (state_at c k o.0) (length bytes) (length table) (words_of bytes) o.1 in
@@ -60,128 +59,111 @@ module _ (c : Control) (k : Setup) (key : ℕ) (paged : Bool) (row : ℕ) (bytes
       ∙ ap (λ (ws : List ℕ). listed_of ws (entries_in (state_power (state_at c k o.0)) (chunks_in (state_power (state_at c k o.0)) (length bytes)) ws) key) r.1
       ∙ ap (λ (p : ℕ). listed_of (words_of bytes) (entries_in p (chunks_in p (length bytes)) (words_of bytes)) key) (open-power c k bytes table o)
 
-  pub key-none : (n : Refusal) → found ≡ L.Refused n → Key c k key paged row bytes table out out at at
-  key-none n e = record { sized = refl; inside = λ l. l; line = λ o. rw (sym (same o) ∙ e) (writes-none out at) }
+  pub key-none : ((l : Listing) → found ≡ Ok l → ⊥) → Key n c k key layout row bytes table out out
+  key-none absent = record { line = λ o. by found refl o }
+    where
+      by : (f : Listed) → found ≡ f → (o : Opened c k bytes table) → Writes n out out (listed_text layout row key (listed_of (words_of bytes) (entries_of (power_in k) bytes) key))
+      by (Ok l) e o = absurd (absent l e)
+      by (Err r) e o = rw (sym (same o) ∙ e) (writes-none n out)
 
-  pub key-line : (v m : ℕ) (b : Bool) (out' : List ℕ) (r : ℕ) → found ≡ L.Present v m b → Writes out out' at r (entry_text paged row key v m b) → Key c k key paged row bytes table out out' at r
-  key-line v m b out' r e w = record { sized = w.sized; inside = w.inside; line = λ o. rw (sym (same o) ∙ e) w }
+  pub key-line : (l : Listing) (out' : List ℕ) → found ≡ Ok l → Writes n out out' (entry_text layout row key l) → Key n c k key layout row bytes table out out'
+  key-line l out' e w = record { line = λ o. rw (sym (same o) ∙ e) w }
 
 -- ## The keys
 
-pub lines-append : (paged : Bool) (ws : List ℕ) (es : List Entry) (i : ℕ) (xs ys : List ℕ) → lines_text paged ws es i (xs ++ ys) ≡ lines_text paged ws es i xs ++ lines_text paged ws es (i + length xs) ys
-lines-append paged ws es i [] ys = let e : i + 0 ≡ i = omega arith in rw e
-lines-append paged ws es i (x ∷ xs) ys =
+pub lines-append : (layout : Layout) (ws : List ℕ) (es : List Entry) (i : ℕ) (xs ys : List ℕ) → lines_text layout ws es i (xs ++ ys) ≡ lines_text layout ws es i xs ++ lines_text layout ws es (i + length xs) ys
+lines-append layout ws es i [] ys = let e : i + 0 ≡ i = omega arith in rw e
+lines-append layout ws es i (x ∷ xs) ys =
     let e : suc i + length xs ≡ i + suc (length xs) = omega arith in
-    ap (λ (l : List ℕ). listed_text paged i x (listed_of ws es x) ++ l) (lines-append paged ws es (suc i) xs ys ∙ ap (λ (j : ℕ). lines_text paged ws es (suc i) xs ++ lines_text paged ws es j ys) e)
-    ∙ sym (append_assoc (listed_text paged i x (listed_of ws es x)) (lines_text paged ws es (suc i) xs) (lines_text paged ws es (i + suc (length xs)) ys))
+    ap (λ (l : List ℕ). listed_text layout i x (listed_of ws es x) ++ l) (lines-append layout ws es (suc i) xs ys ∙ ap (λ (j : ℕ). lines_text layout ws es (suc i) xs ++ lines_text layout ws es j ys) e)
+    ∙ sym (append_assoc (listed_text layout i x (listed_of ws es x)) (lines_text layout ws es (suc i) xs) (lines_text layout ws es (i + suc (length xs)) ys))
 
-module _ (c : Control) (k : Setup) (bytes table keys : List ℕ) (count : ℕ) (paged : Bool) (out : List ℕ) (at : ℕ) where
+module _ (n : ℕ) (c : Control) (k : Setup) (bytes table keys : List ℕ) (layout : Layout) (out : List ℕ) where
   -- the lines of the first i keys
-  pub record Lining (out' : List ℕ) (r i : ℕ) : Type 0 where
-    pub sized : length out' ≡ length out
-    pub upto : i ≤ count
-    pub inside : at ≤ length out → r ≤ length out
-    pub lines : Opened c k bytes table → Writes out out' at r (lines_text paged (words_of bytes) (entries_of (power_in k) bytes) 0 (take i keys))
+  abbrev pub Lining : List ℕ → ℕ → Type 0
+  Lining out' i = Keys n c k bytes table (take i keys) layout out out'
 
-  pub lining-start : Lining out at 0
-  lining-start = record { sized = refl; upto = omega arith; inside = λ l. l; lines = λ o. writes-none out at }
+  pub lining-start : Lining out 0
+  lining-start = record { lines = λ o. writes-none n out }
 
-  pub lining-on : (out' out'' : List ℕ) (r s i : ℕ) → i < length keys → i < count → Lining out' r i → Key c k (get_or keys i 0) paged i bytes table out' out'' r s → Lining out'' s (i + 1)
-  lining-on out' out'' r s i l m h q = record {
-    sized = q.sized ∙ h.sized;
-    upto = omega arith;
-    inside = λ l. let z = h.sized in let a = h.inside l in let b = q.inside (omega arith) in omega arith;
+  pub lining-on : (out' out'' : List ℕ) (i : ℕ) → i < length keys → Lining out' i → Key n c k (get_or keys i 0) layout i bytes table out' out'' → Lining out'' (i + 1)
+  lining-on out' out'' i l h q = record {
     lines = λ o.
-        let w = writes-on out out' out'' at r s _ _ (h.lines o) (q.line o) in
-        let n : 0 + length (take i keys) ≡ i = (let t = length-take i keys in omega arith) in
-        rw (add-one i, take-suc keys i 0 l, lines-append paged (words_of bytes) (entries_of (power_in k) bytes) 0 (take i keys) (get_or keys i 0 ∷ []), n, append-nil) w;
+        let w = writes-on n out out' out'' _ _ (h.lines o) (q.line o) in
+        let m : 0 + length (take i keys) ≡ i = (let t = length-take i keys in omega arith) in
+        rw (add-one i, take-suc keys i 0 l, lines-append layout (words_of bytes) (entries_of (power_in k) bytes) 0 (take i keys) (get_or keys i 0 ∷ []), m, append-nil) w;
   }
 
-  pub lined-count : (out' : List ℕ) (r i : ℕ) → Lining out' r i → count ≤ i → Keys c k bytes table keys count paged out out' at r
-  lined-count out' r i h l = let u = h.upto in let e : i ≡ count = omega arith in record { sized = h.sized; inside = h.inside; lines = rw e at h.lines }
-
-  pub lined-all : (out' : List ℕ) (r i : ℕ) → Lining out' r i → length keys ≤ i → Keys c k bytes table keys count paged out out' at r
-  lined-all out' r i h l =
-      let u = h.upto in
-      let e : take i keys ≡ take count keys = take_all i keys l ∙ sym (take_all count keys (omega arith)) in
-      record { sized = h.sized; inside = h.inside; lines = λ o. rw e at (h.lines o) }
+  pub lining-all : (out' : List ℕ) (i : ℕ) → Lining out' i → length keys ≤ i → Keys n c k bytes table keys layout out out'
+  lining-all out' i h l = record { lines = λ o. rw (take_all i keys l) at (h.lines o) }
 
 -- ## The register
 
-module _ (c : Control) (k : Setup) (paged : Bool) (bytes table keys keys' out : List ℕ) where
-  pub register-closed : (n : Refusal) (out' : List ℕ) (r : ℕ) (xs : List ℕ) → ListingKeys c k bytes table keys keys' (C.Refused n) → Writes out out' 0 r xs → Register c k paged bytes table keys out out' r
-  register-closed n out' r xs h w = record {
-    sized = w.sized;
-    inside = w.inside (omega arith);
+module _ (n : ℕ) (c : Control) (k : Setup) (layout : Layout) (bytes table keys keys' out : List ℕ) where
+  pub register-closed : (r : Refusal) (out' : List ℕ) → ListingKeys c k bytes table keys keys' (Err r) → Register n c k layout bytes table keys out out'
+  register-closed r out' h = record {
     prints = λ o m. absurd (let q = h.answered.0 o.0 in let p = (rest-reads (state_at c k o.0) (length bytes) (length table) (words_of bytes) o.1).0 in let z : ◌≡◌ {A = ℕ} 0 1 = cc in omega arith);
   }
 
-  pub register-lines : (count : ℕ) (out' out'' : List ℕ) (a r : ℕ) → ListingKeys c k bytes table keys keys' (C.Keys count)
-      → Writes out out' 0 a (head_text paged count) → Keys c k bytes table keys' count paged out' out'' a r → Register c k paged bytes table keys out out'' r
-  register-lines count out' out'' a r h w q = record {
-    sized = q.sized ∙ w.sized;
-    inside = let z = w.sized in let a = w.inside (omega arith) in let b = q.inside (omega arith) in omega arith;
+  pub register-lines : (count listed : ℕ) (out' out'' : List ℕ) → ListingKeys c k bytes table keys keys' (Ok count) → (count ≤ length keys' → listed ≡ count)
+      → Writes n out out' (head_text layout count) → Keys n c k bytes table (take listed keys') layout out' out'' → Register n c k layout bytes table keys out out''
+  register-lines count listed out' out'' h all w q = record {
     prints = λ o m.
         let same : words_read c k o.0 bytes ≡ words_of bytes = (rest-reads (state_at c k o.0) (length bytes) (length table) (words_of bytes) o.1).1 in
         let s : Lists (present_keys (words_of bytes) (entries_of (power_in k) bytes)) keys keys' count =
         subst (λ (p : ℕ). Lists (present_keys (words_of bytes) (entries_in p (chunks_in p (length bytes)) (words_of bytes))) keys keys' count) (open-power c k bytes table o)
         (subst (λ (ws : List ℕ). Lists (present_keys ws (entries_in (state_power (state_at c k o.0)) (chunks_in (state_power (state_at c k o.0)) (length bytes)) ws)) keys keys' count) same (h.answered.3 o.0 o.2)) in
-        let e : take count keys' ≡ present_keys (words_of bytes) (entries_of (power_in k) bytes) = s.rising ∙ take_all (length keys) (present_keys (words_of bytes) (entries_of (power_in k) bytes)) m in
-        let x : Writes out out' 0 a (head_text paged (length (present_keys (words_of bytes) (entries_of (power_in k) bytes)))) = rw s.all at w in
-        let y : Writes out' out'' a r (lines_text paged (words_of bytes) (entries_of (power_in k) bytes) 0 (present_keys (words_of bytes) (entries_of (power_in k) bytes))) = rw e at (q.lines o) in
-        writes-on out out' out'' 0 a r _ _ x y;
+        let z = s.all in
+        let long = h.sized in
+        let e : take listed keys' ≡ present_keys (words_of bytes) (entries_of (power_in k) bytes) =
+        ap (λ (i : ℕ). take i keys') (all (omega arith)) ∙ s.rising ∙ take_all (length keys) (present_keys (words_of bytes) (entries_of (power_in k) bytes)) m in
+        let x : Writes n out out' (head_text layout (length (present_keys (words_of bytes) (entries_of (power_in k) bytes)))) = rw s.all at w in
+        let y : Writes n out' out'' (lines_text layout (words_of bytes) (entries_of (power_in k) bytes) 0 (present_keys (words_of bytes) (entries_of (power_in k) bytes))) = rw e at (q.lines o) in
+        writes-on n out out' out'' _ _ x y;
   }
 
 -- ## How long the text is
 
-listed-length : (paged : Bool) (i key : ℕ) (l : Listed) → length (listed_text paged i key l) ≤ entry_most paged
-listed-length paged i key (L.Refused n) = omega arith
-listed-length paged i key (L.Present v n b) = entry_length paged i key v n b
+listed-length : (layout : Layout) (i key : ℕ) (l : Listed) → length (listed_text layout i key l) ≤ entry_most layout
+listed-length layout i key (Err n) = omega arith
+listed-length layout i key (Ok l) = entry_length layout i key l
 
-lines-length : (paged : Bool) (ws : List ℕ) (es : List Entry) (i : ℕ) (ks : List ℕ) → length (lines_text paged ws es i ks) ≤ entry_most paged * length ks
-lines-length paged ws es i [] = omega arith
-lines-length paged ws es i (x ∷ ks) =
-    let a = length-append (listed_text paged i x (listed_of ws es x)) (lines_text paged ws es (suc i) ks) in
-    let b = listed-length paged i x (listed_of ws es x) in
-    let c = lines-length paged ws es (suc i) ks in
-    let d = mul-suc (entry_most paged) (length ks) in
+lines-length : (layout : Layout) (ws : List ℕ) (es : List Entry) (i : ℕ) (ks : List ℕ) → length (lines_text layout ws es i ks) ≤ entry_most layout * length ks
+lines-length layout ws es i [] = omega arith
+lines-length layout ws es i (x ∷ ks) =
+    let a = length-append (listed_text layout i x (listed_of ws es x)) (lines_text layout ws es (suc i) ks) in
+    let b = listed-length layout i x (listed_of ws es x) in
+    let c = lines-length layout ws es (suc i) ks in
+    let d = mul-suc (entry_most layout) (length ks) in
     omega arith
 
 -- ## The image
 
--- a text from the first byte on
-from_start : (out out' : List ℕ) (r : ℕ) (xs : List ℕ) → Writes out out' 0 r xs → length xs ≤ length out → take r out' ≡ xs
-from_start out out' r xs w l = (w.writes [] (record { long = refl; room = omega arith; is = refl }) (omega arith)).is
-
-module _ (paged : Bool) (c₀ : Control) (k₀ : Setup) (c : Control) (k : Setup) (bytes table table' buffer buffer' keys out out' : List ℕ) (report : Report)
-    (h : Does Open (memory (session_of c₀ k₀ buffer) bytes table) (memory (session_of c k buffer') bytes table') report) (r : ℕ) where
+module _ (n : ℕ) (layout : Layout) (c₀ : Control) (k₀ : Setup) (c : Control) (k : Setup) (bytes table table' buffer buffer' keys out out' : List ℕ) (report : Report)
+    (h : Does Open (memory (session_of c₀ k₀ buffer) bytes table) (memory (session_of c k buffer') bytes table') report) where
   abbrev verdict : Opening
   verdict = opening (length bytes) (words_of bytes) (length table)
 
-  pub image-refused : (n : Refusal) → report ≡ R.Refused n → Writes out out' 0 r (refused_text n) → Image paged bytes table buffer keys out out' r
+  pub image-refused : (r : Refusal) → report ≡ R.Refused r → Writes n out out' (refused_text r) → Image n layout bytes table buffer keys out out'
   unfolding image_text
-  image-refused n e w = record {
-    sized = w.sized;
-    inside = w.inside (omega arith);
-    prints = λ proper room long. from_start out out' r (refused_text n) w (let l = number-length (114 ∷ 101 ∷ 102 ∷ 117 ∷ 115 ∷ 101 ∷ 100 ∷ 32 ∷ []) (number n) in omega arith) ∙ sym (go verdict (sym e ∙ (h.exact proper).answered));
+  image-refused r e w = record {
+    prints = λ proper room long. w.writes (let l = number-length (114 ∷ 101 ∷ 102 ∷ 117 ∷ 115 ∷ 101 ∷ 100 ∷ 32 ∷ []) (number r) in omega arith) ∙ ap (λ (x : List ℕ). out ++ x) (sym (go verdict (sym e ∙ (h.exact proper).answered)));
   }
     where
-      go : (o : Opening) → R.Refused n ≡ opened o → opened_text paged (words_of bytes) o ≡ refused_text n
-      go (Refused m) q = let z : m ≡ n = cc in ap refused_text z
+      go : (o : Opening) → R.Refused r ≡ opened o → opened_text layout (words_of bytes) o ≡ refused_text r
+      go (Refused m) q = let z : m ≡ r = cc in ap refused_text z
       go (Accepted es) q = absurd (let z : ◌≡◌ {A = ℕ} 0 1 = cc in omega arith)
 
-  pub image-opened : ((n : Refusal) → report ≡ R.Refused n → ⊥) → Register c k paged bytes table' keys out out' r → Image paged bytes table buffer keys out out' r
+  pub image-opened : ((r : Refusal) → report ≡ R.Refused r → ⊥) → Register n c k layout bytes table' keys out out' → Image n layout bytes table buffer keys out out'
   unfolding image_text next
   image-opened other w = record {
-    sized = w.sized;
-    inside = w.inside;
     prints = λ proper room long. let x = h.exact proper in go verdict refl x.answered x.became x.fits room long;
   }
     where
       go : (o : Opening) → verdict ≡ o → report ≡ opened o → state_of (session_of c k buffer') ≡ next Open (state_of (session_of c₀ k₀ buffer)) (words_of bytes) (length bytes) (length table)
-          → Fits (session_of c k buffer') (words_of bytes) table' → capacity (length table) ≤ length keys → most_text paged (capacity (length table)) ≤ length out
-          → take r out' ≡ opened_text paged (words_of bytes) o
-      go (Refused n) v a b f room long = absurd (other n a)
+          → Fits (session_of c k buffer') (words_of bytes) table' → capacity (length table) ≤ length keys → length out + most_text layout (capacity (length table)) ≤ n
+          → out' ≡ out ++ opened_text layout (words_of bytes) o
+      go (Refused r) v a b f room long = absurd (other r a)
       go (Accepted es) v a b f room long =
           let g : gate (state_at c k buffer') (length bytes) (length table') ≡ none = rw (b, v, h.sized, eq-eqb (length bytes) (length bytes) refl, eq-eqb (length table) (length table) refl) in
           let o : Opened c k bytes table' = (buffer', g, f) in
@@ -191,11 +173,11 @@ module _ (paged : Bool) (c₀ : Control) (k₀ : Setup) (c : Control) (k : Setup
           let n : length (present_keys (words_of bytes) (entries_of (power_in k) bytes)) ≤ capacity (length table') =
           present-fit (size_in k) (words_of bytes) (words_of bytes) (length bytes) table' (subst (λ (ws : List ℕ). Register' (size_in k) (words_of bytes) ws (length bytes) table') q.1 (register c k buffer' bytes table' q.0 f)) in
           let s : capacity (length table') ≡ capacity (length table) = ap capacity h.sized in
-          let d = lines-length paged (words_of bytes) (entries_of (power_in k) bytes) 0 (present_keys (words_of bytes) (entries_of (power_in k) bytes)) in
-          let m = head-length paged (length (present_keys (words_of bytes) (entries_of (power_in k) bytes))) in
-          let r' : entry_most paged * length (present_keys (words_of bytes) (entries_of (power_in k) bytes)) ≤ entry_most paged * capacity (length table) = mul-le-mul_left (entry_most paged) (omega arith) in
-          let t = length-append (head_text paged (length (present_keys (words_of bytes) (entries_of (power_in k) bytes)))) (lines_text paged (words_of bytes) (entries_of (power_in k) bytes) 0 (present_keys (words_of bytes) (entries_of (power_in k) bytes))) in
-          from_start out out' r (register_text paged (words_of bytes) (entries_of (power_in k) bytes)) (w.prints o (omega arith)) (omega arith) ∙ ap (register_text paged (words_of bytes)) e
+          let d = lines-length layout (words_of bytes) (entries_of (power_in k) bytes) 0 (present_keys (words_of bytes) (entries_of (power_in k) bytes)) in
+          let m = head-length layout (length (present_keys (words_of bytes) (entries_of (power_in k) bytes))) in
+          let r' : entry_most layout * length (present_keys (words_of bytes) (entries_of (power_in k) bytes)) ≤ entry_most layout * capacity (length table) = mul-le-mul_left (entry_most layout) (omega arith) in
+          let t = length-append (head_text layout (length (present_keys (words_of bytes) (entries_of (power_in k) bytes)))) (lines_text layout (words_of bytes) (entries_of (power_in k) bytes) 0 (present_keys (words_of bytes) (entries_of (power_in k) bytes))) in
+          (w.prints o (omega arith)).writes (omega arith) ∙ ap (λ (x : List Entry). out ++ register_text layout (words_of bytes) x) e
 
 -- ## The programs
 
@@ -204,19 +186,16 @@ pub table-keys : capacity table_words ≡ 2048
 unfolding capacity
 table-keys = refl
 
-text-room : (paged : Bool) → most_text paged (capacity table_words) ≤ text_bytes
-text-room false = rw table-keys (omega arith)
-text-room true = rw table-keys (omega arith)
+text-room : (layout : Layout) → most_text layout (capacity table_words) ≤ text_bytes
+text-room Y.Lines = rw table-keys (omega arith)
+text-room Y.Pages = rw table-keys (omega arith)
 
-pub program-text : (paged : Bool) (bytes table buffer keys out out' : List ℕ) (r : ℕ) → Image paged bytes table buffer keys out out' r
-    → length table ≡ table_words → length buffer ≡ buffer_words → length keys ≡ 2048 → length out ≡ text_bytes → IsPrefixLen r out' × (take r out' ≡ image_text paged bytes table_words)
-program-text paged bytes table buffer keys out out' r h t b k m =
-    let k' : capacity (length table) ≤ length keys = rw (t, table-keys, k) (omega arith) in
-    let m' : most_text paged (capacity (length table)) ≤ length out = rw (t, m) (text-room paged) in
-    let l : r ≤ length out' = rw h.sized h.inside in
-    ((l, sym (length-take-le r out' l)), h.prints b k' m' ∙ ap (image_text paged bytes) t)
+pub program-text : (layout : Layout) (bytes table buffer keys out : List ℕ) → Image text_bytes layout bytes table buffer keys [] out
+    → length table ≡ table_words → length buffer ≡ buffer_words → length keys ≡ 2048 → out ≡ image_text layout bytes table_words
+program-text layout bytes table buffer keys out h t b k =
+    h.prints b (rw (t, table-keys, k) (omega arith)) (rw (t, zero-add (most_text layout (capacity table_words))) (text-room layout)) ∙ ap (image_text layout bytes) t
 
 -- an image that is longer than what is read has no allowed length
-pub longer-refused : (paged : Bool) (bytes : List ℕ) (words : ℕ) → length bytes ≡ suc read_most → image_text paged bytes words ≡ refused_text N.ImageLength
+pub longer-refused : (layout : Layout) (bytes : List ℕ) (words : ℕ) → length bytes ≡ suc read_most → image_text layout bytes words ≡ refused_text N.ImageLength
 unfolding image_text opening any_allowed length_allowed chunks_in chunk_bytes
-longer-refused paged bytes words l = rw l
+longer-refused layout bytes words l = rw l

@@ -1,10 +1,13 @@
--- The lines that `list` and `sheet` print, as bytes. paged: as the sheet has them, in columns and in pages.
+-- The lines that `list` and `sheet` print, as bytes, in each layout: lines, and pages with columns, as the sheet has.
 -- Assumes nothing.
 use Rattle.std.specs.Prelude.{Bool, true, false, List, [], ◌∷◌, ◌++◌, ℕ, ◌%◌, eqb}
 use Rattle.spec.specs.Basics.{pick}
 use Rattle.spec.specs.Reports.{number}
 use Rattle.spec.specs.declared.Refusal.{Refusal}
 use Rattle.text.specs.Text.{decimal, right_in}
+use Rattle.lookup.specs.declared.Listing.{Listing}
+use Rattle.printing.specs.declared.Layout.{Layout}
+use Rattle.printing.specs.declared.Layout.TheVariants as Y
 
 -- `refused N`, `keys N`, and the end of a line: L for a value in the log, B for one in a block
 abbrev pub refused_text : Refusal → List ℕ
@@ -34,14 +37,14 @@ abbrev pub page_rows : ℕ
 page_rows = 50
 
 -- a number: as it is, or right-aligned in its columns
-abbrev pub column_text : Bool → ℕ → ℕ → List ℕ
-column_text false width n = decimal n
-column_text true width n = right_in width (decimal n)
+abbrev pub column_text : Layout → ℕ → ℕ → List ℕ
+column_text Y.Lines width n = decimal n
+column_text Y.Pages width n = right_in width (decimal n)
 
 -- A LINE: key, version, length, L or B, with a blank between them
-abbrev pub line_text : Bool → (key version bytes : ℕ) → Bool → List ℕ
-line_text paged key version bytes block =
-    column_text paged key_columns key ++ ((32 ∷ []) ++ (column_text paged version_columns version ++ ((32 ∷ []) ++ (column_text paged length_columns bytes ++ place_text block))))
+abbrev pub line_text : Layout → (key : ℕ) → Listing → List ℕ
+line_text layout key l =
+    column_text layout key_columns key ++ ((32 ∷ []) ++ (column_text layout version_columns l.version ++ ((32 ∷ []) ++ (column_text layout length_columns l.length ++ place_text l.block))))
 
 -- THE HEADING: KEY, VERSION, BYTES and P in the same columns
 unfoldable pub heading_text : List ℕ
@@ -53,18 +56,18 @@ abbrev pub page_text : ℕ → List ℕ
 page_text row = pick (eqb row 0) [] (pick (eqb (row % page_rows) 0) (12 ∷ heading_text) [])
 
 -- what stands first, and what is printed of a key with so many rows before it
-abbrev pub head_text : Bool → ℕ → List ℕ
-head_text false keys = count_text keys
-head_text true keys = heading_text
+abbrev pub head_text : Layout → ℕ → List ℕ
+head_text Y.Lines keys = count_text keys
+head_text Y.Pages keys = heading_text
 
-abbrev pub break_text : Bool → ℕ → List ℕ
-break_text false row = []
-break_text true row = page_text row
+abbrev pub break_text : Layout → ℕ → List ℕ
+break_text Y.Lines row = []
+break_text Y.Pages row = page_text row
 
-abbrev pub entry_text : Bool → ℕ → (key version bytes : ℕ) → Bool → List ℕ
-entry_text paged row key version bytes block = break_text paged row ++ line_text paged key version bytes block
+abbrev pub entry_text : Layout → ℕ → (key : ℕ) → Listing → List ℕ
+entry_text layout row key l = break_text layout row ++ line_text layout key l
 
 -- the most bytes of what is printed of a key, whatever the numbers
-abbrev pub entry_most : Bool → ℕ
-entry_most false = 65
-entry_most true = 103
+abbrev pub entry_most : Layout → ℕ
+entry_most Y.Lines = 65
+entry_most Y.Pages = 103

@@ -1,16 +1,15 @@
 -- The sheet as it lies on paper: the rows of a page, and one page behind the other.
 -- Assumes nothing.
-use Rattle.std.specs.Prelude.{◌≡◌, true, List, [], ◌∷◌, ◌++◌, ℕ, ◌≤◌, length}
+use Rattle.std.specs.Prelude.{◌≡◌, List, [], ◌∷◌, ◌++◌, ℕ, ◌≤◌, length, Ok, Err}
 use Rattle.spec.specs.Log.{Entry}
-use Rattle.lookup.specs.declared.Listed.{Listed}
-use Rattle.lookup.specs.declared.Listed.TheVariants as L
-use Rattle.lookup.specs.Listing.{listed_of}
+use Rattle.lookup.specs.Listing.{Listed, listed_of}
+use Rattle.printing.specs.declared.Layout.TheVariants as Y
 use Rattle.printing.specs.Lines.{page_rows, line_text, heading_text}
 
 -- the row of a key, and of keys, one below the other
 abbrev pub row_of : ℕ → Listed → List ℕ
-row_of key (L.Refused n) = []
-row_of key (L.Present version bytes block) = line_text true key version bytes block
+row_of key (Err n) = []
+row_of key (Ok l) = line_text Y.Pages key l
 
 abbrev pub rows_text : List ℕ → List Entry → List ℕ → List ℕ
 rows_text ws es [] = []

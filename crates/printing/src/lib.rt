@@ -2,18 +2,26 @@
 // below the other or in pages, or its refusal; line by line, and what both programs do.
 #![tactic(auto)]
 
-ghost use Rattle.std.specs.Prelude.{◌≤◌, suc, ◌≡◌, length, take};
+ghost use Rattle.std.specs.Prelude.{◌≤◌, suc, ◌≡◌, length};
 ghost use Rattle.text.specs.Text.{most_digits, Writes};
 ghost use Rattle.printing.specs.Lines.{refused_text, count_text, place_text, column_text, line_text, heading_text, page_text, break_text, head_text, entry_text};
 ghost use Rattle.std.specs.Counts.{IsPrefixLen};
-ghost use Rattle.printing.specs.Print.{image_text, read_most, table_words, text_bytes, Key, Keys, Register, Image};
+ghost use Rattle.printing.specs.Print.{image_text, read_most, table_words, Key, Keys, Register, Image};
 
 use buffer::{BUFFER_WORDS, Buffer};
-use lookup::{Counted, Listed};
+use lookup::Listing;
 use session::{Control, Setup};
 use spec::{Refusal, Report};
 use std::io::Read;
 use std::process::ExitCode;
+use text::Text;
+
+// How the keys are laid out: one line below the other, as `list` has them, or in columns and pages, as the sheet has.
+#[derive(Clone, Copy, PartialEq, Eq, Debug)]
+pub enum Layout {
+    Lines,
+    Pages,
+}
 
 // The sheet's columns, and the rows of a page.
 const KEY_COLUMNS: usize = 20;
@@ -24,202 +32,166 @@ const LENGTH_COLUMNS: usize = 5;
 
 const PAGE_ROWS: usize = 50;
 
-pub fn put_refusal(out: &mut [u8], refusal: Refusal) -> usize
-    ensures { Writes out.old out.new 0 result (refused_text refusal) }
+pub fn put_refusal<const N: usize>(out: &mut Text<N>, refusal: Refusal)
+    ensures { Writes N out.old out.new (refused_text refusal) }
 {
-    let a = text::put_bytes(out, 0, b"refused ");
-    let b = text::put_decimal(out, a, session::number(refusal));
-    text::put_bytes(out, b, b"\n")
+    out.put_bytes(b"refused ");
+    out.put_decimal(session::number(refusal));
+    out.put_bytes(b"\n");
 }
 
-fn put_count(out: &mut [u8], keys: u64) -> usize
-    ensures { Writes out.old out.new 0 result (count_text keys) }
+fn put_count<const N: usize>(out: &mut Text<N>, keys: u64)
+    ensures { Writes N out.old out.new (count_text keys) }
 {
-    let a = text::put_bytes(out, 0, b"keys ");
-    let b = text::put_decimal(out, a, keys);
-    text::put_bytes(out, b, b"\n")
+    out.put_bytes(b"keys ");
+    out.put_decimal(keys);
+    out.put_bytes(b"\n");
 }
 
 // Whether the value is in the log or in a block.
-fn put_place(out: &mut [u8], at: usize, block: bool) -> usize
-    ensures { Writes out.old out.new at result (place_text block) }
+fn put_place<const N: usize>(out: &mut Text<N>, block: bool)
+    ensures { Writes N out.old out.new (place_text block) }
 {
     if block {
-        return text::put_bytes(out, at, b" B\n");
+        out.put_bytes(b" B\n");
+    } else {
+        out.put_bytes(b" L\n");
     }
-    text::put_bytes(out, at, b" L\n")
 }
 
 // A number, on the sheet right-aligned in its columns.
-fn put_column(out: &mut [u8], at: usize, paged: bool, width: usize, number: u64) -> usize
+fn put_column<const N: usize>(out: &mut Text<N>, layout: Layout, width: usize, number: u64)
     requires { width ≤ most_digits }
-    ensures { Writes out.old out.new at result (column_text paged width number) }
+    ensures { Writes N out.old out.new (column_text layout width number) }
 {
-    if paged {
-        return text::put_right(out, at, number, width);
+    match layout {
+        Layout::Lines => out.put_decimal(number),
+        Layout::Pages => out.put_right(number, width),
     }
-    text::put_decimal(out, at, number)
 }
 
-fn put_line(
-    out: &mut [u8],
-    at: usize,
-    paged: bool,
-    key: u64,
-    version: u64,
-    length: u64,
-    block: bool,
-) -> usize
-    ensures { Writes out.old out.new at result (line_text paged key version length block) }
+fn put_line<const N: usize>(out: &mut Text<N>, layout: Layout, key: u64, listing: Listing)
+    ensures { Writes N out.old out.new (line_text layout key listing) }
 {
-    let a = put_column(out, at, paged, KEY_COLUMNS, key);
-    let b = text::put_bytes(out, a, b" ");
-    let c = put_column(out, b, paged, VERSION_COLUMNS, version);
-    let d = text::put_bytes(out, c, b" ");
-    let e = put_column(out, d, paged, LENGTH_COLUMNS, length);
-    put_place(out, e, block)
+    put_column(out, layout, KEY_COLUMNS, key);
+    out.put_bytes(b" ");
+    put_column(out, layout, VERSION_COLUMNS, listing.version);
+    out.put_bytes(b" ");
+    put_column(out, layout, LENGTH_COLUMNS, listing.length);
+    put_place(out, listing.block);
 }
 
-fn put_heading(out: &mut [u8], at: usize) -> usize
-    ensures { Writes out.old out.new at result heading_text }
+fn put_heading<const N: usize>(out: &mut Text<N>)
+    ensures { Writes N out.old out.new heading_text }
 {
-    text::put_bytes(out, at, b"                 KEY VERSION BYTES P\n")
+    out.put_bytes(b"                 KEY VERSION BYTES P\n");
 }
 
 // A form feed and the heading, where the rows before fill their pages.
-fn put_page(out: &mut [u8], at: usize, row: usize) -> usize
-    ensures { Writes out.old out.new at result (page_text row) }
+fn put_page<const N: usize>(out: &mut Text<N>, row: usize)
+    ensures { Writes N out.old out.new (page_text row) }
 {
-    if row == 0 {
-        return at;
+    if row != 0 && row % PAGE_ROWS == 0 {
+        out.put_bytes(b"\x0c");
+        put_heading(out);
     }
-    if row % PAGE_ROWS == 0 {
-        let a = text::put_bytes(out, at, b"\x0c");
-        return put_heading(out, a);
-    }
-    at
 }
 
-fn put_break(out: &mut [u8], at: usize, paged: bool, row: usize) -> usize
-    ensures { Writes out.old out.new at result (break_text paged row) }
+fn put_break<const N: usize>(out: &mut Text<N>, layout: Layout, row: usize)
+    ensures { Writes N out.old out.new (break_text layout row) }
 {
-    if paged {
-        return put_page(out, at, row);
+    match layout {
+        Layout::Lines => {}
+        Layout::Pages => put_page(out, row),
     }
-    at
 }
 
 // What stands first: the number of keys, or on the sheet the heading.
-pub fn put_head(out: &mut [u8], paged: bool, keys: u64) -> usize
-    ensures { Writes out.old out.new 0 result (head_text paged keys) }
+pub fn put_head<const N: usize>(out: &mut Text<N>, layout: Layout, keys: u64)
+    ensures { Writes N out.old out.new (head_text layout keys) }
 {
-    if paged {
-        return put_heading(out, 0);
+    match layout {
+        Layout::Lines => put_count(out, keys),
+        Layout::Pages => put_heading(out),
     }
-    put_count(out, keys)
 }
 
 // What is printed of a key with so many rows before it.
-pub fn put_entry(
-    out: &mut [u8],
-    at: usize,
-    paged: bool,
+pub fn put_entry<const N: usize>(
+    out: &mut Text<N>,
+    layout: Layout,
     row: usize,
     key: u64,
-    version: u64,
-    length: u64,
-    block: bool,
-) -> usize
-    ensures { Writes out.old out.new at result (entry_text paged row key version length block) }
+    listing: Listing,
+)
+    ensures { Writes N out.old out.new (entry_text layout row key listing) }
 {
-    let from = put_break(out, at, paged, row);
-    put_line(out, from, paged, key, version, length, block)
+    put_break(out, layout, row);
+    put_line(out, layout, key, listing);
+}
+
+// An open register: the small parts of its record, its image and its key table.
+#[derive(Clone, Copy)]
+struct Open<'a> {
+    control: Control,
+    setup: Setup,
+    image: &'a [u8],
+    table: &'a [u64],
 }
 
 // The line of a key that comes behind so many others, none where it is absent.
-fn put_key(
-    control: Control,
-    setup: Setup,
-    image: &[u8],
-    table: &[u64],
-    key: u64,
-    paged: bool,
-    row: usize,
-    out: &mut [u8],
-    at: usize,
-) -> usize
-    ensures { Key control setup key paged row image.now table.now out.old out.new at result }
+fn put_key<const N: usize>(register: Open, key: u64, layout: Layout, row: usize, out: &mut Text<N>)
+    ensures { Key N register.entry.control register.entry.setup key layout row register.entry.image.now register.entry.table.now out.old out.new }
 {
-    let listed = lookup::list_key(control, setup, image, table, key);
-    match listed {
-        Listed::Refused(_) => at,
-        Listed::Present {
-            version,
-            length,
-            block,
-        } => put_entry(out, at, paged, row, key, version, length, block),
+    if let Ok(listing) = lookup::list_key(
+        register.control,
+        register.setup,
+        register.image,
+        register.table,
+        key,
+    ) {
+        put_entry(out, layout, row, key, listing);
     }
 }
 
-// The lines of the first keys.
-fn put_keys(
-    control: Control,
-    setup: Setup,
-    image: &[u8],
-    table: &[u64],
-    keys: &[u64],
-    count: usize,
-    paged: bool,
-    out: &mut [u8],
-    at: usize,
-) -> usize
-    ensures { Keys control setup image.now table.now keys.now count paged out.old out.new at result }
+// The lines of keys.
+fn put_keys<const N: usize>(register: Open, keys: &[u64], layout: Layout, out: &mut Text<N>)
+    ensures { Keys N register.entry.control register.entry.setup register.entry.image.now register.entry.table.now keys.now layout out.old out.new }
 {
-    let mut end = at;
-    let mut i = 0;
-    while i < keys.len() {
-        if count <= i {
-            return end;
-        }
-        end = put_key(control, setup, image, table, keys[i], paged, i, out, end);
-        i += 1;
+    for (row, &key) in keys.iter().enumerate() {
+        put_key(register, key, layout, row, out);
     }
-    end
 }
 
 // The text of an open register.
-fn put_register(
-    control: Control,
-    setup: Setup,
-    image: &[u8],
-    table: &[u64],
-    keys: &mut [u64],
-    paged: bool,
-    out: &mut [u8],
-) -> usize
-    ensures { Register control setup paged image.now table.now keys.old out.old out.new result }
+fn put_register<const N: usize>(register: Open, keys: &mut [u64], layout: Layout, out: &mut Text<N>)
+    ensures { Register N register.entry.control register.entry.setup layout register.entry.image.now register.entry.table.now keys.old out.old out.new }
 {
-    let counted = lookup::list_keys(control, setup, image, table, keys);
-    match counted {
-        Counted::Refused(n) => put_refusal(out, n),
-        Counted::Keys(count) => {
-            let at = put_head(out, paged, count as u64);
-            put_keys(control, setup, image, table, keys, count, paged, out, at)
+    match lookup::list_keys(
+        register.control,
+        register.setup,
+        register.image,
+        register.table,
+        keys,
+    ) {
+        Err(refusal) => put_refusal(out, refusal),
+        Ok(count) => {
+            put_head(out, layout, count as u64);
+            put_keys(register, &keys[..count.min(keys.len())], layout, out);
         }
     }
 }
 
-// The text of an image, as a list or in pages, with lent memory for its key table, the record's buffer and the keys;
-// how long it is.
-fn list_image(
+// The text of an image, as a list or in pages, with lent memory for its key table, the record's buffer and the keys.
+fn list_image<const N: usize>(
     image: &[u8],
     table: &mut [u64],
     buffer: &mut Buffer,
     keys: &mut [u64],
-    paged: bool,
-    out: &mut [u8],
-) -> usize
-    ensures { Image paged image.now table.old buffer.old keys.old out.old out.new result }
+    layout: Layout,
+    out: &mut Text<N>,
+)
+    ensures { Image N layout image.now table.old buffer.old keys.old out.old out.new }
 {
     let opened = opening::open_core(
         session::closed(),
@@ -228,12 +200,17 @@ fn list_image(
         image,
         table,
     );
-    let control = opened.control;
-    let setup = opened.setup;
-    let report = opened.report;
-    match report {
-        Report::Refused(n) => put_refusal(out, n),
-        _ => put_register(control, setup, image, table, keys, paged, out),
+    match opened.report {
+        Report::Refused(refusal) => put_refusal(out, refusal),
+        _ => {
+            let register = Open {
+                control: opened.control,
+                setup: opened.setup,
+                image,
+                table,
+            };
+            put_register(register, keys, layout, out);
+        }
     }
 }
 
@@ -248,15 +225,15 @@ const TABLE_KEYS: usize = 2048;
 const TEXT_BYTES: usize = 210984;
 
 // The text of an image, with the table of a program.
-fn image_text(image: &[u8], paged: bool, out: &mut [u8]) -> usize
-    requires { length out.old ≡ text_bytes }
-    ensures prefix_len { IsPrefixLen result out.new }
-    ensures out_after { take result out.new ≡ image_text paged image.now table_words }
+fn image_text(image: &[u8], layout: Layout) -> Text<TEXT_BYTES>
+    ensures { result ≡ image_text layout image.now table_words }
 {
-    let mut table: [u64; TABLE_WORDS] = [0; TABLE_WORDS];
-    let mut buffer: Buffer = [0; BUFFER_WORDS];
-    let mut keys: [u64; TABLE_KEYS] = [0; TABLE_KEYS];
-    list_image(image, &mut table, &mut buffer, &mut keys, paged, out)
+    let mut table = [0; TABLE_WORDS];
+    let mut buffer = [0; BUFFER_WORDS];
+    let mut keys = [0; TABLE_KEYS];
+    let mut out = Text::new();
+    list_image(image, &mut table, &mut buffer, &mut keys, layout, &mut out);
+    out
 }
 
 // Reads an image; how many bytes. There is room for one byte more than an image may have.
@@ -269,12 +246,13 @@ fn read_image<R: Read>(input: &mut R, image: &mut [u8]) -> usize
 
 // Prints the text of the image on standard input. Where not all could be printed, standard error says so, under the
 // program's name, and the exit status is that of a failure.
-fn print(rt: &(impl Input + Print + Eprint), paged: bool, name: &str) -> ExitCode {
-    let mut image: [u8; READ_BYTES] = [0; READ_BYTES];
-    let mut out: [u8; TEXT_BYTES] = [0; TEXT_BYTES];
+fn print(rt: &(impl Input + Print + Eprint), layout: Layout, name: &str) -> ExitCode {
+    let mut image = [0; READ_BYTES];
     let n = read_image(&mut rt.reader(), &mut image);
-    let end = image_text(&image[..n], paged, &mut out);
-    if rt.write_all(&out[..end]).is_ok() {
+    if rt
+        .write_all(image_text(&image[..n], layout).as_bytes())
+        .is_ok()
+    {
         return ExitCode::SUCCESS;
     }
     let _ = eprint!(rt; "{name}: not all of it could be printed\n");
@@ -283,9 +261,9 @@ fn print(rt: &(impl Input + Print + Eprint), paged: bool, name: &str) -> ExitCod
 
 // THE PROGRAMS.
 pub fn print_list(rt: &(impl Input + Print + Eprint)) -> ExitCode {
-    print(rt, false, "list")
+    print(rt, Layout::Lines, "list")
 }
 
 pub fn print_sheet(rt: &(impl Input + Print + Eprint)) -> ExitCode {
-    print(rt, true, "sheet")
+    print(rt, Layout::Pages, "sheet")
 }

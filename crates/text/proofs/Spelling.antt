@@ -1,21 +1,36 @@
--- What a text spells from a place on: by its byte there, and at its end.
+-- What a text spells: the digits at its front, one after the other.
 -- Assumes nothing.
-use Rattle.std.proofs.Common.{◌≡◌, ℕ, ◌+◌, ◌*◌, ◌%◌, ◌^◌, ◌<◌, ◌≤◌, true, false, List, length, get_or, drop, ap, add-one, arith, drop_of_length-le, drop-cons}
-use native.Mathlib.Nat.{mod-add-mod, add-mod-mod}
-use Rattle.text.specs.Spelled.{is_digit, with_digit, spelled}
+use Rattle.std.proofs.Common.{◌≡◌, ℕ, suc, ◌+◌, Bool, true, false, eqb, Some, List, [], ◌∷◌, take, drop, length, sym, refl, ap, ◌∙◌, arith}
+use mathlib.Core.Bool.{false≢true}
+use Rattle.std.specs.List.{fold, prefix_len}
+use Rattle.text.specs.Spelled.{is_digit, with_digit, spelled, number_of, behind_digits}
 
-pub at-digit : (xs : List ℕ) (i v : ℕ) → i < length xs → is_digit (get_or xs i 0) ≡ true →
-    spelled (drop i xs) v ≡ spelled (drop (i + 1) xs) (with_digit v (get_or xs i 0))
-at-digit xs i v h e = rw (add-one i, drop-cons xs i 0 h, e)
+one-more : (n : ℕ) → 1 + n ≡ suc n
+one-more n = omega arith
 
-pub at_other : (xs : List ℕ) (i v : ℕ) → i < length xs → is_digit (get_or xs i 0) ≡ false → spelled (drop i xs) v ≡ v
-at_other xs i v h e = rw (drop-cons xs i 0 h, e)
+-- the text behind the digits
+pub behind-drop : (xs : List ℕ) → drop (prefix_len is_digit xs) xs ≡ behind_digits xs
+behind-drop [] = refl
+behind-drop (x ∷ xs) = go (is_digit x) refl (behind-drop xs)
+  where
+    go : (b : Bool) → is_digit x ≡ b → drop (prefix_len is_digit xs) xs ≡ behind_digits xs → drop (prefix_len is_digit (x ∷ xs)) (x ∷ xs) ≡ behind_digits (x ∷ xs)
+    go true e h = rw (e, one-more (prefix_len is_digit xs)) h
+    go false e h = rw e
 
-pub at-end : (xs : List ℕ) (i v : ℕ) → length xs ≤ i → spelled (drop i xs) v ≡ v
-at-end xs i v h = rw (drop_of_length-le xs h)
+-- the digits, folded
+spelled-fold : (xs : List ℕ) (v : ℕ) → fold with_digit v (take (prefix_len is_digit xs) xs) ≡ spelled xs v
+spelled-fold [] v = refl
+spelled-fold (x ∷ xs) v = go (is_digit x) refl (spelled-fold xs (with_digit v x))
+  where
+    go : (b : Bool) → is_digit x ≡ b → fold with_digit (with_digit v x) (take (prefix_len is_digit xs) xs) ≡ spelled xs (with_digit v x) → fold with_digit v (take (prefix_len is_digit (x ∷ xs)) (x ∷ xs)) ≡ spelled (x ∷ xs) v
+    go true e h = rw (e, one-more (prefix_len is_digit xs)) h
+    go false e h = rw e
 
--- Ten times, by wrapping sums: eight times and twice.
-pub ten : (x a b d e r : ℕ) → a ≡ (x + x) % 2 ^ 64 → b ≡ (a + a) % 2 ^ 64 → d ≡ (b + b) % 2 ^ 64 → e ≡ (x + x) % 2 ^ 64 →
-    r ≡ (d + e) % 2 ^ 64 → r ≡ 10 * x % 2 ^ 64
-ten x a b d e r p q s t u =
-    rw (u, s, q, p, t) (simp (mod-add-mod, add-mod-mod) (ap (λ (n : ℕ). n % 2 ^ 64) (omega arith)))
+-- the number, where there are digits
+pub number-some : (xs : List ℕ) → eqb (length (take (prefix_len is_digit xs) xs)) 0 ≡ false → Some (fold with_digit 0 (take (prefix_len is_digit xs) xs)) ≡ number_of xs
+number-some [] n = absurd (false≢true (sym n))
+number-some (x ∷ xs) n = go (is_digit x) refl (spelled-fold (x ∷ xs) 0)
+  where
+    go : (b : Bool) → is_digit x ≡ b → fold with_digit 0 (take (prefix_len is_digit (x ∷ xs)) (x ∷ xs)) ≡ spelled (x ∷ xs) 0 → Some (fold with_digit 0 (take (prefix_len is_digit (x ∷ xs)) (x ∷ xs))) ≡ number_of (x ∷ xs)
+    go true e h = ap Some h ∙ sym (rw e)
+    go false e h = absurd (false≢true (sym (rw e at n)))

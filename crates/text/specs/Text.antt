@@ -1,4 +1,4 @@
--- The decimal digits of a number, and bytes behind a text in lent bytes.
+-- The decimal digits of a number, and bytes behind a text: in lent bytes, and in a text of limited length.
 -- Assumes nothing.
 use Rattle.std.specs.Prelude.{◌≡◌, ℕ, zero, suc, ◌+◌, ◌-◌, ◌/◌, ◌%◌, ◌≤◌, Bool, List, [], ◌∷◌, ◌++◌, length, take, drop, replicate, ◌==◌, nat_le}
 use Rattle.spec.specs.Basics.{pick}
@@ -19,15 +19,22 @@ decimal n = last_digits most_digits n
 unfoldable pub right_in : ℕ → List ℕ → List ℕ
 right_in width xs = replicate (width - length xs) 32 ++ xs
 
--- bytes behind the first `at` of t, where t has room for them, and how far the text goes then
-abbrev pub has_room : List ℕ → ℕ → List ℕ → Bool
-has_room t at xs = nat_le (at + length xs) (length t)
+-- in lent bytes: bytes behind the first `at` of t, where t has room for them, and how far the text goes then
+abbrev pub has_room_at : List ℕ → ℕ → List ℕ → Bool
+has_room_at t at xs = nat_le (at + length xs) (length t)
 
-unfoldable pub with_bytes : List ℕ → ℕ → List ℕ → List ℕ
-with_bytes t at xs = pick (has_room t at xs) (take at t ++ xs ++ drop (at + length xs) t) t
+unfoldable pub with_bytes_at : List ℕ → ℕ → List ℕ → List ℕ
+with_bytes_at t at xs = pick (has_room_at t at xs) (take at t ++ xs ++ drop (at + length xs) t) t
 
 unfoldable pub behind : List ℕ → ℕ → List ℕ → ℕ
-behind t at xs = pick (has_room t at xs) (at + length xs) at
+behind t at xs = pick (has_room_at t at xs) (at + length xs) at
+
+-- bytes behind a text, where they have room in so many bytes
+abbrev pub has_room : ℕ → List ℕ → List ℕ → Bool
+has_room n t xs = nat_le (length t + length xs) n
+
+unfoldable pub with_bytes : ℕ → List ℕ → List ℕ → List ℕ
+with_bytes n t xs = pick (has_room n t xs) (t ++ xs) t
 
 -- the digits stand at the end of the lent bytes; those before them stay
 pub record Digits (out out' : List ℕ) (number from : ℕ) : Type 0 where
@@ -36,13 +43,6 @@ pub record Digits (out out' : List ℕ) (number from : ℕ) : Type 0 where
   pub spelled : drop from out' ≡ decimal number
   pub before : take from out' ≡ take from out
 
--- the text so far, and one that goes on behind it, where there is room
-pub record Reads (t : List ℕ) (at : ℕ) (xs : List ℕ) : Type 0 where
-  pub long : at ≡ length xs
-  pub room : at ≤ length t
-  pub is : take at t ≡ xs
-
-pub record Writes (t u : List ℕ) (at r : ℕ) (xs : List ℕ) : Type 0 where
-  pub sized : length u ≡ length t
-  pub inside : at ≤ length t → r ≤ length t
-  pub writes : (ys : List ℕ) → Reads t at ys → at + length xs ≤ length t → Reads u r (ys ++ xs)
+-- a text goes on by these bytes, where they have room in so many
+pub record Writes (n : ℕ) (t u xs : List ℕ) : Type 0 where
+  pub writes : length t + length xs ≤ n → u ≡ t ++ xs

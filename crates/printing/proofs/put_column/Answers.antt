@@ -1,12 +1,10 @@
 -- `printing::put_column` meets its contract.
 -- Assumes nothing.
-use Rattle.printing.proofs.Pieces.{in-columns, as-it-is}
+use Rattle.text.proofs.Texts.{put-writes}
 use Rattle.printing.proofs.put_column.Goals as goal
 
-pub returns-then-paged : goal.returns-then-paged
-returns-then-paged c =
-    in-columns _ _ _ _ _ _ _ c.if-paged.true c.put_right.ensures.0 c.put_right.ensures.1
+pub returns-in-Lines : goal.returns-in-Lines
+returns-in-Lines g c = rw c.in-Lines.is (put-writes _ _ _ _ c.put_decimal.ensures)
 
-pub returns : goal.returns
-returns c =
-    as-it-is _ _ _ _ _ _ _ c.if-paged.false c.put_decimal.ensures.0 c.put_decimal.ensures.1
+pub returns-in-Pages : goal.returns-in-Pages
+returns-in-Pages g c = rw c.in-Pages.is (put-writes _ _ _ _ c.put_right.ensures)

@@ -5,6 +5,4 @@ use Rattle.printing.proofs.Pieces.{heading-is}
 use Rattle.printing.proofs.put_heading.Goals as goal
 
 pub returns : goal.returns
-returns c =
-    let put = c.put_bytes.ensures in
-    rw heading-is (put-writes _ _ _ _ _ put.0 put.1)
+returns g c = rw heading-is (put-writes _ _ _ _ c.put_bytes.ensures)

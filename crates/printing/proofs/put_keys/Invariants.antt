@@ -1,12 +1,6 @@
--- The loops of `printing::put_keys`.
-use mathlib.Core.Path.{◌≡◌}
-use Prim.Native.Nat.{◌≤◌, ◌-◌}
-use lib.ListN.{length}
+-- The loop of `printing::put_keys`: the lines of the keys so far stand in the text.
 use Rattle.printing.proofs.Prints.{Lining}
 use Rattle.printing.proofs.put_keys.Given as goal
 
-abbrev pub invariant-loop-i : goal.invariant-loop-i
-invariant-loop-i l = (length l.out ≡ length l.initial.out) × (l.i ≤ length l.keys) × Lining l.control l.setup l.image l.table l.keys l.count l.paged l.initial.out l.at l.out l.end l.i
-
-abbrev pub decreases-loop-i : goal.decreases-loop-i
-decreases-loop-i l = length l.keys - l.i
+abbrev pub invariant-loop-row : goal.invariant-loop-row
+invariant-loop-row g l = Lining g.row.N l.register.control l.register.setup l.register.image.now l.register.table.now l.keys l.layout l.initial.out l.out l.row

@@ -1,34 +1,20 @@
 -- `text::number` meets its contract.
 -- Assumes nothing.
-use Rattle.std.proofs.Common.{ℕ, ◌+◌, drop, sym, ap, ◌∙◌, arith}
-use Rattle.text.specs.Spelled.{spelled}
-use Rattle.text.proofs.Spelling.{at-digit, at_other, at-end}
+use Rattle.std.proofs.lemmas.List.Sums.{prefix_len-le-length}
+use Rattle.text.specs.Spelled.{is_digit}
+use Rattle.text.proofs.Spelling.{behind-drop, number-some}
 use Rattle.text.proofs.number.Goals as goal
 
-pub loop-at-preserved : goal.loop-at-preserved
-loop-at-preserved c =
-    c.loop-at.invariant
-    ∙ at-digit
-    c.args.text.now
-    c.loop-at.at
-    c.loop-at.value
-    (omega arith)
-    (sym c.is_digit.ensures ∙ c.if-is_digit.true)
-    ∙ ap (λ (v : ℕ). spelled (drop (c.loop-at.at + 1) c.args.text.now) v) (sym c.with_digit-value.ensures)
+pub split_at-requires : goal.split_at-requires
+split_at-requires c = rw c.digits_before.ensures (prefix_len-le-length is_digit c.args.text.now)
 
-pub returns-else-is_digit : goal.returns-else-is_digit
-returns-else-is_digit c =
-    sym
-    (c.loop-at.invariant
-    ∙ at_other
-    c.args.text.now
-    c.loop-at.at
-    c.loop-at.value
-    (omega arith)
-    (sym c.is_digit.ensures ∙ c.if-is_digit.false))
+pub returns-then-is_empty-clause-rest : goal.returns-then-is_empty-clause-rest
+returns-then-is_empty-clause-rest c = rw (c.split_at.ensures.back, c.digits_before.ensures) (behind-drop c.args.text.now)
 
-pub returns : goal.returns
-returns c =
-    sym
-    (c.loop-at.invariant
-    ∙ at-end c.args.text.now c.loop-at.at c.loop-at.value (omega arith))
+pub returns-else-is_empty-clause-value : goal.returns-else-is_empty-clause-value
+returns-else-is_empty-clause-value c =
+    let n = rw (c.is_empty.ensures, c.split_at.ensures.front, c.digits_before.ensures) at c.if-is_empty.false in
+    rw (c.value.ensures, c.split_at.ensures.front, c.digits_before.ensures) (number-some c.args.text.now n)
+
+pub returns-else-is_empty-clause-rest : goal.returns-else-is_empty-clause-rest
+returns-else-is_empty-clause-rest c = rw (c.split_at.ensures.back, c.digits_before.ensures) (behind-drop c.args.text.now)

@@ -1,9 +1,0 @@
--- The loops of `player::memory::copy_words`. The measure is what is left to copy.
-use Rattle.std.proofs.Common.{◌≡◌, ◌-◌, length}
-use Rattle.player.proofs.memory.copy_words.Given as goal
-
-abbrev pub invariant-loop-i : goal.invariant-loop-i
-invariant-loop-i l = length l.to ≡ length l.initial.to
-
-abbrev pub decreases-loop-i : goal.decreases-loop-i
-decreases-loop-i l = length l.from - l.i

@@ -1,9 +1,0 @@
--- The loops of `player::script::word`. The measure is what is left of the text.
-use Rattle.std.proofs.Common.{◌-◌, length}
-use Rattle.player.proofs.script.word.Given as goal
-
-abbrev pub invariant-loop-at : goal.invariant-loop-at
-invariant-loop-at l = Unit {0}
-
-abbrev pub decreases-loop-at : goal.decreases-loop-at
-decreases-loop-at l = length l.text - l.at
