@@ -69,7 +69,7 @@ counts = [
     ('1d', 'answers told by a number and through &mut u64',
      [(told(f, m.start()), m.group(1)) for f, m in functions() if '&mut u64' in m.group(2)]),
     ('2', 'functions whose names say that there is another for another type, size or constant', found(TWIN)),
-    ('3', 'loops by hand: while and loop', found(r'^\s*(?:\'\w+: )?(?:while|loop)\b.*')),
+    ('3', 'loops by hand: while and loop', found(r'^\s*(?:\'\w+: )?(?:while(?! let)|loop)\b.*')),
     ('4a', 'functions that compare, copy, convert or print by hand', found(HAND)),
     ('4b', 'fields copied one by one into a new struct', rebuilt),
     ('4c', 'wrapping sums through std::num', found(r'std::num::wrapping_\w+')),

@@ -669,7 +669,7 @@ def example_sheet():
     """The numbers that come with the rules, written here as they were given: worked by hand, and the examples of refusals."""
     empty = header_words(4) + [0] * 2040
     s = Sheet('examples', 'Examples of the rules', empty)
-    s.add('header', 'header_words 12 16 G.Absent G.Absent', [1, 16, 0, 0, 0, 0, 0, 18446744073709551599])
+    s.add('header', 'header_words 12 16 G.None G.None', [1, 16, 0, 0, 0, 0, 0, 18446744073709551599])
     s.add('directory', '(log_word 0 2 ∷ data_word 0 3 ∷ [])', [513, 770])
     entries = ['entry 1 0 1 5 7 []', 'entry 1 0 1 0 7 []', 'entry 2 0 2 0 7 []', 'entry 1 1 1 48 7 []']
     s.add('entries', f'map head_of {listed(entries)}', [83886097, 17, 34, 805306389])

@@ -275,7 +275,7 @@ USES = '''use Rattle.std.specs.Prelude.{Bool, true, false, List, [], ◌∷◌, 
 use Rattle.std.proofs.Math.Option.{Option, none, some}
 use Rattle.codes.specs.Codes.{same, sum_of, each, bit, zeros, pattern, actions_code, parsed_code, role_code, opening_code, held_code, shown_code, key_codes, whole_code, header_code}
 use Rattle.codes.specs.Codes.{clean_codes, call, Command, Do, Steps, Lend, Total, play, media_code, cut_code, item, book_code}
-use Rattle.spec.specs.declared.Given.TheVariants as G
+use Rattle.std.specs.declared.option.Option.TheVariants as G
 use Rattle.spec.specs.declared.Refusal.TheVariants as N
 use Rattle.spec.specs.declared.Report.TheVariants as R
 '''
@@ -397,7 +397,7 @@ def items_text(items):
 
 
 def given_text(x):
-    return 'G.Absent' if x is None else f'(G.Number {x})'
+    return 'G.None' if x is None else f'(G.Some {x})'
 
 
 def report_text(r):
