@@ -1,7 +1,7 @@
 #!/usr/bin/env bash
 # Counts the instructions of the public calls (callgrind) and compares them with the kept figures, bench/instructions.txt:
 # more than 3 % above one of them is an error. They do not depend on the machine's speed. No part of the gate. The kept
-# figures are of the library as the older kit compiled it.
+# figures are of the library before the design pass (docs/DESIGN-PASS.md), compiled by today's kit.
 # A row has the instructions inside the calls, and those with the loop of the driver around them. Clearing the key table is
 # one instruction of the processor, which callgrind counts once for each byte: an opening's figure is without it.
 #   bench/instructions.sh            compare

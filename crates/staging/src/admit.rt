@@ -59,7 +59,9 @@ pub fn known_of(buffer: &Buffer, words: usize, table: &[u64], key: u64, size: Si
     }
 }
 
-// The highest version of a key, staged items counted, 0 where it has none.
+// The highest version of a key, staged items counted, 0 where it has none. (Inline, since a put's own call of it takes
+// forty instructions.)
+#[inline(always)]
 pub fn version_of(buffer: &Buffer, words: usize, table: &[u64], key: u64, size: Size) -> u64
     ensures { VersionOf size buffer.now words table.now key result }
 {
