@@ -80,8 +80,8 @@ fn fill_action(setup: Setup, unit: Unit, buffer: &Buffer, at: usize) -> Report
     }
 }
 
-// The action number `at` of a staging of a large value: those that take a free chunk, its directory word and that word's
-// line, where the chunk is free; then those that fill the block.
+// The action number `at` of a staging of a large value: those that take a free chunk, its directory word and that
+// word's line, where the chunk is free; then those that fill the block.
 pub fn block_action(setup: Setup, buffer: &Buffer, at: usize) -> Report
     ensures { result ≡ nth_report (block_actions setup buffer.now) at }
 {

@@ -59,7 +59,7 @@ fn has_live(buffer: &Buffer, chunk: usize, size: Size) -> bool
     false
 }
 
-// THE PLAN of a log chunk: its kept entries are gathered, and a place is looked for if there are any
+// THE PLAN of a log chunk: its kept entries are gathered, and a place is looked for if there are any.
 fn plan_log(
     image: &[u8],
     table: &[u64],
@@ -108,7 +108,7 @@ fn plan_log(
     })
 }
 
-// of a chunk that is no log chunk: it is only freed
+// The plan of a chunk that is no log chunk: it is only freed.
 fn plan_data(
     buffer: &Buffer,
     image: &[u8],

@@ -1,5 +1,5 @@
--- Block sizes: a table from needed units to block size, read at any number. That the size is one, holds the value and is
--- the smallest, `theory_base` shows of both sizes of chunks.
+-- Block sizes: a table from needed units to block size, read at any number. That the size is one, holds the value and
+-- is the smallest, `theory_base` shows of both sizes of chunks.
 -- Assumes nothing.
 use Rattle.std.proofs.Common.{◌≡◌, ℕ, ◌+◌, Bool, true, refl, leb, List, get_or, map, arith}
 use Rattle.std.specs.List.{range_with_len}

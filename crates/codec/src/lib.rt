@@ -139,8 +139,8 @@ pub fn role_of(size: Size, word: u64) -> Role
     }
 }
 
-// The new word of a chunk, from the old, which its definition takes; lines and size modulo 2^56. The two are a line each,
-// as the definitions are.
+// The new word of a chunk, from the old, which its definition takes; lines and size modulo 2^56. The two are a line
+// each, as the definitions are.
 pub fn log_word(old: u64, lines: u64) -> u64
     ensures { result ≡ log_word old (lines % 2 ^ 56) }
 {

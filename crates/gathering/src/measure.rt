@@ -99,7 +99,7 @@ pub struct Run {
 }
 
 // The puts with values in the log that stand one behind the other from word `from` on, before word `until`: all else is
-// left to `kept_size`.
+// left to `size_counted`.
 fn add_puts(
     image: &[u8],
     table: &[u64],

@@ -59,7 +59,8 @@ pub struct Cursor {
     pub end: usize,
 }
 
-// An entry of the log: `place` is its first word, `words` those that its value takes there, `behind` the place behind it.
+// An entry of the log: `place` is its first word, `words` those that its value takes there, `behind` the place behind
+// it.
 #[derive(Clone, Copy)]
 pub struct Entry {
     pub op: u64,

@@ -1,6 +1,6 @@
-// All that goes by the size of a chunk: how many bytes, words, lines and units it has, and where it begins. No other
-// crate has a number of these. Each number is a choice of two literals, so that the compiler makes shifts of the
-// products and quotients, and in a loop chooses once.
+// All that goes by the size of a chunk: how many bytes, words, lines and units it has, and where it begins. Other
+// crates have a number of these only where a type or a table of theirs needs a literal. Each number is a choice of two
+// literals, so that the compiler makes shifts of the products and quotients, and in a loop chooses once.
 // Each definition of an address is opened where the code has it.
 #![tactic(auto, unfolding(spec::specs::Places::chunk_bytes, spec::specs::Places::chunk_words, spec::specs::Places::chunk_lines, spec::specs::Places::chunk_units, spec::specs::Places::base, spec::specs::Places::first_line, spec::specs::Places::first_unit, spec::specs::Places::word_chunk, spec::specs::Places::unit_chunk, spec::specs::Places::unit_in, spec::specs::Blocks::block_limit, spec::specs::Places::chunks_in, spec::specs::Places::length_allowed))]
 

@@ -25,7 +25,7 @@ pub enum Slot {
 }
 
 // What stands at a word of the batch: whether it is a put whose value is in the block asked for, and the number of
-// words to the next item.
+// words to the next item. (d) Both are said of every word, so that no Option would say both.
 #[derive(Clone, Copy)]
 pub struct Met {
     pub here: bool,
@@ -86,7 +86,8 @@ pub fn is_spare(buffer: &Buffer, words: usize, unit: Unit, size: Size) -> bool
 
 // THE BITS OF A CHUNK: bit i says whether a block in use starts at its unit i. They are a quarter of a word in small
 // chunks, four words in large ones.
-// The bits in which each block of that size is in use; for no block size, all.
+// The bits in which each block of that size is in use; for no block size, all. (d) Chunks of each size have block sizes
+// of their own, so that the tables are two.
 fn small_full(units: usize) -> [u64; 4]
     ensures { EachUsed Small units result }
 {

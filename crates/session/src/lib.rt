@@ -363,8 +363,8 @@ pub fn gate(control: Control, setup: Setup, bytes: usize, words: usize) -> Resul
     Err(closed_or(control.phase, Refusal::Unfinished))
 }
 
-// The phases in which look-up answers: at rest, in a staging, a commit and a cleaning. (By `matches!` the compiler makes
-// one test of these phases and the one at rest, and a look-up is slower.)
+// The phases in which look-up answers: at rest, in a staging, a commit and a cleaning. (By `matches!` the compiler
+// makes one test of these phases and the one at rest, and a look-up is slower.)
 const READ_PHASES: [bool; 7] = [false, true, true, true, false, false, true];
 
 fn is_read(number: u64) -> bool

@@ -82,7 +82,7 @@ fn put_bytes_at(text: &mut [u8], at: usize, bytes: &[u8]) -> usize
 }
 
 // The decimal digits of a number behind the first `at` of a text, right-aligned in so many columns.
-// It stands beside `Text`, which puts its digits by it, for callers that lend bytes of their own.
+// `Text` puts its digits by it.
 pub fn put_right(text: &mut [u8], at: usize, number: u64, width: usize) -> usize
     requires { width ≤ most_digits }
     ensures { (result ≡ behind text.old at (right_in width (decimal number))) × (text.new ≡ with_bytes_at text.old at (right_in width (decimal number))) }

@@ -1,5 +1,5 @@
--- The loops of `index::get`. The loop's invariant: `BehindAt` holds while the slots behind the first are probed, and then
--- `RoundAt`.
+-- The loops of `index::get`. The loop's invariant: `BehindAt` holds while the slots behind the first are probed, and
+-- then `RoundAt`.
 use Prim.Native.Nat.{◌-◌}
 use Rattle.index.proofs.Probing.{BehindAt, RoundAt}
 use Rattle.index.proofs.get.Given as goal

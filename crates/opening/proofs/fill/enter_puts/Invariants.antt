@@ -1,5 +1,5 @@
--- The loop of `opening::fill::enter_puts`. Its invariant: the pass has come to where the run is, with the table's numbers
--- as they are.
+-- The loop of `opening::fill::enter_puts`. Its invariant: the pass has come to where the run is, with the table's
+-- numbers as they are.
 use Prim.Native.Nat.{◌-◌}
 use lib.ListN.{length}
 use Rattle.spec.specs.Words.{words_of}

@@ -1,5 +1,5 @@
--- The loop of `opening::fill::fill`. Its invariant: table and sums are those of the entries passed so far, or their keys
--- do not fit.
+-- The loop of `opening::fill::fill`. Its invariant: table and sums are those of the entries passed so far, or their
+-- keys do not fit.
 use lib.ListN.{length}
 use Rattle.spec.specs.Words.{words_of}
 use Rattle.logs.specs.Cursor.{left}
