@@ -382,18 +382,20 @@ pub fn find_block(
     let most = blocks_of(size, word, units);
     let full = full_bits(size, units);
     let whole = places::units(size);
-    for c in 1..chunks {
+    let mut found = None;
+    'chunks: for c in 1..chunks {
         let blocks = blocks_in(image, buffer, c, word, most, full, size);
         for j in 0..blocks {
             // By the number itself: `Unit::of` here costs two instructions for each chunk that is passed over.
             let u = whole * c + units * j;
             let unit = Unit(u as u64);
             if is_spare(buffer, words, unit, size) {
-                return Some(unit);
+                found = Some(unit);
+                break 'chunks;
             }
         }
     }
-    None
+    found
 }
 
 // Where a value that needs blocks of that size goes, if it has a place.
