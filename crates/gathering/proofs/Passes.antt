@@ -1,8 +1,9 @@
 -- The pass that gathers from the copy: the reading, what is left from a cursor on, at the beginning, after one more
 -- entry, and at the end.
 -- Assumes nothing.
-use Rattle.std.proofs.Common.{◌≡◌, ℕ, zero, suc, ◌+◌, ◌-◌, ◌*◌, ◌/◌, ◌<◌, ◌≤◌, min, Bool, true, false, eqb, List, [], ◌∷◌, ◌++◌, length, get_or, take, drop, sym, refl, ap, ◌∙◌, inl, inr, append-nil, add-zero, zero-add, arith, length-drop, ext_get_or}
-use Rattle.std.proofs.lemmas.List.{length-take, get_or-take, get_or-drop, get_or_append_left}
+use Rattle.std.proofs.Common.{◌≡◌, ℕ, zero, suc, ◌+◌, ◌-◌, ◌*◌, ◌/◌, ◌<◌, ◌≤◌, min, Bool, true, false, eqb, List, [], ◌∷◌, length, get_or, take, drop, set, sym, refl, ap, ◌∙◌, inl, inr, append-nil, add-zero, zero-add, arith, length-set, get_or-set_other, get_or-set_same, ext_get_or}
+use mathlib.Core.Logic.{by_cases}
+use native.Mathlib.Decide.{ℕ_discrete}
 use lib.Seq.{slice}
 use Rattle.spec.specs.declared.Size.{Size}
 use Rattle.places.specs.Sizes.{power_of, power-low, power-high}
@@ -32,11 +33,21 @@ use Rattle.gathering.specs.Reading.{ChunkRead, lifted, Owing, OneTaken, Collecti
 
 -- ## The reading
 
--- bytes that were taken from the image stand at the front of the copy
-pub read-bytes : (image new rest : List ℕ) (from n k : ℕ) → k ≡ n → new ≡ take k (drop from image) → from + n ≤ length image → (j : ℕ) → j < n → get_or (new ++ rest) j 0 ≡ get_or image (from + j) 0
-read-bytes image new rest from n k ek is fits j l =
-    let long : length new ≡ n = ap length is ∙ length-take k (drop from image) ∙ (let d = length-drop from image in let z : min k (length (drop from image)) ≡ n = omega arith in z) in
-    get_or_append_left new rest 0 j (omega arith) ∙ ap (λ (b : List ℕ). get_or b j 0) is ∙ get_or-take k (drop from image) j 0 (omega arith) ∙ get_or-drop from image j 0
+-- the bytes before i are read
+pub record Reads (room : ℕ) (image copy : List ℕ) (from i : ℕ) : Type 0 where
+  pub long : length copy ≡ room
+  pub bytes : (j : ℕ) → j < i → get_or copy j 0 ≡ get_or image (from + j) 0
+
+pub reads-start : (image copy : List ℕ) (from : ℕ) → Reads (length copy) image copy from 0
+reads-start image copy from = record { long = refl; bytes = λ j l. absurd (omega arith) }
+
+pub reads-next : (room : ℕ) (image copy copy' : List ℕ) (from i : ℕ) → Reads room image copy from i → i < room → copy' ≡ set copy i (get_or image (from + i) 0) → Reads room image copy' from (i + 1)
+reads-next room image copy copy' from i r low is = record {
+  long = ap length is ∙ length-set copy i (get_or image (from + i) 0) ∙ r.long;
+  bytes = λ j l. ap (λ (b : List ℕ). get_or b j 0) is ∙ by_cases (ℕ_discrete j i)
+      (λ q. rw q (get_or-set_same copy i (get_or image (from + i) 0) 0 (let z = r.long in omega arith)))
+      (λ n. get_or-set_other copy i j (get_or image (from + i) 0) 0 n ∙ r.bytes j (omega arith));
+}
 
 word_read : (image copy : List ℕ) (at i n : ℕ) → ((j : ℕ) → j < 8 * n → get_or copy j 0 ≡ get_or image (8 * at + j) 0) → i < n → word_at copy i ≡ word_at image (at + i)
 unfolding word_at

@@ -17,7 +17,7 @@ use buffer::{Buffer, SECOND};
 use logs::Cursor;
 use spec::Size;
 
-// THE READING: the words from `at` to `end`, each once. How many there are.
+// THE READING: the words from `at` to `end`, each once, from the first to the last. How many there are.
 fn read_chunk(image: &[u8], copy: &mut [u8], at: usize, end: usize, size: Size) -> usize
     requires { length copy.old ≡ chunk_bytes (power_of size) }
     ensures { ChunkRead size image.now copy.new at end result }
@@ -29,7 +29,9 @@ fn read_chunk(image: &[u8], copy: &mut [u8], at: usize, end: usize, size: Size) 
     let words = (stop - at).min(places::words(size));
     let from = 8 * at;
     let bytes = 8 * words;
-    copy[..bytes].copy_from_slice(&image[from..from + bytes]);
+    for i in 0..bytes {
+        copy[i] = image[from + i];
+    }
     words
 }
 
