@@ -342,6 +342,13 @@ fn closed_or(number: u64, refusal: Refusal) -> Refusal
     }
 }
 
+// Whether a number stands for the phase at rest.
+fn is_at_rest(number: u64) -> bool
+    ensures { result ≡ eqb number 1 }
+{
+    matches!(Phase::from(number), Phase::Rest)
+}
+
 // Whether the lent lengths are those at the opening.
 fn has_lengths(setup: Setup, bytes: usize, words: usize) -> bool
     ensures { result ≡ same_lengths setup bytes words }
@@ -357,7 +364,7 @@ pub fn gate(control: Control, setup: Setup, bytes: usize, words: usize) -> Resul
     if !has_lengths(setup, bytes, words) {
         return Err(closed_or(control.phase, Refusal::ImageLength));
     }
-    if control.phase == REST {
+    if is_at_rest(control.phase) {
         return Ok(());
     }
     Err(closed_or(control.phase, Refusal::Unfinished))
@@ -381,7 +388,7 @@ pub fn read_gate(control: Control, setup: Setup, bytes: usize, words: usize) -> 
     if !has_lengths(setup, bytes, words) {
         return Err(closed_or(control.phase, Refusal::ImageLength));
     }
-    if control.phase == REST || is_read(control.phase) {
+    if is_at_rest(control.phase) || is_read(control.phase) {
         return Ok(());
     }
     Err(closed_or(control.phase, Refusal::Unfinished))
