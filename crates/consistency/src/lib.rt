@@ -5,7 +5,7 @@
 #![tactic(auto)]
 
 ghost use Rattle.std.specs.Prelude.{◌≡◌, ◌+◌, ◌-◌, ◌*◌, ◌^◌, ◌≤◌, ◌<◌, true, false, ltb};
-ghost use Rattle.spec.specs.Basics.{pick, every};
+ghost use Rattle.spec.specs.Basics.{pick, either, every};
 ghost use Rattle.spec.specs.Words.{words_of};
 ghost use Rattle.spec.specs.Blocks.{start_tests, length_tests, block_right};
 ghost use Rattle.places.specs.Sizes.{power_of};
@@ -273,6 +273,13 @@ pub fn next_width(width: u64, keys: usize) -> u64
     (width * room / (many + room / 8)).clamp(1, CLASSES)
 }
 
+// Whether a range is done as it is: its keys fit, or it is one class.
+pub fn is_enough(fits: bool, width: u64) -> bool
+    ensures { result ≡ either fits (ltb width 2) }
+{
+    fits || width < 2
+}
+
 // All classes, with a table of the call's own for one range of them after the other. A range whose keys do not fit it
 // is halved; one class alone whose keys do not fit is checked by scans.
 fn check_classes(image: &[u8], count: usize, buffer: &mut Buffer, size: Size) -> Checked
@@ -291,7 +298,7 @@ fn check_classes(image: &[u8], count: usize, buffer: &mut Buffer, size: Size) ->
         let high = range_end(low, width);
         let classes = Classes { low, high };
         let keys = collect(image, count, &mut own, classes, size);
-        if keys.is_none() && 2 <= width {
+        if !is_enough(keys.is_some(), width) {
             width /= 2;
             continue;
         }

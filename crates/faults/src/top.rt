@@ -9,7 +9,9 @@ ghost use Rattle.consistency.specs.Classes.{table_in, holds_keys};
 ghost use Rattle.faults.specs.Spots.{least, joined, Unused, ComparedIs, SharedIs, VisitedIs, SweptAs, Spotted};
 
 use consistency::partition::{Asked, CLASSES, Classes, collect, pass_over};
-use consistency::{OWN_WORDS, agreed, block_fine, next_width, points, range_end, top_of};
+use consistency::{
+    OWN_WORDS, agreed, block_fine, is_enough, next_width, points, range_end, top_of,
+};
 use logs::{Cursor, Entry};
 use places::{LARGE_UNITS, SMALL_UNITS};
 use spec::Size;
@@ -185,7 +187,7 @@ fn spots_with(image: &[u8], count: usize, units: &mut [u64], size: Size) -> Spot
         let high = range_end(low, width);
         let classes = Classes { low, high };
         let keys = collect(image, count, &mut own, classes, size);
-        if keys.is_none() && 2 <= width {
+        if !is_enough(keys.is_some(), width) {
             width /= 2;
             continue;
         }
