@@ -125,6 +125,15 @@ module _ (size : Size) (n : ℕ) (ws table : List ℕ) (fits single : Bool) (mar
           let z = run.unpointed e f.0 in
           inr (λ t. (rw z, single-agrees es e (singly e.key f.1 (run.unasked e f.0)) (part e f.0) t), z)
 
+  -- on to a cursor from which the same remains
+  pub going_on : (now : List ℕ) (s : Checked) (c d : Cursor) → Going size n ws table fits single marks low high so before now s c → remaining (power_of size) n ws c ≡ remaining (power_of size) n ws d
+      → Going size n ws table fits single marks low high so before now s d
+  going_on now s c d inv q = record {
+    kept = inv.kept;
+    sound = inv.sound;
+    tests = λ es xs a singly first. let i = inv.tests es xs a singly first in let p = i.1 in (i.0, record { rest = p.rest; split = p.split; remains = sym q ∙ p.remains }, i.2);
+  }
+
   module _ (now : List ℕ) (s : Checked) (c : Cursor) (inv : Going size n ws table fits single marks low high so before now s c) where
     pub going_done : remaining (power_of size) n ws c ≡ Entries [] → SweptAs size n ws table fits single marks low high so before now s
     going_done q = record {

@@ -15,7 +15,7 @@ ghost use Rattle.consistency.specs.Pass.{AgreesWith, TopIs, AgreedIs, MarkedIs, 
 
 pub mod partition;
 
-use crate::partition::{Asked, CLASSES, Classes, MARKS, collect, mark_twins, pass_over};
+use crate::partition::{Asked, CLASSES, Classes, MARKS, collect, mark_twins, onward, pass_over};
 use buffer::{Buffer, clear_bits, has_bit, set_bit};
 use codec::Unit;
 use directory::size_of;
@@ -199,6 +199,11 @@ fn sweep(
     let mut cursor = first_cursor();
     loop {
         let at = pass_over(image, cursor.at, cursor.end, asked);
+        if cursor.end <= at && cursor.chunk < count.saturating_sub(1) {
+            // The next chunk's first entries may be passed over too.
+            cursor = onward(image, count, cursor.chunk + 1, size);
+            continue;
+        }
         match next_in_log(image, count, Cursor { at, ..cursor }, size) {
             Ok(Some(e)) => {
                 s = visit(image, count, known, asked.classes, buffer, s, e, size);
