@@ -18,9 +18,8 @@ use Rattle.spec.specs.Contents.{agree}
 use Rattle.theory_log.proofs.Stands.{head_first}
 use Rattle.logs.specs.Stands.{StandsIn}
 use Rattle.logs.specs.declared.Entry as H
-use Rattle.logs.specs.Cursor.{with_value}
 use Rattle.logs.proofs.Stands.{take-drop}
-use Rattle.consistency.specs.Heads.{same_from}
+use Rattle.consistency.specs.Heads.{entry_of, same_from}
 use Rattle.consistency.specs.Pass.{AgreesWith}
 
 -- ## Comparing words
@@ -86,9 +85,9 @@ module _ (ws : List ℕ) (e f : Entry) (se : StandsIn ws e) (sf : StandsIn ws f)
 -- what the code shows: places past the image are cut
 pub shows-agree : (ws : List ℕ) (h : H.Entry) (place a b n end : ℕ) (r : Bool) → end ≡ length ws → a ≡ min h.place end → b ≡ min place end → n ≡ words_for h.placement h.field
     → r ≡ same_from ws a b (2 + n) → AgreesWith ws h place r
-shows-agree ws h place a b n end r is-end is-a is_b is-n is f se sf at =
+shows-agree ws h place a b n end r is-end is-a is_b is-n is words f se sf at =
     let l = se.fits in
     let m = sf.fits in
     let x : a ≡ h.place = omega arith in
     let y : b ≡ f.at = omega arith in
-    is ∙ rw (x, y, is-n) (agree-words ws (with_value ws h) f se sf)
+    is ∙ rw (x, y, is-n) (agree-words ws (entry_of ws h words) f se sf)

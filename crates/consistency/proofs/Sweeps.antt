@@ -185,7 +185,7 @@ module _ (size : Size) (n : ℕ) (ws table : List ℕ) (fits single : Bool) (mar
               _,
               passed-next (power_of size) n ws c es i.0 i.1 h given,
               rw (class-grown low high xs i.0 (e ∷ []))
-                  (visited.right es (xs ++ class_in low high i.0) ahead.listed (member es xs ahead i.0 i.1) (part es xs ahead i.0 i.1) (fresh es xs ahead i.0 i.1) i.2 t),
+                  (visited.right es (xs ++ class_in low high i.0) h.words ahead.listed (member es xs ahead i.0 i.1) (part es xs ahead i.0 i.1) (fresh es xs ahead i.0 i.1) i.2 t),
             );
       }
 
@@ -193,7 +193,7 @@ module _ (size : Size) (n : ℕ) (ws table : List ℕ) (fits single : Bool) (mar
       going-stop f = record {
         kept = more;
         right = λ es xs ahead singly first t. absurd (not-both s'.blocks t f);
-        wrong = λ es xs ahead singly t first g. let i = inv.tests es xs ahead singly first in visited.wrong es ahead.listed (member es xs ahead i.0 i.1) (inv.sound t) f;
+        wrong = λ es xs ahead singly t first g. let i = inv.tests es xs ahead singly first in visited.wrong es h.words ahead.listed (member es xs ahead i.0 i.1) (inv.sound t) f;
       }
 
 -- ## A range

@@ -1,7 +1,14 @@
--- The comparison of words of an image, and the puts whose values are in blocks.
+-- An entry by its parts, the comparison of words of an image, and the puts whose values are in blocks.
 -- Assumes nothing.
 use Rattle.std.specs.Prelude.{Bool, true, List, ℕ, zero, suc, eqb, get_or}
 use Rattle.spec.specs.Basics.{both}
+use Rattle.spec.specs.Log.{Entry}
+use Rattle.logs.specs.Stands.{entry_in}
+use Rattle.logs.specs.declared.Entry as H
+
+-- the entry with these parts, but with so many words behind its key
+abbrev pub entry_of : List ℕ → H.Entry → ℕ → Entry
+entry_of ws h words = entry_in ws h.op h.placement h.version h.field h.key words h.place
 
 -- n words from word a are those from word b
 abbrev pub same_from : List ℕ → ℕ → ℕ → ℕ → Bool

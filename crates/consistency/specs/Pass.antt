@@ -15,12 +15,11 @@ use Rattle.logs.specs.declared.Best.{Best}
 use Rattle.logs.specs.Best.{best_of}
 use Rattle.logs.specs.Stands.{StandsIn}
 use Rattle.logs.specs.declared.Entry as H
-use Rattle.logs.specs.Cursor.{with_value}
 use Rattle.volatile.specs.Known.{several, Indexed}
 use Rattle.volatile.specs.Check.{Marks, CheckInv}
 use Rattle.volatile.specs.Plain.{Single, Direct}
 use Rattle.consistency.specs.Classes.{within, asked, class_in}
-use Rattle.consistency.specs.Heads.{points}
+use Rattle.consistency.specs.Heads.{entry_of, points}
 use Rattle.consistency.specs.declared.Checked.{Checked}
 
 -- An image of n whole chunks has these entries, and if `fits` the table is theirs.
@@ -40,7 +39,7 @@ pub record ListedIn (size : Size) (n : ℕ) (ws table : List ℕ) (fits : Bool) 
 
 -- whether the entry with these parts agrees with the one that stands at a place
 abbrev pub AgreesWith : List ℕ → H.Entry → ℕ → Bool → Type 0
-AgreesWith ws h place r = (f : Entry) → StandsIn ws (with_value ws h) → StandsIn ws f → f.at ≡ place → r ≡ agree (with_value ws h) f
+AgreesWith ws h place r = (words : ℕ) (f : Entry) → StandsIn ws (entry_of ws h words) → StandsIn ws f → f.at ≡ place → r ≡ agree (entry_of ws h words) f
 
 -- the chosen top entry of a key
 abbrev pub TopIs : (size : Size) → ℕ → List ℕ → List ℕ → Bool → ℕ → Best → Type 0
@@ -59,17 +58,17 @@ Part xs es = (e : Entry) → Mem e xs → Mem e es
 -- the marks with one more top entry, whose block has a bit; the chosen entry of its key stands at `place`
 pub record MarkedIs (size : Size) (apart : Bool) (h : H.Entry) (place : ℕ) (before after : List ℕ) (r : Bool) : Type 0 where
   pub kept : WordsKept before before → WordsKept before after
-  pub marks : (ws : List ℕ) (es xs : List Entry) (f : Entry) → Apart es → Mem (with_value ws h) es → Part xs es → (Mem (with_value ws h) xs → ⊥)
+  pub marks : (ws : List ℕ) (es xs : List Entry) (words : ℕ) (f : Entry) → Apart es → Mem (entry_of ws h words) es → Part xs es → (Mem (entry_of ws h words) xs → ⊥)
       → chosen h.key es ≡ some f → f.at ≡ place → (points h.op h.placement ≡ true → h.field < unit_count size)
-      → Marks es xs (has_bit size before) apart → Marks es (xs ++ with_value ws h ∷ []) (has_bit size after) r
+      → Marks es xs (has_bit size before) apart → Marks es (xs ++ entry_of ws h words ∷ []) (has_bit size after) r
 
 -- the tests with one more entry, if its key's class is within the range, after none failed
 pub record VisitedIs (size : Size) (n : ℕ) (ws table : List ℕ) (fits : Bool) (low high : ℕ) (s : Checked) (h : H.Entry) (before after : List ℕ) (r : Checked) : Type 0 where
   pub kept : WordsKept before before → WordsKept before after
-  pub right : (es xs : List Entry) → ListedIn size n ws table fits low high es → Mem (with_value ws h) es → Part xs es
-      → (within low high h.key ≡ true → Mem (with_value ws h) xs → ⊥) → CheckInv (power_of size) n ws es xs (has_bit size before) true s.agreeing s.apart → r.blocks ≡ true
-      → CheckInv (power_of size) n ws es (xs ++ class_in low high (with_value ws h ∷ [])) (has_bit size after) true r.agreeing r.apart
-  pub wrong : (es : List Entry) → ListedIn size n ws table fits low high es → Mem (with_value ws h) es → s.blocks ≡ true → r.blocks ≡ false → blocks_test (power_of size) n ws es ≡ false
+  pub right : (es xs : List Entry) (words : ℕ) → ListedIn size n ws table fits low high es → Mem (entry_of ws h words) es → Part xs es
+      → (within low high h.key ≡ true → Mem (entry_of ws h words) xs → ⊥) → CheckInv (power_of size) n ws es xs (has_bit size before) true s.agreeing s.apart → r.blocks ≡ true
+      → CheckInv (power_of size) n ws es (xs ++ class_in low high (entry_of ws h words ∷ [])) (has_bit size after) true r.agreeing r.apart
+  pub wrong : (es : List Entry) (words : ℕ) → ListedIn size n ws table fits low high es → Mem (entry_of ws h words) es → s.blocks ≡ true → r.blocks ≡ false → blocks_test (power_of size) n ws es ≡ false
 
 -- the entries xs are checked, and a range of classes is to be: none of xs is in it
 pub record Ahead (size : Size) (n : ℕ) (ws table : List ℕ) (fits : Bool) (low high : ℕ) (es xs : List Entry) : Type 0 where

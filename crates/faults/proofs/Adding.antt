@@ -22,8 +22,7 @@ use Rattle.logs.specs.declared.Best.{Best}
 use Rattle.volatile.proofs.Check.{block-bit}
 use Rattle.consistency.specs.Classes.{within, class_in}
 use Rattle.logs.specs.declared.Entry as H
-use Rattle.logs.specs.Cursor.{with_value}
-use Rattle.consistency.specs.Heads.{points}
+use Rattle.consistency.specs.Heads.{entry_of, points}
 use Rattle.consistency.specs.Pass.{ListedIn, TopIs, Part}
 use Rattle.consistency.proofs.Visits.{is_below, is-highest, agreement}
 use Rattle.faults.specs.declared.top.Spots.{Spots}
@@ -150,16 +149,16 @@ module _ (size : Size) (n : ℕ) (ws : List ℕ) (es : List Entry) where
 module _ (size : Size) (n : ℕ) (ws table : List ℕ) (fits : Bool) (low high : ℕ) (h : H.Entry) where
   -- of another class
   pub visited-out : within low high h.key ≡ false → (so : Spots) (before : List ℕ) → VisitedIs size n ws table fits low high so h before before so
-  visited-out o so before = record { sized = refl; finds = λ es xs l m inv. rw (o, append-nil xs) inv }
+  visited-out o so before = record { sized = refl; finds = λ es xs words l m inv. rw (o, append-nil xs) inv }
 
   module _ (own : within low high h.key ≡ true) (top : Best) (is-top-of : TopIs size n ws table fits h.key top) (so : Spots) (before : List ℕ) where
-    one_of : class_in low high (with_value ws h ∷ []) ≡ with_value ws h ∷ []
-    one_of = rw own
+    one_of : (words : ℕ) → class_in low high (entry_of ws h words ∷ []) ≡ entry_of ws h words ∷ []
+    one_of words = rw own
 
     pub visited-below : (h.version ≡ top.version → ⊥) → VisitedIs size n ws table fits low high so h before before so
     visited-below b = record {
       sized = refl;
-      finds = λ es xs l m inv. rw (one_of) (found_below size n ws es xs before so inv (with_value ws h) (is_below size n ws table fits low high h own top is-top-of es l m b));
+      finds = λ es xs words l m inv. rw (one_of words) (found_below size n ws es xs before so inv (entry_of ws h words) (is_below size n ws table fits low high h own top is-top-of es words l m b));
     }
 
     module _ (q : h.version ≡ top.version) where
@@ -167,20 +166,20 @@ module _ (size : Size) (n : ℕ) (ws table : List ℕ) (fits : Bool) (low high :
           → VisitedIs size n ws table fits low high so h before before (record { block = block; tops = so.tops })
       visited-wrong f block is = record {
         sized = refl;
-        finds = λ es xs l m inv.
-            rw (one_of, is) (found-wrong size n ws es xs before so inv (with_value ws h) l.entries m (is-highest size n ws table fits low high h own top is-top-of es l m q) f);
+        finds = λ es xs words l m inv.
+            rw (one_of words, is) (found-wrong size n ws es xs before so inv (entry_of ws h words) l.entries m (is-highest size n ws table fits low high h own top is-top-of es words l m q) f);
       }
 
       module _ (right : pick (points h.op h.placement) (block_right (power_of size) n ws h.field) true ≡ true) (compared tops : Maybe ℕ) (after : List ℕ) (compares : ComparedIs ws h top.place so.tops compared)
-          (shares : SharedIs ws h compared before after tops) (es xs : List Entry) (l : ListedIn size n ws table fits low high es) (member : Mem (with_value ws h) es) (inv : Found size n ws es xs before so) where
+          (shares : SharedIs ws h compared before after tops) (es xs : List Entry) (words : ℕ) (l : ListedIn size n ws table fits low high es) (member : Mem (entry_of ws h words) es) (inv : Found size n ws es xs before so) where
         abbrev e : Entry
-        e = with_value ws h
+        e = entry_of ws h words
 
         is-top : is_top es e ≡ true
-        is-top = is-highest size n ws table fits low high h own top is-top-of es l member q
+        is-top = is-highest size n ws table fits low high h own top is-top-of es words l member q
 
         agrees : compares.same ≡ agree_with e (chosen h.key es)
-        agrees = agreement size n ws table fits low high h own top is-top-of es l member q true compares.same compares.agrees
+        agrees = agreement size n ws table fits low high h own top is-top-of es words l member q true compares.same compares.agrees
 
         found : (falls : Falls compared tops) → StandsAt es (top_fails es) tops → ((u : ℕ) → block_right (power_of size) n ws u ≡ true → UnitIs es (xs ++ e ∷ []) tops u (get_or after u 0))
             → Found size n ws es (xs ++ e ∷ []) after (record { block = so.block; tops = tops })
@@ -232,5 +231,5 @@ module _ (size : Size) (n : ℕ) (ws table : List ℕ) (fits : Bool) (low high :
           → SharedIs ws h compared before after tops → VisitedIs size n ws table fits low high so h before after (record { block = so.block; tops = tops })
       visited-top right compared tops after compares shares = record {
         sized = shares.sized;
-        finds = λ es xs l m inv. rw (one_of) (found-top right compared tops after compares shares es xs l m inv (points h.op h.placement) refl);
+        finds = λ es xs words l m inv. rw (one_of words) (found-top right compared tops after compares shares es xs words l m inv (points h.op h.placement) refl);
       }

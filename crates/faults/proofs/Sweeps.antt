@@ -66,7 +66,7 @@ module _ (size : Size) (n : ℕ) (ws table : List ℕ) (fits : Bool) (low high :
           let p = passed-split (power_of size) n ws c es i.0 i.1 h given in (
             i.0 ++ e ∷ [],
             passed-next (power_of size) n ws c es i.0 i.1 h given,
-            rw (class-grown low high xs i.0 (e ∷ [])) (visited.finds es (xs ++ class_in low high i.0) l (rw p.1 (mem-r e i.0 (e ∷ p.0) (inl refl))) i.2),
+            rw (class-grown low high xs i.0 (e ∷ [])) (visited.finds es (xs ++ class_in low high i.0) h.words l (rw p.1 (mem-r e i.0 (e ∷ p.0) (inl refl))) i.2),
           );
     }
 

@@ -12,8 +12,7 @@ use Rattle.spec.specs.Opening.{fine, agree_with}
 use Rattle.theory_log.specs.Contents.{Mem}
 use Rattle.consistency.specs.Classes.{class_in}
 use Rattle.logs.specs.declared.Entry as H
-use Rattle.logs.specs.Cursor.{with_value}
-use Rattle.consistency.specs.Heads.{points}
+use Rattle.consistency.specs.Heads.{entry_of, points}
 use Rattle.consistency.specs.Pass.{ListedIn, AgreedIs}
 use Rattle.faults.specs.declared.top.Spots.{Spots}
 use Rattle.faults.specs.declared.top.Joined.{Joined}
@@ -128,8 +127,8 @@ pub record SharedIs (ws : List ℕ) (h : H.Entry) (tops : Maybe ℕ) (before aft
 -- with one more entry, if its key's class is within the range
 pub record VisitedIs (size : Size) (n : ℕ) (ws table : List ℕ) (fits : Bool) (low high : ℕ) (so : Spots) (h : H.Entry) (before after : List ℕ) (r : Spots) : Type 0 where
   pub sized : length after ≡ length before
-  pub finds : (es xs : List Entry) → ListedIn size n ws table fits low high es → Mem (with_value ws h) es → Found size n ws es xs before so
-      → Found size n ws es (xs ++ class_in low high (with_value ws h ∷ [])) after r
+  pub finds : (es xs : List Entry) (words : ℕ) → ListedIn size n ws table fits low high es → Mem (entry_of ws h words) es → Found size n ws es xs before so
+      → Found size n ws es (xs ++ class_in low high (entry_of ws h words ∷ [])) after r
 
 -- with the entries of a range of classes
 pub record SweptAs (size : Size) (n : ℕ) (ws table : List ℕ) (fits : Bool) (low high : ℕ) (so : Spots) (before after : List ℕ) (r : Spots) : Type 0 where
