@@ -1,6 +1,6 @@
 -- What the code shows of a look-up: the part of the entry that the table names is the definition's answer.
 -- Assumes nothing.
-use mathlib.Core.Path.{◌≡◌, refl, sym, ◌∙◌, ap}
+use mathlib.Core.Path.{◌≡◌, refl, sym, ◌∙◌, ap, subst}
 use mathlib.Core.Logic.{inl, inr, by_cases}
 use mathlib.Core.Bool.{Bool, true, false}
 use mathlib.Core.Option.{none, some}
@@ -18,7 +18,7 @@ use Rattle.spec.specs.Directory.{size_of}
 use Rattle.spec.specs.Log.{Entry, Entries, words_for, image_entries}
 use Rattle.spec.specs.Blocks.{pointed}
 use Rattle.spec.specs.Contents.{chosen}
-use Rattle.spec.specs.Reports.{is_refused}
+use Rattle.spec.specs.Reports.{is_refused, number}
 use Rattle.spec.specs.Medium.{Action}
 use Rattle.spec.specs.Plans.{Staging, Committing, Cleaning, Olds, max_version, part_or, look_up}
 use Rattle.spec.specs.Machine.{LookUp, State, Closed, Rest, Busy, Formatting, state_power, read_gate, read_words, answer, next}
@@ -54,11 +54,11 @@ use Rattle.volatile.proofs.Image.{image_bounded}
 use Rattle.volatile.proofs.Grow.{found_none, found-chosen}
 use Rattle.session.specs.State.{size_in, power_in, state_at, state_of}
 use Rattle.session.specs.Fits.{Fits}
-use Rattle.std.specs.Prelude.{Result, Ok, Err}
+use Rattle.std.specs.Prelude.{Result, Ok, Err, MatchResult}
 use Rattle.lookup.specs.declared.Part.{Part}
 use Rattle.lookup.specs.declared.Value.{Value}
 use Rattle.session.specs.Asks.{gate_of, ReadAsking}
-use Rattle.lookup.specs.Look.{Located, part, report_of, within, block_part, part_by, first_word, part_at, PartIn, InImage, Looking, session_of, Locating, Showing}
+use Rattle.lookup.specs.Look.{Located, part, report_of, within, block_part, part_by, first_word, part_at, PartIn, InImage, Looking, session_of, Locating, LookedUp, Shows, Showing, ShowingValue}
 use Rattle.session.proofs.Gates.{read-refused, read_at_lem}
 use Rattle.session.specs.Promise.{Does, memory}
 use Rattle.session.specs.Fits.{Proper}
@@ -393,10 +393,37 @@ module _ (c : Control) (k : Setup) (key : ℕ) (bytes table : List ℕ) (r : Loc
   pub part-inside : (x : Part) → r ≡ Ok x → x.start + x.length ≤ length bytes
   part-inside x e = rw e at found.inside
 
-  pub show-part : (x : Part) (v : Value) → r ≡ Ok x → v.bytes.now ≡ take (x.start + x.length - x.start) (drop x.start bytes) → v.version ≡ x.version → Showing c k key bytes table (Ok v)
+  pub show-part : (x : Part) (v : Value) → r ≡ Ok x → v.bytes.now ≡ take (x.start + x.length - x.start) (drop x.start bytes) → v.version ≡ x.version → ShowingValue c k key bytes table (Ok v)
   show-part x v e b n =
       let d : x.start + x.length - x.start ≡ x.length = omega arith in
       record { located = Ok x; called = rw e at found.called; inside = rw e at found.inside; shows = (b ∙ rw d (take-drop x.start x.length bytes), n) }
 
-  pub show-refused : (n : Refusal) → r ≡ Err n → Showing c k key bytes table (Err n)
+  pub show-refused : (n : Refusal) → r ≡ Err n → ShowingValue c k key bytes table (Err n)
   show-refused n e = record { located = Err n; called = rw e at found.called; inside = tt; shows = refl }
+
+-- the part and the numbers, from the value or its refusal
+abbrev number_in : Result Value Refusal → ℕ
+number_in (Ok v) = 0
+number_in (Err n) = number n
+
+module _ (c : Control) (k : Setup) (key : ℕ) (bytes table : List ℕ) where
+  hands : (r : Result Value Refusal) → ShowingValue c k key bytes table r
+      → MatchResult r (λ v. Showing c k key bytes table v.bytes.now 0 v.version) (λ n. Showing c k key bytes table [] (number n) 0)
+  hands (Ok v) s = go s.located s.called s.inside s.shows
+    where
+      go : (l : Located) → LookedUp c k key bytes table (report_of l) → InImage (length bytes) l → Shows bytes l (Ok v) → Showing c k key bytes table v.bytes.now 0 v.version
+      go (Ok x) d i h = record { located = Ok x; called = d; inside = i; is-part = h.0; is_number = refl; is-version = h.1 }
+      go (Err n) d i h = absurd (subst (λ (q : Result Value Refusal). MatchResult q (λ v. Unit {0}) (λ n. ⊥)) h tt)
+  hands (Err m) s = go s.located s.called s.inside s.shows
+    where
+      go : (l : Located) → LookedUp c k key bytes table (report_of l) → InImage (length bytes) l → Shows bytes l (Err m) → Showing c k key bytes table [] (number m) 0
+      go (Ok x) d i h = absurd h
+      go (Err n) d i h = record { located = Err n; called = d; inside = i; is-part = refl; is_number = ap number_in h; is-version = refl }
+
+module _ (c : Control) (k : Setup) (key : ℕ) (bytes table : List ℕ) (r : Result Value Refusal) (shown : ShowingValue c k key bytes table r) where
+  pub hands-part : (v : Value) → r ≡ Ok v → Showing c k key bytes table v.bytes.now 0 v.version
+  hands-part v e = hands c k key bytes table (Ok v) (subst (ShowingValue c k key bytes table) e shown)
+
+  pub hands-refusal : (n : Refusal) (a : ℕ) → r ≡ Err n → a ≡ number n → Showing c k key bytes table [] a 0
+  hands-refusal n a e is =
+      subst (λ (x : ℕ). Showing c k key bytes table [] x 0) (sym is) (hands c k key bytes table (Err n) (subst (ShowingValue c k key bytes table) e shown))

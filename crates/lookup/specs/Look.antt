@@ -5,6 +5,7 @@ use Rattle.spec.specs.Basics.{pick}
 use Rattle.spec.specs.Words.{words_of}
 use Rattle.spec.specs.Places.{unit_word}
 use Rattle.spec.specs.Log.{Entry}
+use Rattle.spec.specs.Reports.{number}
 use Rattle.spec.specs.Plans.{max_version, look_up}
 use Rattle.spec.specs.Machine.{LookUp}
 use Rattle.spec.specs.Contract.{part_bytes}
@@ -91,12 +92,29 @@ pub record Reporting (c : Control) (k : Setup) (key : ℕ) (bytes table : List �
   pub is-report : r ≡ report_of located
   pub inside : InImage (length bytes) located
 
+-- the call with the part itself, and 0 or the refusal's number: `located` is what it answers
+abbrev pub number_of : Located → ℕ
+number_of (Ok x) = 0
+number_of (Err n) = number n
+
+abbrev pub version_of : Located → ℕ
+version_of (Ok x) = x.version
+version_of (Err n) = 0
+
+pub record Showing (c : Control) (k : Setup) (key : ℕ) (bytes table part : List ℕ) (answer version : ℕ) : Type 0 where
+  pub located : Located
+  pub called : LookedUp c k key bytes table (report_of located)
+  pub inside : InImage (length bytes) located
+  pub is-part : part ≡ part_bytes (report_of located) bytes
+  pub is_number : answer ≡ number_of located
+  pub is-version : version ≡ version_of located
+
 -- the call with the value itself: `located` is what it answers, and the value the bytes of its part
 abbrev pub Shows : List ℕ → Located → Result Value Refusal → Type 0
 Shows bytes (Ok x) r = MatchResult r (λ v. (v.bytes.now ≡ part_bytes (report_of (Ok x)) bytes) × (v.version ≡ x.version)) (λ n. ⊥)
 Shows bytes (Err n) r = r ≡ Err n
 
-pub record Showing (c : Control) (k : Setup) (key : ℕ) (bytes table : List ℕ) (r : Result Value Refusal) : Type 0 where
+pub record ShowingValue (c : Control) (k : Setup) (key : ℕ) (bytes table : List ℕ) (r : Result Value Refusal) : Type 0 where
   pub located : Located
   pub called : LookedUp c k key bytes table (report_of located)
   pub inside : InImage (length bytes) located

@@ -4,7 +4,7 @@
 
 ghost use Rattle.std.specs.Prelude.{◌≡◌, ◌+◌, ◌*◌, ◌^◌, ◌<◌, length};
 ghost use Rattle.spec.specs.Words.{words_of};
-ghost use Rattle.lookup.specs.Look.{within, block_part, first_word, part_at, Looking, Locating, Reporting, Showing};
+ghost use Rattle.lookup.specs.Look.{within, block_part, first_word, part_at, Looking, Locating, Reporting, Showing, ShowingValue};
 ghost use Rattle.lookup.specs.Listing.{by_entry, by_word};
 ghost use Rattle.lookup.specs.Contract.{Gathering, ListingKeys, ListingKey};
 
@@ -161,14 +161,14 @@ pub struct Value<'a> {
 }
 
 // Look-up, with the value itself.
-pub fn look_up_core<'a>(
+pub fn look_up_value<'a>(
     control: Control,
     setup: Setup,
     image: &'a [u8],
     table: &[u64],
     key: u64,
 ) -> Result<Value<'a>, Refusal>
-    ensures { Showing control setup key image.now table.now result }
+    ensures { ShowingValue control setup key image.now table.now result }
 {
     let part = locate(control, setup, image, table, key)?;
     let end = part.start + part.length;
@@ -176,6 +176,33 @@ pub fn look_up_core<'a>(
         bytes: &image[part.start..end],
         version: part.version,
     })
+}
+
+// Look-up: the part itself, the empty part on a refusal; `answer` gets 0 or the refusal's number, `handed` the value's
+// version, 0 on a refusal.
+pub fn look_up_core<'a>(
+    control: Control,
+    setup: Setup,
+    image: &'a [u8],
+    table: &[u64],
+    key: u64,
+    answer: &mut u64,
+    handed: &mut u64,
+) -> &'a [u8]
+    ensures { Showing control setup key image.now table.now result.now answer.new handed.new }
+{
+    match look_up_value(control, setup, image, table, key) {
+        Ok(value) => {
+            *answer = 0;
+            *handed = value.version;
+            value.bytes
+        }
+        Err(refusal) => {
+            *answer = session::number(refusal);
+            *handed = 0;
+            &image[..0]
+        }
+    }
 }
 
 // What is listed of a present key.

@@ -148,41 +148,63 @@ impl Station {
     // Where the value's part starts, its length and its sum, and behind them its version where it is asked for.
     fn look_line(&self, rt: &impl Print, key: u64, with_version: bool) -> io::Result<()> {
         let (image, table) = (self.lent_image(), self.lent_table());
-        match lookup::look_up_core(self.control, self.setup, image, table, key) {
-            Err(refusal) => println!(rt; "refused {}", session::number(refusal)),
-            Ok(value) => {
-                let start = match lookup::locate(self.control, self.setup, image, table, key) {
-                    Ok(part) => part.start,
-                    Err(_) => 0,
-                };
-                let sum = output::value_sum(value.bytes);
-                print!(rt; "value {start} {} {sum}", value.bytes.len())?;
-                if with_version {
-                    print!(rt; " {}", value.version)?;
-                }
-                println!(rt)
-            }
+        let (control, setup) = (self.control, self.setup);
+        let mut answer = 0;
+        let mut version = 0;
+        let value = lookup::look_up_core(
+            control,
+            setup,
+            image,
+            table,
+            key,
+            &mut answer,
+            &mut version,
+        );
+        if answer != 0 {
+            return println!(rt; "refused {answer}");
         }
+        let start = match lookup::locate(control, setup, image, table, key) {
+            Ok(part) => part.start,
+            Err(_) => 0,
+        };
+        let sum = output::value_sum(value);
+        print!(rt; "value {start} {} {sum}", value.len())?;
+        if with_version {
+            print!(rt; " {version}")?;
+        }
+        println!(rt)
     }
 
     // The value's length, its sum and its first sixteen bytes.
     fn show_line(&self, rt: &impl Print, key: u64) -> io::Result<()> {
         let (image, table) = (self.lent_image(), self.lent_table());
-        match lookup::look_up_core(self.control, self.setup, image, table, key) {
-            Err(Refusal::KeyAbsent) => println!(rt; "absent {key}"),
-            Err(refusal) => println!(rt; "refused {}", session::number(refusal)),
-            Ok(value) => {
-                let sum = output::value_sum(value.bytes);
-                print!(rt; "value {key} {} {sum}", value.bytes.len())?;
-                if !value.bytes.is_empty() {
-                    print!(rt; " ")?;
-                }
-                for b in value.bytes.iter().take(16) {
-                    print!(rt; "{b:02x}")?;
-                }
-                println!(rt)
-            }
+        let (control, setup) = (self.control, self.setup);
+        let mut answer = 0;
+        let mut version = 0;
+        let value = lookup::look_up_core(
+            control,
+            setup,
+            image,
+            table,
+            key,
+            &mut answer,
+            &mut version,
+        );
+        if answer == session::number(Refusal::KeyAbsent) {
+            return println!(rt; "absent {key}");
         }
+        if answer != 0 {
+            return println!(rt; "refused {answer}");
+        }
+        let sum = output::value_sum(value);
+        print!(rt; "value {key} {} {sum}", value.len())?;
+        if !value.is_empty() {
+            print!(rt; " ")?;
+        }
+        for b in value.iter().take(16) {
+            print!(rt; "{b:02x}")?;
+        }
+        println!(rt)
     }
 
     // CALLS

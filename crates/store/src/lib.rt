@@ -12,7 +12,7 @@ ghost use Rattle.std.specs.Prelude.{None, Some};
 ghost use Rattle.staging.specs.Staging.{PutWhere, Short, Long};
 ghost use Rattle.running.specs.Run.{StepsOn, RunsOn};
 ghost use Rattle.running.specs.Fast.{FastStep, Finishing, OnFastPath, InStaging};
-ghost use Rattle.store.specs.Look.{Reported, Shown};
+ghost use Rattle.store.specs.Look.{Reported, Shown, ShownValue};
 ghost use Rattle.store.specs.Choice.{Chosen};
 ghost use Rattle.store.specs.List.{KeysListed, KeyListed};
 
@@ -279,18 +279,35 @@ pub fn find(s: &Session, image: &[u8], table: &[u64], key: u64) -> Report
     lookup::find(c, k, image, table, key)
 }
 
-// Look-up: the value where it lies in the image, with its version, or the refusal. The record is only read.
+// Look-up: the part of the image that holds the value, the empty part on a refusal; `answer` gets 0 or the refusal's
+// number, `version` the value's, 0 on a refusal. The record is only read.
 pub fn look_up<'a>(
     s: &Session,
     image: &'a [u8],
     table: &[u64],
     key: u64,
-) -> Result<Value<'a>, Refusal>
-    ensures { Shown s.now key image.now table.now result }
+    answer: &mut u64,
+    version: &mut u64,
+) -> &'a [u8]
+    ensures { Shown s.now key image.now table.now result.now answer.new version.new }
 {
     let c = s.control;
     let k = s.setup;
-    lookup::look_up_core(c, k, image, table, key)
+    lookup::look_up_core(c, k, image, table, key, answer, version)
+}
+
+// Look-up: the value where it lies in the image, with its version, or the refusal. The record is only read.
+pub fn look_up_value<'a>(
+    s: &Session,
+    image: &'a [u8],
+    table: &[u64],
+    key: u64,
+) -> Result<Value<'a>, Refusal>
+    ensures { ShownValue s.now key image.now table.now result }
+{
+    let c = s.control;
+    let k = s.setup;
+    lookup::look_up_value(c, k, image, table, key)
 }
 
 // The present keys, rising, into the lent words as far as these reach, and how many there are. The record is only read.
