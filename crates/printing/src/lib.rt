@@ -2,11 +2,11 @@
 // below the other or in pages, or its refusal; line by line, and what both programs do.
 #![tactic(auto)]
 
-ghost use Rattle.std.specs.Prelude.{◌≤◌, suc, ◌≡◌, length};
+ghost use Rattle.std.specs.Prelude.{◌≤◌, suc, ◌≡◌, [], length};
 ghost use Rattle.text.specs.Text.{most_digits, Writes};
 ghost use Rattle.printing.specs.Lines.{refused_text, count_text, place_text, column_text, line_text, heading_text, page_text, break_text, head_text, entry_text};
 ghost use Rattle.std.specs.Counts.{IsPrefixLen};
-ghost use Rattle.printing.specs.Print.{image_text, read_most, table_words, Key, Keys, Register, Image};
+ghost use Rattle.printing.specs.Print.{image_text, read_most, table_words, text_bytes, Key, Keys, Register, Image};
 
 use buffer::{BUFFER_WORDS, Buffer};
 use lookup::Listing;
@@ -224,16 +224,16 @@ const TABLE_KEYS: usize = 2048;
 
 const TEXT_BYTES: usize = 210984;
 
-// The text of an image, with the table of a program.
-fn image_text(image: &[u8], layout: Layout) -> Text<TEXT_BYTES>
-    ensures { result ≡ image_text layout image.now table_words }
+// The text of an image, with the table of a program, in a text that is lent with no bytes yet.
+fn image_text<const N: usize>(image: &[u8], layout: Layout, out: &mut Text<N>)
+    requires room { N ≡ text_bytes }
+    requires empty { out.old ≡ [] }
+    ensures { out.new ≡ image_text layout image.now table_words }
 {
     let mut table = [0; TABLE_WORDS];
     let mut buffer = [0; BUFFER_WORDS];
     let mut keys = [0; TABLE_KEYS];
-    let mut out = Text::new();
-    list_image(image, &mut table, &mut buffer, &mut keys, layout, &mut out);
-    out
+    list_image(image, &mut table, &mut buffer, &mut keys, layout, out);
 }
 
 // Reads an image; how many bytes. There is room for one byte more than an image may have.
@@ -248,11 +248,10 @@ fn read_image<R: Read>(input: &mut R, image: &mut [u8]) -> usize
 // program's name, and the exit status is that of a failure.
 fn print(rt: &(impl Input + Print + Eprint), layout: Layout, name: &str) -> ExitCode {
     let mut image = [0; READ_BYTES];
+    let mut out: Text<TEXT_BYTES> = Text::new();
     let n = read_image(&mut rt.reader(), &mut image);
-    if rt
-        .write_all(image_text(&image[..n], layout).as_bytes())
-        .is_ok()
-    {
+    image_text(&image[..n], layout, &mut out);
+    if rt.write_all(out.as_bytes()).is_ok() {
         return ExitCode::SUCCESS;
     }
     let _ = eprint!(rt; "{name}: not all of it could be printed\n");

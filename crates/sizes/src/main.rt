@@ -1,7 +1,7 @@
 // Program: prints the block size that holds 0 to 256 units of a large chunk, one a line; 0 where there is none.
 #![tactic(auto)]
 
-ghost use Rattle.std.specs.Prelude.{◌≡◌};
+ghost use Rattle.std.specs.Prelude.{◌≡◌, []};
 ghost use Rattle.text.specs.Text.{Writes};
 ghost use Rattle.sizes.specs.Table.{line_text, table_text};
 
@@ -22,20 +22,21 @@ fn put_line(out: &mut Text<TEXT_BYTES>, units: usize)
     out.put_bytes(b"\n");
 }
 
-// The table as text.
-fn table() -> Text<TEXT_BYTES>
-    ensures { result ≡ table_text }
+// The table as text, in a text that is lent with no bytes yet.
+fn put_table(out: &mut Text<TEXT_BYTES>)
+    requires { out.old ≡ [] }
+    ensures { out.new ≡ table_text }
 {
-    let mut out = Text::new();
     for units in 0..LINES {
-        put_line(&mut out, units);
+        put_line(out, units);
     }
-    out
 }
 
 // Where not all could be printed, standard error says so, and the exit status is that of a failure.
 fn main(rt: HostRuntime) -> ExitCode {
-    if rt.write_all(table().as_bytes()).is_ok() {
+    let mut out = Text::new();
+    put_table(&mut out);
+    if rt.write_all(out.as_bytes()).is_ok() {
         return ExitCode::SUCCESS;
     }
     let _ = eprint!(rt; "sizes: not all of it could be printed\n");
