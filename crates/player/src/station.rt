@@ -1,5 +1,6 @@
 // A script's station, and the lines that lend it memory, alter that behind its back, or show what it holds.
-ghost use Rattle.std.specs.Prelude.{◌≤◌};
+ghost use Rattle.std.specs.Prelude.{◌≡◌, ℕ, ◌<◌, ◌≤◌, true, false, min, take, slice_index};
+ghost use Rattle.session.specs.Numbers.{closed, empty_setup};
 
 use crate::output;
 use crate::output::Answer;
@@ -35,7 +36,11 @@ fn bad(rt: &impl Print) -> io::Result<()> {
 
 impl Station {
     // Nothing open, and nothing lent.
-    pub fn new() -> Station {
+    pub fn new() -> Station
+        ensures record { (result.control ≡ closed) × (result.setup ≡ empty_setup) }
+        ensures lent { (result.bytes ≡ 0) × (result.words ≡ 0) }
+        ensures marks { (result.kept ≡ true) × (result.aloud ≡ false) }
+    {
         Station {
             control: session::closed(),
             setup: session::empty_setup(),
@@ -61,7 +66,9 @@ impl Station {
         &self.image[..self.bytes.min(IMAGE_BYTES)]
     }
 
-    fn lent_table(&self) -> &[u64] {
+    fn lent_table(&self) -> &[u64]
+        ensures { result.now ≡ take (min self.now.words TABLE_WORDS) self.now.table }
+    {
         &self.table[..self.words.min(TABLE_WORDS)]
     }
 
@@ -208,8 +215,12 @@ impl Station {
     }
 
     // CALLS
-    // Whether all is as it was.
-    fn is_as(&self, old: &Station) -> bool {
+    // Whether all is as it was; says so only of equal lists.
+    fn is_as(&self, old: &Station) -> bool
+        ensures record { result ≡ true → self.now.buffer ≡ old.now.buffer }
+        ensures image { result ≡ true → self.now.image ≡ old.now.image }
+        ensures table { result ≡ true → self.now.table ≡ old.now.table }
+    {
         self.control == old.control
             && self.setup == old.setup
             && self.buffer == old.buffer
@@ -217,8 +228,12 @@ impl Station {
             && self.table == old.table
     }
 
-    // What a refused opening leaves: nothing open, the image as it was, and a table of zeros.
-    fn is_closed_over(&self, old: &Station) -> bool {
+    // What a refused opening leaves: nothing open, the image as it was, and a table of zeros; says so only of these.
+    fn is_closed_over(&self, old: &Station) -> bool
+        ensures closed { result ≡ true → self.now.control.phase ≡ CLOSED }
+        ensures image { result ≡ true → self.now.image ≡ old.now.image }
+        ensures zeros { result ≡ true → (k : ℕ) → k < min self.now.words TABLE_WORDS → slice_index self.now.table k ≡ 0 }
+    {
         self.control.phase == CLOSED
             && self.image == old.image
             && self.lent_table().iter().all(|word| *word == 0)
