@@ -1,3 +1,4 @@
+pub mod Table
 pub mod Sizes
 pub mod Roles
 pub mod Units
