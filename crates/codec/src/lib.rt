@@ -126,15 +126,16 @@ pub fn header_word(
 
 // THE DIRECTORY
 // What a directory word says.
-#[tactic(auto, unfolding(spec::specs::Directory::role_of))]
+#[tactic(auto, using(crate::proofs::Sizes::small_tests), unfolding(spec::specs::Directory::role_of, spec::specs::Places::chunk_lines))]
 pub fn role_of(size: Size, word: u64) -> Role
     ensures { result ≡ role_of (power_of size) word }
 {
     let field = word / 256;
-    match word % 256 {
-        0 if field == 0 => Role::Free,
-        1 if 1 <= field && field <= places::lines(size) as u64 => Role::Log(field),
-        2 if is_size(size, field as usize) => Role::Data(field),
+    match (size, word % 256, field) {
+        (_, 0, 0) => Role::Free,
+        (Size::Small, 1, 1..=64) | (Size::Large, 1, 1..=1024) => Role::Log(field),
+        (Size::Small, 2, 2..=5 | 8 | 16) => Role::Data(field),
+        (Size::Large, 2, _) if is_size(size, field as usize) => Role::Data(field),
         _ => Role::Wrong,
     }
 }
