@@ -1,9 +1,10 @@
 -- First words of entries: what is said of each, made and read.
 -- Assumes nothing.
-use Rattle.std.specs.Prelude.{◌≡◌, ℕ, ◌+◌, ◌*◌, ◌/◌, ◌%◌, ◌^◌, ◌<◌, ◌≤◌, ◌⊎◌}
+use Rattle.std.specs.Prelude.{◌≡◌, ℕ, ◌+◌, ◌*◌, ◌/◌, ◌%◌, ◌^◌, ◌<◌, ◌≤◌, ◌⊎◌, ◌≢◌, refl}
 use Rattle.std.proofs.Common.{arith}
 use Rattle.std.proofs.lemmas.Bool.Decides.{nat_tests}
-use Rattle.spec.specs.Log.{max_in_log, first_of_word}
+use Rattle.spec.specs.Log.{max_in_log, parts_of, first_of_word}
+use Rattle.spec.specs.declared.FirstWord.{FirstWord}
 use Rattle.spec.specs.declared.FirstWord.TheVariants as F
 
 -- the first word of an entry with these parts
@@ -21,6 +22,26 @@ pub record RightParts (op placement version field : ℕ) : Type 0 where
   pub high : version < 1048576
   pub kind : Kind op placement field
 
+-- the parts of a word that is made
+module _ (op placement version field : ℕ) (a : op < 4) (b : placement < 4) (c : version < 1048576) where
+  part_op : head_word op placement version field % 4 ≡ op
+  part_op = omega arith
+
+  part-placement : head_word op placement version field / 4 % 4 ≡ placement
+  part-placement = omega arith
+
+  part-version : head_word op placement version field / 16 % 1048576 ≡ version
+  part-version = omega arith
+
+  part_field : head_word op placement version field / 16777216 ≡ field
+  part_field = omega arith
+
+-- a word that is made says its parts
+by_parts : (op placement version field : ℕ) → op < 4 → placement < 4 → version < 1048576 → (head_word op placement version field ≢ 0)
+    → first_of_word (head_word op placement version field) ≡ parts_of op placement version field
+unfolding first_of_word
+by_parts op placement version field a b c ne = grind (arith, nat_tests)
+
 -- the word that is made of right parts says them
 pub first_made : (op placement version field : ℕ) → RightParts op placement version field → first_of_word (head_word op placement version field) ≡ F.Entry op placement version field
 unfolding first_of_word
@@ -29,6 +50,20 @@ first_made op placement version field r = let k = r.kind in let l = r.low in let
 -- such a word fits 64 bits if its field fits 40
 pub head-fits : (op placement version field : ℕ) → RightParts op placement version field → field < 2 ^ 40 → head_word op placement version field < 2 ^ 64
 head-fits op placement version field r h = let k = r.kind in let v = r.high in grind (arith, nat_tests)
+
+-- what parts have to be, by what they say
+abbrev pub Says : ℕ → ℕ → ℕ → ℕ → FirstWord → Type 0
+Says op placement version field F.Padding = ⊥
+Says op placement version field F.Wrong = Unit {0}
+Says op placement version field (F.Entry o p v f) = (o ≡ op) × (p ≡ placement) × (v ≡ version) × (f ≡ field) × (1 ≤ version) × Kind op placement field
+
+said : (op placement version field : ℕ) (w : FirstWord) → parts_of op placement version field ≡ w → Says op placement version field w
+said op placement version field F.Padding e = grind (arith, nat_tests)
+said op placement version field F.Wrong e = tt
+said op placement version field (F.Entry o p v f) e = grind (arith, nat_tests)
+
+says : (op placement version field : ℕ) → Says op placement version field (parts_of op placement version field)
+says op placement version field = said op placement version field (parts_of op placement version field) refl
 
 -- a word from its parts
 pub split : (w : ℕ) → w ≡ head_word (w % 4) (w / 4 % 4) (w / 16 % 1048576) (w / 16777216)

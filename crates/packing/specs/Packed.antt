@@ -173,3 +173,8 @@ nonzero-by w i e p l z =
 pub pack-nonzero : (size : Size) (i : Info) → 0 < i.place → i.place < (widths_of size).place → pack_of size i ≡ 0 → ⊥
 pack-nonzero S.Small i p l z = nonzero-by small_widths i (omega arith) p l z
 pack-nonzero S.Large i p l z = nonzero-by large_widths i (omega arith) p l z
+
+-- at the large size there is no extent
+pub large-unpacked : (x : ℕ)
+    → ◌≡◌ {A = Info} (record { extent = 0; place = x % 0x40_0000; version = x / 0x40_0000 % 0x10_0000; entries = x / 0x40_0000 / 0x10_0000 % 0x20_0000; several = x / 0x40_0000 / 0x10_0000 / 0x20_0000 }) (unpack_by large_widths x)
+large-unpacked x = let a = div-one x in let b = mod-one x in rw (a, b)
