@@ -1,6 +1,6 @@
--- Block sizes: the code's tables from needed units to block size, of small chunks and of large ones, read at any number.
--- That an entry is the size of the two divisions, and of the small table that it is the smallest that fits, is shown by a
--- computed test of each; for every chunk power `theory_base` shows the latter of the two divisions.
+-- Block sizes: the code's tables from needed units to block size, of small chunks and of large ones, read at any
+-- number. That an entry is the size of the two divisions, and of the small table that it is the smallest that fits, is
+-- shown by a computed test of each; for every chunk power `theory_base` shows the latter of the two divisions.
 -- Assumes nothing.
 use Rattle.std.proofs.Common.{◌≡◌, ℕ, ◌+◌, ◌*◌, ◌<◌, ◌≤◌, Bool, true, T, refl, ap, ◌∙◌, eqb, leb, List, get_or, map, arith}
 use Rattle.std.proofs.Math.Decide.{dec_lt}
