@@ -84,10 +84,12 @@ pub fn size_of(image: &[u8], c: usize, size: Size) -> usize
     size_in(role_at(image, c, size))
 }
 
+// Whether chunk c is free, of either size: its word is 0.
+#[tactic(auto, unfolding(spec::specs::Directory::role_of))]
 pub fn is_free(image: &[u8], c: usize, size: Size) -> bool
     ensures { result ≡ is_free (role_at (power_of size) (words_of image.now) c) }
 {
-    matches!(role_at(image, c, size), Role::Free)
+    directory_word(image, c) == 0
 }
 
 // ITS TEST, of an image of `count` chunks
@@ -156,7 +158,7 @@ pub fn free_chunks(image: &[u8], size: Size) -> u64
     ensures { result ≡ length (free_chunks (power_of size) (chunks_in (power_of size) (length image.now)) (words_of image.now)) }
 {
     let count = places::chunks_in(size, image.len());
-    (1..count).filter(|c| is_free(image, *c, size)).count() as u64
+    (1..count).map(|c| u64::from(is_free(image, c, size))).sum()
 }
 
 // The committed lines of all log chunks.
